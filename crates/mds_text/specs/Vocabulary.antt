@@ -1,0 +1,29 @@
+-- The words of states, vehicle types, propulsion types, event types and rule types.
+use Rattle.std.specs.Prelude.{◌≡◌, ℕ, ◌≤◌, ◌-◌, Bool, true, ◌&&◌, ◌||◌, ◌==◌, nat_le, List, ◌++◌, length, drop, replicate, take}
+use Rattle.std.specs.List.{list_all}
+use Rattle.std.proofs.Common.{ap, ◌∙◌, sym, arith}
+use Rattle.std.proofs.lemmas.List.{take-append-drop, length-take-le}
+
+-- a lower-case letter, a digit or `_`
+abbrev pub is_token_byte : ℕ → Bool
+is_token_byte b = (nat_le 97 b && nat_le b 122) || (nat_le 48 b && nat_le b 57) || (b == 95)
+
+-- 1 to 40 bytes of lower-case letters, digits and `_`
+abbrev pub is_token : List ℕ → Bool
+is_token s = nat_le 1 (length s) && nat_le (length s) 40 && list_all is_token_byte s
+
+-- a token at the front of forty bytes, and zeros behind it
+pub record IsPadded (len : ℕ) (bytes : List ℕ) : Type 0 where
+  pub whole : length bytes ≡ 40
+  pub fits : len ≤ 40
+  pub token : is_token (take len bytes) ≡ true
+  pub zeros : drop len bytes ≡ replicate (40 - len) 0
+
+pub padded_length : (len : ℕ) (bytes : List ℕ) → IsPadded len bytes → length (take len bytes) ≡ len
+padded_length len bytes h = length-take-le len bytes (omega (arith, h.whole, h.fits))
+
+-- the forty bytes are the token and zeros
+pub padded_back : (len : ℕ) (bytes : List ℕ) → IsPadded len bytes → take len bytes ++ replicate (40 - length (take len bytes)) 0 ≡ bytes
+padded_back len bytes h =
+    ap (λ n. take len bytes ++ replicate (40 - n) 0) (padded_length len bytes h)
+    ∙ (ap (λ rest. take len bytes ++ rest) (sym h.zeros) ∙ take-append-drop len bytes)
