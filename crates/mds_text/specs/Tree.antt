@@ -23,6 +23,10 @@ abbrev pub items_of : List Json → Items
 items_of [] = no_items
 items_of (t ∷ ts) = item t (items_of ts)
 
+abbrev pub members_of : List (List ℕ × Json) → Members
+members_of [] = no_members
+members_of (m ∷ ms) = member m.0 m.1 (members_of ms)
+
 -- the entries of a list, as a list
 abbrev pub entries : Items → List Json
 entries no_items = []

@@ -1,5 +1,5 @@
 -- The words of states, vehicle types, propulsion types, event types and rule types.
-use Rattle.std.specs.Prelude.{◌≡◌, ℕ, ◌≤◌, ◌-◌, Bool, true, ◌&&◌, ◌||◌, ◌==◌, nat_le, List, ◌++◌, length, drop, replicate, take}
+use Rattle.std.specs.Prelude.{◌≡◌, ℕ, ◌≤◌, ◌-◌, Bool, true, if◌then◌else◌, Option, Some, None, ◌&&◌, ◌||◌, ◌==◌, nat_le, List, ◌++◌, length, drop, replicate, take}
 use Rattle.std.specs.List.{list_all}
 use Rattle.std.proofs.Common.{ap, ◌∙◌, sym, arith}
 use Rattle.std.proofs.lemmas.List.{take-append-drop, length-take-le}
@@ -11,6 +11,10 @@ is_token_byte b = (nat_le 97 b && nat_le b 122) || (nat_le 48 b && nat_le b 57) 
 -- 1 to 40 bytes of lower-case letters, digits and `_`
 abbrev pub is_token : List ℕ → Bool
 is_token s = nat_le 1 (length s) && nat_le (length s) 40 && list_all is_token_byte s
+
+-- a text that is a token
+abbrev pub as_token : List ℕ → Option (List ℕ)
+as_token s = if is_token s then Some s else None
 
 -- a token at the front of forty bytes, and zeros behind it
 pub record IsPadded (len : ℕ) (bytes : List ℕ) : Type 0 where

@@ -1,14 +1,34 @@
 //! Texts, identifiers, moments and coordinates: what every document of the server is made of.
 #![tactic(auto)]
 
+mod fault;
+mod field;
+mod fields;
 mod id;
+mod make;
 mod moment;
+mod print;
+mod read;
 mod token;
 mod tree;
 mod units;
 
+pub use fault::TextFault;
+pub use field::Field;
+pub use fields::{
+    bool_at, bool_of, bound_at, bound_of, document_of, id_at, id_of, ids_at, ids_of, int_at,
+    int_of, list_at, list_of, member_at, moment_at, moment_of, required_id, required_ids,
+    required_int, required_list, required_member, required_moment, required_text, required_token,
+    text_at, text_of, token_at, token_of, tokens_at, tokens_of,
+};
 pub use id::Id;
+pub use make::{
+    add_member, bool_tree, copy_members, copy_tree, id_tree, int_tree, list_tree, object_tree,
+    text_tree,
+};
 pub use moment::Moment;
+pub use print::print_tree;
+pub use read::read_tree;
 pub use token::Token;
 pub use tree::{Member, Tree};
 pub use units::Units7;

@@ -1,0 +1,154 @@
+-- What is found among documents of several publications.
+use Rattle.std.proofs.Common.{◌≡◌, ℕ, Bool, true, false, cond, List, [], ◌∷◌, ◌++◌, map, find, suc, add-one, drop-cons, Some, None, option_map, length, drop, get_or, ◌+◌, ◌<◌, refl, ap, sym, ◌∙◌}
+use Rattle.std.specs.Prelude.{bytes_eq}
+use Rattle.std.specs.List.{flat_map}
+use Rattle.std.proofs.lemmas.List.{map-append, flat_map_more, length-map}
+use Rattle.std.proofs.lemmas.Bool.{and_parts}
+use borrow.Author.Tests.{ltb-true, leb-true}
+use Rattle.std.proofs.Common.{length-append, nat_lt, nat_le, ◌≤◌, arith}
+use Rattle.std.specs.Option.{option_or}
+use Rattle.std.proofs.lemmas.List.Folds.{find-append}
+use Rattle.std.specs.declared.sync.Arc.{Arc}
+use Rattle.std.specs.declared.alloc.Global.{Global}
+use Rattle.mds_policy.specs.Policy.{Policy, Rule, policy_document, rule_document}
+use Rattle.mds_policy.specs.declared.rule.Rule as rule
+use Rattle.mds_policy.specs.declared.policy.Policy as policy
+use Rattle.mds_geography.specs.Geography.{Geography, geography_document}
+use Rattle.mds_catalog.specs.declared.batch.Batch.{Batch}
+use Rattle.mds_catalog.specs.Publication.{Publication, publication_of, publications_in, dated, find_policy, find_geography, published_policies, published_geographies, named_geographies, named_predecessors, fits, is_lawful, IsWithin, most_policies, most_geographies, most_publications}
+
+-- what is found among documents of one moment
+pub find-dated : {A : Type 0} (test : A → Bool) (moment : ℕ) (documents : List A) → find (λ p. test p.document) (map (dated moment) documents) ≡ option_map (dated moment) (find test documents)
+find-dated test moment [] = refl
+find-dated {A} test moment (d ∷ ds) =
+    elim (test d) as (λ b. cond b (Some (dated moment d)) (find (λ p. test p.document) (map (dated moment) ds)) ≡ option_map (dated moment) (cond b (Some d) (find test ds))) [
+      | true ↦ refl
+      | false ↦ find-dated test moment ds
+    ]
+
+-- found in the first of two parts
+pub find_early : {X : Type 0} (p : X → Bool) (xs ys : List X) (x : X) → find p xs ≡ Some x → find p (xs ++ ys) ≡ Some x
+find_early p xs ys x h = find-append p xs ys ∙ ap (λ o. option_or o (find p ys)) h
+
+-- not found in the first of two parts
+pub find_late : {X : Type 0} (p : X → Bool) (xs ys : List X) → find p xs ≡ None → find p (xs ++ ys) ≡ find p ys
+find_late p xs ys h = find-append p xs ys ∙ ap (λ o. option_or o (find p ys)) h
+
+-- the rest of a list from a place on is the element there, and the rest behind it
+pub drop_at : {X : Type 0} (xs : List X) (i : ℕ) (x : X) → i < length xs → x ≡ get_or xs i x → drop i xs ≡ x ∷ drop (i + 1) xs
+drop_at xs i x h e = rw (add-one, drop-cons xs i x) (ap (λ y. y ∷ drop (suc i) xs) (sym e))
+
+-- the rest of the publications from a place on
+publications_at : (batches : List (Arc Batch Global)) (i : ℕ) (share : Arc Batch Global) → i < length batches → share ≡ get_or batches i share → publications_in (drop i batches) ≡ publication_of share.value ∷ publications_in (drop (i + 1) batches)
+publications_at batches i share h e = ap publications_in (drop_at batches i share h e)
+
+-- found among the documents of the first publication
+policy_head : (p : Publication) (ps : List Publication) (id : List ℕ) (d : Policy) → find (λ p. bytes_eq p.id id) p.policies ≡ Some d → find_policy (p ∷ ps) id ≡ Some (dated p.moment d)
+policy_head p ps id d found =
+    find_early (λ q. bytes_eq q.document.id id) (map (dated p.moment) p.policies) (published_policies ps) (dated p.moment d)
+    (find-dated (λ q. bytes_eq q.id id) p.moment p.policies ∙ ap (option_map (dated p.moment)) found)
+
+-- not found there
+policy_tail : (p : Publication) (ps : List Publication) (id : List ℕ) → find (λ p. bytes_eq p.id id) p.policies ≡ None → find_policy (p ∷ ps) id ≡ find_policy ps id
+policy_tail p ps id none =
+    find_late (λ q. bytes_eq q.document.id id) (map (dated p.moment) p.policies) (published_policies ps)
+    (find-dated (λ q. bytes_eq q.id id) p.moment p.policies ∙ ap (option_map (dated p.moment)) none)
+
+-- found in this batch, and so the first one from here on
+pub policy_here : (batches : List (Arc Batch Global)) (i : ℕ) (share : Arc Batch Global) (id : List ℕ) (d : Policy) → i < length batches → share ≡ get_or batches i share → find (λ p. bytes_eq p.id id) (publication_of share.value).policies ≡ Some d → find_policy (publications_in (drop i batches)) id ≡ Some (dated share.value.moment d)
+policy_here batches i share id d h e found =
+    ap (λ ps. find_policy ps id) (publications_at batches i share h e) ∙ policy_head (publication_of share.value) (publications_in (drop (i + 1) batches)) id d found
+
+-- not found in this batch
+pub policy_later : (batches : List (Arc Batch Global)) (i : ℕ) (share : Arc Batch Global) (id : List ℕ) → i < length batches → share ≡ get_or batches i share → find (λ p. bytes_eq p.id id) (publication_of share.value).policies ≡ None → find_policy (publications_in (drop i batches)) id ≡ find_policy (publications_in (drop (i + 1) batches)) id
+policy_later batches i share id h e none =
+    ap (λ ps. find_policy ps id) (publications_at batches i share h e) ∙ policy_tail (publication_of share.value) (publications_in (drop (i + 1) batches)) id none
+
+-- found among the documents of the first publication
+geography_head : (p : Publication) (ps : List Publication) (id : List ℕ) (d : Geography) → find (λ g. bytes_eq g.id id) p.geographies ≡ Some d → find_geography (p ∷ ps) id ≡ Some (dated p.moment d)
+geography_head p ps id d found =
+    find_early (λ q. bytes_eq q.document.id id) (map (dated p.moment) p.geographies) (published_geographies ps) (dated p.moment d)
+    (find-dated (λ q. bytes_eq q.id id) p.moment p.geographies ∙ ap (option_map (dated p.moment)) found)
+
+-- not found there
+geography_tail : (p : Publication) (ps : List Publication) (id : List ℕ) → find (λ g. bytes_eq g.id id) p.geographies ≡ None → find_geography (p ∷ ps) id ≡ find_geography ps id
+geography_tail p ps id none =
+    find_late (λ q. bytes_eq q.document.id id) (map (dated p.moment) p.geographies) (published_geographies ps)
+    (find-dated (λ q. bytes_eq q.id id) p.moment p.geographies ∙ ap (option_map (dated p.moment)) none)
+
+-- found in this batch, and so the first one from here on
+pub geography_here : (batches : List (Arc Batch Global)) (i : ℕ) (share : Arc Batch Global) (id : List ℕ) (d : Geography) → i < length batches → share ≡ get_or batches i share → find (λ g. bytes_eq g.id id) (publication_of share.value).geographies ≡ Some d → find_geography (publications_in (drop i batches)) id ≡ Some (dated share.value.moment d)
+geography_here batches i share id d h e found =
+    ap (λ ps. find_geography ps id) (publications_at batches i share h e) ∙ geography_head (publication_of share.value) (publications_in (drop (i + 1) batches)) id d found
+
+-- not found in this batch
+pub geography_later : (batches : List (Arc Batch Global)) (i : ℕ) (share : Arc Batch Global) (id : List ℕ) → i < length batches → share ≡ get_or batches i share → find (λ g. bytes_eq g.id id) (publication_of share.value).geographies ≡ None → find_geography (publications_in (drop i batches)) id ≡ find_geography (publications_in (drop (i + 1) batches)) id
+geography_later batches i share id h e none =
+    ap (λ ps. find_geography ps id) (publications_at batches i share h e) ∙ geography_tail (publication_of share.value) (publications_in (drop (i + 1) batches)) id none
+
+-- what is found in lists made of the elements from a place on: in the first of them, or in the others
+pub find_at : {S D X : Type 0} (g : D → List X) (doc : S → D) (p : X → Bool) (xs : List S) (i : ℕ) (x : S) → i < length xs → x ≡ get_or xs i x → find p (flat_map g (map doc (drop i xs))) ≡ option_or (find p (g (doc x))) (find p (flat_map g (map doc (drop (i + 1) xs))))
+find_at g doc p xs i x h e =
+    ap (λ ys. find p (flat_map g (map doc ys))) (drop_at xs i x h e) ∙ find-append p (g (doc x)) (flat_map g (map doc (drop (i + 1) xs)))
+
+-- the geographies of the rules from a place on
+pub rules_at : (p : List ℕ → Bool) (rules : List rule.Rule) (i : ℕ) (r : rule.Rule) → i < length rules → r ≡ get_or rules i r → find p (flat_map (λ rule. rule.geographies) (map rule_document (drop i rules))) ≡ option_or (find p r.geographies.items) (find p (flat_map (λ rule. rule.geographies) (map rule_document (drop (i + 1) rules))))
+rules_at p rules i r h e = find_at (λ (rule : Rule). rule.geographies) rule_document p rules i r h e
+
+-- the geographies of the policies from a place on
+pub policies_at : (p : List ℕ → Bool) (shares : List (Arc policy.Policy Global)) (i : ℕ) (share : Arc policy.Policy Global) → i < length shares → share ≡ get_or shares i share → find p (named_geographies (map (λ s. policy_document s.value) (drop i shares))) ≡ option_or (find p (flat_map (λ rule. rule.geographies) (policy_document share.value).rules)) (find p (named_geographies (map (λ s. policy_document s.value) (drop (i + 1) shares))))
+policies_at p shares i share h e = find_at (λ (d : Policy). flat_map (λ (rule : Rule). rule.geographies) d.rules) (λ (s : Arc policy.Policy Global). policy_document s.value) p shares i share h e
+
+-- the predecessors of the policies from a place on
+pub predecessors_at : (p : List ℕ → Bool) (shares : List (Arc policy.Policy Global)) (i : ℕ) (share : Arc policy.Policy Global) → i < length shares → share ≡ get_or shares i share → find p (named_predecessors (map (λ s. policy_document s.value) (drop i shares))) ≡ option_or (find p (policy_document share.value).previous) (find p (named_predecessors (map (λ s. policy_document s.value) (drop (i + 1) shares))))
+predecessors_at p shares i share h e = find_at (λ (d : Policy). d.previous) (λ (s : Arc policy.Policy Global). policy_document s.value) p shares i share h e
+
+-- a share at the end
+pub publications_push : (batches : List (Arc Batch Global)) (share : Arc Batch Global) → publications_in (batches ++ share ∷ []) ≡ publications_in batches ++ publication_of share.value ∷ []
+publications_push batches share = map-append (λ (s : Arc Batch Global). publication_of s.value) batches (share ∷ [])
+
+-- one more publication's policies
+pub length-published_policies-push : (ps : List Publication) (p : Publication) → length (published_policies (ps ++ p ∷ [])) ≡ length (published_policies ps) + length p.policies
+length-published_policies-push ps p =
+    ap length (sym (flat_map_more (λ (q : Publication). map (dated q.moment) q.policies) [] ps p))
+    ∙ length-append (published_policies ps) (map (dated p.moment) p.policies) ∙ ap (λ n. length (published_policies ps) + n) (length-map p.policies (dated p.moment))
+
+-- one more publication's geographies
+pub length-published_geographies-push : (ps : List Publication) (p : Publication) → length (published_geographies (ps ++ p ∷ [])) ≡ length (published_geographies ps) + length p.geographies
+length-published_geographies-push ps p =
+    ap length (sym (flat_map_more (λ (q : Publication). map (dated q.moment) q.geographies) [] ps p))
+    ∙ length-append (published_geographies ps) (map (dated p.moment) p.geographies) ∙ ap (λ n. length (published_geographies ps) + n) (length-map p.geographies (dated p.moment))
+
+-- what fits stays within the limits
+fits_all : (ps : List Publication) (p : Publication) → fits ps p ≡ true → (length (published_policies ps) + length p.policies ≤ most_policies) × (length (published_geographies ps) + length p.geographies ≤ most_geographies) × (length ps < most_publications)
+fits_all ps p h =
+    let parts = and_parts _ (nat_lt (length ps) most_publications) h in
+    let front = and_parts (nat_le (length (published_policies ps) + length p.policies) most_policies) _ parts.0 in
+    (leb-true _ _ front.0, leb-true _ _ front.1, ltb-true _ _ parts.1)
+
+-- a lawful publication fits
+lawful_fits : (ps : List Publication) (p : Publication) → is_lawful ps p ≡ true → fits ps p ≡ true
+lawful_fits ps p h = (and_parts _ (fits ps p) h).1
+
+-- one lawful publication more stays within the limits
+pub within_push : (batches : List (Arc Batch Global)) (share : Arc Batch Global) (after : List (Arc Batch Global)) (policies geographies m n : ℕ) → IsWithin (publications_in batches) policies geographies → is_lawful (publications_in batches) (publication_of share.value) ≡ true → after ≡ batches ++ share ∷ [] → m ≡ length share.value.policies.items → n ≡ length share.value.geographies.items → IsWithin (publications_in after) (policies + m) (geographies + n)
+within_push batches share after policies geographies m n h lawful pushed ms ns =
+    let ps = publications_in batches in
+    let p = publication_of share.value in
+    let all : publications_in after ≡ ps ++ p ∷ [] = ap publications_in pushed ∙ publications_push batches share in
+    let m_is : m ≡ length p.policies = ms ∙ sym (length-map share.value.policies.items (λ s. policy_document s.value)) in
+    let n_is : n ≡ length p.geographies = ns ∙ sym (length-map share.value.geographies.items (λ s. geography_document s.value)) in
+    let room = fits_all ps p (lawful_fits ps p lawful) in
+    let a = h.policy_count in
+    let b = h.geography_count in
+    record {
+      policy_count = omega (arith, a, m_is, length-published_policies-push ps p, ap (λ qs. length (published_policies qs)) all);
+      geography_count = omega (arith, b, n_is, length-published_geographies-push ps p, ap (λ qs. length (published_geographies qs)) all);
+      few_policies = omega (arith, room.0, a, m_is);
+      few_geographies = omega (arith, room.1, b, n_is);
+      few_publications = omega (arith, room.2, length-append ps (p ∷ []), ap length all);
+    }
+
+-- a lawful publication finds room
+pub lawful_room : (ps : List Publication) (p : Publication) → is_lawful ps p ≡ true → length ps < most_publications
+lawful_room ps p lawful = (fits_all ps p (lawful_fits ps p lawful)).2

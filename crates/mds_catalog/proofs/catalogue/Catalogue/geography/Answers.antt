@@ -1,0 +1,13 @@
+use Rattle.std.proofs.Common.{◌≡◌, Some, find, bytes_eq, ap, sym, ◌∙◌, arith}
+use Rattle.mds_geography.specs.Geography.{geography_document}
+use Rattle.mds_catalog.specs.Publication.{publication_of, dated}
+use Rattle.mds_catalog.proofs.Found.{geography_here}
+use Rattle.mds_catalog.proofs.catalogue.Catalogue.geography.Goals as goal
+
+pub returns-in-Some : goal.returns-in-Some
+returns-in-Some c =
+    let same = c.deref-batch.ensures in
+    let found : find (λ g. bytes_eq g.id c.args.id) (publication_of c.share-item.result.value).geographies ≡ Some (geography_document c.in-Some.document.now) =
+    ap (λ b. find (λ g. bytes_eq g.id c.args.id) (publication_of b).geographies) (sym same) ∙ sym c.in-Some.ensures in
+    let here = geography_here c.args.self.now.batches.items c.loop-share.share-index c.share-item.result c.args.id (geography_document c.in-Some.document.now) (omega arith) (cc) found in
+    ap (λ b. Some (dated b.moment (geography_document c.in-Some.document.now))) same ∙ sym here ∙ c.loop-share.invariant

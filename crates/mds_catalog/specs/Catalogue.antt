@@ -1,0 +1,21 @@
+-- What a `Catalogue` and the documents that it lends stand for.
+use Rattle.std.specs.Prelude.{List}
+use Rattle.mds_policy.specs.Policy.{policy_document, Policy}
+use Rattle.mds_geography.specs.Geography.{geography_document, Geography}
+use Rattle.mds_policy.specs.declared.policy.Policy as program
+use Rattle.mds_geography.specs.declared.geography.Geography as program'
+use Rattle.mds_catalog.specs.declared.catalogue.Catalogue.{Catalogue}
+use Rattle.mds_catalog.specs.declared.published.Published as lent
+use Rattle.mds_catalog.specs.Publication.{Publication, Published, publications_in}
+
+-- the publications of a catalogue in their order
+abbrev pub publications_of : Catalogue → List Publication
+publications_of c = publications_in c.batches.items
+
+-- the published policy that is lent
+abbrev pub lent_policy : lent.Published program.Policy → Published Policy
+lent_policy p = record { document = policy_document p.document.now; moment = p.moment }
+
+-- the published geography that is lent
+abbrev pub lent_geography : lent.Published program'.Geography → Published Geography
+lent_geography g = record { document = geography_document g.document.now; moment = g.moment }

@@ -1,0 +1,112 @@
+ghost use Rattle.std.specs.Prelude.{◌≡◌, find, bytes_eq, option_map, map};
+ghost use Rattle.mds_policy.specs.Policy.{policy_document};
+ghost use Rattle.mds_geography.specs.Geography.{geography_document};
+
+use mds_geography::Geography;
+use mds_policy::Policy;
+use mds_text::{Id, Moment};
+use std::sync::Arc;
+
+/// Documents that are published whole at one moment, each list in the order of the request.
+#[derive(Drop)]
+pub struct Batch {
+    pub moment: Moment,
+    pub geographies: Vec<Arc<Geography>>,
+    pub policies: Vec<Arc<Policy>>,
+}
+
+impl Batch {
+    ghost use Rattle.mds_catalog.specs.Publication.{publication_of, is_empty, are_distinct, policy_ids, geography_ids, is_among};
+
+    /// Whether it holds no document.
+    pub(crate) fn is_empty(&self) -> bool
+        ensures { result ≡ is_empty (publication_of self.now) }
+    {
+        self.geographies.is_empty() && self.policies.is_empty()
+    }
+
+    /// The first policy of this identifier.
+    pub(crate) fn policy(&self, id: Id) -> Option<&Policy>
+        ensures { option_map (λ p. policy_document p.now) result
+            ≡ find (λ p. bytes_eq p.id id) (publication_of self.now).policies }
+    {
+        for policy in &self.policies {
+            if policy.id() == id {
+                return Some(policy);
+            }
+        }
+        None
+    }
+
+    /// The first geography of this identifier.
+    pub(crate) fn geography(&self, id: Id) -> Option<&Geography>
+        ensures { option_map (λ g. geography_document g.now) result
+            ≡ find (λ g. bytes_eq g.id id) (publication_of self.now).geographies }
+    {
+        for geography in &self.geographies {
+            if geography.id() == id {
+                return Some(geography);
+            }
+        }
+        None
+    }
+
+    /// Whether a geography of this identifier is in it.
+    pub(crate) fn has_geography(&self, id: Id) -> bool
+        ensures { result ≡ is_among (geography_ids (publication_of self.now)) id }
+    {
+        stands_in_geographies(&self.geographies, id)
+    }
+
+    /// Whether no policy's identifier stands twice.
+    pub(crate) fn policies_differ(&self) -> bool
+        ensures { result ≡ are_distinct (policy_ids (publication_of self.now)) }
+    {
+        for (i, policy) in self.policies.iter().enumerate() {
+            if stands_in_policies(&self.policies[i + 1..], policy.id()) {
+                return false;
+            }
+        }
+        true
+    }
+
+    /// Whether no geography's identifier stands twice.
+    pub(crate) fn geographies_differ(&self) -> bool
+        ensures { result ≡ are_distinct (geography_ids (publication_of self.now)) }
+    {
+        for (i, geography) in self.geographies.iter().enumerate() {
+            if stands_in_geographies(&self.geographies[i + 1..], geography.id()) {
+                return false;
+            }
+        }
+        true
+    }
+}
+
+ghost use Rattle.mds_catalog.specs.Publication.{is_among};
+
+/// Whether a policy of this identifier is in the list.
+fn stands_in_policies(policies: &[Arc<Policy>], id: Id) -> bool
+    ensures { result
+        ≡ is_among (map (λ d. d.id) (map (λ share. policy_document share.value) policies.now)) id }
+{
+    for policy in policies {
+        if policy.id() == id {
+            return true;
+        }
+    }
+    false
+}
+
+/// Whether a geography of this identifier is in the list.
+fn stands_in_geographies(geographies: &[Arc<Geography>], id: Id) -> bool
+    ensures { result
+        ≡ is_among (map (λ d. d.id) (map (λ share. geography_document share.value) geographies.now)) id }
+{
+    for geography in geographies {
+        if geography.id() == id {
+            return true;
+        }
+    }
+    false
+}

@@ -1,0 +1,296 @@
+ghost use Rattle.std.specs.Prelude.{◌≤◌, vec_capacity};
+ghost use Rattle.mds_catalog.specs.Publication.{publications_in, IsWithin, most_publications};
+
+use crate::batch::Batch;
+use crate::force::is_in_force;
+use crate::published::Published;
+use mds_geography::Geography;
+use mds_policy::{Policy, Rule};
+use mds_text::{Id, Moment};
+use std::alloc::{AllocError, Global};
+use std::sync::Arc;
+
+/// The most publications.
+const MOST_PUBLICATIONS: usize = 1024;
+
+/// The most published policies.
+const MOST_POLICIES: usize = 512;
+
+/// The most published geographies.
+const MOST_GEOGRAPHIES: usize = 512;
+
+/// All published batches in their order. Contracts see the list of the publications.
+#[derive(Drop)]
+pub struct Catalogue {
+    batches: Vec<Arc<Batch>>,
+    policy_count: usize,
+    geography_count: usize,
+    ghost roomy: { most_publications ≤ vec_capacity batches },
+    ghost within: { IsWithin (publications_in batches.items) policy_count geography_count },
+}
+
+impl Catalogue {
+    ghost use Rattle.std.specs.Prelude.{◌≡◌, ◌++◌, ◌∷◌, [], length, IfOk, OnOk, OnErr, option_map, IsTrue, find, map, not};
+    ghost use Rattle.std.specs.List.{flat_map};
+    ghost use Rattle.mds_policy.specs.Policy.{rule_document, policy_document};
+    ghost use Rattle.mds_catalog.specs.Publication.{find_policy, find_geography, is_policy_published, is_geography_published, policy_ids, geography_ids, first_published, is_geography_there, missing_geography, missing_predecessor, fits, is_lawful, extended, publication_of, is_in_force, dated};
+    ghost use Rattle.mds_catalog.specs.Catalogue.{publications_of, lent_policy, lent_geography};
+
+    /// An empty catalogue with room for all publications.
+    ///
+    /// # Errors
+    ///
+    /// The room was refused.
+    pub fn with_room(alloc: Global) -> Result<Catalogue, AllocError>
+        ensures { IfOk result (λ c. publications_of c ≡ []) }
+    {
+        Ok(Catalogue {
+            batches: Vec::with_capacity(alloc, MOST_PUBLICATIONS)?,
+            policy_count: 0,
+            geography_count: 0,
+        })
+    }
+
+    /// The number of batches published.
+    pub fn revision(&self) -> u64
+        ensures { result ≡ length (publications_of self.now) }
+    {
+        self.batches.len() as u64
+    }
+
+    /// The batches in the order of their publication.
+    pub fn batches(&self) -> &[Arc<Batch>]
+        ensures { publications_in result.now ≡ publications_of self.now }
+    {
+        self.batches.as_slice()
+    }
+
+    /// Whether a policy that was published at this moment is in force for an operator at another: it
+    /// is published and started, hasn't ended, is meant for the operator, and no published policy that
+    /// is effective then replaces it (MDS 2.0 Policy, `prev_policies`).
+    pub fn is_in_force(&self, operator: Id, at: Moment, policy: &Policy, published: Moment) -> bool
+        ensures { result ≡ is_in_force (publications_of self.now) operator at (dated published (policy_document policy.now)) }
+    {
+        is_in_force(&self.batches, operator, at, policy, published)
+    }
+
+    /// The published policy of this identifier.
+    #[tactic(auto, using(crate::proofs::Found::policy_here, crate::proofs::Found::policy_later))]
+    pub fn policy(&self, id: Id) -> Option<Published<'_, Policy>>
+        ensures { option_map lent_policy result ≡ find_policy (publications_of self.now) id }
+    {
+        for share in &self.batches {
+            let batch: &Batch = share;
+            if let Some(document) = batch.policy(id) {
+                return Some(Published {
+                    document,
+                    moment: batch.moment,
+                });
+            }
+        }
+        None
+    }
+
+    /// The published geography of this identifier.
+    #[tactic(auto, using(crate::proofs::Found::geography_here, crate::proofs::Found::geography_later))]
+    pub fn geography(&self, id: Id) -> Option<Published<'_, Geography>>
+        ensures { option_map lent_geography result ≡ find_geography (publications_of self.now) id }
+    {
+        for share in &self.batches {
+            let batch: &Batch = share;
+            if let Some(document) = batch.geography(id) {
+                return Some(Published {
+                    document,
+                    moment: batch.moment,
+                });
+            }
+        }
+        None
+    }
+
+    /// Whether a policy of this identifier is published.
+    fn has_policy(&self, id: Id) -> bool
+        ensures { result ≡ is_policy_published (publications_of self.now) id }
+    {
+        self.policy(id).is_some()
+    }
+
+    /// Whether a geography of this identifier is published.
+    fn has_geography(&self, id: Id) -> bool
+        ensures { result ≡ is_geography_published (publications_of self.now) id }
+    {
+        self.geography(id).is_some()
+    }
+
+    /// The batch's first geography that is published already.
+    fn published_geography(&self, batch: &Batch) -> Option<Id>
+        ensures { result ≡ find (is_geography_published (publications_of self.now))
+            (geography_ids (publication_of batch.now)) }
+    {
+        for geography in &batch.geographies {
+            let id = geography.id();
+            if self.has_geography(id) {
+                return Some(id);
+            }
+        }
+        None
+    }
+
+    /// The batch's first policy that is published already.
+    fn published_policy(&self, batch: &Batch) -> Option<Id>
+        ensures { result ≡ find (is_policy_published (publications_of self.now))
+            (policy_ids (publication_of batch.now)) }
+    {
+        for policy in &batch.policies {
+            let id = policy.id();
+            if self.has_policy(id) {
+                return Some(id);
+            }
+        }
+        None
+    }
+
+    /// The batch's first identifier that is published already, geographies before policies. A
+    /// geography may have a policy's identifier.
+    pub fn first_published(&self, batch: &Batch) -> Option<Id>
+        ensures { result ≡ first_published (publications_of self.now) (publication_of batch.now) }
+    {
+        match self.published_geography(batch) {
+            Some(id) => Some(id),
+            None => self.published_policy(batch),
+        }
+    }
+
+    /// The first of these geographies that is neither published nor in the batch.
+    fn missing_entry(&self, batch: &Batch, entries: &[Id]) -> Option<Id>
+        ensures { result ≡ find
+            (λ id. not (is_geography_there (publications_of self.now) (publication_of batch.now) id))
+            entries.now }
+    {
+        for id in entries {
+            if !self.has_geography(*id) && !batch.has_geography(*id) {
+                return Some(*id);
+            }
+        }
+        None
+    }
+
+    /// The first geography of these rules that is neither published nor in the batch.
+    fn missing_in_rules(&self, batch: &Batch, rules: &[Rule]) -> Option<Id>
+        ensures { result ≡ find
+            (λ id. not (is_geography_there (publications_of self.now) (publication_of batch.now) id))
+            (flat_map (λ rule. rule.geographies) (map rule_document rules.now)) }
+    {
+        for rule in rules {
+            if let Some(id) = self.missing_entry(batch, &rule.geographies) {
+                return Some(id);
+            }
+        }
+        None
+    }
+
+    /// The first geography that a rule of the batch names and that is neither published nor in the
+    /// batch, in the order of policies, rules and entries.
+    pub fn missing_geography(&self, batch: &Batch) -> Option<Id>
+        ensures { result ≡ missing_geography (publications_of self.now) (publication_of batch.now) }
+    {
+        for policy in &batch.policies {
+            if let Some(id) = self.missing_in_rules(batch, policy.rules()) {
+                return Some(id);
+            }
+        }
+        None
+    }
+
+    /// The first of these policies that isn't published.
+    fn unpublished(&self, entries: &[Id]) -> Option<Id>
+        ensures { result ≡ find (λ id. not (is_policy_published (publications_of self.now) id)) entries.now }
+    {
+        for id in entries {
+            if !self.has_policy(*id) {
+                return Some(*id);
+            }
+        }
+        None
+    }
+
+    /// The first policy that a policy of the batch replaces and that isn't published already, in the
+    /// order of policies and entries.
+    pub fn missing_predecessor(&self, batch: &Batch) -> Option<Id>
+        ensures { result ≡ missing_predecessor (publications_of self.now) (publication_of batch.now) }
+    {
+        for policy in &batch.policies {
+            if let Some(id) = self.unpublished(policy.previous()) {
+                return Some(id);
+            }
+        }
+        None
+    }
+
+    /// Whether the batch stays within the limits: 512 policies, 512 geographies and 1,024 batches
+    /// published in all.
+    pub fn fits(&self, batch: &Batch) -> bool
+        ensures { result ≡ fits (publications_of self.now) (publication_of batch.now) }
+    {
+        batch.policies.len() <= MOST_POLICIES - self.policy_count
+            && batch.geographies.len() <= MOST_GEOGRAPHIES - self.geography_count
+            && self.batches.len() < MOST_PUBLICATIONS
+    }
+
+    /// Whether the batch may be published: it holds a document, its identifiers are distinct and new,
+    /// the geographies of its rules are published or in it, the policies that it replaces are
+    /// published, and it fits.
+    pub fn lawful(&self, batch: &Batch) -> bool
+        ensures { result ≡ is_lawful (publications_of self.now) (publication_of batch.now) }
+    {
+        !batch.is_empty()
+            && batch.geographies_differ()
+            && batch.policies_differ()
+            && self.first_published(batch).is_none()
+            && self.missing_geography(batch).is_none()
+            && self.missing_predecessor(batch).is_none()
+            && self.fits(batch)
+    }
+
+    /// Adds a lawful batch at the end.
+    #[tactic(auto, using(crate::proofs::Found::lawful_room))]
+    fn append(&mut self, batch: Arc<Batch>)
+        requires { IsTrue (is_lawful (publications_of self.old) (publication_of batch.value)) }
+        ensures { publications_of self.new ≡ publications_of self.old ++ publication_of batch.value ∷ [] }
+    {
+        let policy_count = self.policy_count + batch.policies.len();
+        let geography_count = self.geography_count + batch.geographies.len();
+        self.batches.push_reserved(batch);
+        self.policy_count = policy_count;
+        self.geography_count = geography_count;
+    }
+
+    /// Adds the batch at the end where it is lawful, and changes nothing for any other. It can't be
+    /// refused.
+    pub fn adopt(&mut self, batch: Arc<Batch>)
+        ensures { publications_of self.new ≡ extended (publications_of self.old) (publication_of batch.value) }
+    {
+        if self.lawful(&batch) {
+            self.append(batch);
+        }
+    }
+
+    /// Adds a share of the batch at the end where it is lawful, and changes nothing for any other.
+    ///
+    /// # Errors
+    ///
+    /// A lawful batch gives no further share; nothing is changed.
+    pub fn absorb(&mut self, batch: &Arc<Batch>) -> Result<(), AllocError>
+        ensures ok { OnOk result (publications_of self.new
+            ≡ extended (publications_of self.old) (publication_of batch.now.value)) }
+        ensures err { OnErr result (publications_of self.new ≡ publications_of self.old) }
+        ensures refused_if_lawful { OnErr result
+            (IsTrue (is_lawful (publications_of self.old) (publication_of batch.now.value))) }
+    {
+        if self.lawful(batch) {
+            let share = Arc::try_clone(batch)?;
+            self.append(share);
+        }
+        Ok(())
+    }
+}

@@ -1,0 +1,19 @@
+use crate::catalogue::Catalogue;
+use mds_geometry::Position;
+use mds_match::Places;
+use mds_text::Id;
+
+/// The published geographies, whatever the moment of their publication.
+impl Places for Catalogue {
+    ghost use Rattle.mds_catalog.specs.Publication.{published_area};
+    ghost use Rattle.mds_catalog.specs.Catalogue.{publications_of};
+
+    ghost polygons = { λ c. published_area (publications_of c) };
+
+    fn holds(&self, geography: Id, position: Position) -> bool {
+        match self.geography(geography) {
+            Some(found) => found.document.holds(position),
+            None => false,
+        }
+    }
+}

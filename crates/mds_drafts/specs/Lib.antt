@@ -1,0 +1,5 @@
+pub mod Drafts
+pub mod Entries
+pub mod Named
+pub mod Publishing
+pub mod Shelf

@@ -1,0 +1,226 @@
+ghost use Rattle.std.specs.Prelude.{◌≡◌, ◌<◌, filter, not};
+ghost use Rattle.mds_drafts.specs.Entries.{drafts_in, document_of};
+ghost use Rattle.mds_drafts.specs.Drafts.{count_of, is_of};
+ghost use Rattle.mds_drafts.specs.declared.draft.DraftKind.TheVariants as kinds;
+
+use crate::draft::{Draft, DraftKind};
+use mds_catalog::Batch;
+use mds_geography::Geography;
+use mds_policy::Policy;
+use mds_text::Id;
+use std::alloc::{AllocError, Global};
+use std::sync::Arc;
+
+/// The most drafts of a kind.
+const MOST_DRAFTS: usize = 256;
+
+/// How a draft was put.
+#[derive(Clone, Copy, Debug, PartialEq, Eq)]
+pub enum Put {
+    /// None of its kind and identifier was held.
+    New,
+    /// It stands in the place of the one that was held.
+    Replaced,
+}
+
+/// Why a draft isn't put.
+#[derive(Clone, Copy, Debug, PartialEq, Eq)]
+pub enum PutFault {
+    /// It is new, and 256 of its kind are held.
+    DraftsFull,
+    /// Memory ran out.
+    NoMemory,
+}
+
+/// No draft of this kind and identifier is held.
+#[derive(Clone, Copy, Debug, PartialEq, Eq)]
+pub struct NoDraft;
+
+/// The drafts of both kinds, one of a kind under each identifier. Contracts see two finite maps.
+#[derive(Drop)]
+pub struct Drafts {
+    items: Vec<Draft>,
+    policy_count: usize,
+    geography_count: usize,
+    ghost policies_counted: { policy_count ≡ count_of (drafts_in items.items) kinds.Policy },
+    ghost geographies_counted: { geography_count ≡ count_of (drafts_in items.items) kinds.Geography },
+}
+
+impl Drafts {
+    ghost use Rattle.std.specs.Prelude.{OnOk, OnErr, IsOk, IsTrue, IsSome, ◌↔◌, option_map, is_some, position, Some, None, Ok, true};
+    ghost use Rattle.std.specs.FinMap.{empty, get};
+    ghost use Rattle.mds_policy.specs.Policy.{policy_document};
+    ghost use Rattle.mds_geography.specs.Geography.{geography_document};
+    ghost use Rattle.mds_catalog.specs.Publication.{publication_of};
+    ghost use Rattle.mds_drafts.specs.Drafts.{is_held, kind_of, id_of, most_drafts, draft_at, with_draft, without_draft, taken_out, put_answer, AnswersPut};
+    ghost use Rattle.mds_drafts.specs.Shelf.{drafts_of};
+
+    /// No draft. Takes no memory.
+    pub fn new(alloc: Global) -> Drafts
+        ensures policies { (drafts_of result).policies ≡ empty }
+        ensures geographies { (drafts_of result).geographies ≡ empty }
+    {
+        Drafts {
+            items: Vec::new(alloc),
+            policy_count: 0,
+            geography_count: 0,
+        }
+    }
+
+    /// The draft of this kind and identifier.
+    pub fn get(&self, kind: DraftKind, id: Id) -> Option<&Draft>
+        ensures { option_map (λ d. document_of d.now) result ≡ draft_at (drafts_of self.now) kind id }
+    {
+        for draft in &self.items {
+            if draft.is_of(kind, id) {
+                return Some(draft);
+            }
+        }
+        None
+    }
+
+    /// The draft of this policy.
+    pub(crate) fn policy(&self, id: Id) -> Option<&Arc<Policy>>
+        ensures { option_map (λ share. policy_document share.now.value) result ≡ get (drafts_of self.now).policies id }
+    {
+        match self.get(DraftKind::Policy, id) {
+            Some(Draft::Policy(share)) => Some(share),
+            _ => None,
+        }
+    }
+
+    /// The draft of this geography.
+    pub(crate) fn geography(&self, id: Id) -> Option<&Arc<Geography>>
+        ensures { option_map (λ share. geography_document share.now.value) result ≡ get (drafts_of self.now).geographies id }
+    {
+        match self.get(DraftKind::Geography, id) {
+            Some(Draft::Geography(share)) => Some(share),
+            _ => None,
+        }
+    }
+
+    /// The place of the draft of this kind and identifier.
+    fn place(&self, kind: DraftKind, id: Id) -> Option<usize>
+        ensures { result ≡ position (λ d. is_of (document_of d) kind id) self.now.items.items }
+    {
+        self.items.iter().position(|draft| draft.is_of(kind, id))
+    }
+
+    /// How many drafts of this kind are held.
+    fn count(&self, kind: DraftKind) -> usize
+        ensures { result ≡ count_of (drafts_of self.now) kind }
+    {
+        match kind {
+            DraftKind::Policy => self.policy_count,
+            DraftKind::Geography => self.geography_count,
+        }
+    }
+
+    /// Puts the draft in this place, which is that of its kind and identifier.
+    fn replace(&mut self, place: usize, draft: Draft)
+        requires { position (λ d. is_of (document_of d) (kind_of (document_of draft)) (id_of (document_of draft)))
+            self.old.items.items ≡ Some place }
+        ensures { drafts_of self.new ≡ with_draft (drafts_of self.old) (document_of draft) }
+    {
+        self.items[place] = draft;
+    }
+
+    /// Puts a draft of a new kind and identifier.
+    fn add(&mut self, draft: Draft) -> Result<(), AllocError>
+        requires absent { position (λ d. is_of (document_of d) (kind_of (document_of draft)) (id_of (document_of draft)))
+            self.old.items.items ≡ None }
+        requires room { count_of (drafts_of self.old) (kind_of (document_of draft)) < most_drafts }
+        ensures ok { OnOk result (drafts_of self.new ≡ with_draft (drafts_of self.old) (document_of draft)) }
+        ensures err { OnErr result (drafts_of self.new ≡ drafts_of self.old) }
+    {
+        let kind = draft.kind();
+        self.items.push(draft)?;
+        match kind {
+            DraftKind::Policy => self.policy_count += 1,
+            DraftKind::Geography => self.geography_count += 1,
+        }
+        Ok(())
+    }
+
+    /// Puts a draft, in the place of any of its kind and identifier.
+    ///
+    /// # Errors
+    ///
+    /// `DraftsFull` for a new draft where 256 of its kind are held; `NoMemory` for a new draft alone.
+    /// Nothing is changed.
+    pub fn put(&mut self, draft: Draft) -> Result<Put, PutFault>
+        ensures answer { AnswersPut result (put_answer (drafts_of self.old) (document_of draft)) }
+        ensures ok { OnOk result (drafts_of self.new ≡ with_draft (drafts_of self.old) (document_of draft)) }
+        ensures err { OnErr result (drafts_of self.new ≡ drafts_of self.old) }
+    {
+        let kind = draft.kind();
+        if let Some(place) = self.place(kind, draft.id()) {
+            self.replace(place, draft);
+            return Ok(Put::Replaced);
+        }
+        if self.count(kind) >= MOST_DRAFTS {
+            return Err(PutFault::DraftsFull);
+        }
+        match self.add(draft) {
+            Ok(()) => Ok(Put::New),
+            Err(_) => Err(PutFault::NoMemory),
+        }
+    }
+
+    /// Takes away the draft of this kind and identifier.
+    fn remove(&mut self, kind: DraftKind, id: Id)
+        requires { IsTrue (is_some (draft_at (drafts_of self.old) kind id)) }
+        ensures { drafts_of self.new ≡ without_draft (drafts_of self.old) kind id }
+    {
+        keep_others(&mut self.items, kind, id);
+        match kind {
+            DraftKind::Policy => self.policy_count -= 1,
+            DraftKind::Geography => self.geography_count -= 1,
+        }
+    }
+
+    /// Takes away the draft of this kind and identifier, if there is one.
+    fn discard(&mut self, kind: DraftKind, id: Id)
+        ensures { drafts_of self.new ≡ without_draft (drafts_of self.old) kind id }
+    {
+        if self.get(kind, id).is_some() {
+            self.remove(kind, id);
+        }
+    }
+
+    /// Drops the draft of this kind and identifier. Takes no memory.
+    ///
+    /// # Errors
+    ///
+    /// `NoDraft` where there is none; nothing is changed.
+    pub fn drop_draft(&mut self, kind: DraftKind, id: Id) -> Result<(), NoDraft>
+        ensures held { IsOk result ↔ IsTrue (is_some (draft_at (drafts_of self.old) kind id)) }
+        ensures ok { OnOk result (drafts_of self.new ≡ without_draft (drafts_of self.old) kind id) }
+        ensures err { OnErr result (drafts_of self.new ≡ drafts_of self.old) }
+    {
+        if self.get(kind, id).is_none() {
+            return Err(NoDraft);
+        }
+        self.remove(kind, id);
+        Ok(())
+    }
+
+    /// Takes away the drafts of all documents of the batch, which has been published. Takes no memory.
+    pub fn take_out(&mut self, batch: &Batch)
+        ensures { drafts_of self.new ≡ taken_out (drafts_of self.old) (publication_of batch.now) }
+    {
+        for policy in &batch.policies {
+            self.discard(DraftKind::Policy, policy.id());
+        }
+        for geography in &batch.geographies {
+            self.discard(DraftKind::Geography, geography.id());
+        }
+    }
+}
+
+/// Keeps the drafts that aren't of this kind and identifier.
+fn keep_others(items: &mut Vec<Draft>, kind: DraftKind, id: Id)
+    ensures { items.new.items ≡ filter (λ d. not (is_of (document_of d) kind id)) items.old.items }
+{
+    items.retain(|draft| !draft.is_of(kind, id));
+}

@@ -1,0 +1,82 @@
+ghost use Rattle.std.specs.Prelude.{◌≡◌, true, IfOk};
+ghost use Rattle.mds_text.specs.Fault.{Gives, text_cause};
+ghost use Rattle.mds_text.specs.View.{view};
+ghost use Rattle.mds_catalog.specs.Publication.{are_distinct};
+ghost use Rattle.mds_drafts.specs.Named.{distinct_ids_at};
+
+use mds_text::{Field, Id, TextFault, Tree, document_of, ids_at, read_tree};
+use std::alloc::Global;
+
+/// The identifiers that are to be published, each list in its order and without repeats.
+#[derive(Drop)]
+pub struct PublishList {
+    pub(crate) geographies: Vec<Id>,
+    pub(crate) policies: Vec<Id>,
+    ghost geographies_differ: { are_distinct geographies.items ≡ true },
+    ghost policies_differ: { are_distinct policies.items ≡ true },
+}
+
+impl PublishList {
+    ghost use Rattle.mds_drafts.specs.Named.{names_nothing, publish_list_of, read_publish_list};
+    ghost use Rattle.mds_drafts.specs.Shelf.{named_of};
+
+    /// Reads a publish request: `geographies`, then `policies`, each an optional list of identifiers.
+    /// Absent and null are the empty list.
+    ///
+    /// # Errors
+    ///
+    /// The first line that isn't met; an identifier that stands twice in one list is a bad field.
+    pub fn read(alloc: Global, text: &[u8]) -> Result<PublishList, TextFault>
+        ensures { Gives text_cause named_of result (read_publish_list text.now) }
+    {
+        let tree = read_tree(alloc, text)?;
+        PublishList::from_tree(alloc, &tree)
+    }
+
+    fn from_tree(alloc: Global, tree: &Tree) -> Result<PublishList, TextFault>
+        ensures { Gives text_cause named_of result (publish_list_of (view tree.now)) }
+    {
+        let document = document_of(tree)?;
+        let geographies = distinct_ids_at(alloc, document, Field::Geographies)?;
+        let policies = distinct_ids_at(alloc, document, Field::Policies)?;
+        Ok(PublishList {
+            geographies,
+            policies,
+        })
+    }
+
+    /// Whether no identifier is named.
+    pub fn is_empty(&self) -> bool
+        ensures { result ≡ names_nothing (named_of self.now) }
+    {
+        self.geographies.is_empty() && self.policies.is_empty()
+    }
+}
+
+/// An optional list of identifiers without repeats.
+fn distinct_ids_at(alloc: Global, document: &Tree, field: Field) -> Result<Vec<Id>, TextFault>
+    ensures value { Gives text_cause (λ v. v.items) result (distinct_ids_at (view document.now) field) }
+    ensures differ { IfOk result (λ v. are_distinct v.items ≡ true) }
+{
+    let ids = match ids_at(alloc, document, field)? {
+        Some(ids) => ids,
+        None => Vec::new(alloc),
+    };
+    if differ(&ids) {
+        Ok(ids)
+    } else {
+        Err(TextFault::BadField(field))
+    }
+}
+
+/// Whether no identifier stands twice.
+fn differ(ids: &[Id]) -> bool
+    ensures { result ≡ are_distinct ids.now }
+{
+    for (i, id) in ids.iter().enumerate() {
+        if ids[i + 1..].contains(id) {
+            return false;
+        }
+    }
+    true
+}

@@ -1,0 +1,57 @@
+-- What `Take` says of each outcome, and that only one can be.
+use Rattle.std.proofs.Common.{◌≡◌, ◌≢◌, ℕ, ◌+◌, ◌<◌, ◌≤◌, cond, List, Bool, true, false, Option, Some, None, Result, Ok, Err, refl, sym, ap, subst, ◌∙◌, arith}
+use Rattle.std.specs.declared.cmp.Ordering.{Ordering}
+use Rattle.std.specs.declared.cmp.Ordering.TheVariants.{Less, Equal, Greater}
+use Rattle.std.specs.Ordering.{is_eq, eq_by_cmp}
+use Rattle.std.specs.Option.{is_some, unwrap_or}
+use Rattle.std.specs.FinMap.{get, insert, len, get-insert, len-insert, IsAntisymmetric}
+use Rattle.mds_match.specs.Row.{Row}
+use Rattle.mds_fleet.specs.declared.book.Taken.{Taken}
+use Rattle.mds_fleet.specs.declared.book.Taken.TheVariants.{New, Changed, Same}
+use Rattle.mds_fleet.specs.declared.book.BookFault.{BookFault}
+use Rattle.mds_fleet.specs.declared.book.BookFault.TheVariants.{Future, Stale, FleetFull, NoMemory}
+use Rattle.mds_fleet.specs.Books.{Report, Rows, Take, IsNew, IsHeld, device_cmp, row_from, run_start, reported}
+use Rattle.mds_fleet.proofs.Rows.{device_total, device_exact}
+
+-- a device that isn't held adds one row
+pub len_new : (rows : Rows) (device : List ℕ) (row : Row) → get rows device ≡ None → len (insert rows device row) ≡ len rows + 1
+len_new rows device row absent = len-insert device_total rows device row ∙ ap (λ found. cond (is_some found) (len rows) (len rows + 1)) absent
+
+-- one that is held adds none
+pub len_held : (rows : Rows) (device : List ℕ) (row old : Row) → get rows device ≡ Some old → len (insert rows device row) ≡ len rows
+len_held rows device row old held = len-insert device_total rows device row ∙ ap (λ found. cond (is_some found) (len rows) (len rows + 1)) held
+
+pub keeps_limit : (rows : Rows) (limit : ℕ) (report : Report) (moment : ℕ) (result : Result Taken BookFault) (after : Rows) → Take rows limit report moment result after → len rows ≤ limit → len after ≤ limit
+keeps_limit rows limit report moment (Err Future) after h le = rw h.1 le
+keeps_limit rows limit report moment (Err Stale) after h le = rw h.2 le
+keeps_limit rows limit report moment (Err FleetFull) after h le = rw h.3 le
+keeps_limit rows limit report moment (Err NoMemory) after h le = rw h le
+keeps_limit rows limit report moment (Ok New) after h le =
+    omega (arith, ap len h.1 ∙ len_new rows report.device _ h.0.absent, h.0.room)
+keeps_limit rows limit report moment (Ok Changed) after h le =
+    omega (arith, ap len h.3 ∙ len_held rows report.device _ h.0 h.1.held)
+keeps_limit rows limit report moment (Ok Same) after h le = rw h.3 le
+
+pub refused_same : (rows : Rows) (limit : ℕ) (report : Report) (moment : ℕ) (fault : BookFault) (after : Rows) → Take rows limit report moment (Err fault) after → after ≡ rows
+refused_same rows limit report moment Future after h = h.1
+refused_same rows limit report moment Stale after h = h.2
+refused_same rows limit report moment FleetFull after h = h.3
+refused_same rows limit report moment NoMemory after h = h
+
+-- the keys that tie are one
+tie_false : (a b : List ℕ) → a ≢ b → eq_by_cmp device_cmp a b ≡ false
+tie_false a b apart = by (device_cmp a b) refl
+  where
+    by : (r : Ordering) → device_cmp a b ≡ r → is_eq r ≡ false
+    by Less e = refl
+    by Equal e = absurd (apart (device_exact a b e))
+    by Greater e = refl
+
+other_row : (rows : Rows) (k q : List ℕ) (row : Row) → q ≢ k → get (insert rows k row) q ≡ get rows q
+other_row rows k q row apart = get-insert device_total rows k row q ∙ ap (λ b. cond b (Some row) (get rows q)) (tie_false q k apart)
+
+pub leaves_others : (rows : Rows) (limit : ℕ) (report : Report) (moment : ℕ) (result : Result Taken BookFault) (after : Rows) (device : List ℕ) → Take rows limit report moment result after → device ≢ report.device → get after device ≡ get rows device
+leaves_others rows limit report moment (Err fault) after device h apart = ap (λ m. get m device) (refused_same rows limit report moment fault after h)
+leaves_others rows limit report moment (Ok New) after device h apart = ap (λ m. get m device) h.1 ∙ other_row rows report.device device _ apart
+leaves_others rows limit report moment (Ok Changed) after device h apart = ap (λ m. get m device) h.3 ∙ other_row rows report.device device _ apart
+leaves_others rows limit report moment (Ok Same) after device h apart = ap (λ m. get m device) h.3

@@ -1,0 +1,62 @@
+-- What a book holds: an operator's rows, and how many there may be.
+use Rattle.std.specs.Prelude.{ℕ, ℤ, ◌≤◌, List, map, length, IsTrue, refl}
+use Rattle.std.specs.Coded.{Coded, code_by, coded×, coded_ℕ, coded_ℤ, coded_list}
+use Rattle.std.specs.FinMap as finite
+use Rattle.std.specs.FinMap.{from_sorted, is_sorted}
+use Rattle.mds_match.specs.Row.{Row, row_of}
+use Rattle.mds_match.specs.declared.vehicle.Vehicle.{Vehicle}
+use Rattle.mds_fleet.specs.Books.{Rows, device_cmp}
+
+-- an operator's rows, and the most that there may be
+pub record Fleet : Type 0 where
+  pub rows : Rows
+  pub limit : ℕ
+
+-- a vehicle's row under its device id
+abbrev pub entry : Vehicle → List ℕ × Row
+entry v = (v.device, row_of v)
+
+-- vehicles that ascend by device id, as rows
+abbrev pub rows_of : List Vehicle → Rows
+rows_of vehicles = from_sorted (map entry vehicles)
+
+-- each device once, ascending by device id, and at most as many as the limit
+pub record IsKept (limit : ℕ) (vehicles : List Vehicle) : Type 0 where
+  pub ascending : IsTrue (is_sorted device_cmp (map entry vehicles))
+  pub within : length vehicles ≤ limit
+
+-- rows and a fleet are stored as the tuples of their fields
+abbrev pub coded_word : Coded (List ℕ)
+coded_word = coded_list coded_ℕ
+
+abbrev pub coded_words : Coded (List (List ℕ))
+coded_words = coded_list coded_word
+
+abbrev pub Fields : Type 0
+Fields = (List ℕ × List ℕ) × ((List (List ℕ) × List (List ℕ)) × ((List ℕ × (ℕ × ℕ)) × (ℤ × ℤ)))
+
+abbrev pub fields_of : Row → Fields
+fields_of r = ((r.device, r.vehicle_type), ((r.propulsion, r.events), ((r.state, (r.timestamp, r.since)), (r.position.lng, r.position.lat))))
+
+abbrev pub row_of_fields : Fields → Row
+row_of_fields f =
+    record {
+      device = f.0.0;
+      vehicle_type = f.0.1;
+      propulsion = f.1.0.0;
+      state = f.1.1.0.0;
+      events = f.1.0.1;
+      timestamp = f.1.1.0.1.0;
+      position = record { lng = f.1.1.1.0; lat = f.1.1.1.1 };
+      since = f.1.1.0.1.1;
+    }
+
+abbrev pub coded_row : Coded Row
+coded_row =
+    code_by Fields
+    (coded× (coded× coded_word coded_word) (coded× (coded× coded_words coded_words) (coded× (coded× coded_word (coded× coded_ℕ coded_ℕ)) (coded× coded_ℤ coded_ℤ))))
+    fields_of row_of_fields (λ _. refl)
+
+abbrev pub coded_fleet : Coded Fleet
+coded_fleet =
+    code_by (Rows × ℕ) (coded× (finite.code coded_word coded_row) coded_ℕ) (λ a. (a.rows, a.limit)) (λ p. record { rows = p.0; limit = p.1 }) (λ _. refl)

@@ -1,0 +1,272 @@
+ghost use Rattle.std.specs.Prelude.{◌≡◌, ◌≤◌, ◌↔◌, Err, option_map, IsTrue, IfOk, OnOk, OnErr, map};
+ghost use Rattle.std.specs.Result.{result_ok};
+ghost use Rattle.std.specs.FinMap as finite;
+ghost use Rattle.std.specs.List.Sorted.{IsStrictlySortedBy};
+ghost use Rattle.mds_match.specs.Row.{row_of};
+ghost use Rattle.mds_fleet.specs.Books.{device_cmp, IsNew, Take, Updates, report_document, reported, row_from, run_start};
+ghost use Rattle.mds_fleet.specs.Fleet.{rows_of, IsKept};
+
+use crate::place::place_of;
+use crate::report::Report;
+use mds_match::Vehicle;
+use mds_text::{Id, Moment, Token};
+use std::alloc::{AllocError, AllocFailed, Global};
+use std::marker::Model;
+
+/// What an accepted report did to a book.
+#[derive(Clone, Copy, Debug, PartialEq, Eq)]
+pub enum Taken {
+    /// The device wasn't held.
+    New,
+    /// The device was held, and its row is that of this report.
+    Changed,
+    /// The report is equal to the last accepted one, and nothing changed.
+    Same,
+}
+
+/// Why a book refuses a report.
+#[derive(Clone, Copy, Debug, PartialEq, Eq)]
+pub enum BookFault {
+    /// Its timestamp is after the moment at which it came.
+    Future,
+    /// The device is held with a later timestamp.
+    Stale,
+    /// The device isn't held, and the book holds as many as its limit.
+    FleetFull,
+    /// Memory ran out.
+    NoMemory,
+}
+
+/// A device that a book doesn't hold.
+#[derive(Clone, Copy, Debug, PartialEq, Eq)]
+pub struct Absent;
+
+/// The vehicles of one operator, by device id, and the most that it may hold. Contracts see the map
+/// from device ids to rows, and the limit.
+#[derive(Drop)]
+pub struct Book {
+    // ascending by device id, each once
+    vehicles: Vec<Vehicle>,
+    limit: u32,
+}
+
+impl Model for Book {
+    ghost use Rattle.mds_fleet.specs.Fleet.{Fleet, coded_fleet, rows_of, IsKept};
+
+    ghost Value = { Fleet };
+
+    ghost coded = { coded_fleet };
+
+    ghost view = { λ b. record { rows = rows_of b.vehicles.items; limit = b.limit } };
+
+    ghost invariant = { λ b. IsKept b.limit b.vehicles.items };
+}
+
+impl From<AllocFailed<Vehicle>> for BookFault {
+    ghost use Rattle.std.specs.Prelude.{◌≡◌};
+    ghost use Rattle.mds_fleet.specs.declared.book.BookFault.TheVariants.{NoMemory};
+
+    ghost from_gives = { λ _ e. e ≡ NoMemory };
+
+    fn from(_refused: AllocFailed<Vehicle>) -> BookFault {
+        BookFault::NoMemory
+    }
+}
+
+impl Book {
+    /// An empty book with this limit. Takes no memory.
+    pub fn new(alloc: Global, limit: u32) -> Book
+        requires least { 1 ≤ limit }
+        requires most { limit ≤ 50000 }
+        ensures rows { result.rows ≡ finite.empty }
+        ensures limit { result.limit ≡ limit }
+    {
+        Book {
+            vehicles: Vec::new(alloc),
+            limit,
+        }
+    }
+
+    /// Takes a report that comes at this moment.
+    ///
+    /// # Errors
+    ///
+    /// In this order: `Future` for a timestamp after the moment; `Stale` where the device is held
+    /// with a later timestamp; `FleetFull` where the device isn't held and the book holds as many as
+    /// its limit. `NoMemory` where there is none for a further device. A refused report changes
+    /// nothing.
+    pub fn report(&mut self, report: Report, moment: Moment) -> Result<Taken, BookFault>
+        ensures taken { Take self.old.rows self.old.limit (report_document report) moment result self.new.rows }
+        ensures no_memory { result ≡ Err BookFault.NoMemory → IsNew self.old.rows self.old.limit (report_document report) moment }
+        ensures limit { self.new.limit ≡ self.old.limit }
+    {
+        take(&mut self.vehicles, self.limit, report, moment)
+    }
+
+    /// Removes a device, and gives what was held of it. Takes no memory.
+    ///
+    /// # Errors
+    ///
+    /// `Absent` where the device isn't held; the book is as it was then.
+    pub fn remove(&mut self, device: Id) -> Result<Vehicle, Absent>
+        ensures held { option_map row_of (result_ok result) ≡ finite.get self.old.rows device }
+        ensures rows { OnOk result (self.new.rows ≡ finite.remove self.old.rows device) }
+        ensures absent { OnErr result (self.new.rows ≡ self.old.rows) }
+        ensures limit { self.new.limit ≡ self.old.limit }
+    {
+        match place_of(&self.vehicles, device) {
+            Ok(at) => Ok(self.vehicles.remove(at)),
+            Err(_) => Err(Absent),
+        }
+    }
+
+    /// What is held of a device. Takes no memory.
+    pub fn get(&self, device: Id) -> Option<&Vehicle>
+        ensures { option_map (λ v. row_of v.now) result ≡ finite.get self.now.rows device }
+    {
+        match place_of(&self.vehicles, device) {
+            Ok(at) => Some(&self.vehicles[at]),
+            Err(_) => None,
+        }
+    }
+
+    /// How many devices are held. Takes no memory.
+    pub fn len(&self) -> usize
+        ensures count { result ≡ finite.len self.now.rows }
+        ensures within { result ≤ self.now.limit }
+    {
+        self.vehicles.len()
+    }
+
+    /// The most devices that may be held.
+    pub fn limit(&self) -> u32
+        ensures { result ≡ self.now.limit }
+    {
+        self.limit
+    }
+
+    /// All that is held, ascending by device id.
+    ///
+    /// # Errors
+    ///
+    /// Memory ran out.
+    pub fn rows(&self) -> Result<Vec<&Vehicle>, AllocError>
+        ensures whole { IfOk result (λ rows. map (λ v. row_of v.now) rows.items ≡ finite.values self.now.rows) }
+        ensures ascending { IfOk result (λ rows. IsStrictlySortedBy device_cmp (map (λ v. v.now.device) rows.items)) }
+        ensures devices { IfOk result (λ rows. map (λ v. v.now.device) rows.items ≡ finite.keys self.now.rows) }
+    {
+        lent(*self.vehicles.allocator(), &self.vehicles)
+    }
+}
+
+// Each element, lent.
+fn lent(alloc: Global, vehicles: &[Vehicle]) -> Result<Vec<&Vehicle>, AllocError>
+    ensures { IfOk result (λ rows. map (λ v. v.now) rows.items ≡ vehicles.now) }
+{
+    vehicles.iter().collect(alloc)
+}
+
+// Takes a report into vehicles that ascend by device id.
+fn take(
+    vehicles: &mut Vec<Vehicle>,
+    limit: u32,
+    report: Report,
+    moment: Moment,
+) -> Result<Taken, BookFault>
+    requires { IsKept limit vehicles.old.items }
+    ensures taken { Take (rows_of vehicles.old.items) limit (report_document report) moment result (rows_of vehicles.new.items) }
+    ensures no_memory { result ≡ Err BookFault.NoMemory → IsNew (rows_of vehicles.old.items) limit (report_document report) moment }
+    ensures kept { IsKept limit vehicles.new.items }
+{
+    if report.timestamp > moment {
+        return Err(BookFault::Future);
+    }
+    match place_of(vehicles, report.device) {
+        Ok(at) => update(&mut vehicles[at], report),
+        Err(_) if vehicles.len() >= limit as usize => Err(BookFault::FleetFull),
+        Err(at) => {
+            let since = report.timestamp;
+            vehicles.insert(at, vehicle_of(report, since))?;
+            Ok(Taken::New)
+        }
+    }
+}
+
+// Takes a report of a device that is held.
+fn update(vehicle: &mut Vehicle, report: Report) -> Result<Taken, BookFault>
+    requires { vehicle.old.device ≡ report.device }
+    ensures { Updates (row_of vehicle.old) (report_document report) result (row_of vehicle.new) }
+{
+    if vehicle.timestamp > report.timestamp {
+        return Err(BookFault::Stale);
+    }
+    if is_reported(vehicle, &report) {
+        return Ok(Taken::Same);
+    }
+    let since = run_start(vehicle, &report);
+    *vehicle = vehicle_of(report, since);
+    Ok(Taken::Changed)
+}
+
+// When the run of a report's state began, where this vehicle was reported before.
+fn run_start(vehicle: &Vehicle, report: &Report) -> Moment
+    ensures { result ≡ run_start (row_of vehicle.now) (report_document report.now) }
+{
+    if vehicle.state == report.state {
+        vehicle.since
+    } else {
+        report.timestamp
+    }
+}
+
+// Whether a report says all that the last accepted one said.
+fn is_reported(vehicle: &Vehicle, report: &Report) -> bool
+    ensures { IsTrue result ↔ (reported (row_of vehicle.now) ≡ report_document report.now) }
+{
+    vehicle.device == report.device
+        && is_token(vehicle.vehicle_type, report.vehicle_type)
+        && are_tokens(&vehicle.propulsion, &report.propulsion)
+        && is_token(vehicle.state, report.state)
+        && are_tokens(&vehicle.events, &report.events)
+        && vehicle.timestamp == report.timestamp
+        && vehicle.position == report.position
+}
+
+// Whether two tokens are one.
+fn is_token(token: Token, other: Token) -> bool
+    ensures { IsTrue result ↔ (token ≡ other) }
+{
+    token == other
+}
+
+// Whether two lists of tokens are one.
+fn are_tokens(tokens: &[Token], others: &[Token]) -> bool
+    ensures { IsTrue result ↔ (tokens.now ≡ others.now) }
+{
+    tokens == others
+}
+
+// The vehicle of a report, and of when the run of its state began.
+fn vehicle_of(report: Report, since: Moment) -> Vehicle
+    ensures { row_of result ≡ row_from (report_document report) since }
+{
+    let Report {
+        device,
+        vehicle_type,
+        propulsion,
+        state,
+        events,
+        timestamp,
+        position,
+    } = report;
+    Vehicle {
+        device,
+        vehicle_type,
+        propulsion,
+        state,
+        events,
+        timestamp,
+        position,
+        since,
+    }
+}

@@ -1,0 +1,77 @@
+//! A vehicle report, read line by line of its table.
+ghost use Rattle.std.specs.Prelude.{◌≡◌, ◌≤◌};
+ghost use Rattle.mds_text.specs.Fault.{Gives, text_cause};
+ghost use Rattle.mds_text.specs.View.{view};
+ghost use Rattle.mds_fleet.specs.Books.{report_document};
+ghost use Rattle.mds_fleet.specs.Reading.{report_of, location_of, position_of, coordinate_at, tokens_at};
+
+use crate::report::Report;
+use mds_geometry::{Position, coordinate_of};
+use mds_text::{
+    Field, TextFault, Token, Tree, Units7, document_of, required_id, required_member,
+    required_moment, required_token, tokens_at as optional_tokens,
+};
+use std::alloc::Global;
+
+#[tactic(auto, unfolding(crate::specs::Reading::report_of))]
+pub(crate) fn report_of(alloc: Global, tree: &Tree) -> Result<Report, TextFault>
+    ensures { Gives text_cause report_document result (report_of (view tree.now)) }
+{
+    let document = document_of(tree)?;
+    let device = required_id(document, Field::DeviceId)?;
+    let vehicle_type = required_token(document, Field::VehicleType)?;
+    let propulsion = tokens_at(alloc, document, Field::PropulsionTypes)?;
+    let state = required_token(document, Field::VehicleState)?;
+    let events = tokens_at(alloc, document, Field::EventTypes)?;
+    let timestamp = required_moment(document, Field::Timestamp)?;
+    let location = location_of(document)?;
+    let position = position_of(location)?;
+    Ok(Report {
+        device,
+        vehicle_type,
+        propulsion,
+        state,
+        events,
+        timestamp,
+        position,
+    })
+}
+
+/// Tokens; absent and null are the empty list.
+fn tokens_at(alloc: Global, document: &Tree, field: Field) -> Result<Vec<Token>, TextFault>
+    ensures { Gives text_cause (λ v. v.items) result (tokens_at (view document.now) field) }
+{
+    match optional_tokens(alloc, document, field)? {
+        Some(tokens) => Ok(tokens),
+        None => Ok(Vec::new(alloc)),
+    }
+}
+
+/// Where the vehicle is: an object.
+fn location_of(document: &Tree) -> Result<&Tree, TextFault>
+    ensures { Gives text_cause (λ t. view t.now) result (location_of (view document.now)) }
+{
+    let location = required_member(document, Field::Location)?;
+    match location {
+        Tree::Object(_) => Ok(location),
+        _ => Err(TextFault::BadField(Field::Location)),
+    }
+}
+
+/// The latitude, then the longitude.
+fn position_of(location: &Tree) -> Result<Position, TextFault>
+    ensures { Gives text_cause (λ p. p) result (position_of (view location.now)) }
+{
+    let lat = coordinate_at(location, Field::Lat, 90)?;
+    let lng = coordinate_at(location, Field::Lng, 180)?;
+    Ok(Position { lng, lat })
+}
+
+/// A coordinate at most so many degrees from zero.
+fn coordinate_at(location: &Tree, field: Field, most: u8) -> Result<Units7, TextFault>
+    requires { most ≤ 180 }
+    ensures { Gives text_cause (λ u. u) result (coordinate_at most (view location.now) field) }
+{
+    let value = required_member(location, field)?;
+    coordinate_of(value, field, most)
+}

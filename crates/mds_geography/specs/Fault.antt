@@ -1,0 +1,18 @@
+-- Why a geography is refused.
+use Rattle.std.specs.Prelude.{Option, Some, None}
+use Rattle.mds_text.specs.Fault.{Fault, ring_short, ring_open, too_many_points, text_cause}
+use Rattle.mds_geometry.specs.declared.ring.RingFault.{RingFault}
+use Rattle.mds_geometry.specs.declared.ring.RingFault.TheVariants.{Short, Open}
+use Rattle.mds_geography.specs.declared.fault.GeoFault.{GeoFault}
+use Rattle.mds_geography.specs.declared.fault.GeoFault.TheVariants.{Text, Ring, TooManyPoints}
+
+-- the fault of a ring
+abbrev pub ring_cause : RingFault → Fault
+ring_cause Short = ring_short
+ring_cause Open = ring_open
+
+-- the reason that an answer names, or none for want of memory
+abbrev pub geo_cause : GeoFault → Option Fault
+geo_cause (Text fault) = text_cause fault
+geo_cause (Ring fault) = Some (ring_cause fault)
+geo_cause TooManyPoints = Some too_many_points

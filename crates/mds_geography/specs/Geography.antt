@@ -1,0 +1,21 @@
+-- A geography (MDS 2.0 Geography), and what the type of the program stands for.
+use Rattle.std.specs.Prelude.{ℕ, List, Option, option_map, string_bytes}
+use Rattle.mds_geometry.specs.declared.position.Position.{Position}
+use Rattle.mds_geography.specs.declared.geography.Geography as program
+
+-- A geography document: its polygons in document order, each the list of its rings.
+pub record Geography : Type 0 where
+  pub id : List ℕ
+  pub name : List ℕ
+  pub description : Option (List ℕ)
+  pub polygons : List (List (List Position))
+
+-- the document that a `Geography` of the program stands for
+abbrev pub geography_document : program.Geography → Geography
+geography_document g =
+    record {
+      id = g.id;
+      name = string_bytes g.name;
+      description = option_map (λ s. string_bytes s) g.description;
+      polygons = g.polygons.items;
+    }

@@ -1,0 +1,88 @@
+ghost use Rattle.std.specs.Prelude.{◌≡◌, IfOk, option_map, string_bytes};
+ghost use Rattle.mds_text.specs.Fault.{Gives};
+ghost use Rattle.mds_geography.specs.Fault.{geo_cause};
+
+use crate::fault::GeoFault;
+use crate::walk::{geojson_of, kind_of};
+use mds_geometry::{Polygon, Position, area_holds};
+use mds_text::{
+    Field, Id, Tree, document_of, read_tree, required_id, required_member, required_text, text_at,
+};
+use std::alloc::{AllocError, Global};
+
+/// A geography: an area of one or more polygons under an identifier (MDS 2.0 Geography).
+#[derive(Drop)]
+pub struct Geography {
+    id: Id,
+    name: String,
+    description: Option<String>,
+    polygons: Vec<Polygon>,
+}
+
+impl Geography {
+    ghost use Rattle.mds_text.specs.View.{view};
+    ghost use Rattle.mds_geometry.specs.Area.{area_holds};
+    ghost use Rattle.mds_geography.specs.Geography.{geography_document};
+    ghost use Rattle.mds_geography.specs.Reading.{read_geography, geography_of};
+
+    /// Reads a geography document: its members by the table, then its GeoJSON in document order
+    /// (MDS 2.0 Geography; RFC 7946, section 3). Other members are read past.
+    ///
+    /// # Errors
+    ///
+    /// The first fault of the document in that order, or want of memory.
+    pub fn read(alloc: Global, text: &[u8]) -> Result<Geography, GeoFault>
+        ensures { Gives geo_cause geography_document result (read_geography text.now) }
+    {
+        let tree = read_tree(alloc, text)?;
+        Geography::from_tree(alloc, &tree)
+    }
+
+    fn from_tree(alloc: Global, tree: &Tree) -> Result<Geography, GeoFault>
+        ensures { Gives geo_cause geography_document result (geography_of (view tree.now)) }
+    {
+        let document = document_of(tree)?;
+        let id = required_id(document, Field::GeographyId)?;
+        let name = required_text(document, Field::Name)?;
+        let description = text_at(document, Field::Description)?;
+        let geojson = required_member(document, Field::GeographyJson)?;
+        let kind = kind_of(geojson, Field::GeographyJson)?;
+        let polygons = geojson_of(alloc, kind, geojson)?;
+        Ok(Geography {
+            id,
+            name: String::from_str(alloc, name)?,
+            description: copied(alloc, description)?,
+            polygons,
+        })
+    }
+
+    /// The geography's identifier.
+    pub fn id(&self) -> Id
+        ensures { result ≡ (geography_document self.now).id }
+    {
+        self.id
+    }
+
+    /// The polygons in document order.
+    pub fn polygons(&self) -> &[Polygon]
+        ensures { result.now ≡ (geography_document self.now).polygons }
+    {
+        self.polygons.as_slice()
+    }
+
+    /// Whether one of the geography's polygons holds the position.
+    pub fn holds(&self, position: Position) -> bool
+        ensures { result ≡ area_holds (geography_document self.now).polygons position }
+    {
+        area_holds(&self.polygons, position)
+    }
+}
+
+fn copied(alloc: Global, text: Option<&str>) -> Result<Option<String>, AllocError>
+    ensures { IfOk result (λ copy. option_map (λ s. string_bytes s) copy ≡ option_map (λ s. s.now) text.entry) }
+{
+    match text {
+        Some(text) => Ok(Some(String::from_str(alloc, text)?)),
+        None => Ok(None),
+    }
+}

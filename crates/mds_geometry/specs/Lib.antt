@@ -1,0 +1,5 @@
+pub mod Area
+pub mod Coordinate
+pub mod Inside
+pub mod Laws
+pub mod Ring

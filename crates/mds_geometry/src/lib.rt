@@ -1,0 +1,20 @@
+//! Positions, linear rings and polygons of RFC 7946, and which positions a polygon holds.
+#![tactic(auto)]
+
+mod area;
+mod coordinate;
+mod edge;
+pub mod laws;
+mod polygon;
+mod position;
+mod ring;
+mod sight;
+
+pub use area::area_holds;
+pub use coordinate::coordinate_of;
+pub use polygon::Polygon;
+pub use position::Position;
+pub use ring::{Ring, RingFault};
+
+#[cfg(test)]
+mod tests;

@@ -1,0 +1,4 @@
+pub mod Examples
+pub mod Matching
+pub mod Places
+pub mod Row

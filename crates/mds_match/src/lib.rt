@@ -1,0 +1,16 @@
+//! When a rule is open, which vehicles meet it, and by which rule of a policy a vehicle is caught
+//! (MDS 2.0 Policy, rules and order of operations).
+#![tactic(auto)]
+
+pub mod laws;
+mod local;
+mod matching;
+mod places;
+mod vehicle;
+mod window;
+
+pub use local::Local;
+pub use matching::{first, meets};
+pub use places::Places;
+pub use vehicle::Vehicle;
+pub use window::open_at;

@@ -1,0 +1,2 @@
+pub mod EachState
+pub mod Placing

@@ -1,0 +1,11 @@
+-- Why a policy is refused.
+use Rattle.std.specs.Prelude.{Option, Some}
+use Rattle.mds_text.specs.Fault.{Fault, decimal, too_many_rules, text_cause}
+use Rattle.mds_policy.specs.declared.fault.PolicyFault.{PolicyFault}
+use Rattle.mds_policy.specs.declared.fault.PolicyFault.TheVariants.{Text, Decimal, TooManyRules}
+
+-- the reason that an answer names, or none for want of memory
+abbrev pub policy_cause : PolicyFault → Option Fault
+policy_cause (Text fault) = text_cause fault
+policy_cause Decimal = Some decimal
+policy_cause TooManyRules = Some too_many_rules

@@ -1,0 +1,4 @@
+pub mod Fault
+pub mod Policy
+pub mod Reading
+pub mod Served

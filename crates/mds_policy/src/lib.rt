@@ -1,0 +1,20 @@
+//! Policies and their rules, as MDS 2.0 Policy describes them.
+#![tactic(auto)]
+
+mod bounds;
+mod copy;
+mod fault;
+mod kind;
+mod lists;
+mod policy;
+mod reading;
+mod rule;
+mod served;
+mod states;
+#[cfg(test)]
+mod tests;
+mod window;
+
+pub use fault::PolicyFault;
+pub use policy::Policy;
+pub use rule::{Bounds, Kind, Rule, StateEvents, TimeUnit, Window};

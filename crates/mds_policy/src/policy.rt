@@ -1,0 +1,103 @@
+use crate::copy::copy;
+use crate::fault::PolicyFault;
+use crate::reading::policy_of;
+use crate::rule::Rule;
+use crate::served::dated;
+use mds_text::{Id, Moment, Tree, read_tree};
+use std::alloc::{AllocError, Global};
+
+/// A policy (MDS 2.0 Policy, policies): the author's whole document, and beside it what the server
+/// reads of it.
+#[derive(Drop)]
+pub struct Policy {
+    pub(crate) tree: Tree,
+    pub(crate) id: Id,
+    pub(crate) start: Moment,
+    pub(crate) end: Option<Moment>,
+    pub(crate) providers: Vec<Id>,
+    pub(crate) previous: Vec<Id>,
+    pub(crate) rules: Vec<Rule>,
+}
+
+impl Policy {
+    ghost use Rattle.std.specs.Prelude.{◌≡◌, map, IfOk};
+    ghost use Rattle.mds_text.specs.View.{view};
+    ghost use Rattle.mds_policy.specs.Policy.{policy_document, rule_document};
+    ghost use Rattle.mds_text.specs.Fault.{Gives};
+    ghost use Rattle.mds_policy.specs.Fault.{policy_cause};
+    ghost use Rattle.mds_policy.specs.Reading.{read_policy};
+    ghost use Rattle.mds_policy.specs.Served.{served};
+
+    /// Reads the text of a policy. The error is the first line of the tables that isn't met: no JSON
+    /// (RFC 8259), then a number that isn't plain, then the policy's members and the rules in their
+    /// order (MDS 2.0 Policy, policies and rules); or want of memory.
+    #[tactic(auto, unfolding(crate::specs::Reading::read_policy))]
+    pub fn read(alloc: Global, text: &[u8]) -> Result<Policy, PolicyFault>
+        ensures { Gives policy_cause policy_document result (read_policy text.now) }
+    {
+        let tree = read_tree(alloc, text)?;
+        policy_of(alloc, tree)
+    }
+
+    /// The policy's identifier.
+    pub fn id(&self) -> Id
+        ensures { result ≡ (policy_document self.now).id }
+    {
+        self.id
+    }
+
+    /// The moment from which the policy is in force.
+    pub fn start(&self) -> Moment
+        ensures { result ≡ (policy_document self.now).start }
+    {
+        self.start
+    }
+
+    /// The moment from which the policy isn't in force any more. An end that isn't after the start
+    /// leaves no moment.
+    pub fn end(&self) -> Option<Moment>
+        ensures { result ≡ (policy_document self.now).end }
+    {
+        self.end
+    }
+
+    /// The operators that the policy is meant for; none means all.
+    pub fn providers(&self) -> &[Id]
+        ensures { result.now ≡ (policy_document self.now).providers }
+    {
+        &self.providers
+    }
+
+    /// The policies that this one replaces.
+    pub fn previous(&self) -> &[Id]
+        ensures { result.now ≡ (policy_document self.now).previous }
+    {
+        &self.previous
+    }
+
+    /// The rules, the most specific first.
+    pub fn rules(&self) -> &[Rule]
+        ensures { map rule_document result.now ≡ (policy_document self.now).rules }
+    {
+        &self.rules
+    }
+
+    /// The author's document, every member as it was read.
+    pub fn tree(&self) -> &Tree
+        ensures { view result.now ≡ (policy_document self.now).tree }
+    {
+        &self.tree
+    }
+
+    /// The author's document, every member as it was read, with `published_date` set where a moment
+    /// is given: in the place of the author's own, or else at its place in the order of names.
+    /// The only error is want of memory.
+    pub fn served(&self, alloc: Global, published: Option<Moment>) -> Result<Tree, AllocError>
+        ensures { IfOk result (λ t. view t ≡ served (policy_document self.now) published) }
+    {
+        match published {
+            Some(moment) => dated(alloc, &self.tree, moment),
+            None => copy(alloc, &self.tree),
+        }
+    }
+}

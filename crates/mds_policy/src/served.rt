@@ -1,0 +1,54 @@
+//! A policy as it is served (MDS 2.0 Policy, policies: published_date).
+ghost use Rattle.std.specs.Prelude.{◌≡◌, ◌++◌, ◌∷◌, codes, pos, IfOk, map};
+ghost use Rattle.mds_text.specs.Tree.{Json, int, members_of};
+ghost use Rattle.mds_text.specs.View.{view, member_view};
+ghost use Rattle.mds_policy.specs.Served.{dated, with_member};
+
+use crate::copy::{append, copy};
+use mds_text::{Member, Moment, Tree};
+use std::alloc::{AllocError, Global};
+use std::cmp::Ordering;
+
+/// The member that holds the moment of publication.
+const PUBLISHED_DATE: &str = "published_date";
+
+/// A copy of the document with the moment of its publication.
+pub(crate) fn dated(alloc: Global, document: &Tree, moment: Moment) -> Result<Tree, AllocError>
+    ensures { IfOk result (λ t. view t ≡ dated moment (view document.now)) }
+{
+    match document {
+        Tree::Object(members) => Ok(Tree::Object(dated_members(alloc, members, moment)?)),
+        _ => copy(alloc, document),
+    }
+}
+
+fn dated_members(
+    alloc: Global,
+    members: &[Member],
+    moment: Moment,
+) -> Result<Vec<Member>, AllocError>
+    ensures { IfOk result (λ v. members_of (map member_view v.items) ≡ with_member (codes "published_date") (int (pos moment)) (members_of (map member_view members.now))) }
+{
+    let (before, after) = around(members, PUBLISHED_DATE);
+    let mut dated = Vec::new(alloc);
+    append(alloc, &mut dated, before)?;
+    let name = String::from_str(alloc, PUBLISHED_DATE)?;
+    let value = Tree::Int(moment.get());
+    dated.push(Member { name, value })?;
+    append(alloc, &mut dated, after)?;
+    Ok(dated)
+}
+
+/// The members before and behind the place of this name.
+fn around<'a>(members: &'a [Member], name: &str) -> (&'a [Member], &'a [Member])
+    ensures { (value : Json) → with_member name.now value (members_of (map member_view members.now)) ≡ members_of (map member_view result.0.now ++ (name.now, value) ∷ map member_view result.1.now) }
+{
+    for (place, member) in members.iter().enumerate() {
+        match name.cmp(member.name.as_str()) {
+            Ordering::Less => return members.split_at(place),
+            Ordering::Equal => return (&members[..place], &members[place + 1..]),
+            Ordering::Greater => {}
+        }
+    }
+    (members, &[])
+}

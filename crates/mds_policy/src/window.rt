@@ -1,0 +1,143 @@
+//! The hours and days of a rule (MDS 2.0 Policy, rules: start_time, end_time and days).
+ghost use Rattle.std.specs.Prelude.{◌≡◌, ◌+◌, ◌<◌, length, map, Ok, IfSome, option_map};
+ghost use Rattle.mds_text.specs.Fault.{Gives, text_cause};
+ghost use Rattle.mds_text.specs.Fields.{each, optional_at, list_each};
+ghost use Rattle.mds_text.specs.View.{view};
+ghost use Rattle.mds_policy.specs.Reading.{digits_at, second_of_day, time_of_day, time_of, weekday_of, day_of, days_listed, optional_list, window_of};
+
+use crate::rule::Window;
+use mds_text::{Field, TextFault, Tree, list_at, member_at, text_of};
+use std::alloc::Global;
+
+/// The last second of a day.
+const LAST_SECOND: u32 = 86_399;
+
+#[tactic(auto, unfolding(crate::specs::Reading::window_of))]
+pub(crate) fn window_of(alloc: Global, rule: &Tree) -> Result<Window, TextFault>
+    ensures { Gives text_cause (λ w. w) result (window_of (view rule.now)) }
+{
+    let start = time_at(rule, Field::StartTime)?;
+    let end = time_at(rule, Field::EndTime)?;
+    let days = days_at(alloc, rule)?;
+    Ok(Window {
+        start: start.unwrap_or(0),
+        end: end.unwrap_or(LAST_SECOND),
+        days: days_listed(&days),
+    })
+}
+
+fn time_at(rule: &Tree, field: Field) -> Result<Option<u32>, TextFault>
+    ensures { Gives text_cause (option_map (λ s. s)) result (optional_at time_of (view rule.now) field) }
+{
+    match member_at(rule, field)? {
+        Some(value) => Ok(Some(time_of(value, field)?)),
+        None => Ok(None),
+    }
+}
+
+fn time_of(value: &Tree, field: Field) -> Result<u32, TextFault>
+    ensures { Gives text_cause (λ s. s) result (time_of field (view value.now)) }
+{
+    let text = text_of(value, field)?;
+    time_of_day(text.as_bytes()).ok_or(TextFault::BadField(field))
+}
+
+/// The second of the day of `hh:mm`, which stands for `hh:mm:00`, or of `hh:mm:ss`.
+fn time_of_day(text: &[u8]) -> Option<u32>
+    ensures { result ≡ time_of_day text.now }
+{
+    if text.len() == 5 && text[2] == b':' {
+        second_of_day(digits_at(text, 24, 0), digits_at(text, 60, 3), Some(0))
+    } else if text.len() == 8 && text[2] == b':' && text[5] == b':' {
+        second_of_day(
+            digits_at(text, 24, 0),
+            digits_at(text, 60, 3),
+            digits_at(text, 60, 6),
+        )
+    } else {
+        None
+    }
+}
+
+fn second_of_day(hour: Option<u32>, minute: Option<u32>, second: Option<u32>) -> Option<u32>
+    requires hours { IfSome hour (λ h. h < 24) }
+    requires minutes { IfSome minute (λ m. m < 60) }
+    requires seconds { IfSome second (λ s. s < 60) }
+    ensures { result ≡ second_of_day hour minute second }
+{
+    Some(3600 * hour? + 60 * minute? + second?)
+}
+
+/// The number of two decimal digits at this place, if it is below the limit.
+fn digits_at(text: &[u8], limit: u32, place: usize) -> Option<u32>
+    requires { place + 1 < length text.now }
+    ensures value { result ≡ digits_at limit text.now place }
+    ensures below { IfSome result (λ n. n < limit) }
+{
+    let (tens, ones) = (text[place], text[place + 1]);
+    if !tens.is_ascii_digit() || !ones.is_ascii_digit() {
+        return None;
+    }
+    let number = 10 * u32::from(tens - b'0') + u32::from(ones - b'0');
+    if number < limit { Some(number) } else { None }
+}
+
+fn days_at(alloc: Global, rule: &Tree) -> Result<Vec<u8>, TextFault>
+    ensures { Gives text_cause (λ v. v.items) result (optional_list (list_each day_of) (view rule.now) Field.Days) }
+{
+    match list_at(rule, Field::Days)? {
+        Some(entries) => days_of(alloc, entries),
+        None => Ok(Vec::new(alloc)),
+    }
+}
+
+fn days_of(alloc: Global, entries: &[Tree]) -> Result<Vec<u8>, TextFault>
+    ensures { Gives text_cause (λ v. v.items) result (each (day_of Field.Days) (map view entries.now)) }
+{
+    let mut days = Vec::with_capacity(alloc, entries.len())?;
+    for entry in entries {
+        days.push(day_of(entry)?)?;
+    }
+    Ok(days)
+}
+
+fn day_of(value: &Tree) -> Result<u8, TextFault>
+    ensures { Gives text_cause (λ d. d) result (day_of Field.Days (view value.now)) }
+{
+    let text = text_of(value, Field::Days)?;
+    weekday_of(text).ok_or(TextFault::BadField(Field::Days))
+}
+
+/// A day of the week, counted from Sunday on.
+fn weekday_of(name: &str) -> Option<u8>
+    ensures { result ≡ weekday_of name.now }
+{
+    match name {
+        "sun" => Some(0),
+        "mon" => Some(1),
+        "tue" => Some(2),
+        "wed" => Some(3),
+        "thu" => Some(4),
+        "fri" => Some(5),
+        "sat" => Some(6),
+        _ => None,
+    }
+}
+
+/// Whether each weekday is listed; no day listed means all.
+fn days_listed(days: &[u8]) -> [bool; 7]
+    ensures { result ≡ days_listed days.now }
+{
+    if days.is_empty() {
+        return [true; 7];
+    }
+    [
+        days.contains(&0),
+        days.contains(&1),
+        days.contains(&2),
+        days.contains(&3),
+        days.contains(&4),
+        days.contains(&5),
+        days.contains(&6),
+    ]
+}

@@ -1,0 +1,13 @@
+use Rattle.std.proofs.Common.{◌≡◌, ◌-◌}
+use Rattle.mds_replay.specs.Reader.{held, passed, left}
+use Rattle.mds_replay.proofs.Reading.{Gathered}
+use Rattle.mds_replay.proofs.lines.LineReader.next.Given as goal
+
+abbrev pub invariant-pieces : goal.invariant-pieces
+invariant-pieces g l = record {
+  gathered : Gathered (left l.fn.self (g.S.Source.remaining l.fn.source)) (left l.self (g.S.Source.remaining l.source)) (passed l.fn.self) (passed l.self) (held l.self);
+  unfailed : g.S.Source.failures l.source ≡ g.S.Source.failures l.fn.source;
+}
+
+abbrev pub decreases-pieces : goal.decreases-pieces
+decreases-pieces g l = 1073741824 - l.self.total

@@ -1,0 +1,51 @@
+-- How a line is cut into the parts of a request.
+use Rattle.std.specs.Prelude.{ℕ, ◌+◌, ◌-◌, ◌*◌, Bool, ◌&&◌, ◌==◌, List, length, nat_le, fold, Option, Some, None, if◌then◌else◌}
+use Rattle.std.specs.List.{list_all, before_first, after_first}
+use Rattle.std.specs.Char.{is_ascii_digit}
+use Rattle.mds_request.specs.Request.{Request}
+use Rattle.mds_request.specs.Verb.{verb_of}
+use Rattle.mds_replay.specs.Framing.{is_filled}
+
+abbrev pub is_space : ℕ → Bool
+is_space byte = byte == 32
+
+-- the bytes before the first space, or all of them
+abbrev pub word_of : List ℕ → List ℕ
+word_of bytes = before_first is_space bytes
+
+-- the bytes behind the first space, or none
+abbrev pub behind_word : List ℕ → List ℕ
+behind_word bytes = after_first is_space bytes
+
+abbrev pub are_digits : List ℕ → Bool
+are_digits bytes = list_all is_ascii_digit bytes
+
+-- the number that decimal digits stand for
+abbrev pub decimal : List ℕ → ℕ
+decimal digits = fold (λ n digit. 10 * n + (digit - 48)) 0 digits
+
+-- the last moment, the end of the year 2099 in UTC
+abbrev pub last_moment : ℕ
+last_moment = 4102444799999
+
+-- 1 to 13 digits that stand for a moment
+abbrev pub is_moment : List ℕ → Bool
+is_moment digits =
+    nat_le 1 (length digits) && nat_le (length digits) 13 && are_digits digits && nat_le (decimal digits) last_moment
+
+-- the request of these words, or nothing where one of the first four is empty or the first is no
+-- moment
+unfoldable pub request_from : List ℕ → List ℕ → List ℕ → List ℕ → List ℕ → Option Request
+request_from at token method target body =
+    if is_filled token && is_filled method && is_filled target && is_moment at
+    then Some (record { at = decimal at; token = token; verb = verb_of method; target = target; body = body })
+    else None
+
+-- The request on a line. It is cut at its first four spaces, and what is left is the body. A word
+-- that is missing is empty.
+abbrev pub request_on : List ℕ → Option Request
+request_on line =
+    let behind_at = behind_word line in
+    let behind_token = behind_word behind_at in
+    let behind_method = behind_word behind_token in
+    request_from (word_of line) (word_of behind_at) (word_of behind_token) (word_of behind_method) (behind_word behind_method)

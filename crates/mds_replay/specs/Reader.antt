@@ -1,0 +1,59 @@
+-- What a contract sees of the line reader, and what one more line of it is.
+use Rattle.std.specs.Prelude.{◌≡◌, ℕ, ◌+◌, ◌-◌, ◌<◌, ◌≤◌, ◌⊎◌, Bool, true, false, List, [], ◌∷◌, ◌++◌, length, take, drop, Option, Some, None, ⊤, IfSome}
+use Rattle.std.specs.Io.KnownBytes.{Consumes, IsAtEnd, prepend_known}
+use Rattle.mds_replay.specs.declared.lines.LineReader.{LineReader}
+use Rattle.mds_replay.specs.declared.lines.Found.{Found}
+use Rattle.mds_replay.specs.declared.lines.Found.TheVariants.{Line, TooLong, End}
+use Rattle.mds_replay.specs.Framing.{lines, line_limit, input_limit}
+use Rattle.mds_replay.specs.Gathering.{IsWithoutFeed, kept_limit}
+
+-- the bytes that were read and belong to no line yet
+abbrev pub ahead : LineReader → List ℕ
+ahead r = take (r.end - r.start) (drop r.start r.chunk.items)
+
+-- the line that was found last
+abbrev pub held : LineReader → List ℕ
+held r = r.line.items
+
+-- how many bytes of the input lie before those ahead
+abbrev pub passed : LineReader → ℕ
+passed r = r.total - (r.end - r.start)
+
+-- the bytes that belong to no line yet, where the source tells them
+abbrev pub left : LineReader → Option (List ℕ) → Option (List ℕ)
+left r remaining = prepend_known (ahead r) remaining
+
+-- known bytes begin with one line, and the new ones are what follows it
+abbrev pub BeginsWithLine : Option (List ℕ) → Option (List ℕ) → List ℕ → Type 0
+BeginsWithLine None new line = ⊤
+BeginsWithLine (Some bytes) None line = ⊥
+BeginsWithLine (Some bytes) (Some rest) line = lines bytes ≡ line ∷ lines rest
+
+-- What was found: the next line, kept in the reader; a line over the limit; or no further line, at
+-- the end of the input.
+abbrev pub Finds : Found → List ℕ → Option (List ℕ) → Option (List ℕ) → Type 0
+Finds Line kept old new = (length kept ≤ line_limit) × BeginsWithLine old new kept
+Finds TooLong kept old new = (line : List ℕ) × (line_limit < length line) × BeginsWithLine old new line
+Finds End kept old new = (kept ≡ []) × IsAtEnd old × IsAtEnd new
+
+-- some bytes were read past, and are counted
+abbrev pub Advances : ℕ → Option (List ℕ) → ℕ → Option (List ℕ) → Type 0
+Advances passed_old old passed_new new = (bytes : List ℕ) × Consumes old new bytes × (passed_new ≡ passed_old + length bytes)
+
+-- a read failed, or the input, of which so many bytes are passed and these are left, is over its limit
+abbrev pub FailsReading : ℕ → ℕ → ℕ → Option (List ℕ) → Type 0
+FailsReading failures_old failures_new passed_old old = (failures_new ≡ failures_old + 1) ⊎ IfSome old (λ bytes. input_limit < passed_old + length bytes)
+
+-- The kept line gained the bytes ahead up to their first line feed, or all where there is none, so
+-- many as there is room for.
+abbrev pub TakesLine : Bool → LineReader → LineReader → Type 0
+TakesLine true old new =
+    (front : List ℕ) × (ahead old ≡ front ++ 10 ∷ ahead new) × IsWithoutFeed front × (held new ≡ take kept_limit (held old ++ front)) × (passed new ≡ passed old + length front + 1)
+TakesLine false old new =
+    IsWithoutFeed (ahead old) × (ahead new ≡ []) × (held new ≡ take kept_limit (held old ++ ahead old)) × (passed new ≡ passed old + length (ahead old))
+
+-- the bytes ahead and how many lie before them stay as they were
+pub record SameAhead (old new : LineReader) : Type 0 where
+  pub ahead_same : ahead new ≡ ahead old
+  pub passed_same : passed new ≡ passed old
+  pub total_same : new.total ≡ old.total

@@ -1,0 +1,4 @@
+mod Actors
+mod Alike
+mod Lists
+mod Paths

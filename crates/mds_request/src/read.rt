@@ -1,0 +1,159 @@
+//! The members of a configuration.
+ghost use Rattle.std.specs.Prelude.{◌≡◌, ◌≤◌, map, vec_len, length, IfOk};
+ghost use Rattle.std.specs.List.{list_all};
+ghost use Rattle.mds_text.specs.Fault.{Gives, text_cause};
+ghost use Rattle.mds_text.specs.Fields.{each};
+ghost use Rattle.mds_text.specs.View.{view};
+ghost use Rattle.mds_text.specs.declared.field.Field.TheVariants.{Limit as limit_name};
+ghost use Rattle.mds_request.specs.Access.{is_access_byte, is_access_token};
+ghost use Rattle.mds_request.specs.Configuration.{configuration, operator, access_of, access_at, limit_of, entry_of, operator_of, operators_at, zone_at, configuration_of, read_configuration};
+ghost use Rattle.mds_request.specs.Fault.{config_cause};
+
+use crate::config::Config;
+use crate::fault::ConfigFault;
+use crate::lookup::are_alike;
+use crate::operator::Operator;
+use crate::zone::Zone;
+use mds_text::{
+    Field, TextFault, Tree, document_of, int_of, read_tree, required_id, required_list,
+    required_member, required_text, text_of,
+};
+use std::alloc::Global;
+
+/// The most bytes of an access token.
+const MOST_BYTES: usize = 64;
+/// The most operators.
+const MOST_OPERATORS: usize = 64;
+/// The most vehicles that an operator may be allowed.
+const MOST_VEHICLES: i64 = 50_000;
+
+/// The configuration that a text is. Want of memory may be told as a fault of the text.
+pub(crate) fn config_from(alloc: Global, text: &[u8]) -> Result<Config, ConfigFault>
+    ensures { Gives config_cause configuration result (read_configuration text.now) }
+{
+    let tree = read_tree(alloc, text)?;
+    config_of(alloc, &tree)
+}
+
+fn config_of(alloc: Global, tree: &Tree) -> Result<Config, ConfigFault>
+    ensures { Gives config_cause configuration result (configuration_of (view tree.now)) }
+{
+    let document = document_of(tree)?;
+    let author = access_at(document, Field::Author)?;
+    let operators = operators_at(alloc, document)?;
+    let zone = zone_at(document)?;
+    if are_alike(author, &operators) {
+        return Err(ConfigFault::Alike);
+    }
+    let author = String::from_str(alloc, author)?;
+    Ok(Config {
+        author,
+        operators,
+        zone,
+    })
+}
+
+/// An access token that has to be there.
+fn access_at<'a>(document: &'a Tree, field: Field) -> Result<&'a str, TextFault>
+    ensures { Gives text_cause (λ s. s.now) result (access_at (view document.now) field) }
+{
+    access_of(required_member(document, field)?, field)
+}
+
+/// 1 to 64 letters, digits, `-` and `_`.
+fn access_of<'a>(value: &'a Tree, field: Field) -> Result<&'a str, TextFault>
+    ensures { Gives text_cause (λ s. s.now) result (access_of field (view value.now)) }
+{
+    let text = text_of(value, field)?;
+    if is_access_token(text.as_bytes()) {
+        Ok(text)
+    } else {
+        Err(TextFault::BadField(field))
+    }
+}
+
+fn is_access_token(text: &[u8]) -> bool
+    ensures { result ≡ is_access_token text.now }
+{
+    1 <= text.len() && text.len() <= MOST_BYTES && are_access_bytes(text)
+}
+
+fn are_access_bytes(text: &[u8]) -> bool
+    ensures { result ≡ list_all is_access_byte text.now }
+{
+    text.iter().all(|byte| is_access_byte(*byte))
+}
+
+fn is_access_byte(byte: u8) -> bool
+    ensures { result ≡ is_access_byte byte }
+{
+    matches!(byte, b'A'..=b'Z' | b'a'..=b'z' | b'0'..=b'9' | b'-' | b'_')
+}
+
+/// The operators that have to be there.
+fn operators_at(alloc: Global, document: &Tree) -> Result<Vec<Operator>, ConfigFault>
+    ensures reading { Gives config_cause (λ v. map operator v.items) result (operators_at (view document.now)) }
+    ensures few { IfOk result (λ v. vec_len v ≤ 64) }
+{
+    let entries = required_list(document, Field::Operators)?;
+    if entries.len() > MOST_OPERATORS {
+        return Err(ConfigFault::TooManyOperators);
+    }
+    let operators = operators_of(alloc, entries)?;
+    Ok(operators)
+}
+
+/// Each operator in its order, up to the first fault.
+fn operators_of(alloc: Global, entries: &[Tree]) -> Result<Vec<Operator>, TextFault>
+    ensures reading { Gives text_cause (λ v. map operator v.items) result (each operator_of (map view entries.now)) }
+    ensures count { IfOk result (λ v. vec_len v ≡ length entries.now) }
+{
+    let mut operators = Vec::with_capacity(alloc, entries.len())?;
+    for entry in entries {
+        operators.push(operator_of(alloc, entry)?)?;
+    }
+    Ok(operators)
+}
+
+fn operator_of(alloc: Global, value: &Tree) -> Result<Operator, TextFault>
+    ensures { Gives text_cause operator result (operator_of (view value.now)) }
+{
+    let entry = entry_of(value)?;
+    let id = required_id(entry, Field::Id)?;
+    let limit = limit_of(required_member(entry, Field::Limit)?)?;
+    let token = access_at(entry, Field::Token)?;
+    let token = String::from_str(alloc, token)?;
+    Ok(Operator { id, limit, token })
+}
+
+/// An entry of the list of operators is an object.
+fn entry_of(value: &Tree) -> Result<&Tree, TextFault>
+    ensures { Gives text_cause (λ t. view t.now) result (entry_of (view value.now)) }
+{
+    match value {
+        Tree::Object(_) => Ok(value),
+        _ => Err(TextFault::BadField(Field::Operators)),
+    }
+}
+
+/// From 1 to 50,000.
+fn limit_of(value: &Tree) -> Result<usize, TextFault>
+    ensures reading { Gives text_cause (λ n. n) result (limit_of limit_name (view value.now)) }
+    ensures least { IfOk result (λ n. 1 ≤ n) }
+    ensures most { IfOk result (λ n. n ≤ 50000) }
+{
+    let limit = int_of(value, Field::Limit)?;
+    if 1 <= limit && limit <= MOST_VEHICLES {
+        Ok(limit as usize)
+    } else {
+        Err(TextFault::OutOfRange)
+    }
+}
+
+/// The time zone that has to be there.
+fn zone_at(document: &Tree) -> Result<Zone, ConfigFault>
+    ensures { Gives config_cause (λ z. z) result (zone_at (view document.now)) }
+{
+    let zone = Zone::read(required_text(document, Field::Zone)?)?;
+    Ok(zone)
+}

@@ -1,0 +1,76 @@
+use crate::refusal::Refusal;
+use std::marker::Model;
+
+/// What a reply says.
+#[derive(Drop)]
+enum Content {
+    Success(Vec<u8>),
+    Refused(Refusal),
+}
+
+/// The answer to a request: a status and a body, which is one line of JSON. Contracts see the two.
+#[derive(Drop)]
+pub struct Reply {
+    content: Content,
+}
+
+impl Model for Reply {
+    ghost use Rattle.mds_request.specs.Reply.{Reply as Answer};
+
+    ghost Value = { Answer };
+
+    ghost use Rattle.mds_request.specs.Content.{answer_of, IsOneLine};
+
+    ghost view = { λ r. answer_of r.content };
+
+    ghost invariant = { λ r. IsOneLine r.content };
+}
+
+impl Reply {
+    ghost use Rattle.std.specs.Prelude.{◌≡◌, IsTrue};
+    ghost use Rattle.mds_request.specs.Reply.{is_line, success};
+
+    /// What was asked is done: status 200 with this body, which has no line feed.
+    pub fn ok(body: Vec<u8>) -> Reply
+        requires { IsTrue (is_line body.items) }
+        ensures { result ≡ success body.items }
+    {
+        Reply {
+            content: Content::Success(body),
+        }
+    }
+
+    /// The status (RFC 9110, section 15).
+    pub fn status(&self) -> u16
+        ensures { result ≡ self.now.status }
+    {
+        match &self.content {
+            Content::Success(_) => 200,
+            Content::Refused(refusal) => refusal.status(),
+        }
+    }
+
+    /// The body: one line, without its end.
+    pub fn body(&self) -> &[u8]
+        ensures body { result.now ≡ self.now.body }
+        ensures line { IsTrue (is_line result.now) }
+    {
+        match &self.content {
+            Content::Success(body) => body.as_slice(),
+            Content::Refused(refusal) => refusal.code.body(),
+        }
+    }
+}
+
+impl From<Refusal> for Reply {
+    ghost use Rattle.std.specs.Prelude.{◌≡◌};
+    ghost use Rattle.mds_request.specs.Reply.{refused};
+
+    ghost from_gives = { λ refusal reply. reply ≡ refused refusal.code };
+
+    fn from(refusal: Refusal) -> Reply {
+        Reply {
+            content: Content::Refused(refusal),
+        }
+    }
+}

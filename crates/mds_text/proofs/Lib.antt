@@ -1,0 +1,6 @@
+pub mod Conversions
+pub mod Decimals
+pub mod Lines
+pub mod Lists
+pub mod Tokens
+pub mod Views

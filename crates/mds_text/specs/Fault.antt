@@ -1,0 +1,44 @@
+-- Why a document is refused, and what a reader owes to a definition.
+use Rattle.std.specs.Prelude.{◌≡◌, Option, Some, None, Result, Ok, Err}
+use Rattle.mds_text.specs.declared.field.Field.{Field}
+use Rattle.mds_text.specs.declared.fault.TextFault.{TextFault}
+use Rattle.mds_text.specs.declared.fault.TextFault.TheVariants.{BadJson, BadField, BadNumber, OutOfRange, NoMemory}
+
+-- The reasons for which any document of the server is refused, each under the code of its refusal.
+pub data Fault : Type 0 where
+  bad_json : Fault
+  bad_field : (field : Field) → Fault
+  bad_number : Fault
+  out_of_range : Fault
+  decimal : Fault
+  too_many_rules : Fault
+  too_many_points : Fault
+  ring_short : Fault
+  ring_open : Fault
+  too_many_operators : Fault
+  bad_zone : Fault
+  alike : Fault
+
+-- the reason that an answer names, or none for want of memory
+abbrev pub text_cause : TextFault → Option Fault
+text_cause BadJson = Some bad_json
+text_cause (BadField field) = Some (bad_field field)
+text_cause BadNumber = Some bad_number
+text_cause OutOfRange = Some out_of_range
+text_cause NoMemory = None
+
+-- the definition refuses for this reason; want of memory says nothing
+abbrev pub Refuses : {Y : Type 0} → Option Fault → Result Y Fault → Type 0
+Refuses None defined = Unit {0}
+Refuses (Some fault) defined = defined ≡ Err fault
+
+-- what a reader answers, seen by `view`, is what is defined, unless memory ran out
+abbrev pub Gives : {X Y E : Type 0} → (E → Option Fault) → (X → Y) → Result X E → Result Y Fault → Type 0
+Gives cause view (Ok x) defined = defined ≡ Ok (view x)
+Gives cause view (Err e) defined = Refuses (cause e) defined
+
+-- one reading after another; the first fault stays
+infixl 10 ◌>>=◌
+abbrev pub ◌>>=◌ : {A B : Type 0} → Result A Fault → (A → Result B Fault) → Result B Fault
+(Ok x) >>= f = f x
+(Err fault) >>= f = Err fault

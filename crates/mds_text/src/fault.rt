@@ -1,0 +1,55 @@
+use crate::field::Field;
+use std::alloc::{AllocError, AllocFailed};
+use std::error::Error;
+use std::fmt;
+
+/// Why a text is refused.
+#[derive(Clone, Copy, Debug)]
+pub enum TextFault {
+    /// The text is no JSON (RFC 8259) or no UTF-8.
+    BadJson,
+    /// A member is missing, or of another kind than it has to be.
+    BadField(Field),
+    /// A text where a number has to be is no number.
+    BadNumber,
+    /// A number is too small or too large.
+    OutOfRange,
+    /// Memory ran out.
+    NoMemory,
+}
+
+impl fmt::Display for TextFault {
+    fn fmt<W: fmt::Write>(&self, f: &mut fmt::Formatter<W>) -> fmt::Result {
+        match self {
+            TextFault::BadJson => f.write_str("bad JSON"),
+            TextFault::BadField(field) => write!(f, "bad field {}", field.name()),
+            TextFault::BadNumber => f.write_str("bad number"),
+            TextFault::OutOfRange => f.write_str("out of range"),
+            TextFault::NoMemory => f.write_str("no memory"),
+        }
+    }
+}
+
+impl Error for TextFault {}
+
+impl From<AllocError> for TextFault {
+    ghost use Rattle.std.specs.Prelude.{◌≡◌};
+    ghost use Rattle.mds_text.specs.declared.fault.TextFault.TheVariants.{NoMemory};
+
+    ghost from_gives = { λ _ e. e ≡ NoMemory };
+
+    fn from(_refused: AllocError) -> TextFault {
+        TextFault::NoMemory
+    }
+}
+
+impl<T: Drop> From<AllocFailed<T>> for TextFault {
+    ghost use Rattle.std.specs.Prelude.{◌≡◌};
+    ghost use Rattle.mds_text.specs.declared.fault.TextFault.TheVariants.{NoMemory};
+
+    ghost from_gives = { λ _ e. e ≡ NoMemory };
+
+    fn from(_refused: AllocFailed<T>) -> TextFault {
+        TextFault::NoMemory
+    }
+}

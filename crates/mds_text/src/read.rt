@@ -1,0 +1,79 @@
+//! From a text to its tree.
+ghost use Rattle.std.specs.Prelude.{◌≡◌, map};
+ghost use Rattle.mds_text.specs.Fault.{Gives, text_cause};
+ghost use Rattle.mds_text.specs.Reading.{json_of, items_from, members_from, plain_int, read_text};
+ghost use Rattle.mds_text.specs.Tree.{items_of, members_of};
+ghost use Rattle.mds_text.specs.View.{view, member_view};
+ghost use Rattle.serde_json.specs.View.{view as data_view, number_view, items_view, members_view};
+
+use crate::fault::TextFault;
+use crate::tree::{Member, Tree};
+use serde_json::{Map, Number, Value};
+use std::alloc::Global;
+
+/// Just above the greatest plain whole number, which has 18 digits.
+const LIMIT: i64 = 1_000_000_000_000_000_000;
+
+/// Reads a JSON text (RFC 8259) of at most 127 levels. Of equal names in one object the last is kept.
+/// `BadJson` where the text is no such text or no UTF-8.
+pub fn read_tree(alloc: Global, bytes: &[u8]) -> Result<Tree, TextFault>
+    ensures { Gives text_cause view result (read_text bytes.now) }
+{
+    match Value::from_slice(alloc, bytes) {
+        Ok(value) => tree_from(alloc, value),
+        Err(error) => {
+            if error.is_memory() {
+                Err(TextFault::NoMemory)
+            } else {
+                Err(TextFault::BadJson)
+            }
+        }
+    }
+}
+
+/// A plain whole number.
+fn int_from(number: Number) -> Result<i64, TextFault>
+    ensures { Gives text_cause (λ z. z) result (plain_int (number_view number)) }
+{
+    match number.as_i64() {
+        Some(int) if -LIMIT < int && int < LIMIT => Ok(int),
+        _ => Err(TextFault::BadJson),
+    }
+}
+
+#[cycle(tree_from)]
+fn tree_from(alloc: Global, value: Value) -> Result<Tree, TextFault>
+    ensures { Gives text_cause view result (json_of (data_view value)) }
+{
+    match value {
+        Value::Null => Ok(Tree::Null),
+        Value::Bool(b) => Ok(Tree::Bool(b)),
+        Value::Number(number) => Ok(Tree::Int(int_from(number)?)),
+        Value::String(text) => Ok(Tree::Text(text)),
+        Value::Array(values) => Ok(Tree::List(list_from(alloc, values)?)),
+        Value::Object(members) => Ok(Tree::Object(object_from(alloc, members)?)),
+    }
+}
+
+#[cycle(tree_from)]
+fn list_from(alloc: Global, values: Vec<Value>) -> Result<Vec<Tree>, TextFault>
+    ensures { Gives text_cause (λ v. items_of (map view v.items)) result (items_from (items_view values.items)) }
+{
+    let mut found = Vec::with_capacity(alloc, values.len())?;
+    for value in values {
+        found.push(tree_from(alloc, value)?)?;
+    }
+    Ok(found)
+}
+
+#[cycle(tree_from)]
+fn object_from(alloc: Global, members: Map<String, Value>) -> Result<Vec<Member>, TextFault>
+    ensures { Gives text_cause (λ v. members_of (map member_view v.items)) result (members_from (members_view members.entries)) }
+{
+    let mut found = Vec::with_capacity(alloc, members.len())?;
+    for (name, value) in members {
+        let value = tree_from(alloc, value)?;
+        found.push(Member { name, value })?;
+    }
+    Ok(found)
+}

@@ -1,0 +1,30 @@
+-- Values of numbered elements.
+use Rattle.std.proofs.Common.{◌≡◌, ◌≢◌, ℕ, zero, suc, ◌+◌, ◌<◌, ◌≤◌, List, [], ◌∷◌, length, map, get_or, set, refl, ap, ◌∙◌, arith}
+use Rattle.std.specs.List.{enumerate_from}
+
+-- a value for each element and its number
+abbrev pub numbered : {X V : Type 0} → (ℕ → X → V) → ℕ → List X → List V
+numbered f n xs = map (λ e. f e.0 e.1) (enumerate_from n xs)
+
+-- values that are alike from a number on
+pub numbered_same : {X V : Type 0} (f g : ℕ → X → V) (n : ℕ) (xs : List X) → ((k : ℕ) (x : X) → n ≤ k → g k x ≡ f k x) → numbered g n xs ≡ numbered f n xs
+numbered_same f g n [] same = refl
+numbered_same f g n (x ∷ xs) same =
+    ap (λ v. v ∷ numbered g (n + 1) xs) (same n x (omega arith)) ∙ ap (λ vs. f n x ∷ vs) (numbered_same f g (n + 1) xs (λ k y l. same k y (omega arith)))
+
+-- values that are alike but for one number
+pub numbered_set : {X V : Type 0} (f g : ℕ → X → V) (n i m : ℕ) (xs : List X) (d : X) → i < length xs → m ≡ n + i → ((k : ℕ) (x : X) → k ≢ m → g k x ≡ f k x)
+    → numbered g n xs ≡ set (numbered f n xs) i (g m (get_or xs i d))
+numbered_set f g n i m [] d within at same = absurd (omega arith)
+numbered_set f g n zero m (x ∷ xs) d within at same =
+    ap (λ v. v ∷ numbered g (n + 1) xs) (ap (λ k. g k x) (let e : n ≡ m = omega arith in e))
+    ∙ ap (λ vs. g m x ∷ vs) (numbered_same f g (n + 1) xs (λ k y l. same k y (λ e. omega arith)))
+numbered_set f g n (suc i) m (x ∷ xs) d within at same =
+    ap (λ v. v ∷ numbered g (n + 1) xs) (same n x (λ e. omega arith))
+    ∙ ap (λ vs. f n x ∷ vs) (numbered_set f g (n + 1) i m xs d (omega arith) (omega arith) same)
+
+-- the value of an element
+pub get_or-numbered : {X V : Type 0} (f : ℕ → X → V) (n i m : ℕ) (xs : List X) (d : X) (v : V) → i < length xs → m ≡ n + i → get_or (numbered f n xs) i v ≡ f m (get_or xs i d)
+get_or-numbered f n i m [] d v within at = absurd (omega arith)
+get_or-numbered f n zero m (x ∷ xs) d v within at = ap (λ k. f k x) (let e : n ≡ m = omega arith in e)
+get_or-numbered f n (suc i) m (x ∷ xs) d v within at = get_or-numbered f (n + 1) i m xs d v (omega arith) (omega arith)

@@ -1,0 +1,107 @@
+-- How the rules of a policy are judged, and how that is reported (MDS 2.0 Policy, rules and order of operations).
+use Rattle.std.specs.Prelude.{ℕ, ◌*◌, ◌-◌, ◌==◌, pos, List, [], ◌∷◌, Bool, true, false, ◌&&◌, not, nat_le, nat_lt, if◌then◌else◌, Option, Some, None, length, filter, map, codes}
+use Rattle.std.specs.List.{enumerate_from}
+use Rattle.std.specs.List.Sorted.{IsStrictlySortedBy}
+use Rattle.std.specs.Cmp.Lexicographic.{slice_cmp}
+use Rattle.std.specs.Ordering.{nat_cmp}
+use Rattle.uuid.specs.Text.{hyphenated_text, lower}
+use Rattle.mds_text.specs.Tree.{Json, int, text, list, object, items_of, members_of}
+use Rattle.mds_geometry.specs.declared.position.Position.{Position}
+use Rattle.mds_policy.specs.Policy.{Rule, Policy}
+use Rattle.mds_policy.specs.declared.rule.Bounds.{Bounds}
+use Rattle.mds_policy.specs.declared.rule.Kind.{Kind}
+use Rattle.mds_policy.specs.declared.rule.Kind.TheVariants.{Count, Time, Other}
+use Rattle.mds_policy.specs.declared.rule.TimeUnit.{TimeUnit}
+use Rattle.mds_policy.specs.declared.rule.TimeUnit.TheVariants.{Seconds, Minutes, Hours, Days}
+use Rattle.mds_match.specs.declared.local.Local.{Local}
+use Rattle.mds_match.specs.Matching.{is_evaluated, is_open, caught}
+use Rattle.mds_match.specs.Row.{Row}
+use Rattle.mds_verdict.specs.declared.verdict.RuleVerdict.{RuleVerdict}
+use Rattle.mds_verdict.specs.declared.verdict.Status.{Status}
+use Rattle.mds_verdict.specs.declared.verdict.Status.TheVariants.{NotEvaluated, Inactive, Ok, Violated}
+
+-- rows that ascend by device id, each device once
+abbrev pub Ascends : List Row → Type 0
+Ascends rows = IsStrictlySortedBy (slice_cmp nat_cmp) (map (λ row. row.device) rows)
+
+-- a number reaches another, which itself counts where it is included
+abbrev pub reaches : Bool → ℕ → ℕ → Bool
+reaches inclusive least x = if inclusive then nat_le least x else nat_lt least x
+
+-- a number isn't below a minimum, if there is one
+abbrev pub above_minimum : Option ℕ → Bool → ℕ → ℕ → Bool
+above_minimum None inclusive unit x = true
+above_minimum (Some minimum) inclusive unit x = reaches inclusive (minimum * unit) x
+
+-- a number isn't above a maximum, if there is one
+abbrev pub below_maximum : Option ℕ → Bool → ℕ → ℕ → Bool
+below_maximum None inclusive unit x = true
+below_maximum (Some maximum) inclusive unit x = reaches inclusive x (maximum * unit)
+
+-- a number lies within the bounds times the unit
+abbrev pub within : Bounds → ℕ → ℕ → Bool
+within bounds unit x =
+    above_minimum bounds.minimum bounds.inclusive_minimum unit x && below_maximum bounds.maximum bounds.inclusive_maximum unit x
+
+-- the unit of a rule on time, in milliseconds
+abbrev pub millis : TimeUnit → ℕ
+millis Seconds = 1000
+millis Minutes = 60000
+millis Hours = 3600000
+millis Days = 86400000
+
+-- for how long a vehicle has been in its state at a moment; 0 at a moment before
+abbrev pub dwell : Row → ℕ → ℕ
+dwell row t = t - row.since
+
+-- whether a vehicle that a rule catches adds to its measure: each does for a rule on the count, and for a rule on time
+-- each whose dwell is outside the bounds
+abbrev pub adds : Kind → Bounds → ℕ → Row → Bool
+adds Count bounds t row = true
+adds (Time unit) bounds t row = not (within bounds (millis unit) (dwell row t))
+adds Other bounds t row = false
+
+-- the rows that a rule's measure counts
+abbrev pub measured : Policy → ℕ → Rule → (List ℕ → List (List (List Position))) → List Row → Local → ℕ → List Row
+measured policy n rule polygons rows local t = filter (adds rule.kind rule.bounds t) (caught policy n polygons rows local)
+
+-- an open rule is kept where the count is within the bounds, or where no vehicle is there for a time outside them
+abbrev pub status_of : Kind → Bounds → ℕ → Status
+status_of Count bounds measure = if within bounds 1 measure then Ok else Violated
+status_of (Time unit) bounds measure = if measure == 0 then Ok else Violated
+status_of Other bounds measure = NotEvaluated
+
+-- the verdict of a rule that would have this measure if it were open
+abbrev pub judged : Rule → Local → ℕ → RuleVerdict
+judged rule local measure =
+    if not (is_evaluated rule.kind) then (record { rule = rule.id; status = NotEvaluated; measure = 0 })
+    else if not (is_open rule.window local) then (record { rule = rule.id; status = Inactive; measure = 0 })
+    else (record { rule = rule.id; status = status_of rule.kind rule.bounds measure; measure = measure })
+
+-- the verdict of the rule with this number in a policy
+abbrev pub verdict_of : Policy → ℕ → Rule → (List ℕ → List (List (List Position))) → List Row → Local → ℕ → RuleVerdict
+verdict_of policy n rule polygons rows local t = judged rule local (length (measured policy n rule polygons rows local t))
+
+-- one verdict for each rule of a policy, in their order
+abbrev pub verdicts : Policy → (List ℕ → List (List (List Position))) → List Row → Local → ℕ → List RuleVerdict
+verdicts policy polygons rows local t = map (λ e. verdict_of policy e.0 e.1 polygons rows local t) (enumerate_from 0 policy.rules)
+
+-- a status, as it stands in a report
+abbrev pub status_name : Status → List ℕ
+status_name NotEvaluated = codes "not_evaluated"
+status_name Inactive = codes "inactive"
+status_name Ok = codes "ok"
+status_name Violated = codes "violated"
+
+-- an identifier, as the server prints it: lower case, with hyphens (RFC 9562, section 4)
+abbrev pub printed_id : List ℕ → Json
+printed_id id = text (hyphenated_text lower id)
+
+abbrev pub reported_rule : RuleVerdict → Json
+reported_rule verdict =
+    object (members_of ((codes "measure", int (pos verdict.measure)) ∷ (codes "rule_id", printed_id verdict.rule) ∷ (codes "status", text (status_name verdict.status)) ∷ []))
+
+-- the report of a policy: `{"policy_id":"..","rules":[{"measure":m,"rule_id":"..","status":".."}, ..]}`
+abbrev pub reported : Policy → List RuleVerdict → Json
+reported policy verdicts =
+    object (members_of ((codes "policy_id", printed_id policy.id) ∷ (codes "rules", list (items_of (map reported_rule verdicts))) ∷ []))

@@ -1,0 +1,62 @@
+use crate::judge::of_all;
+use crate::verdict::RuleVerdict;
+use mds_match::{Local, Places, Vehicle};
+use mds_policy::Policy;
+use mds_text::Moment;
+use std::alloc::{AllocError, Global};
+
+/// Judges the rules of a policy by an operator's vehicles (MDS 2.0 Policy, rules and order of
+/// operations).
+pub trait Evaluator<P: Places> {
+    ghost use Rattle.std.specs.Prelude.{◌≡◌, ◌^◌, ◌<◌, All, IfOk, map};
+    ghost use Rattle.mds_policy.specs.Policy.{policy_document};
+    ghost use Rattle.mds_match.specs.Row.{row_of};
+    ghost use Rattle.mds_verdict.specs.Verdict.{Ascends, verdicts};
+
+    /// The verdict on each rule of the policy, in their order, at a local time and at the moment up
+    /// to which a vehicle's time in its state counts. The vehicles ascend by device id, each once.
+    ///
+    /// # Errors
+    ///
+    /// Memory ran out.
+    fn verdicts(
+        &self,
+        alloc: Global,
+        policy: &Policy,
+        places: &P,
+        vehicles: &[&Vehicle],
+        local: Local,
+        moment: Moment,
+    ) -> Result<Vec<RuleVerdict>, AllocError>
+        requires { Ascends (map (λ v. row_of v.now) vehicles.now) }
+        ensures exact { IfOk result (λ found. found.items
+            ≡ verdicts (policy_document policy.now) (P.polygons places.now) (map (λ v. row_of v.now) vehicles.now) local moment) }
+        ensures fits { IfOk result (λ found. All (λ v. v.measure < 2 ^ 63) found.items) };
+}
+
+/// Takes the vehicles one after another, in any order, and grows its result alone.
+#[derive(Clone, Copy, Debug)]
+pub struct Plain;
+
+impl<P: Places> Evaluator<P> for Plain {
+    ghost use Rattle.std.specs.Prelude.{◌≡◌, ◌^◌, ◌<◌, All, IfOk, map};
+    ghost use Rattle.mds_policy.specs.Policy.{policy_document};
+    ghost use Rattle.mds_match.specs.Row.{row_of};
+    ghost use Rattle.mds_verdict.specs.Verdict.{verdicts};
+
+    fn verdicts(
+        &self,
+        alloc: Global,
+        policy: &Policy,
+        places: &P,
+        vehicles: &[&Vehicle],
+        local: Local,
+        moment: Moment,
+    ) -> Result<Vec<RuleVerdict>, AllocError>
+        ensures exact { IfOk result (λ found. found.items
+            ≡ verdicts (policy_document policy.now) (P.polygons places.now) (map (λ v. row_of v.now) vehicles.now) local moment) }
+        ensures fits { IfOk result (λ found. All (λ v. v.measure < 2 ^ 63) found.items) }
+    {
+        of_all(alloc, policy, places, vehicles, local, moment)
+    }
+}

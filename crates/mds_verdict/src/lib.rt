@@ -1,0 +1,16 @@
+//! Whether the rules of a policy are kept by an operator's vehicles, and the report on it.
+#![tactic(auto)]
+
+mod bounds;
+mod evaluator;
+mod judge;
+pub mod laws;
+mod report;
+mod verdict;
+
+pub use evaluator::{Evaluator, Plain};
+pub use report::report_tree;
+pub use verdict::{RuleVerdict, Status};
+
+#[cfg(test)]
+mod tests;

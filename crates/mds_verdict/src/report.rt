@@ -1,0 +1,59 @@
+ghost use Rattle.std.specs.Prelude.{◌≡◌, ◌^◌, ◌<◌, All, IfOk};
+ghost use Rattle.mds_text.specs.View.{view};
+ghost use Rattle.mds_policy.specs.Policy.{policy_document};
+ghost use Rattle.mds_verdict.specs.Verdict.{reported, reported_rule, status_name};
+
+use crate::verdict::{RuleVerdict, Status};
+use mds_policy::Policy;
+use mds_text::{Tree, add_member, id_tree, int_tree, list_tree, object_tree, text_tree};
+use std::alloc::{AllocError, Global};
+
+/// The report on a policy, as the server prints it: an object with the policy's identifier and, for
+/// each verdict in order, the measure, the rule's identifier and the status.
+///
+/// # Errors
+///
+/// Memory ran out.
+pub fn report_tree(
+    alloc: Global,
+    policy: &Policy,
+    verdicts: &[RuleVerdict],
+) -> Result<Tree, AllocError>
+    requires { All (λ v. v.measure < 2 ^ 63) verdicts.now }
+    ensures { IfOk result (λ t. view t ≡ reported (policy_document policy.now) verdicts.now) }
+{
+    let mut rules = Vec::new(alloc);
+    for verdict in verdicts {
+        rules.push(rule_tree(alloc, *verdict)?)?;
+    }
+    let mut members = Vec::new(alloc);
+    add_member(&mut members, "policy_id", id_tree(alloc, &policy.id())?)?;
+    add_member(&mut members, "rules", list_tree(rules))?;
+    Ok(object_tree(members))
+}
+
+fn rule_tree(alloc: Global, verdict: RuleVerdict) -> Result<Tree, AllocError>
+    requires { verdict.measure < 2 ^ 63 }
+    ensures { IfOk result (λ t. view t ≡ reported_rule verdict) }
+{
+    let mut members = Vec::new(alloc);
+    add_member(&mut members, "measure", int_tree(verdict.measure as i64))?;
+    add_member(&mut members, "rule_id", id_tree(alloc, &verdict.rule)?)?;
+    add_member(
+        &mut members,
+        "status",
+        text_tree(alloc, name_of(verdict.status))?,
+    )?;
+    Ok(object_tree(members))
+}
+
+fn name_of(status: Status) -> &'static str
+    ensures { result.now ≡ status_name status }
+{
+    match status {
+        Status::NotEvaluated => "not_evaluated",
+        Status::Inactive => "inactive",
+        Status::Ok => "ok",
+        Status::Violated => "violated",
+    }
+}

@@ -1,0 +1,26 @@
+use mds_text::Id;
+
+/// What is found of a rule (this project's compliance report).
+#[derive(Clone, Copy, Debug, PartialEq, Eq)]
+pub enum Status {
+    /// The rule is of a kind that isn't evaluated.
+    NotEvaluated,
+    /// The rule isn't open at the local time.
+    Inactive,
+    /// The rule is kept.
+    Ok,
+    /// The rule is violated.
+    Violated,
+}
+
+/// The verdict on one rule.
+#[derive(Clone, Copy, PartialEq, Eq)]
+pub struct RuleVerdict {
+    /// The rule's identifier.
+    pub rule: Id,
+    pub status: Status,
+    /// For a rule on the count the number of vehicles that it catches, and for a rule on time the
+    /// number of those whose time in their state is outside the bounds; 0 for a rule that isn't
+    /// evaluated or isn't open.
+    pub measure: u64,
+}
