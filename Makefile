@@ -1,6 +1,23 @@
-# test  the whole gate: every proof from nothing, the edits that must fail, the tests, the programs
+# demo   the main job on real input: a policy is published, a vehicle reported, compliance asked for
+# build  proves mds_replay with all that it stands on, and builds it
+# test   the whole gate: every proof from nothing, the edits that must fail, the tests, the programs
 
-.PHONY: test
+.PHONY: demo build test
+
+PROGRAM := crates/mds_replay/out/mds_replay
+SCRIPT := examples/first-verdict.replay
+
+# The proved program where it is built and no source is newer, else the sources before their proof.
+demo:
+	@if [ -x $(PROGRAM) ] && [ -z "$$(find crates.txt crates -path '*/out' -prune -o -newer $(PROGRAM) \( -name '*.rt' -o -name crates.txt \) -print)" ]; then \
+		$(PROGRAM) < $(SCRIPT); \
+	else \
+		echo "mds_replay isn't built (make build): this runs its sources before their proof" >&2; \
+		cd crates/mds_replay && rt try < ../../$(SCRIPT) 2> /dev/null | grep '^[1-5][0-9][0-9] '; \
+	fi
+
+build:
+	cd crates/mds_replay && rt run < stdin > /dev/null
 
 test:
 	rt ci

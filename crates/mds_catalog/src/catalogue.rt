@@ -3,6 +3,7 @@ ghost use Rattle.mds_catalog.specs.Publication.{publications_in, IsWithin, most_
 
 use crate::batch::Batch;
 use crate::force::is_in_force;
+use crate::lists::{in_force, lend_geographies, lend_policies, meant_for};
 use crate::published::Published;
 use mds_geography::Geography;
 use mds_policy::{Policy, Rule};
@@ -33,7 +34,7 @@ impl Catalogue {
     ghost use Rattle.std.specs.Prelude.{◌≡◌, ◌++◌, ◌∷◌, [], length, IfOk, OnOk, OnErr, option_map, IsTrue, find, map, not};
     ghost use Rattle.std.specs.List.{flat_map};
     ghost use Rattle.mds_policy.specs.Policy.{rule_document, policy_document};
-    ghost use Rattle.mds_catalog.specs.Publication.{find_policy, find_geography, is_policy_published, is_geography_published, policy_ids, geography_ids, first_published, is_geography_there, missing_geography, missing_predecessor, fits, is_lawful, extended, publication_of, is_in_force, dated};
+    ghost use Rattle.mds_catalog.specs.Publication.{find_policy, find_geography, is_policy_published, is_geography_published, policy_ids, geography_ids, first_published, is_geography_there, missing_geography, missing_predecessor, fits, is_lawful, extended, publication_of, is_in_force, dated, policies_for, published_geographies, in_force};
     ghost use Rattle.mds_catalog.specs.Catalogue.{publications_of, lent_policy, lent_geography};
 
     /// An empty catalogue with room for all publications.
@@ -53,7 +54,8 @@ impl Catalogue {
 
     /// The number of batches published.
     pub fn revision(&self) -> u64
-        ensures { result ≡ length (publications_of self.now) }
+        ensures count { result ≡ length (publications_of self.now) }
+        ensures few { result ≤ most_publications }
     {
         self.batches.len() as u64
     }
@@ -72,6 +74,49 @@ impl Catalogue {
         ensures { result ≡ is_in_force (publications_of self.now) operator at (dated published (policy_document policy.now)) }
     {
         is_in_force(&self.batches, operator, at, policy, published)
+    }
+
+    /// The published policies in the order of their publication: all, or those that are meant for an
+    /// operator (MDS 2.0 Policy, `provider_ids`).
+    ///
+    /// # Errors
+    ///
+    /// Memory ran out.
+    pub fn policies(&self, operator: Option<Id>) -> Result<Vec<Published<'_, Policy>>, AllocError>
+        ensures { IfOk result (λ v. map lent_policy v.items ≡ policies_for (publications_of self.now) operator) }
+    {
+        let all = lend_policies(*self.batches.allocator(), &self.batches)?;
+        match operator {
+            Some(operator) => Ok(meant_for(all, operator)),
+            None => Ok(all),
+        }
+    }
+
+    /// The published geographies in the order of their publication.
+    ///
+    /// # Errors
+    ///
+    /// Memory ran out.
+    pub fn geographies(&self) -> Result<Vec<Published<'_, Geography>>, AllocError>
+        ensures { IfOk result (λ v. map lent_geography v.items ≡ published_geographies (publications_of self.now)) }
+    {
+        lend_geographies(*self.batches.allocator(), &self.batches)
+    }
+
+    /// The policies in force for an operator at a moment, in the order of their publication.
+    ///
+    /// # Errors
+    ///
+    /// Memory ran out.
+    pub fn in_force(
+        &self,
+        operator: Id,
+        at: Moment,
+    ) -> Result<Vec<Published<'_, Policy>>, AllocError>
+        ensures { IfOk result (λ v. map lent_policy v.items ≡ in_force (publications_of self.now) operator at) }
+    {
+        let all = lend_policies(*self.batches.allocator(), &self.batches)?;
+        Ok(in_force(&self.batches, all, operator, at))
     }
 
     /// The published policy of this identifier.

@@ -5,9 +5,13 @@
 mod batch;
 mod catalogue;
 mod force;
+mod lists;
 mod published;
 mod shown;
 
 pub use batch::Batch;
 pub use catalogue::Catalogue;
 pub use published::Published;
+
+#[cfg(test)]
+mod tests;

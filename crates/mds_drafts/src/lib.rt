@@ -10,3 +10,6 @@ pub use draft::{Draft, DraftKind};
 pub use drafts::{Drafts, NoDraft, Put, PutFault};
 pub use list::PublishList;
 pub use publish::PublishFault;
+
+#[cfg(test)]
+mod tests;

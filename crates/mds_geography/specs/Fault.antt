@@ -1,5 +1,5 @@
 -- Why a geography is refused.
-use Rattle.std.specs.Prelude.{Option, Some, None}
+use Rattle.std.specs.Prelude.{Option, Some}
 use Rattle.mds_text.specs.Fault.{Fault, ring_short, ring_open, too_many_points, text_cause}
 use Rattle.mds_geometry.specs.declared.ring.RingFault.{RingFault}
 use Rattle.mds_geometry.specs.declared.ring.RingFault.TheVariants.{Short, Open}

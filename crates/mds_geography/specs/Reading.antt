@@ -1,8 +1,8 @@
 -- What a text of a geography reads as: the document, or the first fault in document order (MDS 2.0 Geography;
 -- RFC 7946, sections 3.1 to 3.3).
-use Rattle.std.specs.Prelude.{◌≡◌, ℕ, ℤ, ◌+◌, ◌-◌, List, [], ◌∷◌, ◌++◌, Bool, true, false, ◌&&◌, nat_lt, if◌then◌else◌, Option, Some, None, Result, Ok, Err, length, bytes_eq, codes, slice_get}
+use Rattle.std.specs.Prelude.{ℕ, ◌+◌, ◌-◌, List, [], ◌∷◌, ◌++◌, Bool, false, ◌&&◌, nat_lt, if◌then◌else◌, Option, Some, None, Result, Ok, Err, length, bytes_eq, codes, slice_get}
 use Rattle.std.specs.Ordering.{int_eq}
-use Rattle.mds_text.specs.Tree.{Json, null, boolean, int, text, degrees, list, object}
+use Rattle.mds_text.specs.Tree.{Json}
 use Rattle.mds_text.specs.Fault.{Fault, bad_field, too_many_points, ring_short, ring_open, ◌>>=◌}
 use Rattle.mds_text.specs.Fields.{member_at, optional_at, required_at, required_member, id_of, text_of, list_of, document_of}
 use Rattle.mds_text.specs.Reading.{read_text}

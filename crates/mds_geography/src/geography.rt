@@ -3,10 +3,12 @@ ghost use Rattle.mds_text.specs.Fault.{Gives};
 ghost use Rattle.mds_geography.specs.Fault.{geo_cause};
 
 use crate::fault::GeoFault;
+use crate::served::collection_tree;
 use crate::walk::{geojson_of, kind_of};
 use mds_geometry::{Polygon, Position, area_holds};
 use mds_text::{
-    Field, Id, Tree, document_of, read_tree, required_id, required_member, required_text, text_at,
+    Field, Id, Moment, Tree, add_member, document_of, id_tree, int_tree, object_tree, read_tree,
+    required_id, required_member, required_text, text_at, text_tree,
 };
 use std::alloc::{AllocError, Global};
 
@@ -24,6 +26,7 @@ impl Geography {
     ghost use Rattle.mds_geometry.specs.Area.{area_holds};
     ghost use Rattle.mds_geography.specs.Geography.{geography_document};
     ghost use Rattle.mds_geography.specs.Reading.{read_geography, geography_of};
+    ghost use Rattle.mds_geography.specs.Served.{served};
 
     /// Reads a geography document: its members by the table, then its GeoJSON in document order
     /// (MDS 2.0 Geography; RFC 7946, section 3). Other members are read past.
@@ -75,6 +78,29 @@ impl Geography {
         ensures { result ≡ area_holds (geography_document self.now).polygons position }
     {
         area_holds(&self.polygons, position)
+    }
+
+    /// The geography as it is served, with `published_date` where a moment is given.
+    ///
+    /// # Errors
+    ///
+    /// Memory ran out.
+    pub fn served(&self, alloc: Global, moment: Option<Moment>) -> Result<Tree, AllocError>
+        ensures { IfOk result (λ t. view t ≡ served (geography_document self.now) moment) }
+    {
+        let mut members = Vec::new(alloc);
+        if let Some(description) = &self.description {
+            let value = text_tree(alloc, description.as_str())?;
+            add_member(&mut members, "description", value)?;
+        }
+        add_member(&mut members, "geography_id", id_tree(alloc, &self.id)?)?;
+        let area = collection_tree(alloc, &self.polygons)?;
+        add_member(&mut members, "geography_json", area)?;
+        add_member(&mut members, "name", text_tree(alloc, self.name.as_str())?)?;
+        if let Some(moment) = moment {
+            add_member(&mut members, "published_date", int_tree(moment.get()))?;
+        }
+        Ok(object_tree(members))
     }
 }
 

@@ -3,7 +3,11 @@
 
 mod fault;
 mod geography;
+mod served;
 mod walk;
 
 pub use fault::GeoFault;
 pub use geography::Geography;
+
+#[cfg(test)]
+mod tests;

@@ -1,5 +1,5 @@
 -- How the answers to the lines of an input grow, turn by turn.
-use Rattle.std.proofs.Common.{◌≡◌, ℕ, ◌+◌, ◌<◌, ◌≤◌, ◌⊎◌, Bool, true, false, ◌&&◌, cond, ltb, List, [], ◌∷◌, ◌++◌, length, drop, filter, Option, Some, None, Result, Ok, Err, IfSome, IfOk, IfErr, MatchOption, IsTrue, inl, inr, refl, sym, ap, subst, ◌∙◌, append_assoc, arith}
+use Rattle.std.proofs.Common.{◌≡◌, ℕ, Bool, true, false, ltb, List, [], ◌∷◌, ◌++◌, length, filter, Option, Some, None, Result, Ok, Err, IfSome, IfOk, IfErr, MatchOption, IsTrue, refl, sym, ap, subst, ◌∙◌, append_assoc, arith}
 use Rattle.std.specs.List.{list_all, flat_map}
 use Rattle.std.specs.Io.KnownBytes.{Appends, IsAtEnd}
 use Rattle.std.proofs.lemmas.Bool.{lt-ltb, cond-true, cond-false, and_from}
@@ -18,7 +18,7 @@ use Rattle.mds_replay.specs.Writing.{Writes}
 use Rattle.mds_replay.specs.Reader.{BeginsWithLine, Finds}
 use Rattle.mds_replay.specs.Answering.{Answers, Run, Outputs, AreLines, answer_line, request_in}
 use Rattle.mds_replay.specs.Turning.{Replies, Turned, Turns, AnswersAll, AnswersSome, written_of, filled_lines}
-use Rattle.mds_replay.proofs.Written.{appends_none, appends_more}
+use Rattle.mds_replay.proofs.Written.{appends_more}
 
 -- which lines were answered between these two places
 abbrev pub LinesBetween : Option (List ℕ) → Option (List ℕ) → List (List ℕ) → Type 0

@@ -1,15 +1,15 @@
 -- A whole replay: the answers to an input, and how many lines they are.
-use Rattle.std.proofs.Common.{◌≡◌, ◌≢◌, ℕ, ◌+◌, ◌%◌, ◌/◌, ◌≤◌, Bool, true, false, not, ◌&&◌, cond, eqb, List, [], ◌∷◌, ◌++◌, length, filter, suc, Option, Some, None, IfSome, inl, inr, refl, sym, ap, subst, ◌∙◌, arith}
-use Rattle.std.specs.List.{count_by, sum_by, list_all, flat_map}
-use Rattle.std.specs.Io.KnownBytes.{Appends, prepend_known}
+use Rattle.std.proofs.Common.{◌≡◌, ℕ, ◌+◌, ◌%◌, ◌/◌, Bool, true, false, not, cond, eqb, List, [], ◌∷◌, ◌++◌, length, filter, suc, Option, Some, None, inr, refl, ap, subst, ◌∙◌, arith}
+use Rattle.std.specs.List.{count_by, list_all, flat_map}
+use Rattle.std.specs.Io.KnownBytes.{prepend_known}
 use Rattle.std.proofs.lemmas.Bool.{ne_eqb, and_parts, not-true}
 use Rattle.std.proofs.lemmas.List.Sums.{sum_by-append, sum_by-cons}
 use Rattle.mds_request.specs.Request.{Request}
 use Rattle.mds_request.specs.Reply.{Reply, is_line}
-use Rattle.mds_replay.specs.Framing.{lines, is_filled, asked_of, configuration_of}
+use Rattle.mds_replay.specs.Framing.{lines, is_filled, asked_of}
 use Rattle.mds_replay.specs.Gathering.{is_feed}
-use Rattle.mds_replay.specs.Answering.{Run, Outputs, AreLines, answer_line, status_text, Answered, Started}
-use Rattle.mds_replay.specs.Turning.{Begins, AnswersAll, AnswersSome, filled_lines}
+use Rattle.mds_replay.specs.Answering.{Run, Outputs, AreLines, answer_line, Answered, Started}
+use Rattle.mds_replay.specs.Turning.{Begins, AnswersAll, AnswersSome}
 
 pub nothing_ahead : (remaining : Option (List ℕ)) → prepend_known [] remaining ≡ remaining
 nothing_ahead None = refl

@@ -1,10 +1,10 @@
 -- The answers to the lines of an input.
-use Rattle.std.specs.Prelude.{◌≡◌, ℕ, ◌+◌, ◌*◌, ◌/◌, ◌%◌, ◌≤◌, ◌<◌, Bool, true, false, List, [], ◌∷◌, ◌++◌, length, drop, filter, nat_lt, count_by, IfSome, Option, Some, None, MatchOption, ◌⊎◌, if◌then◌else◌}
+use Rattle.std.specs.Prelude.{◌≡◌, ℕ, ◌+◌, ◌/◌, ◌%◌, ◌≤◌, true, List, [], ◌∷◌, ◌++◌, length, nat_lt, count_by, IfSome, Option, None, MatchOption, ◌⊎◌, if◌then◌else◌}
 use Rattle.std.specs.List.{list_all, flat_map}
 use Rattle.mds_request.specs.declared.code.Code.TheVariants.{BadLine}
 use Rattle.mds_request.specs.Request.{Request}
 use Rattle.mds_request.specs.Reply.{Reply, is_line, refused}
-use Rattle.mds_replay.specs.Framing.{lines, line_limit, is_filled, configuration_of, asked_of}
+use Rattle.mds_replay.specs.Framing.{lines, line_limit, configuration_of, asked_of}
 use Rattle.std.specs.Io.KnownBytes.{Appends}
 use Rattle.mds_replay.specs.Gathering.{is_feed}
 use Rattle.mds_replay.specs.Cutting.{request_on}

@@ -1,8 +1,11 @@
 pub mod Answering
+pub mod Begins
 pub mod Cutting
 pub mod Ends
+pub mod Exit
 pub mod Framing
 pub mod Gathering
 pub mod Reader
+pub mod Total
 pub mod Turning
 pub mod Writing

@@ -97,6 +97,14 @@ impl<W: Write> ToWriter<W> {
             failures: 0,
         }
     }
+
+    /// Sends on what the writer keeps. The error is a write that failed.
+    pub fn flush(&mut self) -> Result<(), Failed> {
+        match self.writer.flush() {
+            Ok(()) => Ok(()),
+            Err(_) => Err(Failed),
+        }
+    }
 }
 
 impl<W: Write> Sink for ToWriter<W> {

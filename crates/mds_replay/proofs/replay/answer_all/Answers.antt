@@ -1,9 +1,9 @@
-use Rattle.std.proofs.Common.{◌≡◌, Ok, Err, true, false, [], ◌++◌, refl, ap, subst, sym, ◌∙◌}
+use Rattle.std.proofs.Common.{Ok, [], ◌++◌, refl, subst, ◌∙◌}
 use Rattle.mds_replay.specs.Reader.{left, passed}
 use Rattle.mds_replay.specs.Turning.{Turns, written_of}
-use Rattle.mds_replay.proofs.Reading.{advances_none, advances_more, fails_from}
+use Rattle.mds_replay.proofs.Reading.{advances_none, advances_more}
 use Rattle.mds_replay.proofs.Written.{appends_none, appends_more}
-use Rattle.mds_replay.proofs.Progress.{ran_none, ran_turn, answers_all, answers_some}
+use Rattle.mds_replay.proofs.Progress.{ran_none, ran_turn, answers_some}
 use Rattle.mds_replay.proofs.replay.answer_all.Goals as goal
 
 pub turns-init : goal.turns-init

@@ -1,4 +1,4 @@
-use Rattle.std.proofs.Common.{◌≡◌, Some, refl, ap, subst, sym, ◌∙◌}
+use Rattle.std.proofs.Common.{Some, refl, subst}
 use Rattle.mds_request.specs.declared.code.Code.TheVariants.{BadLine}
 use Rattle.mds_request.specs.Reply.{refused}
 use Rattle.mds_replay.specs.Reader.{left, held, Finds}

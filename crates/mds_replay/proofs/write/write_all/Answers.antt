@@ -1,7 +1,6 @@
-use Rattle.std.proofs.Common.{◌≡◌, take, drop, length, subst, sym, ◌∙◌, arith}
+use Rattle.std.proofs.Common.{subst, sym, arith}
 use Rattle.std.proofs.lemmas.Bool.Decides.{nat_tests}
-use Rattle.std.proofs.lemmas.List.{nil_from_length}
-use Rattle.mds_replay.proofs.Written.{Wrote, wrote_more, wrote_all}
+use Rattle.mds_replay.proofs.Written.{Wrote, wrote_more}
 use Rattle.mds_replay.proofs.write.write_all.Goals as goal
 
 pub pieces-preserved : goal.pieces-preserved

@@ -1,7 +1,6 @@
 use Rattle.std.proofs.Common.{◌≡◌, ℕ, List, [], ◌∷◌, ◌++◌, ap, subst, sym, ◌∙◌, append_assoc}
 use Rattle.std.specs.Io.KnownBytes.{Appends}
 use Rattle.mds_replay.specs.Answering.{status_text}
-use Rattle.mds_replay.specs.Writing.{Writes}
 use Rattle.mds_replay.proofs.Written.{writes_stopped, writes_next, appends_more}
 use Rattle.mds_replay.proofs.write.write_answer.Goals as goal
 

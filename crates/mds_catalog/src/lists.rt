@@ -1,0 +1,81 @@
+//! The published documents, lent in the order of their publication.
+ghost use Rattle.std.specs.Prelude.{◌≡◌, filter, map, IfOk};
+ghost use Rattle.mds_catalog.specs.Publication.{publications_in, published_policies, published_geographies, is_in_force, is_meant_for};
+ghost use Rattle.mds_catalog.specs.Catalogue.{lent_policy, lent_geography};
+
+use crate::batch::Batch;
+use crate::force::{is_in_force, is_meant_for};
+use crate::published::Published;
+use mds_geography::Geography;
+use mds_policy::Policy;
+use mds_text::{Id, Moment};
+use std::alloc::{AllocError, Global};
+use std::sync::Arc;
+
+/// All policies of the batches.
+pub(crate) fn lend_policies(
+    alloc: Global,
+    batches: &[Arc<Batch>],
+) -> Result<Vec<Published<'_, Policy>>, AllocError>
+    ensures { IfOk result (λ v. map lent_policy v.items ≡ published_policies (publications_in batches.now)) }
+{
+    let mut lent = Vec::new(alloc);
+    for share in batches {
+        let batch: &Batch = share;
+        for policy in &batch.policies {
+            let document: &Policy = policy;
+            let moment = batch.moment;
+            match lent.push(Published { document, moment }) {
+                Ok(()) => {}
+                Err(_) => return Err(AllocError),
+            }
+        }
+    }
+    Ok(lent)
+}
+
+/// All geographies of the batches.
+pub(crate) fn lend_geographies(
+    alloc: Global,
+    batches: &[Arc<Batch>],
+) -> Result<Vec<Published<'_, Geography>>, AllocError>
+    ensures { IfOk result (λ v. map lent_geography v.items ≡ published_geographies (publications_in batches.now)) }
+{
+    let mut lent = Vec::new(alloc);
+    for share in batches {
+        let batch: &Batch = share;
+        for geography in &batch.geographies {
+            let document: &Geography = geography;
+            let moment = batch.moment;
+            match lent.push(Published { document, moment }) {
+                Ok(()) => {}
+                Err(_) => return Err(AllocError),
+            }
+        }
+    }
+    Ok(lent)
+}
+
+/// Those of the policies that are meant for the operator.
+pub(crate) fn meant_for(
+    mut lent: Vec<Published<'_, Policy>>,
+    operator: Id,
+) -> Vec<Published<'_, Policy>>
+    ensures { map lent_policy result.items ≡ filter (λ p. is_meant_for operator p.document) (map lent_policy lent.entry.items) }
+{
+    lent.retain(|policy| is_meant_for(operator, policy.document));
+    lent
+}
+
+/// Those of the policies that are in force for the operator at a moment.
+pub(crate) fn in_force<'a>(
+    batches: &[Arc<Batch>],
+    mut lent: Vec<Published<'a, Policy>>,
+    operator: Id,
+    at: Moment,
+) -> Vec<Published<'a, Policy>>
+    ensures { map lent_policy result.items ≡ filter (is_in_force (publications_in batches.now) operator at) (map lent_policy lent.entry.items) }
+{
+    lent.retain(|policy| is_in_force(batches, operator, at, policy.document, policy.moment));
+    lent
+}

@@ -1,0 +1,159 @@
+use crate::batch::Batch;
+use crate::catalogue::Catalogue;
+use mds_geography::Geography;
+use mds_geometry::Position;
+use mds_match::Places;
+use mds_policy::Policy;
+use mds_text::{Id, Moment, Units7};
+use std::alloc::Global;
+use std::process::Abort;
+use std::sync::Arc;
+use std::test::Fail;
+
+const G1: &str = "00000000-0000-4000-8000-000000000101";
+
+const P1: &str = "00000000-0000-4000-8000-000000000201";
+
+const P2: &str = "00000000-0000-4000-8000-000000000202";
+
+const OA: &str = "00000000-0000-4000-8000-0000000000a1";
+
+const OB: &str = "00000000-0000-4000-8000-0000000000b1";
+
+/// A policy on the square from its start on, and another that takes its place a day later.
+const CAP: &[u8] =
+    br#"{"policy_id":"00000000-0000-4000-8000-000000000201","name":"cap","start_date":1000,"rules":[{"rule_id":"00000000-0000-4000-8000-000000000301","name":"cap","rule_type":"count","geographies":["00000000-0000-4000-8000-000000000101"],"maximum":1}]}"#;
+
+const NEXT: &[u8] =
+    br#"{"policy_id":"00000000-0000-4000-8000-000000000202","name":"next","start_date":86401000,"prev_policies":["00000000-0000-4000-8000-000000000201"],"provider_ids":["00000000-0000-4000-8000-0000000000a1"],"rules":[{"rule_id":"00000000-0000-4000-8000-000000000302","name":"cap","rule_type":"count","geographies":["00000000-0000-4000-8000-000000000101"],"maximum":1}]}"#;
+
+fn id(text: &str) -> Result<Id, Fail> {
+    Ok(Id::read(text).ok_or("no identifier")?)
+}
+
+fn moment(millis: i64) -> Result<Moment, Fail> {
+    Ok(Moment::new(millis).ok_or("no moment")?)
+}
+
+/// From 0 to 10 degrees.
+fn square(alloc: Global) -> Result<Vec<Arc<Geography>>, Fail> {
+    let square = Geography::read(
+        alloc,
+        br#"{"geography_id":"00000000-0000-4000-8000-000000000101","name":"square","geography_json":{"type":"Polygon","coordinates":[[[0,0],[10,0],[10,10],[0,10],[0,0]]]}}"#,
+    )?;
+    let mut geographies = Vec::new(alloc);
+    geographies.push(Arc::new(alloc, square)?)?;
+    Ok(geographies)
+}
+
+fn policies(alloc: Global, texts: &[&[u8]]) -> Result<Vec<Arc<Policy>>, Fail> {
+    let mut policies = Vec::new(alloc);
+    for text in texts {
+        policies.push(Arc::new(alloc, Policy::read(alloc, text)?)?)?;
+    }
+    Ok(policies)
+}
+
+/// The policies of these texts, with the square.
+fn whole(alloc: Global, texts: &[&[u8]]) -> Result<Batch, Fail> {
+    Ok(Batch {
+        moment: moment(1000)?,
+        geographies: square(alloc)?,
+        policies: policies(alloc, texts)?,
+    })
+}
+
+/// The policies of these texts alone, a second later.
+fn alone(alloc: Global, texts: &[&[u8]]) -> Result<Batch, Fail> {
+    Ok(Batch {
+        moment: moment(2000)?,
+        geographies: Vec::new(alloc),
+        policies: policies(alloc, texts)?,
+    })
+}
+
+/// The first policy with the square, and a second later the one that takes its place.
+fn published(alloc: Global, rt: &impl Abort) -> Result<Catalogue, Fail> {
+    let mut catalogue = Catalogue::with_room(alloc)?;
+    let first = whole(alloc, &[CAP])?;
+    assert!(rt; catalogue.lawful(&first));
+    catalogue.absorb(&Arc::new(alloc, first)?)?;
+    assert_eq!(rt; catalogue.revision(), 1);
+    catalogue.adopt(Arc::new(alloc, alone(alloc, &[NEXT])?)?);
+    assert_eq!(rt; catalogue.revision(), 2);
+    Ok(catalogue)
+}
+
+#[test]
+fn takes_its_place_at_its_start(rt: HostRuntime) -> Result<(), Fail> {
+    let catalogue = published(rt.alloc(), &rt)?;
+    let cases = [
+        (OA, 999, None),
+        (OA, 1000, Some(P1)),
+        (OA, 86_400_999, Some(P1)),
+        (OA, 86_401_000, Some(P2)),
+        (OB, 86_400_999, Some(P1)),
+        (OB, 86_401_000, None),
+    ];
+    for (operator, at, wanted) in cases {
+        let lent = catalogue.in_force(id(operator)?, moment(at)?)?;
+        assert!(rt; lent.len() <= 1, "at {at}");
+        let found = lent.first().map(|policy| policy.document.id());
+        assert!(rt; found == wanted.and_then(Id::read), "at {at}");
+    }
+    Ok(())
+}
+
+#[test]
+fn lends_the_published(rt: HostRuntime) -> Result<(), Fail> {
+    let catalogue = published(rt.alloc(), &rt)?;
+    let policies = catalogue.policies(None)?;
+    let [cap, next] = policies.as_slice() else {
+        panic!(rt; "two policies")
+    };
+    assert!(rt; cap.document.id() == id(P1)? && cap.moment == moment(1000)?);
+    assert!(rt; next.document.id() == id(P2)? && next.moment == moment(2000)?);
+    assert_eq!(rt; catalogue.policies(Some(id(OA)?))?.len(), 2);
+    assert_eq!(rt; catalogue.policies(Some(id(OB)?))?.len(), 1);
+    let geographies = catalogue.geographies()?;
+    let [square] = geographies.as_slice() else {
+        panic!(rt; "one geography")
+    };
+    assert!(rt; square.document.id() == id(G1)? && square.moment == moment(1000)?);
+    assert!(rt; catalogue.policy(id(P2)?).is_some() && catalogue.policy(id(G1)?).is_none());
+    assert!(rt; catalogue.geography(id(G1)?).is_some() && catalogue.geography(id(P1)?).is_none());
+    assert_eq!(rt; catalogue.batches().len(), 2);
+    Ok(())
+}
+
+#[test]
+fn shows_its_geographies(rt: HostRuntime) -> Result<(), Fail> {
+    let catalogue = published(rt.alloc(), &rt)?;
+    let five = Units7::new(50_000_000).ok_or("no coordinate")?;
+    let inside = Position {
+        lng: five,
+        lat: five,
+    };
+    assert!(rt; catalogue.holds(id(G1)?, inside));
+    assert!(rt; !catalogue.holds(id(P1)?, inside));
+    Ok(())
+}
+
+#[test]
+fn refuses_what_is_not_lawful(rt: HostRuntime) -> Result<(), Fail> {
+    let alloc = rt.alloc();
+    let mut catalogue = Catalogue::with_room(alloc)?;
+    let without = alone(alloc, &[CAP])?;
+    assert!(rt; catalogue.missing_geography(&without) == Some(id(G1)?));
+    assert!(rt; !catalogue.lawful(&without));
+    let both = whole(alloc, &[CAP, NEXT])?;
+    assert!(rt; catalogue.missing_predecessor(&both) == Some(id(P1)?));
+    catalogue.absorb(&Arc::new(alloc, both)?)?;
+    assert_eq!(rt; catalogue.revision(), 0);
+    catalogue.adopt(Arc::new(alloc, whole(alloc, &[CAP])?)?);
+    assert!(rt; catalogue.first_published(&whole(alloc, &[CAP])?) == Some(id(G1)?));
+    assert!(rt; catalogue.first_published(&without) == Some(id(P1)?));
+    assert!(rt; catalogue.fits(&without));
+    assert!(rt; !catalogue.lawful(&alone(alloc, &[])?));
+    Ok(())
+}

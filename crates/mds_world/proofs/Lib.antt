@@ -1,0 +1,6 @@
+mod Ascending
+mod Books
+mod OneLine
+mod Outcome
+mod Reported
+mod Shown

@@ -1,0 +1,9 @@
+pub mod Acts
+pub mod Answer
+pub mod Author
+pub mod Bodies
+pub mod Denial
+pub mod Operator
+pub mod Published
+pub mod Step
+pub mod World

@@ -1,0 +1,185 @@
+//! The bodies of successes.
+ghost use Rattle.std.specs.Prelude.{◌≡◌, ◌^◌, ◌<◌, IfOk, map};
+ghost use Rattle.mds_text.specs.View.{view};
+ghost use Rattle.mds_match.specs.Row.{row_of};
+ghost use Rattle.mds_world.specs.Answer.{told};
+ghost use Rattle.mds_world.specs.Bodies.{words_json, result_json, removed_json, draft_json, published_json, revised_json, compliance_json, location_json, vehicle_json, vehicles_json};
+
+use mds_match::Vehicle;
+use mds_request::Reply;
+use mds_text::{
+    Id, Moment, Token, Tree, add_member, id_tree, int_tree, list_tree, object_tree, print_tree,
+    text_tree,
+};
+use std::alloc::{AllocError, Global};
+
+/// The version of the compliance reports.
+const REPORT_VERSION: i64 = 1;
+
+/// A success with this value as its body.
+#[tactic(auto, using(crate::proofs::OneLine::one_line))]
+pub(crate) fn told(alloc: Global, value: &Tree) -> Result<Reply, AllocError>
+    ensures { IfOk result (λ r. r ≡ told (view value.now)) }
+{
+    let body = print_tree(alloc, value)?;
+    Ok(Reply::ok(body))
+}
+
+/// What became of a report or of a draft: `{"result":word}`.
+pub(crate) fn result_reply(alloc: Global, word: &str) -> Result<Reply, AllocError>
+    ensures { IfOk result (λ r. r ≡ told (result_json word.now)) }
+{
+    let mut members = Vec::new(alloc);
+    add_member(&mut members, "result", text_tree(alloc, word)?)?;
+    told(alloc, &object_tree(members))
+}
+
+/// What was removed: `{"removed":id}`.
+pub(crate) fn removed_reply(alloc: Global, id: Id) -> Result<Reply, AllocError>
+    ensures { IfOk result (λ r. r ≡ told (removed_json id)) }
+{
+    let mut members = Vec::new(alloc);
+    add_member(&mut members, "removed", id_tree(alloc, &id)?)?;
+    told(alloc, &object_tree(members))
+}
+
+/// A draft: `{"draft":served}`.
+pub(crate) fn draft_reply(alloc: Global, served: Tree) -> Result<Reply, AllocError>
+    ensures { IfOk result (λ r. r ≡ told (draft_json (view served))) }
+{
+    let mut members = Vec::new(alloc);
+    add_member(&mut members, "draft", served)?;
+    told(alloc, &object_tree(members))
+}
+
+/// A publication: `{"published_date":moment,"revision":revision}`.
+pub(crate) fn published_reply(
+    alloc: Global,
+    moment: Moment,
+    revision: u64,
+) -> Result<Reply, AllocError>
+    requires { revision < 2 ^ 63 }
+    ensures { IfOk result (λ r. r ≡ told (published_json moment revision)) }
+{
+    let mut members = Vec::new(alloc);
+    add_member(&mut members, "published_date", int_tree(moment.get()))?;
+    add_member(&mut members, "revision", int_tree(revision as i64))?;
+    told(alloc, &object_tree(members))
+}
+
+/// What is published, under its name: `{name:value,"revision":revision}`.
+pub(crate) fn revised_reply(
+    alloc: Global,
+    name: &str,
+    value: Tree,
+    revision: u64,
+) -> Result<Reply, AllocError>
+    requires { revision < 2 ^ 63 }
+    ensures { IfOk result (λ r. r ≡ told (revised_json name.now (view value) revision)) }
+{
+    let mut members = Vec::new(alloc);
+    add_member(&mut members, name, value)?;
+    add_member(&mut members, "revision", int_tree(revision as i64))?;
+    told(alloc, &object_tree(members))
+}
+
+/// What is found at a moment, under its name: `{"at":moment,name:value,"revision":revision,"version":1}`.
+pub(crate) fn compliance_reply(
+    alloc: Global,
+    moment: Moment,
+    name: &str,
+    value: Tree,
+    revision: u64,
+) -> Result<Reply, AllocError>
+    requires { revision < 2 ^ 63 }
+    ensures { IfOk result (λ r. r ≡ told (compliance_json moment name.now (view value) revision)) }
+{
+    told(
+        alloc,
+        &compliance_tree(alloc, moment, name, value, revision)?,
+    )
+}
+
+fn compliance_tree(
+    alloc: Global,
+    moment: Moment,
+    name: &str,
+    value: Tree,
+    revision: u64,
+) -> Result<Tree, AllocError>
+    requires { revision < 2 ^ 63 }
+    ensures { IfOk result (λ t. view t ≡ compliance_json moment name.now (view value) revision) }
+{
+    let mut members = Vec::new(alloc);
+    add_member(&mut members, "at", int_tree(moment.get()))?;
+    add_member(&mut members, name, value)?;
+    add_member(&mut members, "revision", int_tree(revision as i64))?;
+    add_member(&mut members, "version", int_tree(REPORT_VERSION))?;
+    Ok(object_tree(members))
+}
+
+/// Words, each as a text.
+fn words_tree(alloc: Global, words: &[Token]) -> Result<Tree, AllocError>
+    ensures { IfOk result (λ t. view t ≡ words_json words.now) }
+{
+    let mut texts = Vec::with_capacity(alloc, words.len())?;
+    for word in words {
+        texts.push(text_tree(alloc, word.as_str())?)?;
+    }
+    Ok(list_tree(texts))
+}
+
+/// Where a vehicle is, in degrees.
+fn location_tree(alloc: Global, vehicle: &Vehicle) -> Result<Tree, AllocError>
+    ensures { IfOk result (λ t. view t ≡ location_json (row_of vehicle.now)) }
+{
+    let mut members = Vec::new(alloc);
+    add_member(&mut members, "lat", Tree::Degrees(vehicle.position.lat))?;
+    add_member(&mut members, "lng", Tree::Degrees(vehicle.position.lng))?;
+    Ok(object_tree(members))
+}
+
+/// A vehicle as its operator sees it.
+fn vehicle_tree(alloc: Global, vehicle: &Vehicle) -> Result<Tree, AllocError>
+    ensures { IfOk result (λ t. view t ≡ vehicle_json (row_of vehicle.now)) }
+{
+    let mut members = Vec::new(alloc);
+    add_member(&mut members, "device_id", id_tree(alloc, &vehicle.device)?)?;
+    add_member(
+        &mut members,
+        "event_types",
+        words_tree(alloc, &vehicle.events)?,
+    )?;
+    add_member(&mut members, "location", location_tree(alloc, vehicle)?)?;
+    add_member(
+        &mut members,
+        "propulsion_types",
+        words_tree(alloc, &vehicle.propulsion)?,
+    )?;
+    add_member(&mut members, "since", int_tree(vehicle.since.get()))?;
+    add_member(&mut members, "timestamp", int_tree(vehicle.timestamp.get()))?;
+    add_member(
+        &mut members,
+        "vehicle_state",
+        text_tree(alloc, vehicle.state.as_str())?,
+    )?;
+    add_member(
+        &mut members,
+        "vehicle_type",
+        text_tree(alloc, vehicle.vehicle_type.as_str())?,
+    )?;
+    Ok(object_tree(members))
+}
+
+/// An operator's vehicles: `{"vehicles":[..]}`.
+pub(crate) fn vehicles_reply(alloc: Global, vehicles: &[&Vehicle]) -> Result<Reply, AllocError>
+    ensures { IfOk result (λ r. r ≡ told (vehicles_json (map (λ v. row_of v.now) vehicles.now))) }
+{
+    let mut trees = Vec::with_capacity(alloc, vehicles.len())?;
+    for vehicle in vehicles {
+        trees.push(vehicle_tree(alloc, vehicle)?)?;
+    }
+    let mut members = Vec::new(alloc);
+    add_member(&mut members, "vehicles", list_tree(trees))?;
+    told(alloc, &object_tree(members))
+}

@@ -1,0 +1,16 @@
+//! The machine: what each request is answered, and what becomes of an operator's vehicles, of drafts
+//! and of publications.
+#![tactic(auto)]
+
+mod answer;
+mod author;
+mod bodies;
+mod compliance;
+mod denied;
+mod operator;
+mod published;
+mod world;
+
+pub use author::{AuthorAct, author_step};
+pub use operator::operator_step;
+pub use world::World;

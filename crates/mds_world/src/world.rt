@@ -1,0 +1,131 @@
+ghost use Rattle.std.specs.Prelude.{◌≡◌, map, IfOk};
+ghost use Rattle.std.specs.FinMap.{empty};
+ghost use Rattle.mds_request.specs.Configuration.{configuration, operator as operator_of};
+
+use crate::author::{AuthorAct, author_step};
+use crate::operator::operator_step;
+use mds_catalog::Catalogue;
+use mds_drafts::Drafts;
+use mds_fleet::Book;
+use mds_request::{
+    Actor, Call, Code, Config, Operator, Refusal, Reply, Request, Routes, read_call,
+};
+use mds_verdict::Evaluator;
+use std::alloc::{AllocError, Global};
+
+/// The machine between two requests: the configuration, what is published, the author's drafts and
+/// each operator's own book. Contracts see its state.
+#[derive(Drop)]
+pub struct World<E: Drop> {
+    config: Config,
+    routes: Routes,
+    catalogue: Catalogue,
+    drafts: Drafts,
+    // one of each operator, in the configuration's order
+    books: Vec<Book>,
+    evaluator: E,
+    ghost limits: { map (λ book. book.limit) books.items ≡ map (λ operator. operator.limit) (configuration config).operators },
+}
+
+/// An empty book of each operator, with the operator's limit.
+fn empty_books(alloc: Global, operators: &[Operator]) -> Result<Vec<Book>, AllocError>
+    ensures rows { IfOk result (λ books. map (λ book. book.rows) books.items ≡ map (λ operator. empty) (map operator_of operators.now)) }
+    ensures limits { IfOk result (λ books. map (λ book. book.limit) books.items ≡ map (λ operator. operator.limit) (map operator_of operators.now)) }
+{
+    let mut books = Vec::with_capacity(alloc, operators.len())?;
+    for operator in operators {
+        books.push(Book::new(alloc, operator.limit as u32))?;
+    }
+    Ok(books)
+}
+
+impl<E: Evaluator<Catalogue> + Drop> World<E> {
+    ghost use Rattle.mds_request.specs.Call.{call_of};
+    ghost use Rattle.mds_request.specs.Configuration.{actor_of};
+    ghost use Rattle.mds_request.specs.Request.{request_of};
+    ghost use Rattle.mds_request.specs.declared.actor.Actor.TheVariants.{Operator as OperatorAt};
+    ghost use Rattle.mds_world.specs.Step.{Step, Comes, actor_step, author_step, new_state};
+    ghost use Rattle.mds_world.specs.World.{state_of};
+
+    /// A machine of this configuration that no request has come to: without a publication, a draft or
+    /// a vehicle.
+    ///
+    /// # Errors
+    ///
+    /// Memory ran out.
+    pub fn new(alloc: Global, config: Config, evaluator: E) -> Result<World<E>, AllocError>
+        ensures { IfOk result (λ w. state_of w ≡ new_state (configuration config)) }
+    {
+        let books = empty_books(alloc, config.operators())?;
+        let routes = Routes::new(alloc)?;
+        let catalogue = Catalogue::with_room(alloc)?;
+        Ok(World {
+            config,
+            routes,
+            catalogue,
+            drafts: Drafts::new(alloc),
+            books,
+            evaluator,
+        })
+    }
+
+    /// Answers a request, and carries it out: one step of the machine.
+    ///
+    /// The reply is the success, the first refusal that applies, or 503 `no_memory`; a request that
+    /// isn't a success changes nothing.
+    pub fn answer(&mut self, request: &Request<'_>) -> Reply
+        ensures { Step (state_of self.old) (request_of request.now) result (state_of self.new) }
+    {
+        match read_call(&self.routes, &self.config, request) {
+            Ok(call) => self.answer_call(&call, request),
+            Err(refusal) => Reply::from(refusal),
+        }
+    }
+
+    /// Answers a call of whoever the access token belongs to.
+    fn answer_call(&mut self, call: &Call, request: &Request<'_>) -> Reply
+        ensures { Comes (actor_step (state_of self.old) (actor_of (state_of self.old).configuration (request_of request.now).token) call.now (request_of request.now))
+            (state_of self.old) result (state_of self.new) }
+    {
+        match self.config.actor(request.token) {
+            Actor::Author => self.author_call(call, request),
+            Actor::Operator(place) => self.operator_call(place, call, request),
+            Actor::Nobody => Reply::from(Refusal::new(Code::Token)),
+        }
+    }
+
+    /// Answers a call of the author. A publication takes its drafts out.
+    fn author_call(&mut self, call: &Call, request: &Request<'_>) -> Reply
+        ensures { Comes (author_step (state_of self.old) call.now (request_of request.now)) (state_of self.old) result (state_of self.new) }
+    {
+        let alloc = *self.books.allocator();
+        match author_step(alloc, &mut self.drafts, &self.catalogue, call, request) {
+            AuthorAct::Answer(reply) => reply,
+            AuthorAct::Publish(batch, reply) => {
+                self.drafts.take_out(&batch);
+                self.catalogue.adopt(batch);
+                reply
+            }
+        }
+    }
+
+    /// Answers a call of the operator at this place of the configuration.
+    fn operator_call(&mut self, place: usize, call: &Call, request: &Request<'_>) -> Reply
+        ensures { Comes (actor_step (state_of self.old) (OperatorAt place) call.now (request_of request.now)) (state_of self.old) result (state_of self.new) }
+    {
+        if place >= self.books.len() {
+            return Reply::from(Refusal::new(Code::Token));
+        }
+        let alloc = *self.books.allocator();
+        operator_step(
+            alloc,
+            &mut self.books[place],
+            &self.catalogue,
+            &self.config,
+            place,
+            call,
+            request,
+            &self.evaluator,
+        )
+    }
+}
