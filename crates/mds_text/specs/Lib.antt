@@ -1,7 +1,9 @@
 pub mod Fault
 pub mod Field
 pub mod Fields
+pub mod Numbers
 pub mod Printed
+pub mod Quoting
 pub mod Reading
 pub mod Tree
 pub mod View

@@ -1,10 +1,11 @@
--- The JSON value that a text denotes (RFC 8259), as `serde_json` reads it: at most 127 levels deep, the last of equal
--- names kept, and names in byte order.
+-- The JSON value that a text denotes (RFC 8259), as `serde_json` reads it once the numbers that aren't plain are quoted:
+-- at most 127 levels deep, the last of equal names kept, and names in byte order.
 use Rattle.std.specs.Prelude.{ℕ, suc, ℤ, pos, negsuc, ◌^◌, nat_lt, if◌then◌else◌, List, Option, Some, None, Result, Ok, Err}
 use Rattle.std.specs.Str.{is_utf8}
 use Rattle.serde_json.specs.Data as source
 use Rattle.serde_json.specs.Read.{read}
 use Rattle.mds_text.specs.Fault.{Fault, bad_json, ◌>>=◌}
+use Rattle.mds_text.specs.Quoting.{quoted_text}
 use Rattle.mds_text.specs.Tree.{Json, null, boolean, int, text, list, object, Items, no_items, item, Members, no_members, member}
 
 -- a plain whole number has at most 18 digits
@@ -37,6 +38,10 @@ abbrev pub json_of_read : Option source.Data → Result Json Fault
 json_of_read None = Err bad_json
 json_of_read (Some d) = json_of d
 
--- the value that a text denotes
+-- the value of a JSON text
+abbrev pub read_json : List ℕ → Result Json Fault
+read_json bytes = if is_utf8 bytes then json_of_read (read bytes) else Err bad_json
+
+-- the value that a text denotes, once its numbers that aren't plain are quoted
 abbrev pub read_text : List ℕ → Result Json Fault
-read_text bytes = if is_utf8 bytes then json_of_read (read bytes) else Err bad_json
+read_text bytes = read_json (quoted_text bytes)

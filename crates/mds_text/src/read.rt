@@ -1,12 +1,14 @@
 //! From a text to its tree.
-ghost use Rattle.std.specs.Prelude.{◌≡◌, map};
+ghost use Rattle.std.specs.Prelude.{◌≡◌, IfOk, map};
 ghost use Rattle.mds_text.specs.Fault.{Gives, text_cause};
-ghost use Rattle.mds_text.specs.Reading.{json_of, items_from, members_from, plain_int, read_text};
+ghost use Rattle.mds_text.specs.Reading.{json_of, items_from, members_from, plain_int, read_json, read_text};
+ghost use Rattle.mds_text.specs.Quoting.{quoted_count};
 ghost use Rattle.mds_text.specs.Tree.{items_of, members_of};
 ghost use Rattle.mds_text.specs.View.{view, member_view};
 ghost use Rattle.serde_json.specs.View.{view as data_view, number_view, items_view, members_view};
 
 use crate::fault::TextFault;
+use crate::quote::quote_numbers;
 use crate::tree::{Member, Tree};
 use serde_json::{Map, Number, Value};
 use std::alloc::Global;
@@ -14,10 +16,27 @@ use std::alloc::Global;
 /// Just above the greatest plain whole number, which has 18 digits.
 const LIMIT: i64 = 1_000_000_000_000_000_000;
 
-/// Reads a JSON text (RFC 8259) of at most 127 levels. Of equal names in one object the last is kept.
-/// `BadJson` where the text is no such text or no UTF-8.
+/// Reads a JSON text (RFC 8259) of at most 127 levels. Numbers that aren't plain are read as texts. Of
+/// equal names in one object the last is kept. `BadJson` where the text is no such text or no UTF-8.
 pub fn read_tree(alloc: Global, bytes: &[u8]) -> Result<Tree, TextFault>
     ensures { Gives text_cause view result (read_text bytes.now) }
+{
+    let (tree, _quoted) = read_counted(alloc, bytes)?;
+    Ok(tree)
+}
+
+/// Reads a text as `read_tree` does, and says how many of its numbers weren't plain.
+pub fn read_counted(alloc: Global, bytes: &[u8]) -> Result<(Tree, u64), TextFault>
+    ensures tree { Gives text_cause (λ r. view r.0) result (read_text bytes.now) }
+    ensures quoted { IfOk result (λ r. r.1 ≡ quoted_count bytes.now) }
+{
+    let (text, quoted) = quote_numbers(alloc, bytes)?;
+    let tree = read_json(alloc, &text)?;
+    Ok((tree, quoted))
+}
+
+fn read_json(alloc: Global, bytes: &[u8]) -> Result<Tree, TextFault>
+    ensures { Gives text_cause view result (read_json bytes.now) }
 {
     match Value::from_slice(alloc, bytes) {
         Ok(value) => tree_from(alloc, value),

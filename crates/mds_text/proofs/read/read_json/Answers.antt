@@ -4,7 +4,7 @@ use Rattle.std.proofs.lemmas.Bool.{false≢true}
 use Rattle.std.proofs.lemmas.Str.{is_utf8-from_IsUtf8, IsUtf8-from_is_utf8}
 use Rattle.mds_text.specs.Fault.{bad_json}
 use Rattle.mds_text.specs.Reading.{json_of_read}
-use Rattle.mds_text.proofs.read.read_tree.Goals as goal
+use Rattle.mds_text.proofs.read.read_json.Goals as goal
 use Rattle.serde_json.specs.Read.{read}
 
 refused_at : (b : Bool) (bytes : List ℕ) → is_utf8 bytes ≡ b → (IsUtf8 bytes → read bytes ≡ None) → cond b (json_of_read (read bytes)) (Err bad_json) ≡ Err bad_json

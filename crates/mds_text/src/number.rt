@@ -1,0 +1,165 @@
+//! The parts of a number (RFC 8259, section 6).
+ghost use Rattle.std.specs.Prelude.{◌≡◌, ◌≤◌, ◌++◌, drop, length, false, Option, None, Some, option_map, if◌then◌else◌, IfSome};
+ghost use Rattle.std.specs.Char.{is_ascii_digit};
+ghost use Rattle.std.specs.List.{prefix_len};
+ghost use Rattle.std.specs.Str.Parse.{AllDigits};
+ghost use Rattle.mds_text.specs.Numbers.{begins_with, behind_digits, behind_sign, digits, digits_at, exponent_at, fraction_at, has_exponent, is_lowering, is_plain, is_whole, number_of, parts_view, whole_at};
+
+/// The most digits of a plain number.
+const PLAIN_DIGITS: usize = 18;
+
+/// A number's parts, lent by its text: `-12.50e-3` is negative, has the digits `12` before the point
+/// and `50` behind it, and its exponent `3` lowers. Where there is no fraction or no exponent, it has
+/// no digit.
+#[derive(Clone, Copy)]
+pub struct Number<'a> {
+    pub negative: bool,
+    pub whole: &'a [u8],
+    pub fraction: &'a [u8],
+    pub lowers: bool,
+    pub exponent: &'a [u8],
+}
+
+/// The number that a text is; `None` for any other text.
+#[tactic(auto, unfolding(crate::specs::Numbers::number_of))]
+pub fn number_of(text: &[u8]) -> Option<Number<'_>>
+    ensures { option_map parts_view result ≡ number_of text.now }
+{
+    let (negative, rest) = match cut(text, b'-') {
+        Some(rest) => (true, rest),
+        None => (false, text),
+    };
+    let (whole, rest) = whole_at(rest)?;
+    let (fraction, rest) = fraction_at(rest)?;
+    let lowers = is_lowering(rest);
+    let (exponent, rest) = exponent_at(rest)?;
+    if rest.is_empty() {
+        Some(Number {
+            negative,
+            whole,
+            fraction,
+            lowers,
+            exponent,
+        })
+    } else {
+        None
+    }
+}
+
+/// Whether a number has an optional minus and 1 to 18 digits and nothing else, and isn't `-0`.
+pub fn is_plain(number: &Number<'_>) -> bool
+    ensures { result ≡ is_plain (parts_view number.now) }
+{
+    number.fraction.is_empty()
+        && number.exponent.is_empty()
+        && number.whole.len() <= PLAIN_DIGITS
+        && !(number.negative && cut(number.whole, b'0').is_some())
+}
+
+/// What stands behind this byte, where the text begins with it.
+fn cut(text: &[u8], byte: u8) -> Option<&[u8]>
+    ensures { option_map (λ rest. rest.now) result ≡ (if begins_with byte text.now then Some (drop 1 text.now) else None) }
+{
+    match text.split_first() {
+        Some((first, rest)) if *first == byte => Some(rest),
+        _ => None,
+    }
+}
+
+/// The digits that a text begins with, and what stands behind them.
+fn cut_digits(text: &[u8]) -> (&[u8], &[u8])
+    ensures digits { result.0.now ≡ digits text.now }
+    ensures rest { result.1.now ≡ behind_digits text.now }
+{
+    let len = digits_len(text);
+    text.split_at(len)
+}
+
+fn digits_len(text: &[u8]) -> usize
+    ensures value { result ≡ prefix_len is_ascii_digit text.now }
+    ensures within { result ≤ length text.now }
+{
+    text.iter().take_while(|b| b.is_ascii_digit()).count()
+}
+
+/// Zero, or digits that begin with no zero, and what stands behind them.
+fn whole_at(text: &[u8]) -> Option<(&[u8], &[u8])>
+    ensures { option_map (λ p. (p.0.now, p.1.now)) result ≡ whole_at text.now }
+{
+    let (whole, rest) = cut_digits(text);
+    match whole.split_first() {
+        None => None,
+        Some((first, others)) => {
+            if *first == b'0' && !others.is_empty() {
+                None
+            } else {
+                Some((whole, rest))
+            }
+        }
+    }
+}
+
+/// One digit or more, and what stands behind them.
+fn digits_at(text: &[u8]) -> Option<(&[u8], &[u8])>
+    ensures { option_map (λ p. (p.0.now, p.1.now)) result ≡ digits_at text.now }
+{
+    let (digits, rest) = cut_digits(text);
+    if digits.is_empty() {
+        None
+    } else {
+        Some((digits, rest))
+    }
+}
+
+/// The digits behind a point, where one stands, and what stands behind them.
+fn fraction_at(text: &[u8]) -> Option<(&[u8], &[u8])>
+    ensures { option_map (λ p. (p.0.now, p.1.now)) result ≡ fraction_at text.now }
+{
+    match cut(text, b'.') {
+        Some(rest) => digits_at(rest),
+        None => Some((&text[..0], text)),
+    }
+}
+
+/// What stands behind an `e` or `E`, where one stands.
+fn cut_e(text: &[u8]) -> Option<&[u8]>
+    ensures { option_map (λ rest. rest.now) result ≡ (if has_exponent text.now then Some (drop 1 text.now) else None) }
+{
+    match cut(text, b'e') {
+        Some(rest) => Some(rest),
+        None => cut(text, b'E'),
+    }
+}
+
+/// What stands behind a sign, or the text where none stands.
+fn behind_sign(text: &[u8]) -> &[u8]
+    ensures { result.now ≡ behind_sign text.now }
+{
+    match cut(text, b'-') {
+        Some(rest) => rest,
+        None => match cut(text, b'+') {
+            Some(rest) => rest,
+            None => text,
+        },
+    }
+}
+
+/// The digits of an exponent, where one stands, and what stands behind them.
+fn exponent_at(text: &[u8]) -> Option<(&[u8], &[u8])>
+    ensures { option_map (λ p. (p.0.now, p.1.now)) result ≡ exponent_at text.now }
+{
+    match cut_e(text) {
+        Some(rest) => digits_at(behind_sign(rest)),
+        None => Some((&text[..0], text)),
+    }
+}
+
+/// Whether an exponent stands with a minus.
+fn is_lowering(text: &[u8]) -> bool
+    ensures { result ≡ is_lowering text.now }
+{
+    match cut_e(text) {
+        Some(rest) => cut(rest, b'-').is_some(),
+        None => false,
+    }
+}
