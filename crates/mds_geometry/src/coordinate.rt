@@ -1,27 +1,52 @@
 //! Coordinates of a document.
-ghost use Rattle.std.specs.Prelude.{◌≡◌, ◌≤◌};
-ghost use Rattle.mds_geometry.specs.Coordinate.{coordinate_of};
+ghost use Rattle.std.specs.Prelude.{◌≡◌, ◌≤◌, ◌*ℤ◌, pos};
+ghost use Rattle.mds_geometry.specs.Coordinate.{coordinate_of, units_of_degree, within};
 ghost use Rattle.mds_text.specs.Fault.{Gives, text_cause};
 ghost use Rattle.mds_text.specs.View.{view};
 
-use mds_text::{Field, TextFault, Tree, Units7, int_of};
+use mds_text::{Field, TextFault, Tree, Units7, units_of};
 
 /// Units of 10^-7 degree in a degree.
 const DEGREE: i64 = 10_000_000;
 
-/// A coordinate that is a whole number of degrees, at most `most` from zero (RFC 7946, section 3.1.1).
+/// A coordinate at most `most` degrees from zero (RFC 7946, section 3.1.1), rounded to units of 10^-7
+/// degree: a plain whole number of degrees, or the text of a number (RFC 8259, section 6).
 ///
 /// # Errors
 ///
-/// `BadField` of the field for another kind of value, and `OutOfRange` beyond `most` degrees.
+/// `BadField` of the field for another kind of value, `BadNumber` for a text that is no number of at
+/// most 64 bytes with an exponent of at most three digits, and `OutOfRange` beyond `most` degrees.
 pub fn coordinate_of(value: &Tree, field: Field, most: u8) -> Result<Units7, TextFault>
     requires { most ≤ 180 }
     ensures { Gives text_cause (λ u. u) result (coordinate_of most field (view value.now)) }
 {
-    let whole = int_of(value, field)?;
+    match value {
+        Tree::Int(degrees) => whole_degrees(*degrees, most),
+        Tree::Text(text) => within(units_of(text.as_str())?, most),
+        _ => Err(TextFault::BadField(field)),
+    }
+}
+
+/// The coordinate of a whole number of degrees.
+fn whole_degrees(degrees: i64, most: u8) -> Result<Units7, TextFault>
+    requires { most ≤ 180 }
+    ensures { Gives text_cause (λ u. u) result (within most (degrees *ℤ pos units_of_degree)) }
+{
     let most = i64::from(most);
-    if whole < -most || most < whole {
+    if degrees < -most || most < degrees {
         return Err(TextFault::OutOfRange);
     }
-    Units7::new(whole * DEGREE).ok_or(TextFault::OutOfRange)
+    Units7::new(degrees * DEGREE).ok_or(TextFault::OutOfRange)
+}
+
+/// A coordinate that is at most so many degrees from zero.
+fn within(units: Units7, most: u8) -> Result<Units7, TextFault>
+    ensures { Gives text_cause (λ u. u) result (within most units) }
+{
+    let most = i64::from(most) * DEGREE;
+    if -most <= units.get() && units.get() <= most {
+        Ok(units)
+    } else {
+        Err(TextFault::OutOfRange)
+    }
 }

@@ -17,4 +17,6 @@ pub use position::Position;
 pub use ring::{Ring, RingFault};
 
 #[cfg(test)]
+mod coordinate_tests;
+#[cfg(test)]
 mod tests;

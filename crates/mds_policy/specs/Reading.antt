@@ -4,7 +4,8 @@ use Rattle.std.specs.Prelude.{ℕ, ◌+◌, ◌*◌, ◌-◌, List, [], ◌∷�
 use Rattle.std.specs.Char.{is_ascii_digit}
 use Rattle.std.specs.List.{list_any}
 use Rattle.mds_text.specs.Tree.{Json, null, boolean, int, text, degrees, list, object, Members, no_members, member, entries}
-use Rattle.mds_text.specs.Fault.{Fault, bad_field, too_many_rules, ◌>>=◌}
+use Rattle.mds_text.specs.Fault.{Fault, bad_field, decimal, too_many_rules, ◌>>=◌}
+use Rattle.mds_text.specs.Quoting.{quoted_count}
 use Rattle.mds_text.specs.Reading.{read_text}
 use Rattle.mds_text.specs.Vocabulary.{as_token}
 use Rattle.mds_text.specs.Fields.{optional_at, required_at, id_of, text_of, token_of, moment_of, bound_of, bool_of, list_of, each, list_each, or_empty, or_bad, document_of}
@@ -202,6 +203,13 @@ policy_of tree = do
     rules = rules;
   })
 
+-- the document of a text of whose numbers this many aren't plain: there may be none
+abbrev pub if_plain : ℕ → Json → Result Json Fault
+if_plain count tree = if count == 0 then Ok tree else Err decimal
+
 -- what the text of a policy reads as
 unfoldable pub read_policy : List ℕ → Result Policy Fault
-read_policy bytes = read_text bytes >>= policy_of
+read_policy bytes = do
+  tree ← read_text bytes
+  plain ← if_plain (quoted_count bytes) tree
+  policy_of plain

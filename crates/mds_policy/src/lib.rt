@@ -3,6 +3,8 @@
 
 mod bounds;
 mod copy;
+#[cfg(test)]
+mod decimal_tests;
 mod fault;
 mod kind;
 mod lists;

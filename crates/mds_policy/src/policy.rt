@@ -3,7 +3,7 @@ use crate::fault::PolicyFault;
 use crate::reading::policy_of;
 use crate::rule::Rule;
 use crate::served::dated;
-use mds_text::{Id, Moment, Tree, read_tree};
+use mds_text::{Id, Moment, Tree, read_counted};
 use std::alloc::{AllocError, Global};
 
 /// A policy (MDS 2.0 Policy, policies): the author's whole document, and beside it what the server
@@ -35,7 +35,10 @@ impl Policy {
     pub fn read(alloc: Global, text: &[u8]) -> Result<Policy, PolicyFault>
         ensures { Gives policy_cause policy_document result (read_policy text.now) }
     {
-        let tree = read_tree(alloc, text)?;
+        let (tree, quoted) = read_counted(alloc, text)?;
+        if quoted > 0 {
+            return Err(PolicyFault::Decimal);
+        }
         policy_of(alloc, tree)
     }
 

@@ -1,8 +1,12 @@
 pub mod Conversions
 pub mod Decimals
+pub mod Digits
+pub mod Leading
 pub mod Lines
 pub mod Lists
 pub mod Pieces
+pub mod Printing
+pub mod Rounding
 pub mod Strings
 pub mod Tokens
 pub mod Views

@@ -1,6 +1,7 @@
 -- The pieces of a text, one after another.
-use Rattle.std.proofs.Common.{◌≡◌, ℕ, zero, suc, ◌+◌, ◌≤◌, List, [], ◌∷◌, ◌++◌, Bool, true, false, cond, length, take, drop, refl, sym, ap, ◌∙◌, arith, append_assoc, append-nil}
-use Rattle.std.specs.List.{count_by, flat_map}
+use Rattle.std.proofs.Common.{◌≡◌, ℕ, zero, suc, ◌+◌, List, [], ◌∷◌, ◌++◌, Bool, true, false, cond, length, take, drop, refl, sym, ap, ◌∙◌, arith, append_assoc, append-nil}
+use Rattle.std.specs.List.{concat, count_by, flat_map}
+use Rattle.std.proofs.lemmas.List.{take-append-drop}
 use Rattle.std.proofs.lemmas.List.Sums.{sum_by-cons}
 use Rattle.mds_text.specs.Quoting.{is_quoted, piece_tail, pieces_behind, pieces, quoted_count, quoted_text, shown}
 
@@ -23,9 +24,9 @@ one_more n = omega arith
 pub pieces-split : (text : List ℕ) (b n : ℕ) (s piece left : List ℕ) → text ≡ b ∷ s → n ≡ piece_tail b s → piece ≡ take (1 + n) text → left ≡ drop (1 + n) text → pieces text ≡ piece ∷ pieces left
 pieces-split text b n s piece left is len front behind =
     let first : piece ≡ b ∷ take (piece_tail b s) s =
-        front ∙ ap (λ k. take k text) (one_more n) ∙ ap (take (suc n)) is ∙ ap (λ k. b ∷ take k s) len in
+    front ∙ ap (λ k. take k text) (one_more n) ∙ ap (take (suc n)) is ∙ ap (λ k. b ∷ take k s) len in
     let rest : left ≡ drop (piece_tail b s) s =
-        behind ∙ ap (λ k. drop k text) (one_more n) ∙ ap (drop (suc n)) is ∙ ap (λ k. drop k s) len in
+    behind ∙ ap (λ k. drop k text) (one_more n) ∙ ap (drop (suc n)) is ∙ ap (λ k. drop k s) len in
     ap pieces is ∙ pieces-cons b s ∙ ap (λ p. p ∷ pieces (drop (piece_tail b s) s)) (sym first) ∙ ap (λ t. piece ∷ pieces t) (sym rest)
 
 -- what was written and what is left are the whole text
@@ -54,3 +55,14 @@ pub count_end : (text : List ℕ) (count all : ℕ) → length text ≡ 0 → co
 unfolding pieces_behind
 count_end [] count all none before = omega (arith, before)
 count_end (b ∷ s) count all none before = absurd (omega arith)
+
+-- the pieces, one behind the other, are the text behind those bytes
+concat-pieces : (k : ℕ) (s : List ℕ) → concat (pieces_behind k s) ≡ drop k s
+unfolding pieces_behind
+concat-pieces zero [] = refl
+concat-pieces zero (b ∷ s) = ap (λ t. (b ∷ take (piece_tail b s) s) ++ t) (concat-pieces (piece_tail b s) s) ∙ ap (λ t. b ∷ t) (take-append-drop (piece_tail b s) s)
+concat-pieces (suc k) [] = refl
+concat-pieces (suc k) (b ∷ s) = concat-pieces k s
+
+pub pieces_are_the_text : (s : List ℕ) → concat (pieces s) ≡ s
+pieces_are_the_text s = concat-pieces 0 s

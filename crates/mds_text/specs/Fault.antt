@@ -1,6 +1,8 @@
 -- Why a document is refused, and what a reader owes to a definition.
 use Rattle.std.specs.Prelude.{◌≡◌, Option, Some, None, Result, Ok, Err}
 use Rattle.mds_text.specs.declared.field.Field.{Field}
+use Rattle.mds_text.specs.declared.fault.NumberFault.{NumberFault}
+use Rattle.mds_text.specs.declared.fault.NumberFault.TheVariants as number
 use Rattle.mds_text.specs.declared.fault.TextFault.{TextFault}
 use Rattle.mds_text.specs.declared.fault.TextFault.TheVariants.{BadJson, BadField, BadNumber, OutOfRange, NoMemory}
 
@@ -26,6 +28,11 @@ text_cause (BadField field) = Some (bad_field field)
 text_cause BadNumber = Some bad_number
 text_cause OutOfRange = Some out_of_range
 text_cause NoMemory = None
+
+-- the same of a number's text
+abbrev pub number_cause : NumberFault → Option Fault
+number_cause number.BadNumber = Some bad_number
+number_cause number.OutOfRange = Some out_of_range
 
 -- the definition refuses for this reason; want of memory says nothing
 abbrev pub Refuses : {Y : Type 0} → Option Fault → Result Y Fault → Type 0

@@ -53,3 +53,38 @@ impl<T: Drop> From<AllocFailed<T>> for TextFault {
         TextFault::NoMemory
     }
 }
+
+/// Why a text is no coordinate.
+#[derive(Clone, Copy, PartialEq, Eq, Debug)]
+pub enum NumberFault {
+    /// It is no number (RFC 8259, section 6), has more than 64 bytes or an exponent of more than three
+    /// digits.
+    BadNumber,
+    /// It is beyond 180 degrees.
+    OutOfRange,
+}
+
+impl fmt::Display for NumberFault {
+    fn fmt<W: fmt::Write>(&self, f: &mut fmt::Formatter<W>) -> fmt::Result {
+        match self {
+            NumberFault::BadNumber => f.write_str("bad number"),
+            NumberFault::OutOfRange => f.write_str("out of range"),
+        }
+    }
+}
+
+impl Error for NumberFault {}
+
+impl From<NumberFault> for TextFault {
+    ghost use Rattle.mds_text.specs.Fault.{number_cause, text_cause};
+    ghost use Rattle.std.specs.Prelude.{◌≡◌};
+
+    ghost from_gives = { λ fault e. text_cause e ≡ number_cause fault };
+
+    fn from(fault: NumberFault) -> TextFault {
+        match fault {
+            NumberFault::BadNumber => TextFault::BadNumber,
+            NumberFault::OutOfRange => TextFault::OutOfRange,
+        }
+    }
+}

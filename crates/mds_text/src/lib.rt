@@ -1,10 +1,12 @@
 //! Texts, identifiers, moments and coordinates: what every document of the server is made of.
 #![tactic(auto)]
 
+mod degrees;
 mod fault;
 mod field;
 mod fields;
 mod id;
+pub mod laws;
 mod make;
 mod moment;
 mod number;
@@ -15,7 +17,8 @@ mod token;
 mod tree;
 mod units;
 
-pub use fault::TextFault;
+pub use degrees::units_of;
+pub use fault::{NumberFault, TextFault};
 pub use field::Field;
 pub use fields::{
     bool_at, bool_of, bound_at, bound_of, document_of, id_at, id_of, ids_at, ids_of, int_at,
@@ -29,9 +32,12 @@ pub use make::{
     text_tree,
 };
 pub use moment::Moment;
-pub use print::print_tree;
+pub use print::{print_tree, print_units};
 pub use quote::quote_numbers;
 pub use read::{read_counted, read_tree};
 pub use token::Token;
 pub use tree::{Member, Tree};
 pub use units::Units7;
+
+#[cfg(test)]
+mod number_tests;

@@ -1,5 +1,5 @@
 //! From a tree to its text.
-ghost use Rattle.std.specs.Prelude.{◌≡◌, false, [], ◌∷◌, ◌++◌, ◌^◌, ◌<◌, ◌≤◌, IfOk, OnOk, map};
+ghost use Rattle.std.specs.Prelude.{◌≡◌, false, [], ◌∷◌, ◌++◌, ◌^◌, ◌<◌, ◌≤◌, IfOk, OnOk, map, string_bytes};
 ghost use Rattle.std.specs.List.{All};
 ghost use Rattle.std.specs.Fmt.{signed_decimal};
 ghost use Rattle.mds_text.specs.Printed.{escaped, quoted, fraction, hex_digit, printed, printed_degrees, printed_items, printed_members};
@@ -125,6 +125,16 @@ fn hex_digit(digit: u8) -> u8
     } else {
         b'a' + (digit - 10)
     }
+}
+
+/// Degrees in decimal notation: a minus where they are negative, the whole degrees, and, where that
+/// isn't all, a point and the decimals up to the last that isn't zero.
+pub fn print_units(alloc: Global, units: Units7) -> Result<String, AllocError>
+    ensures text { IfOk result (λ s. string_bytes s ≡ printed_degrees units) }
+{
+    let mut out = Vec::new(alloc);
+    print_degrees(&mut out, units)?;
+    Ok(unsafe { String::from_utf8_unchecked(out) })
 }
 
 fn print_degrees(out: &mut Vec<u8>, units: Units7) -> Result<(), AllocError>

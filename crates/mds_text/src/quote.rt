@@ -6,6 +6,9 @@ ghost use Rattle.mds_text.specs.Quoting.{begins_token, continues_token, is_quote
 use crate::number::{is_plain, number_of};
 use std::alloc::{AllocError, Global};
 
+/// A backslash and the byte behind it, which ends no string (RFC 8259, section 7).
+const ESCAPE_LEN: usize = 2;
+
 /// The text with each number that isn't plain in quotes, and how many were quoted. What stands in
 /// strings, and what is no number (RFC 8259, section 6), stays as it is.
 pub fn quote_numbers(alloc: Global, text: &[u8]) -> Result<(Vec<u8>, u64), AllocError>
@@ -73,7 +76,11 @@ fn string_len(text: &[u8]) -> usize
         if text[at] == b'"' {
             return at + 1;
         }
-        at += if text[at] == b'\\' && at + 1 < text.len() { 2 } else { 1 };
+        at += if text[at] == b'\\' && at + 1 < text.len() {
+            ESCAPE_LEN
+        } else {
+            1
+        };
     }
     at
 }

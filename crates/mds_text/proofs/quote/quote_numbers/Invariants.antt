@@ -7,7 +7,7 @@ abbrev pub invariant-loop-first : goal.invariant-loop-first
 invariant-loop-first l = record {
   written : l.out.items ++ quoted_text l.rest ≡ quoted_text l.text;
   counted : l.count + quoted_count l.rest ≡ quoted_count l.text;
-  few : l.count + length l.rest ≤ length l.text
+  few : l.count + length l.rest ≤ length l.text;
 }
 
 abbrev pub decreases-loop-first : goal.decreases-loop-first

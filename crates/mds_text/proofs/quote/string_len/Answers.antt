@@ -13,9 +13,9 @@ loop-at-preserved c =
     let i = c.loop-at.at in
     let before = c.loop-at.invariant.1 in
     elim c.if-text-at-eq92.branch [
-        then-text-at-eq92+then-at-text w ↦ pair_turn s i _ _ w.at-is w.if-at-text.true w.if-text-at-eq92.true before
+      | then-text-at-eq92+then-at-text w ↦ pair_turn s i _ _ w.at-is w.if-at-text.true w.if-text-at-eq92.true before
       | else-text-at-eq92 w ↦ elim w.else-text-at-eq92.branch [
-            else-text-at-eq92-via-then-text-at-eq92+else-at-text v ↦ last_turn s i _ _ w.at-is c.loop-at-test.true v.if-at-text.false before
-          | else-text-at-eq92-via-else-text-at-eq92 v ↦ byte_turn s i _ _ w.at-is c.loop-at-test.true c.if-text-at-eq34.false v.if-text-at-eq92.false before
-        ]
+        | else-text-at-eq92-via-then-text-at-eq92+else-at-text v ↦ last_turn s i _ _ w.at-is c.loop-at-test.true v.if-at-text.false before
+        | else-text-at-eq92-via-else-text-at-eq92 v ↦ byte_turn s i _ _ w.at-is c.loop-at-test.true c.if-text-at-eq34.false v.if-text-at-eq92.false before
+      ]
     ]

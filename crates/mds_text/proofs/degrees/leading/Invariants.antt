@@ -1,0 +1,6 @@
+use Rattle.std.proofs.Common.{◌≡◌, ◌≤◌, ◌++◌}
+use Rattle.mds_text.specs.Leading.{leading}
+use Rattle.mds_text.proofs.degrees.leading.Given as goal
+
+abbrev pub invariant-loop-place : goal.invariant-loop-place
+invariant-loop-place l = (l.value ≡ leading (l.whole ++ l.fraction) l.place) × (l.value ≤ 18000000004)
