@@ -12,7 +12,7 @@ use Rattle.mds_fleet.specs.declared.book.Taken.{Taken}
 use Rattle.mds_fleet.specs.declared.book.Taken.TheVariants.{New, Changed, Same}
 use Rattle.mds_fleet.specs.declared.book.BookFault.{BookFault}
 use Rattle.mds_fleet.specs.declared.book.BookFault.TheVariants.{Future, Stale, FleetFull, NoMemory}
-use Rattle.mds_fleet.specs.Books.{Report, Rows, Take, IsNew, IsHeld, is_same, outcome, outcome_at, row_after, rows_after, row_from, run_start, reported}
+use Rattle.mds_fleet.specs.Books.{Report, Rows, Take, is_same, outcome, outcome_at, row_after, rows_after, row_from, run_start, reported}
 
 both : {P Q : Type 0} (a b : Bool) → Decides a P → Decides b Q → Decides (a && b) (P × Q)
 both true b p q = (λ h. (p.0 refl, q.0 h), λ h. q.1 h.1)

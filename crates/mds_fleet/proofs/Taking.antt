@@ -1,16 +1,16 @@
 -- What `Take` says of each outcome, and that only one can be.
-use Rattle.std.proofs.Common.{◌≡◌, ◌≢◌, ℕ, ◌+◌, ◌<◌, ◌≤◌, cond, List, Bool, true, false, Option, Some, None, Result, Ok, Err, refl, sym, ap, subst, ◌∙◌, arith}
+use Rattle.std.proofs.Common.{◌≡◌, ◌≢◌, ℕ, ◌+◌, ◌≤◌, cond, List, false, Some, None, Result, Ok, Err, refl, ap, ◌∙◌, arith}
 use Rattle.std.specs.declared.cmp.Ordering.{Ordering}
 use Rattle.std.specs.declared.cmp.Ordering.TheVariants.{Less, Equal, Greater}
 use Rattle.std.specs.Ordering.{is_eq, eq_by_cmp}
-use Rattle.std.specs.Option.{is_some, unwrap_or}
-use Rattle.std.specs.FinMap.{get, insert, len, get-insert, len-insert, IsAntisymmetric}
+use Rattle.std.specs.Option.{is_some}
+use Rattle.std.specs.FinMap.{get, insert, len, get-insert, len-insert}
 use Rattle.mds_match.specs.Row.{Row}
 use Rattle.mds_fleet.specs.declared.book.Taken.{Taken}
 use Rattle.mds_fleet.specs.declared.book.Taken.TheVariants.{New, Changed, Same}
 use Rattle.mds_fleet.specs.declared.book.BookFault.{BookFault}
 use Rattle.mds_fleet.specs.declared.book.BookFault.TheVariants.{Future, Stale, FleetFull, NoMemory}
-use Rattle.mds_fleet.specs.Books.{Report, Rows, Take, IsNew, IsHeld, device_cmp, row_from, run_start, reported}
+use Rattle.mds_fleet.specs.Books.{Report, Rows, Take, device_cmp}
 use Rattle.mds_fleet.proofs.Rows.{device_total, device_exact}
 
 -- a device that isn't held adds one row

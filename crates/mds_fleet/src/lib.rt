@@ -10,3 +10,6 @@ mod report;
 
 pub use book::{Absent, Book, BookFault, Taken};
 pub use report::Report;
+
+#[cfg(test)]
+mod tests;

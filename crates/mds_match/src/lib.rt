@@ -14,3 +14,6 @@ pub use matching::{first, meets};
 pub use places::Places;
 pub use vehicle::Vehicle;
 pub use window::open_at;
+
+#[cfg(test)]
+mod tests;

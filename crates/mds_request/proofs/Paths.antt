@@ -1,5 +1,5 @@
 -- Where a target and a path are cut.
-use Rattle.std.proofs.Common.{◌≡◌, ℕ, suc, ◌+◌, ◌<◌, ◌≤◌, Bool, true, false, not, cond, List, [], ◌∷◌, length, take, nat_lt, Option, Some, None, position, refl, ap, sym, ◌∙◌, arith, MatchOption, lit<}
+use Rattle.std.proofs.Common.{◌≡◌, ℕ, suc, ◌+◌, Bool, true, false, not, cond, List, [], ◌∷◌, length, take, nat_lt, Option, Some, None, position, refl, ap, sym, ◌∙◌, arith, MatchOption, lit<}
 use Rattle.std.specs.List.{slice_split, onto_first, position_or_len, before_first, after_first}
 use Rattle.std.specs.Str.{IsUtf8, is_utf8}
 use Rattle.std.proofs.lemmas.Bool.{ltb-false}

@@ -21,6 +21,10 @@ pub enum ConfigFault {
 }
 
 impl fmt::Display for ConfigFault {
+    ghost use Rattle.mds_request.specs.Fault.{fault_text};
+
+    ghost output = { fault_text };
+
     fn fmt<W: fmt::Write>(&self, f: &mut fmt::Formatter<W>) -> fmt::Result {
         match self {
             ConfigFault::Text(fault) => write!(f, "{fault}"),

@@ -31,3 +31,6 @@ pub use route::{Call, Route};
 pub use routes::Routes;
 pub use verb::Verb;
 pub use zone::{Zone, ZoneFault};
+
+#[cfg(test)]
+mod tests;
