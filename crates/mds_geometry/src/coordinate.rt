@@ -1,7 +1,7 @@
 //! Coordinates of a document.
 ghost use Rattle.std.specs.Prelude.{◌≡◌, ◌≤◌, ◌*ℤ◌, pos};
 ghost use Rattle.mds_geometry.specs.Coordinate.{coordinate_of, units_of_degree, within};
-ghost use Rattle.mds_text.specs.Fault.{Gives, text_cause};
+ghost use Rattle.mds_text.specs.Fault.{Gives, IsCaused, text_cause};
 ghost use Rattle.mds_text.specs.View.{view};
 
 use mds_text::{Field, TextFault, Tree, Units7, units_of};
@@ -18,7 +18,8 @@ const DEGREE: i64 = 10_000_000;
 /// most 64 bytes with an exponent of at most three digits, and `OutOfRange` beyond `most` degrees.
 pub fn coordinate_of(value: &Tree, field: Field, most: u8) -> Result<Units7, TextFault>
     requires { most ≤ 180 }
-    ensures { Gives text_cause (λ u. u) result (coordinate_of most field (view value.now)) }
+    ensures value { Gives text_cause (λ u. u) result (coordinate_of most field (view value.now)) }
+    ensures memory { IsCaused result }
 {
     match value {
         Tree::Int(degrees) => whole_degrees(*degrees, most),
@@ -30,7 +31,8 @@ pub fn coordinate_of(value: &Tree, field: Field, most: u8) -> Result<Units7, Tex
 /// The coordinate of a whole number of degrees.
 fn whole_degrees(degrees: i64, most: u8) -> Result<Units7, TextFault>
     requires { most ≤ 180 }
-    ensures { Gives text_cause (λ u. u) result (within most (degrees *ℤ pos units_of_degree)) }
+    ensures value { Gives text_cause (λ u. u) result (within most (degrees *ℤ pos units_of_degree)) }
+    ensures memory { IsCaused result }
 {
     let most = i64::from(most);
     if degrees < -most || most < degrees {
@@ -41,7 +43,8 @@ fn whole_degrees(degrees: i64, most: u8) -> Result<Units7, TextFault>
 
 /// A coordinate that is at most so many degrees from zero.
 fn within(units: Units7, most: u8) -> Result<Units7, TextFault>
-    ensures { Gives text_cause (λ u. u) result (within most units) }
+    ensures value { Gives text_cause (λ u. u) result (within most units) }
+    ensures memory { IsCaused result }
 {
     let most = i64::from(most) * DEGREE;
     if -most <= units.get() && units.get() <= most {

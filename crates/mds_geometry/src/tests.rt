@@ -1,5 +1,5 @@
-use super::{Polygon, Position, Ring, RingFault};
-use mds_text::Units7;
+use super::{Polygon, Position, Ring, RingFault, area_holds, coordinate_of};
+use mds_text::{Field, TextFault, Units7, int_tree, text_tree};
 use std::alloc::Global;
 use std::process::Abort;
 use std::test::Fail;
@@ -66,5 +66,74 @@ fn square_with_a_hole(rt: HostRuntime) -> Result<(), Fail> {
     }
     let nothing = Polygon::new(Vec::new(rt.alloc()));
     assert!(rt; !nothing.holds(position(&rt, &(0, 0))));
+    Ok(())
+}
+
+/// The position at tenths of a degree of longitude and latitude.
+fn tenths(rt: &impl Abort, tenths: &(i64, i64)) -> Position {
+    let lng = Units7::new(tenths.0.saturating_mul(1_000_000));
+    let lat = Units7::new(tenths.1.saturating_mul(1_000_000));
+    Position {
+        lng: lng.expect(rt, "a longitude"),
+        lat: lat.expect(rt, "a latitude"),
+    }
+}
+
+/// The polygon of these rings, each of five positions in tenths of a degree.
+fn polygon(alloc: Global, rt: &impl Abort, rings: &[[(i64, i64); 5]]) -> Result<Polygon, Fail> {
+    let mut all = Vec::new(alloc);
+    for corners in rings {
+        let mut ring = Vec::new(alloc);
+        for corner in corners {
+            ring.push(tenths(rt, corner))?;
+        }
+        all.push(Ring::new(ring)?)?;
+    }
+    Ok(Polygon::new(all))
+}
+
+/// The example of RFC 7946, appendix A.6: a square, and a square with a hole.
+#[test]
+fn area_of_two_polygons(rt: HostRuntime) -> Result<(), Fail> {
+    let square = [(1020, 20), (1030, 20), (1030, 30), (1020, 30), (1020, 20)];
+    let exterior = [(1000, 0), (1010, 0), (1010, 10), (1000, 10), (1000, 0)];
+    let hole = [(1002, 2), (1002, 8), (1008, 8), (1008, 2), (1002, 2)];
+    let mut area = Vec::new(rt.alloc());
+    area.push(polygon(rt.alloc(), &rt, &[square])?)?;
+    area.push(polygon(rt.alloc(), &rt, &[exterior, hole])?)?;
+    for (at, want) in [
+        ((1025, 25), true),
+        ((1005, 5), false),
+        ((1008, 5), true),
+        ((1002, 2), true),
+        ((1001, 2), true),
+        ((1009, 8), true),
+        ((999, 2), false),
+        ((999, 8), false),
+        ((1015, 15), false),
+        ((1010, 10), true),
+    ] {
+        let held = area_holds(area.as_slice(), tenths(&rt, &at));
+        assert_eq!(rt; held, want, "at ({}, {})", at.0, at.1);
+    }
+    assert!(rt; !area_holds(&[], tenths(&rt, &(1025, 25))));
+    Ok(())
+}
+
+#[test]
+fn coordinates(rt: HostRuntime) -> Result<(), Fail> {
+    for (degrees, most, want) in [
+        (-180, 180, Some(-1_800_000_000)),
+        (90, 90, Some(900_000_000)),
+        (91, 90, None),
+        (-181, 180, None),
+    ] {
+        let read = coordinate_of(&int_tree(degrees), Field::Coordinates, most);
+        let units = read.ok().map(|units| units.get());
+        assert!(rt; units == want, "{degrees} of {most}");
+    }
+    let text = text_tree(rt.alloc(), "90")?;
+    let read = coordinate_of(&text, Field::Lat, 90);
+    assert!(rt; matches!(read, Err(TextFault::BadField(Field::Lat))));
     Ok(())
 }

@@ -1,5 +1,5 @@
 -- Why a document is refused, and what a reader owes to a definition.
-use Rattle.std.specs.Prelude.{◌≡◌, Option, Some, None, Result, Ok, Err}
+use Rattle.std.specs.Prelude.{◌≡◌, Option, Some, None, IsSome, Result, Ok, Err, IfErr}
 use Rattle.mds_text.specs.declared.field.Field.{Field}
 use Rattle.mds_text.specs.declared.fault.NumberFault.{NumberFault}
 use Rattle.mds_text.specs.declared.fault.NumberFault.TheVariants as number
@@ -43,6 +43,10 @@ Refuses (Some fault) defined = defined ≡ Err fault
 abbrev pub Gives : {X Y E : Type 0} → (E → Option Fault) → (X → Y) → Result X E → Result Y Fault → Type 0
 Gives cause view (Ok x) defined = defined ≡ Ok (view x)
 Gives cause view (Err e) defined = Refuses (cause e) defined
+
+-- a refusal names its reason: it is never for want of memory
+abbrev pub IsCaused : {X : Type 0} → Result X TextFault → Type 0
+IsCaused result = IfErr result (λ e. IsSome (text_cause e))
 
 -- one reading after another; the first fault stays
 infixl 10 ◌>>=◌

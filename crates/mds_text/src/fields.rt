@@ -2,7 +2,7 @@
 //! Absent and null members are `None`; a document that is no object, and a member of another kind,
 //! is a bad field of that name.
 ghost use Rattle.std.specs.Prelude.{◌≡◌, option_map, map};
-ghost use Rattle.mds_text.specs.Fault.{Gives, text_cause};
+ghost use Rattle.mds_text.specs.Fault.{Gives, IsCaused, text_cause};
 ghost use Rattle.mds_text.specs.Fields.{find_member, member_at, optional_at, required_at, required_member, document_of};
 ghost use Rattle.mds_text.specs.Fields.{text_of, bool_of, int_of, id_of, token_of, moment_of, bound_of, list_of, list_each};
 ghost use Rattle.mds_text.specs.Tree.{members_of};
@@ -21,7 +21,8 @@ const MOST_BOUND: i64 = 1_000_000_000;
 
 /// A document: an object. Anything else is the bad field `document`.
 pub fn document_of(tree: &Tree) -> Result<&Tree, TextFault>
-    ensures { Gives text_cause (λ t. view t.now) result (document_of (view tree.now)) }
+    ensures value { Gives text_cause (λ t. view t.now) result (document_of (view tree.now)) }
+    ensures memory { IsCaused result }
 {
     match tree {
         Tree::Object(_) => Ok(tree),
@@ -31,7 +32,8 @@ pub fn document_of(tree: &Tree) -> Result<&Tree, TextFault>
 
 /// The member of this name, if it is there and isn't null.
 pub fn member_at<'a>(document: &'a Tree, field: Field) -> Result<Option<&'a Tree>, TextFault>
-    ensures { Gives text_cause (option_map (λ t. view t.now)) result (member_at (view document.now) field) }
+    ensures value { Gives text_cause (option_map (λ t. view t.now)) result (member_at (view document.now) field) }
+    ensures memory { IsCaused result }
 {
     let Tree::Object(members) = document else {
         return Err(TextFault::BadField(field));
@@ -55,7 +57,8 @@ fn find_member<'a>(members: &'a [Member], name: &str) -> Option<&'a Tree>
 
 /// A text.
 pub fn text_of<'a>(value: &'a Tree, field: Field) -> Result<&'a str, TextFault>
-    ensures { Gives text_cause (λ s. s.now) result (text_of field (view value.now)) }
+    ensures value { Gives text_cause (λ s. s.now) result (text_of field (view value.now)) }
+    ensures memory { IsCaused result }
 {
     match value {
         Tree::Text(text) => Ok(text.as_str()),
@@ -65,7 +68,8 @@ pub fn text_of<'a>(value: &'a Tree, field: Field) -> Result<&'a str, TextFault>
 
 /// A truth value.
 pub fn bool_of(value: &Tree, field: Field) -> Result<bool, TextFault>
-    ensures { Gives text_cause (λ b. b) result (bool_of field (view value.now)) }
+    ensures value { Gives text_cause (λ b. b) result (bool_of field (view value.now)) }
+    ensures memory { IsCaused result }
 {
     match value {
         Tree::Bool(b) => Ok(*b),
@@ -75,7 +79,8 @@ pub fn bool_of(value: &Tree, field: Field) -> Result<bool, TextFault>
 
 /// A plain whole number.
 pub fn int_of(value: &Tree, field: Field) -> Result<i64, TextFault>
-    ensures { Gives text_cause (λ z. z) result (int_of field (view value.now)) }
+    ensures value { Gives text_cause (λ z. z) result (int_of field (view value.now)) }
+    ensures memory { IsCaused result }
 {
     match value {
         Tree::Int(int) => Ok(*int),
@@ -85,7 +90,8 @@ pub fn int_of(value: &Tree, field: Field) -> Result<i64, TextFault>
 
 /// A list.
 pub fn list_of<'a>(value: &'a Tree, field: Field) -> Result<&'a [Tree], TextFault>
-    ensures { Gives text_cause (λ ts. map view ts.now) result (list_of field (view value.now)) }
+    ensures value { Gives text_cause (λ ts. map view ts.now) result (list_of field (view value.now)) }
+    ensures memory { IsCaused result }
 {
     match value {
         Tree::List(entries) => Ok(entries),
@@ -95,7 +101,8 @@ pub fn list_of<'a>(value: &'a Tree, field: Field) -> Result<&'a [Tree], TextFaul
 
 /// An identifier (RFC 9562, section 4).
 pub fn id_of(value: &Tree, field: Field) -> Result<Id, TextFault>
-    ensures { Gives text_cause (λ id. id) result (id_of field (view value.now)) }
+    ensures value { Gives text_cause (λ id. id) result (id_of field (view value.now)) }
+    ensures memory { IsCaused result }
 {
     let text = text_of(value, field)?;
     Id::read(text).ok_or(TextFault::BadField(field))
@@ -103,7 +110,8 @@ pub fn id_of(value: &Tree, field: Field) -> Result<Id, TextFault>
 
 /// A word of the vocabulary.
 pub fn token_of(value: &Tree, field: Field) -> Result<Token, TextFault>
-    ensures { Gives text_cause (λ token. token) result (token_of field (view value.now)) }
+    ensures value { Gives text_cause (λ token. token) result (token_of field (view value.now)) }
+    ensures memory { IsCaused result }
 {
     let text = text_of(value, field)?;
     Token::read(text).ok_or(TextFault::BadField(field))
@@ -111,7 +119,8 @@ pub fn token_of(value: &Tree, field: Field) -> Result<Token, TextFault>
 
 /// A moment (MDS 2.0, timestamps): a whole number, `OutOfRange` before 1970 or after 2099.
 pub fn moment_of(value: &Tree, field: Field) -> Result<Moment, TextFault>
-    ensures { Gives text_cause (λ moment. moment) result (moment_of field (view value.now)) }
+    ensures value { Gives text_cause (λ moment. moment) result (moment_of field (view value.now)) }
+    ensures memory { IsCaused result }
 {
     let millis = int_of(value, field)?;
     Moment::new(millis).ok_or(TextFault::OutOfRange)
@@ -119,7 +128,8 @@ pub fn moment_of(value: &Tree, field: Field) -> Result<Moment, TextFault>
 
 /// A rule's bound: a whole number, `OutOfRange` below 0 or above 1,000,000,000.
 pub fn bound_of(value: &Tree, field: Field) -> Result<u64, TextFault>
-    ensures { Gives text_cause (λ bound. bound) result (bound_of field (view value.now)) }
+    ensures value { Gives text_cause (λ bound. bound) result (bound_of field (view value.now)) }
+    ensures memory { IsCaused result }
 {
     let bound = int_of(value, field)?;
     if 0 <= bound && bound <= MOST_BOUND {
@@ -155,7 +165,8 @@ pub fn tokens_of(alloc: Global, value: &Tree, field: Field) -> Result<Vec<Token>
 
 /// An optional text.
 pub fn text_at<'a>(document: &'a Tree, field: Field) -> Result<Option<&'a str>, TextFault>
-    ensures { Gives text_cause (option_map (λ s. s.now)) result (optional_at text_of (view document.now) field) }
+    ensures value { Gives text_cause (option_map (λ s. s.now)) result (optional_at text_of (view document.now) field) }
+    ensures memory { IsCaused result }
 {
     match member_at(document, field)? {
         Some(value) => Ok(Some(text_of(value, field)?)),
@@ -165,7 +176,8 @@ pub fn text_at<'a>(document: &'a Tree, field: Field) -> Result<Option<&'a str>, 
 
 /// An optional truth value.
 pub fn bool_at(document: &Tree, field: Field) -> Result<Option<bool>, TextFault>
-    ensures { Gives text_cause (option_map (λ b. b)) result (optional_at bool_of (view document.now) field) }
+    ensures value { Gives text_cause (option_map (λ b. b)) result (optional_at bool_of (view document.now) field) }
+    ensures memory { IsCaused result }
 {
     match member_at(document, field)? {
         Some(value) => Ok(Some(bool_of(value, field)?)),
@@ -175,7 +187,8 @@ pub fn bool_at(document: &Tree, field: Field) -> Result<Option<bool>, TextFault>
 
 /// An optional whole number.
 pub fn int_at(document: &Tree, field: Field) -> Result<Option<i64>, TextFault>
-    ensures { Gives text_cause (option_map (λ z. z)) result (optional_at int_of (view document.now) field) }
+    ensures value { Gives text_cause (option_map (λ z. z)) result (optional_at int_of (view document.now) field) }
+    ensures memory { IsCaused result }
 {
     match member_at(document, field)? {
         Some(value) => Ok(Some(int_of(value, field)?)),
@@ -185,7 +198,8 @@ pub fn int_at(document: &Tree, field: Field) -> Result<Option<i64>, TextFault>
 
 /// An optional identifier.
 pub fn id_at(document: &Tree, field: Field) -> Result<Option<Id>, TextFault>
-    ensures { Gives text_cause (option_map (λ id. id)) result (optional_at id_of (view document.now) field) }
+    ensures value { Gives text_cause (option_map (λ id. id)) result (optional_at id_of (view document.now) field) }
+    ensures memory { IsCaused result }
 {
     match member_at(document, field)? {
         Some(value) => Ok(Some(id_of(value, field)?)),
@@ -195,7 +209,8 @@ pub fn id_at(document: &Tree, field: Field) -> Result<Option<Id>, TextFault>
 
 /// An optional word of the vocabulary.
 pub fn token_at(document: &Tree, field: Field) -> Result<Option<Token>, TextFault>
-    ensures { Gives text_cause (option_map (λ token. token)) result (optional_at token_of (view document.now) field) }
+    ensures value { Gives text_cause (option_map (λ token. token)) result (optional_at token_of (view document.now) field) }
+    ensures memory { IsCaused result }
 {
     match member_at(document, field)? {
         Some(value) => Ok(Some(token_of(value, field)?)),
@@ -205,7 +220,8 @@ pub fn token_at(document: &Tree, field: Field) -> Result<Option<Token>, TextFaul
 
 /// An optional moment.
 pub fn moment_at(document: &Tree, field: Field) -> Result<Option<Moment>, TextFault>
-    ensures { Gives text_cause (option_map (λ moment. moment)) result (optional_at moment_of (view document.now) field) }
+    ensures value { Gives text_cause (option_map (λ moment. moment)) result (optional_at moment_of (view document.now) field) }
+    ensures memory { IsCaused result }
 {
     match member_at(document, field)? {
         Some(value) => Ok(Some(moment_of(value, field)?)),
@@ -215,7 +231,8 @@ pub fn moment_at(document: &Tree, field: Field) -> Result<Option<Moment>, TextFa
 
 /// An optional bound.
 pub fn bound_at(document: &Tree, field: Field) -> Result<Option<u64>, TextFault>
-    ensures { Gives text_cause (option_map (λ bound. bound)) result (optional_at bound_of (view document.now) field) }
+    ensures value { Gives text_cause (option_map (λ bound. bound)) result (optional_at bound_of (view document.now) field) }
+    ensures memory { IsCaused result }
 {
     match member_at(document, field)? {
         Some(value) => Ok(Some(bound_of(value, field)?)),
@@ -225,7 +242,8 @@ pub fn bound_at(document: &Tree, field: Field) -> Result<Option<u64>, TextFault>
 
 /// An optional list.
 pub fn list_at<'a>(document: &'a Tree, field: Field) -> Result<Option<&'a [Tree]>, TextFault>
-    ensures { Gives text_cause (option_map (λ ts. map view ts.now)) result (optional_at list_of (view document.now) field) }
+    ensures value { Gives text_cause (option_map (λ ts. map view ts.now)) result (optional_at list_of (view document.now) field) }
+    ensures memory { IsCaused result }
 {
     match member_at(document, field)? {
         Some(value) => Ok(Some(list_of(value, field)?)),
@@ -259,42 +277,48 @@ pub fn tokens_at(
 
 /// A text that has to be there.
 pub fn required_text<'a>(document: &'a Tree, field: Field) -> Result<&'a str, TextFault>
-    ensures { Gives text_cause (λ s. s.now) result (required_at text_of (view document.now) field) }
+    ensures value { Gives text_cause (λ s. s.now) result (required_at text_of (view document.now) field) }
+    ensures memory { IsCaused result }
 {
     text_at(document, field)?.ok_or(TextFault::BadField(field))
 }
 
 /// An identifier that has to be there.
 pub fn required_id(document: &Tree, field: Field) -> Result<Id, TextFault>
-    ensures { Gives text_cause (λ id. id) result (required_at id_of (view document.now) field) }
+    ensures value { Gives text_cause (λ id. id) result (required_at id_of (view document.now) field) }
+    ensures memory { IsCaused result }
 {
     id_at(document, field)?.ok_or(TextFault::BadField(field))
 }
 
 /// A word of the vocabulary that has to be there.
 pub fn required_token(document: &Tree, field: Field) -> Result<Token, TextFault>
-    ensures { Gives text_cause (λ token. token) result (required_at token_of (view document.now) field) }
+    ensures value { Gives text_cause (λ token. token) result (required_at token_of (view document.now) field) }
+    ensures memory { IsCaused result }
 {
     token_at(document, field)?.ok_or(TextFault::BadField(field))
 }
 
 /// A moment that has to be there.
 pub fn required_moment(document: &Tree, field: Field) -> Result<Moment, TextFault>
-    ensures { Gives text_cause (λ moment. moment) result (required_at moment_of (view document.now) field) }
+    ensures value { Gives text_cause (λ moment. moment) result (required_at moment_of (view document.now) field) }
+    ensures memory { IsCaused result }
 {
     moment_at(document, field)?.ok_or(TextFault::BadField(field))
 }
 
 /// A whole number that has to be there.
 pub fn required_int(document: &Tree, field: Field) -> Result<i64, TextFault>
-    ensures { Gives text_cause (λ z. z) result (required_at int_of (view document.now) field) }
+    ensures value { Gives text_cause (λ z. z) result (required_at int_of (view document.now) field) }
+    ensures memory { IsCaused result }
 {
     int_at(document, field)?.ok_or(TextFault::BadField(field))
 }
 
 /// A list that has to be there.
 pub fn required_list<'a>(document: &'a Tree, field: Field) -> Result<&'a [Tree], TextFault>
-    ensures { Gives text_cause (λ ts. map view ts.now) result (required_at list_of (view document.now) field) }
+    ensures value { Gives text_cause (λ ts. map view ts.now) result (required_at list_of (view document.now) field) }
+    ensures memory { IsCaused result }
 {
     list_at(document, field)?.ok_or(TextFault::BadField(field))
 }
@@ -308,7 +332,8 @@ pub fn required_ids(alloc: Global, document: &Tree, field: Field) -> Result<Vec<
 
 /// A member that has to be there, and isn't null.
 pub fn required_member<'a>(document: &'a Tree, field: Field) -> Result<&'a Tree, TextFault>
-    ensures { Gives text_cause (λ t. view t.now) result (required_member (view document.now) field) }
+    ensures value { Gives text_cause (λ t. view t.now) result (required_member (view document.now) field) }
+    ensures memory { IsCaused result }
 {
     member_at(document, field)?.ok_or(TextFault::BadField(field))
 }

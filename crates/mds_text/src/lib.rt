@@ -41,3 +41,5 @@ pub use units::Units7;
 
 #[cfg(test)]
 mod number_tests;
+#[cfg(test)]
+mod tests;

@@ -6,8 +6,8 @@ use Rattle.mds_text.specs.View.{view, member_view}
 use Rattle.mds_text.proofs.Views.{view-Null, view-Object}
 use Rattle.mds_text.proofs.fields.member_at.Goals as goal
 
-pub returns-in-Some-Null : goal.returns-in-Some-Null
-returns-in-Some-Null c =
+pub returns-in-Some-Null-clause-value : goal.returns-in-Some-Null-clause-value
+returns-in-Some-Null-clause-value c =
     let null_there = ap view c.in-Some-Null.field-0-is ∙ view-Null in
     let found : find_member c.name.result.now (members_of (map member_view c.deref.result.now)) ≡ Some null =
     sym c.find_member.ensures ∙ ap (option_map (λ t. view t.now)) c.in-Some-Null.is ∙ ap Some null_there in

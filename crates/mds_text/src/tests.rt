@@ -1,0 +1,231 @@
+use super::*;
+use std::alloc::{AllocError, Global};
+use std::process::Abort;
+use std::test::Fail;
+
+/// The example of version 1 of RFC 9562, appendix A.1.
+const ONE: &str = "C232AB00-9414-11EC-B3C8-9F6BDECED846";
+
+/// The example of version 4 of RFC 9562, appendix A.3.
+const FOUR: &str = "919108f7-52d1-4320-9bac-f847db4148a8";
+
+/// The first example of RFC 8259, section 13.
+const IMAGE: &str =
+    "{ \"Image\": { \"Width\":  800, \"Height\": 600, \"Title\":  \"View from 15th Floor\",
+    \"Thumbnail\": { \"Url\":    \"http://www.example.com/image/481989943\", \"Height\": 125,
+    \"Width\":  100 }, \"Animated\" : false, \"IDs\": [116, 943, 234, 38793] } }";
+
+/// The same, compact and with names in byte order.
+const COMPACT: &str = "{\"Image\":{\"Animated\":false,\"Height\":600,\"IDs\":[116,943,234,38793],\
+    \"Thumbnail\":{\"Height\":125,\"Url\":\"http://www.example.com/image/481989943\",\"Width\":100},\
+    \"Title\":\"View from 15th Floor\",\"Width\":800}}";
+
+/// A document with a member of each kind.
+const DOCUMENT: &str = "{\"name\":\"cap\",\"policy_id\":\"919108f7-52d1-4320-9bac-f847db4148a8\",\
+    \"start_date\":0,\"minimum\":1000000000,\"maximum\":1000000001,\"limit\":-7,\
+    \"inclusive_minimum\":false,\"vehicle_type\":\"scooter\",\"description\":null,\"rules\":[1,2],\
+    \"prev_policies\":[\"{C232AB00-9414-11EC-B3C8-9F6BDECED846}\",\"919108f752d143209bacf847db4148a8\"],\
+    \"event_types\":[\"trip_start\",\"trip_end\"],\"geographies\":[\"x\"]}";
+
+fn expect_printed(
+    rt: &impl Abort,
+    alloc: Global,
+    tree: &Tree,
+    text: &str,
+) -> Result<(), AllocError> {
+    let printed = print_tree(alloc, tree)?;
+    assert!(rt; printed.as_slice() == text.as_bytes(), "{text}");
+    Ok(())
+}
+
+fn expect_refused<T: Drop>(
+    rt: &impl Abort,
+    alloc: Global,
+    answer: Result<T, TextFault>,
+    text: &str,
+) -> Result<(), AllocError> {
+    let Some(fault) = answer.err() else {
+        panic!(rt; "{text} is read")
+    };
+    let said = format!(in alloc; "{fault}")?;
+    assert!(rt; said.as_str() == text, "{text} is {said}");
+    Ok(())
+}
+
+#[test]
+fn identifiers(rt: HostRuntime) -> Result<(), Fail> {
+    let one = Id::read(ONE);
+    for spelling in [
+        "c232ab00-9414-11ec-b3c8-9f6bdeced846",
+        "C232AB00941411ecB3C89F6BDECED846",
+        "urn:uuid:c232ab00-9414-11ec-b3c8-9f6bdeced846",
+        "{c232ab00-9414-11ec-b3c8-9f6bdeced846}",
+    ] {
+        let read = Id::read(spelling);
+        assert!(rt; read.is_some() && read == one, "{spelling}");
+    }
+    for text in [
+        "",
+        "c232ab00-9414-11ec-b3c8-9f6bdeced84",
+        "{c232ab00-9414-11ec-b3c8-9f6bdeced846",
+        "c232ab00-9414-11ec-b3c8-9f6bdeced84g",
+    ] {
+        assert!(rt; Id::read(text).is_none(), "{text}");
+    }
+    let printed = one.expect(&rt, "an identifier").print(rt.alloc())?;
+    assert_eq!(rt; printed.as_str(), "c232ab00-9414-11ec-b3c8-9f6bdeced846");
+    let four = Id::read(FOUR).expect(&rt, "an identifier");
+    assert!(rt; Some(four) < one);
+    expect_printed(
+        &rt,
+        rt.alloc(),
+        &id_tree(rt.alloc(), &four)?,
+        "\"919108f7-52d1-4320-9bac-f847db4148a8\"",
+    )?;
+    Ok(())
+}
+
+#[test]
+fn tokens_moments_and_units(rt: HostRuntime) {
+    for text in [
+        "a",
+        "trip_end",
+        "e_scooter_2",
+        "abcdefghijklmnopqrstuvwxyz_0123456789_ab",
+    ] {
+        let token = Token::read(text);
+        let read = token.expect(&rt, text);
+        assert!(rt; read.as_str() == text, "{text}");
+    }
+    for text in [
+        "",
+        "Scooter",
+        "trip-end",
+        "caf\u{e9}",
+        "abcdefghijklmnopqrstuvwxyz_0123456789_abc",
+    ] {
+        assert!(rt; Token::read(text).is_none(), "{text}");
+    }
+    for (millis, is_moment) in [
+        (-1, false),
+        (0, true),
+        (4_102_444_799_999, true),
+        (4_102_444_800_000, false),
+    ] {
+        let got = Moment::new(millis).map(|moment| moment.get());
+        assert!(rt;
+            got == if is_moment { Some(millis) } else { None },
+            "{millis}"
+        );
+    }
+    for (units, is_coordinate) in [
+        (-1_800_000_001, false),
+        (-1_800_000_000, true),
+        (1_800_000_000, true),
+        (1_800_000_001, false),
+    ] {
+        let got = Units7::new(units).map(|coordinate| coordinate.get());
+        assert!(rt;
+            got == if is_coordinate { Some(units) } else { None },
+            "{units}"
+        );
+    }
+}
+
+#[test]
+fn documents_are_read_and_printed(rt: HostRuntime) -> Result<(), Fail> {
+    let alloc = rt.alloc();
+    let image = read_tree(alloc, IMAGE.as_bytes())?;
+    expect_printed(&rt, alloc, &image, COMPACT)?;
+    expect_printed(&rt, alloc, &copy_tree(alloc, &image)?, COMPACT)?;
+    let text = read_tree(alloc, b"\"\\u000b\\/\\t\\\\\\\"\\u20ac\"")?;
+    expect_printed(&rt, alloc, &text, "\"\\u000b/\\t\\\\\\\"\u{20ac}\"")?;
+    for bytes in [b"{".as_slice(), b"", b"01", b"\"\xff\"", b"[1] 2"] {
+        expect_refused(&rt, alloc, read_tree(alloc, bytes), "bad JSON")?;
+    }
+    Ok(())
+}
+
+#[test]
+fn trees_are_made(rt: HostRuntime) -> Result<(), Fail> {
+    let alloc = rt.alloc();
+    let mut entries = Vec::new(alloc);
+    for units in [-1_800_000_000, -5_000_000, 0, 1_234_567, 100_000_000] {
+        let units = Units7::new(units).expect(&rt, "a coordinate");
+        entries.push(Tree::Degrees(units))?;
+    }
+    let mut members = Vec::new(alloc);
+    add_member(&mut members, "name", text_tree(alloc, "a\"b")?)?;
+    add_member(&mut members, "coordinates", list_tree(entries))?;
+    add_member(&mut members, "id", int_tree(-3))?;
+    let mut copies = copy_members(alloc, &members)?;
+    add_member(&mut copies, "states", bool_tree(true))?;
+    expect_printed(
+        &rt,
+        alloc,
+        &object_tree(copies),
+        "{\"name\":\"a\\\"b\",\"coordinates\":[-180,-0.5,0,0.1234567,10],\"id\":-3,\"states\":true}",
+    )?;
+    Ok(())
+}
+
+#[test]
+fn members_are_read(rt: HostRuntime) -> Result<(), Fail> {
+    let alloc = rt.alloc();
+    let tree = read_tree(alloc, DOCUMENT.as_bytes())?;
+    let document = document_of(&tree)?;
+    assert_eq!(rt; required_text(document, Field::Name)?, "cap");
+    assert!(rt; text_at(document, Field::Description)?.is_none());
+    assert!(rt; member_at(document, Field::Id)?.is_none());
+    assert!(rt; Some(required_id(document, Field::PolicyId)?) == Id::read(FOUR));
+    assert_eq!(rt; required_moment(document, Field::StartDate)?.get(), 0);
+    assert_eq!(rt; bound_at(document, Field::Minimum)?, Some(1_000_000_000));
+    assert_eq!(rt; required_int(document, Field::Limit)?, -7);
+    assert_eq!(rt; bool_at(document, Field::InclusiveMinimum)?, Some(false));
+    assert_eq!(rt;
+        required_token(document, Field::VehicleType)?.as_str(),
+        "scooter"
+    );
+    let rules = required_list(document, Field::Rules)?;
+    assert_eq!(rt; rules.len(), 2);
+    assert_eq!(rt; int_of(&rules[1], Field::Rules)?, 2);
+    assert_eq!(rt;
+        list_of(required_member(document, Field::Rules)?, Field::Rules)?.len(),
+        2
+    );
+    let previous = required_ids(alloc, document, Field::PrevPolicies)?;
+    let [first, second] = previous.as_slice() else {
+        panic!(rt; "two identifiers")
+    };
+    assert!(rt; Some(*first) == Id::read(ONE) && Some(*second) == Id::read(FOUR));
+    let events = tokens_at(alloc, document, Field::EventTypes)?;
+    let [start, end] = events.as_deref().unwrap_or(&[]) else {
+        panic!(rt; "two tokens")
+    };
+    assert!(rt; start.as_str() == "trip_start" && end.as_str() == "trip_end");
+    Ok(())
+}
+
+#[test]
+fn members_are_refused(rt: HostRuntime) -> Result<(), Fail> {
+    let alloc = rt.alloc();
+    let tree = read_tree(alloc, DOCUMENT.as_bytes())?;
+    let bound = bound_at(&tree, Field::Maximum);
+    expect_refused(&rt, alloc, bound, "out of range")?;
+    let moment = moment_at(&tree, Field::Limit);
+    expect_refused(&rt, alloc, moment, "out of range")?;
+    let text = text_at(&tree, Field::StartDate);
+    expect_refused(&rt, alloc, text, "bad field start_date")?;
+    let id = id_at(&tree, Field::Name);
+    expect_refused(&rt, alloc, id, "bad field name")?;
+    let token = token_at(&tree, Field::PolicyId);
+    expect_refused(&rt, alloc, token, "bad field policy_id")?;
+    let ids = ids_at(alloc, &tree, Field::Geographies);
+    expect_refused(&rt, alloc, ids, "bad field geographies")?;
+    let missing = required_member(&tree, Field::Description);
+    expect_refused(&rt, alloc, missing, "bad field description")?;
+    let list = read_tree(alloc, b"[]")?;
+    expect_refused(&rt, alloc, document_of(&list), "bad field document")?;
+    expect_refused(&rt, alloc, member_at(&list, Field::Kind), "bad field type")?;
+    Ok(())
+}
