@@ -1,2 +1,3 @@
 pub mod Found
+mod Growing
 pub mod Lent

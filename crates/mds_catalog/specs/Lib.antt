@@ -1,2 +1,3 @@
 pub mod Catalogue
+pub mod Laws
 pub mod Publication

@@ -5,6 +5,7 @@
 mod batch;
 mod catalogue;
 mod force;
+pub mod laws;
 mod lists;
 mod published;
 mod shown;

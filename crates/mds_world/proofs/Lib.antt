@@ -4,3 +4,4 @@ mod OneLine
 mod Outcome
 mod Reported
 mod Shown
+mod Steps

@@ -3,7 +3,10 @@ pub mod Answer
 pub mod Author
 pub mod Bodies
 pub mod Denial
+pub mod History
+pub mod Laws
 pub mod Operator
 pub mod Published
 pub mod Step
+pub mod Views
 pub mod World

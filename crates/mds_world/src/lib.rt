@@ -7,6 +7,7 @@ mod author;
 mod bodies;
 mod compliance;
 mod denied;
+pub mod laws;
 mod operator;
 mod published;
 #[cfg(test)]

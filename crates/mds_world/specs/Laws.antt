@@ -1,0 +1,55 @@
+-- Laws of the machine's steps.
+use Rattle.std.specs.Prelude.{◌≡◌, ◌≢◌, ℕ, get_or, slice_get}
+use Rattle.mds_fleet.specs.Books.{Rows}
+use Rattle.mds_request.specs.Configuration.{actor_of}
+use Rattle.mds_request.specs.Request.{Request}
+use Rattle.mds_request.specs.Reply.{Reply, refused}
+use Rattle.mds_request.specs.declared.actor.Actor.TheVariants.{Author, Operator}
+use Rattle.mds_request.specs.declared.code.Code.TheVariants.{NoMemory}
+use Rattle.mds_world.specs.Step.{Step}
+use Rattle.mds_world.specs.World.{State}
+
+-- some reply is right to every request
+abbrev pub IsTotal : Type 0
+IsTotal = (w : State) (request : Request) → (reply : Reply) × (next : State) × Step w request reply next
+
+-- want of memory aside, only one reply is, and only one state follows
+abbrev pub IsDetermined : Type 0
+IsDetermined =
+    (w : State) (request : Request) (reply other : Reply) (next apart : State)
+    → Step w request reply next → Step w request other apart → reply ≢ refused NoMemory → other ≢ refused NoMemory
+    → (reply ≡ other) × (next ≡ apart)
+
+-- a request of an operator leaves the configuration, the publications, the drafts, and the rows of every other operator
+pub record IsLeft (w next : State) (other : ℕ) : Type 0 where
+  pub configuration : next.configuration ≡ w.configuration
+  pub publications : next.publications ≡ w.publications
+  pub drafts : next.drafts ≡ w.drafts
+  pub rows : (d : Rows) → get_or next.fleets other d ≡ get_or w.fleets other d
+
+abbrev pub LeavesOthers : Type 0
+LeavesOthers =
+    (w : State) (request : Request) (reply : Reply) (next : State) (place other : ℕ)
+    → actor_of w.configuration request.token ≡ Operator place → Step w request reply next → other ≢ place → IsLeft w next other
+
+-- a request of the author leaves all rows
+abbrev pub LeavesRows : Type 0
+LeavesRows =
+    (w : State) (request : Request) (reply : Reply) (next : State)
+    → actor_of w.configuration request.token ≡ Author → Step w request reply next → next.fleets ≡ w.fleets
+
+-- two states agree for an operator: in the configuration, in what is published, and in that operator's rows; nothing
+-- else is asked
+pub record Agree (w v : State) (place : ℕ) : Type 0 where
+  pub configuration : w.configuration ≡ v.configuration
+  pub publications : w.publications ≡ v.publications
+  pub rows : slice_get w.fleets place ≡ slice_get v.fleets place
+
+-- in states that agree for an operator, a request of it has the same reply, and they agree for it afterwards,
+-- whatever drafts and rows of others there are
+abbrev pub IsIsolated : Type 0
+IsIsolated =
+    (w v : State) (request : Request) (reply other : Reply) (next apart : State) (place : ℕ)
+    → actor_of w.configuration request.token ≡ Operator place → Agree w v place
+    → Step w request reply next → Step v request other apart → reply ≢ refused NoMemory → other ≢ refused NoMemory
+    → (reply ≡ other) × Agree next apart place

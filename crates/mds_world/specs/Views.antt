@@ -1,0 +1,67 @@
+-- What an operator sees of a history: its own requests and the publications, in their order, and nothing else.
+use Rattle.std.specs.Prelude.{◌≡◌, ℕ, ◌≤◌, ◌==◌, Bool, true, false, List, [], ◌∷◌, ◌++◌, map, take, drop, length, slice_get, if◌then◌else◌, Option, Some, None}
+use Rattle.std.specs.List.{flat_map, filter_map, enumerate_from}
+use Rattle.mds_catalog.specs.Publication.{Publication}
+use Rattle.mds_drafts.specs.Drafts.{Drafts}
+use Rattle.mds_request.specs.Configuration.{Configuration, actor_of}
+use Rattle.mds_request.specs.Request.{Request}
+use Rattle.mds_request.specs.declared.actor.Actor.{Actor}
+use Rattle.mds_request.specs.declared.actor.Actor.TheVariants.{Author, Operator, Nobody}
+use Rattle.mds_world.specs.History.{Exchange, published_in, optional}
+
+-- something that an operator sees
+pub data Seen : Type 0 where
+  asked : Request → Seen
+  published : Publication → Seen
+
+abbrev pub is_place : ℕ → Actor → Bool
+is_place place Author = false
+is_place place (Operator other) = place == other
+is_place place Nobody = false
+
+-- a request is that of the operator whose access token it carries, whatever else is wrong with it
+abbrev pub is_of : Configuration → ℕ → Request → Bool
+is_of configuration place request = is_place place (actor_of configuration request.token)
+
+-- what an operator sees of an exchange, after those before it
+abbrev pub seen_in : Configuration → Drafts → ℕ → List Exchange → Exchange → List Seen
+seen_in configuration first place before e =
+    if is_of configuration place e.request then asked e.request ∷ []
+    else map published (optional (published_in configuration first before e))
+
+-- The view of an operator, from the drafts held at first: in the history's order its requests, without replies, and the
+-- publications.
+abbrev pub view : Configuration → Drafts → List Exchange → ℕ → List Seen
+view configuration first history place =
+    flat_map (λ e. seen_in configuration first place (take e.0 history) e.1) (enumerate_from 0 history)
+
+-- the publications and the requests of a view
+abbrev pub as_publication : Seen → Option Publication
+as_publication (asked request) = None
+as_publication (published p) = Some p
+
+abbrev pub as_request : Seen → Option Request
+as_request (asked request) = Some request
+as_request (published p) = None
+
+abbrev pub publications_of : List Seen → List Publication
+publications_of seen = filter_map as_publication seen
+
+abbrev pub requests_of : List Seen → List Request
+requests_of seen = filter_map as_request seen
+
+-- fronts: lists of publications of which each begins with the one before
+abbrev pub IsFront : {A : Type 0} → List A → List A → Type 0
+IsFront {A} front whole = (rest : List A) × (whole ≡ front ++ rest)
+
+abbrev pub Rise : List Publication → List (List Publication) → Type 0
+Rise before [] = Unit {0}
+Rise before (front ∷ fronts) = IsFront before front × Rise front fronts
+
+-- A view woven on: for each request in turn the publications of its front past as many as the view has, and then the
+-- request.
+abbrev pub woven : List Seen → List Request → List (List Publication) → List Seen
+woven seen [] fronts = seen
+woven seen (request ∷ requests) [] = seen
+woven seen (request ∷ requests) (front ∷ fronts) =
+    woven (seen ++ map published (drop (length (publications_of seen)) front) ++ asked request ∷ []) requests fronts

@@ -1,0 +1,30 @@
+//! Laws of the machine's steps. Each function's contract is the law; the functions themselves do
+//! nothing.
+ghost use Rattle.mds_world.specs.Laws.{IsTotal, IsDetermined, LeavesOthers, LeavesRows, IsIsolated};
+
+/// Some reply is right to every request.
+pub fn is_total()
+    ensures { IsTotal }
+{}
+
+/// Want of memory aside, only one reply is, and only one state follows.
+pub fn is_determined()
+    ensures { IsDetermined }
+{}
+
+/// A request of an operator leaves the publications, the drafts and the rows of every other operator.
+pub fn leaves_others()
+    ensures { LeavesOthers }
+{}
+
+/// A request of the author leaves all rows.
+pub fn leaves_rows()
+    ensures { LeavesRows }
+{}
+
+/// In states that agree in the configuration, the publications and an operator's rows, a request of
+/// that operator has the same reply, and they agree afterwards, whatever drafts and rows of others
+/// there are.
+pub fn is_isolated()
+    ensures { IsIsolated }
+{}
