@@ -37,10 +37,10 @@ same_decides a b =
       λ e. fields.1 (ap (λ r. r.device) e, (ap (λ r. r.vehicle_type) e, (ap (λ r. r.propulsion) e, (ap (λ r. r.state) e, (ap (λ r. r.events) e, (ap (λ r. r.timestamp) e, (ap (λ r. r.position.lng) e, ap (λ r. r.position.lat) e))))))),
     )
 
-not_less : (a b : ℕ) → b ≤ a → nat_lt a b ≡ false
+pub not_less : (a b : ℕ) → b ≤ a → nat_lt a b ≡ false
 not_less a b h = grind (arith, nat_tests)
 
-less : (a b : ℕ) → a < b → nat_lt a b ≡ true
+pub less : (a b : ℕ) → a < b → nat_lt a b ≡ true
 less a b h = grind (arith, nat_tests)
 
 not_same : (a b : Report) → a ≢ b → is_same a b ≡ false

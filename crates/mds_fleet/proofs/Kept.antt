@@ -14,7 +14,7 @@ use Rattle.mds_fleet.proofs.Placed.{find_at, put_at, where_at, find_gap_none, pu
 holds : (b : Bool) → b ≡ true → T b
 holds b e = subst T (sym e) tt
 
-is_true : (b : Bool) → T b → b ≡ true
+pub is_true : (b : Bool) → T b → b ≡ true
 is_true true h = refl
 is_true false h = absurd h
 

@@ -1,3 +1,4 @@
+pub mod ByHistory
 pub mod Determined
 pub mod Kept
 pub mod Placed

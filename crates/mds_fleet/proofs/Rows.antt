@@ -154,7 +154,7 @@ module _ (vs : List Vehicle) (sorted : is_sorted device_cmp (map entry vs) ≡ t
   take_full limit moment past full = (past, get_gap vs sorted _ at gap, rw rows_len full, refl)
 
 -- sorted entries have strictly rising keys
-rising_keys : (es : List (List ℕ × Row)) → is_sorted device_cmp es ≡ true → IsStrictlySortedBy device_cmp (map (λ e. e.0) es)
+pub rising_keys : (es : List (List ℕ × Row)) → is_sorted device_cmp es ≡ true → IsStrictlySortedBy device_cmp (map (λ e. e.0) es)
 unfolding IsStrictlySortedBy
 rising_keys [] sorted = tt
 rising_keys (e ∷ es) sorted = (above e.0 es (and_left _ _ sorted), rising_keys es (and_right _ _ sorted))

@@ -39,7 +39,7 @@ refused_same rows limit report moment FleetFull after h = h.3
 refused_same rows limit report moment NoMemory after h = h
 
 -- the keys that tie are one
-tie_false : (a b : List ℕ) → a ≢ b → eq_by_cmp device_cmp a b ≡ false
+pub tie_false : (a b : List ℕ) → a ≢ b → eq_by_cmp device_cmp a b ≡ false
 tie_false a b apart = by (device_cmp a b) refl
   where
     by : (r : Ordering) → device_cmp a b ≡ r → is_eq r ≡ false
