@@ -1,8 +1,9 @@
 # demo   the main job on real input: a policy is published, a vehicle reported, compliance asked for
 # build  proves mds_replay with all that it stands on, and builds it
 # test   the whole gate: every proof from nothing, the edits that must fail, the tests, the programs
+# bench  times mds_replay on generated input, and a plain program beside it; not part of the gate (minutes)
 
-.PHONY: demo build test
+.PHONY: demo build test bench
 
 PROGRAM := crates/mds_replay/out/mds_replay
 SCRIPT := examples/first-verdict.replay
@@ -21,3 +22,6 @@ build:
 
 test:
 	rt ci
+
+bench: build
+	python3 -B bench/measure.py
