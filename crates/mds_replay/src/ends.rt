@@ -1,6 +1,6 @@
 //! The two ends of a replay: where its bytes come from, and where they go.
 ghost use Rattle.std.specs.Prelude.{◌≡◌, ℕ, ◌+◌, ◌-◌, ◌^◌, ◌<◌, ◌≤◌, List, [], Option, None, Some, length, IfOk};
-ghost use Rattle.std.specs.Io.KnownBytes.{ReadConsumes, WriteAppends};
+ghost use Rattle.std.specs.Io.KnownBytes.{Keeps, ReadConsumes, WriteAppends};
 ghost use Rattle.mds_replay.specs.Ends.{read_failures, write_failures};
 
 use std::alloc::Global;
@@ -99,7 +99,10 @@ impl<W: Write> ToWriter<W> {
     }
 
     /// Sends on what the writer keeps. The error is a write that failed.
-    pub fn flush(&mut self) -> Result<(), Failed> {
+    pub fn flush(&mut self) -> Result<(), Failed>
+        ensures bytes { Keeps (⟦<ToWriter<W> as Sink>⟧.contents self.old) (⟦<ToWriter<W> as Sink>⟧.contents self.new) }
+        ensures uncounted { ⟦<ToWriter<W> as Sink>⟧.failures self.new ≡ ⟦<ToWriter<W> as Sink>⟧.failures self.old }
+    {
         match self.writer.flush() {
             Ok(()) => Ok(()),
             Err(_) => Err(Failed),
