@@ -44,6 +44,10 @@ Advances passed_old old passed_new new = (bytes : List ℕ) × Consumes old new 
 abbrev pub FailsReading : ℕ → ℕ → ℕ → Option (List ℕ) → Type 0
 FailsReading failures_old failures_new passed_old old = (failures_new ≡ failures_old + 1) ⊎ IfSome old (λ bytes. input_limit < passed_old + length bytes)
 
+-- the input, of which so many bytes are passed and these are left, isn't over its limit
+abbrev pub IsLimited : ℕ → Option (List ℕ) → Type 0
+IsLimited passed_old old = IfSome old (λ bytes. passed_old + length bytes ≤ input_limit)
+
 -- The kept line gained the bytes ahead up to their first line feed, or all where there is none, so
 -- many as there is room for.
 abbrev pub TakesLine : Bool → LineReader → LineReader → Type 0

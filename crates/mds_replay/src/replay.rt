@@ -5,7 +5,7 @@ ghost use Rattle.mds_request.specs.Reply.{is_line, refused};
 ghost use Rattle.mds_request.specs.declared.code.Code.TheVariants.{BadLine};
 ghost use Rattle.mds_replay.specs.Framing.{input_limit, line_limit};
 ghost use Rattle.mds_replay.specs.Writing.{Writes};
-ghost use Rattle.mds_replay.specs.Reader.{left, passed, Advances, FailsReading};
+ghost use Rattle.mds_replay.specs.Reader.{left, passed, Advances, FailsReading, IsLimited};
 ghost use Rattle.mds_replay.specs.Turning.{Replies, Turns, AnswersAll, AnswersSome, Begins, written_of};
 ghost use Rattle.mds_replay.specs.Answering.{IsUnconfigured, Answered, Started};
 
@@ -37,6 +37,10 @@ pub fn replay<M: Machine, S: Source, W: Sink>(
     ensures answered { OnOk result (Answered M.begins M.step (S.remaining source.old)
         (W.contents sink.old) (W.contents sink.new)) }
     ensures ended { OnOk result (IsAtEnd (S.remaining source.new)) }
+
+    // No read and no write failed, and the input wasn't over its limit.
+    ensures sound { OnOk result ((S.failures source.new ≡ S.failures source.old) × (W.failures sink.new ≡ W.failures sink.old)) }
+    ensures limited { OnOk result (IfSome (S.remaining source.old) (λ input. length input ≤ input_limit)) }
 
     // After a fault it is their front, or nothing.
     ensures started { OnErr result (Started M.begins M.step (S.remaining source.old)
@@ -112,6 +116,8 @@ fn answer_all<M: Machine, S: Source, W: Sink>(
     ensures all { OnOk result (AnswersAll M.step machine.old (left reader.old (S.remaining source.old))
         (W.contents sink.old) (W.contents sink.new)) }
     ensures ended { OnOk result (IsAtEnd (S.remaining source.new)) }
+    ensures sound { OnOk result ((S.failures source.new ≡ S.failures source.old) × (W.failures sink.new ≡ W.failures sink.old)) }
+    ensures limited { OnOk result (IsLimited (passed reader.old) (left reader.old (S.remaining source.old))) }
     ensures some { OnErr result (AnswersSome M.step machine.old (left reader.old (S.remaining source.old))
         (W.contents sink.old) (W.contents sink.new)) }
     ensures read { IsErrOf result ReplayFault.Read → FailsReading (S.failures source.old) (S.failures source.new)

@@ -1,11 +1,14 @@
 //! Whole scripts with the answers that they have, over sources and sinks that move few bytes at a
 //! time or fail.
+ghost use Rattle.std.specs.Prelude.{◌<◌};
+
 use crate::ends::{Failed, FromBytes, Sink, Source, ToBytes};
 use crate::fault::ReplayFault;
 use crate::replay::replay;
 use mds_verdict::Plain;
 use mds_world::World;
 use std::alloc::Global;
+use std::process::Abort;
 use std::test::Fail;
 
 /// A configuration of two operators.
@@ -217,15 +220,22 @@ fn answers_each_line(rt: HostRuntime) -> Result<(), Fail> {
     Ok(())
 }
 
+/// The script's first line is no configuration, and nothing is written.
+fn has_no_configuration(alloc: Global, rt: &impl Abort, script: &[u8]) {
+    let (end, sink) = replayed(alloc, script);
+    assert_eq!(rt; end, Err(ReplayFault::BadConfig));
+    assert!(rt; sink.bytes().is_empty());
+}
+
 #[test]
 fn wants_a_configuration(rt: HostRuntime) -> Result<(), Fail> {
-    let cut = &CONFIGURATION[..40];
+    has_no_configuration(rt.alloc(), &rt, b"");
+    has_no_configuration(rt.alloc(), &rt, b"{}\n");
+    has_no_configuration(rt.alloc(), &rt, ALIKE);
+    has_no_configuration(rt.alloc(), &rt, &CONFIGURATION[..40]);
+    // an empty first line isn't skipped
     let blank = joined(rt.alloc(), b"\n", CAP)?;
-    for script in [b"".as_slice(), b"{}\n", ALIKE, cut, blank.as_slice()] {
-        let (end, sink) = replayed(rt.alloc(), script);
-        assert_eq!(rt; end, Err(ReplayFault::BadConfig));
-        assert!(rt; sink.bytes().is_empty());
-    }
+    has_no_configuration(rt.alloc(), &rt, &blank);
     Ok(())
 }
 
@@ -275,7 +285,7 @@ fn takes_pieces_of_any_size(rt: HostRuntime) -> Result<(), Fail> {
 
 #[test]
 fn stops_at_a_failed_read(rt: HostRuntime) -> Result<(), Fail> {
-    for sound in 0..CAP.len().div_ceil(100) as u64 {
+    for sound in 0..=CAP.len().div_ceil(100) as u64 {
         let mut source = Pieces::new(CAP, 100, sound);
         let mut sink = ToBytes::new(rt.alloc());
         let end = replay::<World<Plain>, _, _>(rt.alloc(), &mut source, &mut sink);

@@ -125,8 +125,7 @@ module _ (w v : State) (request : Request) (place : ℕ) (agree : Agree w v plac
       ∙ ap (λ f. rows_by v.configuration v.publications call request f held) found_same
       ∙ ap (λ h. rows_by v.configuration v.publications call request found' h) agree.rows in
       let stays = operator_stays w place found held call request in
-      let stays' = operator_stays v place found' held' call request in
-      (
+      let stays' = operator_stays v place found' held' call request in (
         reply_is w place found held call request ∙ replies ∙ sym (reply_is v place found' held' call request),
         record {
           configuration = stays.configuration ∙ agree.configuration ∙ sym stays'.configuration;

@@ -3,7 +3,7 @@ ghost use Rattle.std.specs.Prelude.{◌≡◌, ◌^◌, ◌<◌, IfOk, map};
 ghost use Rattle.mds_text.specs.View.{view};
 ghost use Rattle.mds_match.specs.Row.{row_of};
 ghost use Rattle.mds_world.specs.Answer.{told};
-ghost use Rattle.mds_world.specs.Bodies.{words_json, result_json, removed_json, draft_json, published_json, revised_json, compliance_json, location_json, vehicle_json, vehicles_json};
+ghost use Rattle.mds_world.specs.Bodies.{words_json, removed_json, draft_json, published_json, revised_json, compliance_json, location_json, vehicle_json, vehicles_json};
 
 use mds_match::Vehicle;
 use mds_request::Reply;
@@ -23,15 +23,6 @@ pub(crate) fn told(alloc: Global, value: &Tree) -> Result<Reply, AllocError>
 {
     let body = print_tree(alloc, value)?;
     Ok(Reply::ok(body))
-}
-
-/// What became of a report or of a draft: `{"result":word}`.
-pub(crate) fn result_reply(alloc: Global, word: &str) -> Result<Reply, AllocError>
-    ensures { IfOk result (λ r. r ≡ told (result_json word.now)) }
-{
-    let mut members = Vec::new(alloc);
-    add_member(&mut members, "result", text_tree(alloc, word)?)?;
-    told(alloc, &object_tree(members))
 }
 
 /// What was removed: `{"removed":id}`.
