@@ -1,3 +1,4 @@
 pub mod Groups
 pub mod Mapped
+pub mod Offsets
 pub mod Words

@@ -1,14 +1,19 @@
-//! What follows from the definitions of windows and matching, for all rules, policies and vehicles,
-//! and for some that are worked out.
+//! What follows from the definitions of zones, windows and matching, for all rules, policies and
+//! vehicles, and for some that are worked out.
 
-ghost use Rattle.std.specs.Prelude.{◌≡◌, ◌⊎◌, ℕ, ◌<◌, ◌≤◌, List, IsTrue, Some, None, Contains, length, slice_get, sum_by};
+ghost use Rattle.std.specs.Prelude.{◌≡◌, ◌⊎◌, ◌+ℤ◌, ℕ, ℤ, ◌<◌, ◌≤◌, List, IsTrue, Some, None, Contains, length, slice_get, sum_by};
 ghost use Rattle.std.specs.List.{range_with_len};
+ghost use Rattle.jiff.specs.Words.{civil_nanos, nanos_of_seconds, offset_at, tz_view};
+ghost use Rattle.jiff_core.specs.declared.civil.datetime.DateTime.{DateTime};
+ghost use Rattle.jiff_tz.specs.declared.posix.TimeZone.{TimeZone as PosixZone};
+ghost use Rattle.jiff_tz.specs.declared.timezone.TimeZone.TheVariants.{Posix};
 ghost use Rattle.mds_geometry.specs.declared.position.Position.{Position};
 ghost use Rattle.mds_policy.specs.Policy.{Policy, Rule};
 ghost use Rattle.mds_policy.specs.declared.rule.Window.{Window};
 ghost use Rattle.mds_match.specs.declared.local.Local.{Local};
 ghost use Rattle.mds_match.specs.Row.{Row};
 ghost use Rattle.mds_match.specs.Matching.{is_open, is_listed, day_before, meets, first, caught};
+ghost use Rattle.mds_match.specs.Zone.{ruled, rule_offset, instant_of, local_of, shown};
 ghost use Rattle.mds_match.specs.Examples.{friday_night, until_last_minute, all_day, at};
 
 /// A rule is open on the days that it lists alone, unless its window crosses midnight and the day
@@ -58,4 +63,13 @@ pub fn last_minute()
     ensures open { IsTrue (is_open until_last_minute (at 1 23 59 0)) }
     ensures closed { ¬ IsTrue (is_open until_last_minute (at 1 23 59 59)) }
     ensures without_times { IsTrue (is_open all_day (at 1 23 59 59)) }
+{}
+
+/// A rule's offset is the one that `jiff` gives for it, and the local time by a rule is the weekday
+/// and the second of the day of the civil datetime that `jiff` converts the instant to.
+pub fn rules_are_as_jiff_converts()
+    ensures offset { (rule : PosixZone) (instant : ℤ) → rule_offset (tz_view rule) instant ≡ offset_at (Posix rule) instant }
+    ensures datetime { (rule : PosixZone) (moment : ℕ) (datetime : DateTime) →
+        civil_nanos datetime ≡ instant_of moment +ℤ nanos_of_seconds (offset_at (Posix rule) (instant_of moment)) →
+        local_of (ruled (tz_view rule)) moment ≡ shown datetime }
 {}

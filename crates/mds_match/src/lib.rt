@@ -1,5 +1,5 @@
-//! When a rule is open, which vehicles meet it, and by which rule of a policy a vehicle is caught
-//! (MDS 2.0 Policy, rules and order of operations).
+//! The local time in a zone, when a rule is open, which vehicles meet it, and by which rule of a
+//! policy a vehicle is caught (MDS 2.0 Policy, rules and order of operations).
 #![tactic(auto)]
 
 pub mod laws;
@@ -8,12 +8,14 @@ mod matching;
 mod places;
 mod vehicle;
 mod window;
+mod zone;
 
 pub use local::Local;
 pub use matching::{first, meets};
 pub use places::Places;
 pub use vehicle::Vehicle;
 pub use window::open_at;
+pub use zone::{Zone, ZoneFault};
 
 #[cfg(test)]
 mod tests;

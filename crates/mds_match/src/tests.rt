@@ -1,8 +1,8 @@
-//! Windows and matching, at local times worked out by hand.
+//! Zones, windows and matching, at local times worked out by hand.
 
 ghost use Rattle.std.specs.Prelude.{[], ◌∷◌, cond, bytes_eq};
 
-use crate::{Local, Places, Vehicle, first, meets, open_at};
+use crate::{Local, Places, Vehicle, Zone, ZoneFault, first, meets, open_at};
 use mds_geometry::{Polygon, Position, Ring};
 use mds_policy::{Policy, Rule};
 use mds_text::{Id, Moment, Token, Units7};
@@ -161,5 +161,51 @@ fn the_first_rule(rt: HostRuntime) -> Result<(), Fail> {
     assert_eq!(rt; first(&policy, &places, &corner, NOON), Some(1));
     let beside = scooter(alloc, 100_000_001)?;
     assert_eq!(rt; first(&policy, &places, &beside, NOON), None);
+    Ok(())
+}
+
+#[test]
+fn zones(rt: HostRuntime) -> Result<(), Fail> {
+    let pacific = "PST8PDT,M3.2.0,M11.1.0";
+    let times: [(&str, i64, u8, u32); 12] = [
+        // The epoch was a Thursday, and still Wednesday, 16:00, eight hours west of Greenwich.
+        ("-08:00", 0, 3, 57600),
+        ("-00:00", 0, 4, 0),
+        ("+14:59", 0, 4, 53940),
+        // 2023-03-12 09:59:59.999 in UTC, a Sunday.
+        ("-08:00", 1_678_615_199_999, 0, 7199),
+        ("Z", 165_599_999, 5, 79199),
+        ("Z", 190_800_999, 6, 18000),
+        (pacific, 0, 3, 57600),
+        // The clock goes from 01:59:59 to 03:00:00 on 2023-03-12.
+        (pacific, 1_678_615_199_999, 0, 7199),
+        (pacific, 1_678_615_200_000, 0, 10800),
+        // And from 01:59:59 back to 01:00:00 on 2023-11-05, at 09:00:00 in UTC.
+        (pacific, 1_699_174_799_999, 0, 7199),
+        (pacific, 1_699_174_800_000, 0, 3600),
+        ("<+0545>-5:45", 0, 4, 20700),
+    ];
+    for (name, at, weekday, second) in times {
+        let zone = Zone::read(name).or(Err("no zone"))?;
+        let at = Moment::new(at).ok_or("no moment")?;
+        let local = zone.local(at)?;
+        assert_eq!(rt; local, Local { weekday, second }, "{name}");
+    }
+    let others = [
+        "",
+        "Mars",
+        "UTC",
+        "z",
+        "+15:00",
+        "+01:60",
+        "+1:00",
+        "PST8PDT",
+        "PST25",
+        "PS8",
+        "PST8PDT,M3.2.0,M11.1.0 ",
+    ];
+    for name in others {
+        assert_eq!(rt; Zone::read(name).err(), Some(ZoneFault::BadZone), "{name}");
+    }
     Ok(())
 }

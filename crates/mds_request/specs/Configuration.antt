@@ -8,8 +8,8 @@ use Rattle.mds_text.specs.Tree.{Json, null, boolean, int, text, degrees, list, o
 use Rattle.mds_text.specs.declared.field.Field.{Field}
 use Rattle.mds_text.specs.declared.field.Field.TheVariants.{Author as AuthorName, Operators, Id, Limit, Token, Zone as ZoneName}
 use Rattle.mds_request.specs.Access.{is_access_token}
-use Rattle.mds_request.specs.Zone.{zone_of}
-use Rattle.mds_request.specs.declared.zone.Zone.{Zone}
+use Rattle.mds_match.specs.Zone.{zone_of}
+use Rattle.mds_match.specs.declared.zone.Zone.{Zone}
 use Rattle.mds_request.specs.declared.operator.Operator.{Operator as Named}
 use Rattle.mds_request.specs.declared.config.Config.{Config}
 use Rattle.mds_request.specs.declared.actor.Actor.{Actor}

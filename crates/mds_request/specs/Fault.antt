@@ -2,16 +2,10 @@
 use Rattle.std.specs.Prelude.{ℕ, List, Option, Some, None, codes}
 use Rattle.mds_text.specs.Fault.{Fault, bad_zone, too_many_operators, alike, text_cause}
 use Rattle.mds_text.specs.declared.fault.TextFault.TheVariants.{NoMemory as Exhausted, BadJson, BadField, BadNumber, OutOfRange}
-use Rattle.mds_request.specs.declared.zone.ZoneFault.{ZoneFault}
-use Rattle.mds_request.specs.declared.zone.ZoneFault.TheVariants.{BadZone as NoZone, NoMemory as NoRoom}
 use Rattle.mds_request.specs.declared.fault.ConfigFault.{ConfigFault}
 use Rattle.mds_request.specs.declared.fault.ConfigFault.TheVariants.{Text, TooManyOperators, BadZone, Alike, NoMemory}
 
 -- the reason that an answer names, or none for want of memory
-abbrev pub zone_cause : ZoneFault → Option Fault
-zone_cause NoZone = Some bad_zone
-zone_cause NoRoom = None
-
 abbrev pub config_cause : ConfigFault → Option Fault
 config_cause (Text fault) = text_cause fault
 config_cause TooManyOperators = Some too_many_operators

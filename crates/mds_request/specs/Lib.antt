@@ -8,4 +8,3 @@ pub mod Reply
 pub mod Request
 pub mod Route
 pub mod Verb
-pub mod Zone

@@ -5,7 +5,7 @@ use crate::fault::ConfigFault;
 use crate::lookup::place_of;
 use crate::operator::Operator;
 use crate::read::config_from;
-use crate::zone::Zone;
+use mds_match::Zone;
 use std::alloc::Global;
 
 /// Who may ask, and how much each operator may hold.

@@ -1,4 +1,4 @@
-use crate::zone::ZoneFault;
+use mds_match::ZoneFault;
 use mds_text::TextFault;
 use std::alloc::{AllocError, AllocFailed};
 use std::error::Error;
@@ -62,7 +62,8 @@ impl From<AllocError> for ConfigFault {
 
 impl From<ZoneFault> for ConfigFault {
     ghost use Rattle.std.specs.Prelude.{◌≡◌};
-    ghost use Rattle.mds_request.specs.Fault.{zone_cause, config_cause};
+    ghost use Rattle.mds_match.specs.ZoneFault.{zone_cause};
+    ghost use Rattle.mds_request.specs.Fault.{config_cause};
 
     ghost from_gives = { λ fault e. config_cause e ≡ zone_cause fault };
 

@@ -16,7 +16,6 @@ mod request;
 mod route;
 mod routes;
 mod verb;
-mod zone;
 
 pub use actor::Actor;
 pub use call::read_call;
@@ -30,7 +29,6 @@ pub use request::Request;
 pub use route::{Call, Route};
 pub use routes::Routes;
 pub use verb::Verb;
-pub use zone::{Zone, ZoneFault};
 
 #[cfg(test)]
 mod tests;

@@ -13,7 +13,7 @@ use crate::config::Config;
 use crate::fault::ConfigFault;
 use crate::lookup::are_alike;
 use crate::operator::Operator;
-use crate::zone::Zone;
+use mds_match::Zone;
 use mds_text::{
     Field, TextFault, Tree, document_of, int_of, read_tree, required_id, required_list,
     required_member, required_text, text_of,

@@ -1,8 +1,7 @@
 //! A configuration of two operators, the calls of requests to it, and local times by hand.
 
 use crate::{
-    Actor, Call, Code, Config, ConfigFault, Refusal, Reply, Request, Route, Routes, Verb, Zone,
-    ZoneFault, read_call,
+    Actor, Call, Code, Config, ConfigFault, Refusal, Reply, Request, Route, Routes, Verb, read_call,
 };
 use mds_match::Local;
 use mds_text::{Field, Id, Moment, TextFault};
@@ -55,7 +54,7 @@ fn a_configuration(rt: HostRuntime) -> Result<(), Fail> {
         assert_eq!(rt; operator.limit, 2);
     }
     // Friday, 05:00.
-    let local = config.zone().local(moment(104_400_000)?);
+    let local = config.zone().local(moment(104_400_000)?)?;
     assert_eq!(rt;
         local,
         Local {
@@ -215,28 +214,5 @@ fn replies(rt: HostRuntime) -> Result<(), Fail> {
     let done = Reply::ok(body);
     assert_eq!(rt; done.status(), 200);
     assert!(rt; done.body() == b"{}".as_slice());
-    Ok(())
-}
-
-#[test]
-fn zones(rt: HostRuntime) -> Result<(), Fail> {
-    let times: [(&str, i64, u8, u32); 6] = [
-        // The epoch was a Thursday, and still Wednesday, 16:00, eight hours west of Greenwich.
-        ("-08:00", 0, 3, 57600),
-        ("-00:00", 0, 4, 0),
-        ("+14:59", 0, 4, 53940),
-        // 2023-03-12 09:59:59.999 in UTC, a Sunday.
-        ("-08:00", 1_678_615_199_999, 0, 7199),
-        ("Z", 165_599_999, 5, 79199),
-        ("Z", 190_800_999, 6, 18000),
-    ];
-    for (name, at, weekday, second) in times {
-        let zone = Zone::read(name).or(Err("no zone"))?;
-        let local = zone.local(moment(at)?);
-        assert_eq!(rt; local, Local { weekday, second }, "{name} at {at}");
-    }
-    for name in ["+15:00", "+01:60", "z", "+1:00", "", "UTC"] {
-        assert_eq!(rt; Zone::read(name).err(), Some(ZoneFault::BadZone), "{name}");
-    }
     Ok(())
 }

@@ -1,5 +1,6 @@
 -- The reply to a question about compliance, put together.
-use Rattle.std.proofs.Common.{◌≡◌, ℕ, List, map, length, codes, Ok, ap, sym, ◌∙◌}
+use Rattle.std.proofs.Common.{◌≡◌, ℕ, List, map, length, codes, Result, Ok, ap, sym, ◌∙◌}
+use Rattle.std.specs.declared.alloc.AllocError.{AllocError}
 use Rattle.std.specs.FinMap.{values}
 use Rattle.mds_text.specs.Tree.{Json}
 use Rattle.mds_match.specs.Row.{Row}
@@ -10,12 +11,16 @@ use Rattle.mds_policy.specs.Policy.{Policy}
 use Rattle.mds_catalog.specs.Publication.{Publication, Published, find_policy, is_in_force, in_force, published_area}
 use Rattle.mds_request.specs.Configuration.{Operator}
 use Rattle.mds_request.specs.Reply.{Reply}
-use Rattle.mds_request.specs.Zone.{local_of}
-use Rattle.mds_request.specs.declared.zone.Zone.{Zone}
+use Rattle.mds_match.specs.Zone.{local_of}
+use Rattle.mds_match.specs.declared.zone.Zone.{Zone}
 use Rattle.mds_request.specs.declared.code.Code.TheVariants.{NotFound}
 use Rattle.mds_world.specs.Answer.{told, if_it, ◌>>=◌}
 use Rattle.mds_world.specs.Bodies.{list_json, compliance_json}
 use Rattle.mds_world.specs.Operator.{compliance_answer, policy_compliance_answer, policy_report}
+
+-- the local time that was given is the one that was to be given
+pub local_told : (result : Result Local AllocError) (local due : Local) → result ≡ Ok local → result ≡ Ok due → local ≡ due
+local_told result local due was is = cc
 
 module _ (zone : Zone) (operator : Operator) (publications : List Publication) (rows : Rows) (t : ℕ) where
   -- the reports over these rows at this local time

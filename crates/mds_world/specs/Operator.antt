@@ -16,8 +16,8 @@ use Rattle.mds_fleet.specs.declared.book.BookFault.TheVariants as fault
 use Rattle.mds_request.specs.Configuration.{Operator}
 use Rattle.mds_request.specs.Request.{Request}
 use Rattle.mds_request.specs.Reply.{Reply}
-use Rattle.mds_request.specs.Zone.{local_of}
-use Rattle.mds_request.specs.declared.zone.Zone.{Zone}
+use Rattle.mds_match.specs.Zone.{local_of}
+use Rattle.mds_match.specs.declared.zone.Zone.{Zone}
 use Rattle.mds_request.specs.declared.route.Call.{Call}
 use Rattle.mds_request.specs.declared.route.Route.{Route}
 use Rattle.mds_request.specs.declared.route.Route.TheVariants.{Policies, Policy as PolicyRoute, Geographies, Geography, FleetEvents, FleetVehicles, FleetVehicle, Compliance, PolicyCompliance, PolicyDraft, GeographyDraft, Publish}

@@ -17,9 +17,9 @@ use crate::bodies::compliance_reply;
 use crate::denied::Denied;
 use mds_catalog::{Batch, Catalogue, Published};
 use mds_fleet::Book;
-use mds_match::{Local, Vehicle};
+use mds_match::{Local, Vehicle, Zone};
 use mds_policy::Policy;
-use mds_request::{Code, Operator, Reply, Zone};
+use mds_request::{Code, Operator, Reply};
 use mds_text::{Id, Moment, Tree, list_tree};
 use mds_verdict::{Evaluator, report_tree};
 use std::alloc::{AllocError, Global};
@@ -130,10 +130,11 @@ pub(crate) fn compliance<E: Evaluator<Catalogue>>(
         (compliance_answer zone.now (operator_of operator.now) (publications_of catalogue.now) book.now.rows at) }
 {
     let vehicles = fleet(book)?;
+    let local = zone.local(at)?;
     let question = Question {
         operator: operator.id,
         at,
-        local: zone.local(at),
+        local,
     };
     let reports = all_reports(alloc, evaluator, catalogue, &vehicles, &question)?;
     let reply = compliance_reply(alloc, at, "policies", reports, catalogue.revision())?;
@@ -193,10 +194,11 @@ pub(crate) fn policy_compliance<E: Evaluator<Catalogue>>(
     let Some(found) = policy_in_force(catalogue, operator.id, at, id) else {
         return Err(Denied::Refused(Code::NotFound));
     };
+    let local = zone.local(at)?;
     let question = Question {
         operator: operator.id,
         at,
-        local: zone.local(at),
+        local,
     };
     let report = book_report(alloc, evaluator, book, catalogue, found.document, &question)?;
     let reply = compliance_reply(alloc, at, "policy", report, catalogue.revision())?;

@@ -1,13 +1,15 @@
 use Rattle.std.proofs.Common.{◌≡◌, map, ap, ◌∙◌}
 use Rattle.std.specs.FinMap as finite
 use Rattle.mds_match.specs.Row.{row_of}
+use Rattle.mds_match.specs.Zone.{local_of}
 use Rattle.mds_catalog.specs.Catalogue.{publications_of}
 use Rattle.mds_request.specs.Configuration.{operator}
-use Rattle.mds_world.proofs.Reported.{all_told}
+use Rattle.mds_world.proofs.Reported.{all_told, local_told}
 use Rattle.mds_world.proofs.compliance.compliance.Goals as goal
 
 pub returns : goal.returns
 returns g c =
     let rows : map (λ v. row_of v.now) c.deref.result.now ≡ finite.values c.args.book.now.rows =
     ap (λ vehicles. map (λ v. row_of v.now) vehicles) c.deref.ensures.value ∙ c.in_ok-vehicles.ensures.whole in
-    all_told c.args.zone.now (operator c.args.operator.now) (publications_of c.args.catalogue.now) c.args.book.now.rows c.args.at _ _ _ _ _ rows c.local.ensures c.in_ok-reports.ensures c.revision.ensures.count c.in_ok-reply.ensures
+    let local : c.in_ok-local.local ≡ local_of c.args.zone.now c.args.at = local_told _ _ _ c.in_ok-local.was c.local.ensures in
+    all_told c.args.zone.now (operator c.args.operator.now) (publications_of c.args.catalogue.now) c.args.book.now.rows c.args.at _ _ _ _ _ rows local c.in_ok-reports.ensures c.revision.ensures.count c.in_ok-reply.ensures

@@ -1,0 +1,40 @@
+-- What `jiff` says of a rule's offset is what is defined.
+use Rattle.std.proofs.Common.{◌≡◌, ℕ, ℤ, Bool, true, false, if◌then◌else◌, Option, Some, None, option_map, refl}
+use Rattle.jiff.specs.Words.{offset_at, tz_view}
+use Rattle.jiff_core.specs.declared.offset.Offset.{Offset}
+use Rattle.jiff_tz.specs.PosixText.{dst_view}
+use Rattle.jiff_tz.specs.PosixRule as Posix
+use Rattle.jiff_tz.specs.declared.posix.Dst.{Dst}
+use Rattle.jiff_tz.specs.declared.posix.TimeZone.{TimeZone}
+use Rattle.jiff_tz.specs.declared.timezone.TimeZone.{TimeZone as AnyZone}
+use Rattle.jiff_tz.specs.declared.timezone.TimeZone.TheVariants as zone
+use Rattle.jiff_tz.specs.Year.{year_of_nanos}
+use Rattle.mds_match.specs.Kept.{IsRule, rule_kind}
+use Rattle.mds_match.specs.Zone.{summer, rule_offset, instant_of, offset_in}
+
+-- the seasons of a year are `jiff`'s
+summer-is : (dst : Dst) (year : ℤ) (std : Offset) → summer (dst_view dst) year std.seconds ≡ Posix.utc_window dst year std
+unfolding summer Posix.utc_window Posix.rule_nanos
+summer-is dst year std = refl
+
+-- the one offset or the other
+chosen : (dst : Dst) (std : Offset) (b : Bool) → (if b then dst.offset.seconds else std.seconds) ≡ (Posix.match_some (if b then Some dst else None) std (λ d. d.offset)).seconds
+chosen dst std true = refl
+chosen dst std false = refl
+
+by_dst : (std : Offset) (dst : Option Dst) (n : ℤ) → Posix.match_some (option_map dst_view dst) std.seconds (λ d. if Posix.in_window (summer d (year_of_nanos n) std.seconds) n then d.seconds else std.seconds) ≡ (Posix.match_some (Posix.dst_at_by std dst n) std (λ d. d.offset)).seconds
+by_dst std None n = refl
+by_dst std (Some dst) n = rw (summer-is dst (year_of_nanos n) std) (chosen dst std (Posix.in_window (Posix.utc_window dst (year_of_nanos n) std) n))
+
+pub rule_offset-is : (rule : TimeZone) (n : ℤ) → rule_offset (tz_view rule) n ≡ offset_at (zone.Posix rule) n
+unfolding rule_offset offset_at
+rule_offset-is rule n = by_dst rule.std_offset rule.dst n
+
+-- of a zone that is a rule, the offset at a moment
+pub offset_in-is : (any : AnyZone) (moment : ℕ) → IsRule any → offset_at any (instant_of moment) ≡ offset_in (rule_kind any) moment
+unfolding offset_at offset_in
+offset_in-is (zone.UTC) moment never = refl
+offset_in-is (zone.Unknown) moment never = refl
+offset_in-is (zone.Fixed offset) moment never = refl
+offset_in-is (zone.Posix rule) moment is = rw (rule_offset-is rule (instant_of moment)) refl
+offset_in-is (zone.Tzif table) moment never = absurd never

@@ -1,0 +1,173 @@
+ghost use Rattle.std.specs.Prelude.{◌≡◌, ◌≤◌, ◌≤ℤ◌, pos, negsuc, unsigned_abs, IfSome};
+ghost use Rattle.jiff.specs.Words.{plain_zone, offset_at, IsOffsetSeconds};
+ghost use Rattle.mds_text.specs.Fault.{Gives};
+ghost use Rattle.mds_match.specs.Zone.{number_up_to, with_sign, offset_of, instant_of, local_at};
+
+use crate::local::Local;
+use jiff::Timestamp;
+use jiff::tz::TimeZone;
+use mds_text::Moment;
+use std::alloc::AllocError;
+use std::marker::Model;
+
+/// The greatest hours of an offset.
+const MOST_HOURS: u8 = 14;
+/// The greatest minutes of an offset.
+const MOST_MINUTES: u8 = 59;
+/// The milliseconds from the Sunday before the Unix epoch to the epoch, a Thursday.
+const FOUR_DAYS: i64 = 345_600_000;
+/// The milliseconds of a day.
+const DAY: i64 = 86_400_000;
+/// The seconds of a day.
+const DAY_SECONDS: i64 = 86_400;
+
+/// Why a text is no time zone.
+#[derive(Clone, Copy, Debug, PartialEq, Eq)]
+pub enum ZoneFault {
+    /// The text names no zone.
+    BadZone,
+    /// Memory ran out.
+    NoMemory,
+}
+
+/// What a zone goes by: an offset in seconds, positive east of Greenwich, or a POSIX rule.
+#[derive(Drop)]
+enum Kind {
+    Fixed(i64),
+    Rule(TimeZone<'static>),
+}
+
+/// A time zone: a fixed offset from UTC, or a rule of POSIX's TZ variable. Contracts see the offset
+/// or what the rule says.
+#[derive(Drop)]
+pub struct Zone {
+    kind: Kind,
+}
+
+impl Model for Zone {
+    ghost use Rattle.mds_match.specs.Zone.{ZoneKind};
+
+    ghost Value = { ZoneKind };
+
+    ghost use Rattle.mds_match.specs.Kept.{zone_kind, IsKept};
+
+    ghost view = { λ z. zone_kind z.kind };
+
+    ghost invariant = { λ z. IsKept z.kind };
+}
+
+impl Zone {
+    ghost use Rattle.std.specs.Prelude.{Ok};
+    ghost use Rattle.mds_match.specs.Zone.{zone_of, offset_in, local_of};
+    ghost use Rattle.mds_match.specs.ZoneFault.{zone_cause};
+
+    /// The zone of a text: `Z`; `+hh:mm` or `-hh:mm` with hours from 00 to 14 and minutes from 00
+    /// to 59; or a POSIX rule, as `PST8PDT,M3.2.0,M11.1.0`.
+    ///
+    /// # Errors
+    ///
+    /// `BadZone` for any other text.
+    pub fn read(text: &str) -> Result<Zone, ZoneFault>
+        ensures { Gives zone_cause (λ z. z) result (zone_of text.now) }
+    {
+        if text == "Z" {
+            let kind = Kind::Fixed(0);
+            return Ok(Zone { kind });
+        }
+        if let Some(offset) = offset_of(text.as_bytes()) {
+            let kind = Kind::Fixed(offset);
+            return Ok(Zone { kind });
+        }
+        match TimeZone::posix(text) {
+            Ok(rule) => {
+                let kind = Kind::Rule(rule);
+                Ok(Zone { kind })
+            }
+            Err(_) => Err(ZoneFault::BadZone),
+        }
+    }
+
+    /// The local weekday and second of the day at a moment. The second is cut down, also before the
+    /// Unix epoch.
+    ///
+    /// # Errors
+    ///
+    /// None: no zone of these asks for memory.
+    pub fn local(&self, at: Moment) -> Result<Local, AllocError>
+        ensures { result ≡ Ok (local_of self.now at) }
+    {
+        Ok(local_at(self.offset_at(at), at))
+    }
+
+    /// How far the clock is ahead of UTC at a moment, in seconds.
+    fn offset_at(&self, at: Moment) -> i64
+        ensures value { result ≡ offset_in self.now at }
+        ensures bounds { IsOffsetSeconds result }
+    {
+        match &self.kind {
+            Kind::Fixed(offset) => *offset,
+            Kind::Rule(rule) => rule_offset(rule, at),
+        }
+    }
+}
+
+/// How far the clock of a zone is ahead of UTC at a moment, in seconds, as `jiff` converts it.
+fn rule_offset(zone: &TimeZone<'static>, at: Moment) -> i64
+    ensures value { result ≡ offset_at (plain_zone zone.now) (instant_of at) }
+    ensures bounds { IsOffsetSeconds result }
+{
+    let instant = Timestamp::from_millisecond(at.get()).unwrap();
+    i64::from(zone.to_offset(instant).seconds())
+}
+
+/// The local weekday and second of the day at an offset.
+fn local_at(offset: i64, at: Moment) -> Local
+    requires { IsOffsetSeconds offset }
+    ensures { result ≡ local_at offset at }
+{
+    let instant = at.get() + offset * 1000;
+    let days = (instant + FOUR_DAYS).div_euclid(DAY);
+    let seconds = instant.div_euclid(1000);
+    Local {
+        weekday: days.rem_euclid(7) as u8,
+        second: seconds.rem_euclid(DAY_SECONDS) as u32,
+    }
+}
+
+/// The seconds of `+hh:mm` or `-hh:mm`.
+fn offset_of(text: &[u8]) -> Option<i64>
+    ensures value { result ≡ offset_of text.now }
+    ensures least { IfSome result (λ offset. negsuc 53939 ≤ℤ offset) }
+    ensures most { IfSome result (λ offset. offset ≤ℤ pos 53940) }
+{
+    let [sign, hour, hours, b':', minute, minutes] = text else {
+        return None;
+    };
+    let hours = number(*hour, *hours, MOST_HOURS)?;
+    let minutes = number(*minute, *minutes, MOST_MINUTES)?;
+    signed(*sign, u32::from(hours) * 3600 + u32::from(minutes) * 60)
+}
+
+/// An offset of this size, east of Greenwich for `+` and west of it for `-`.
+fn signed(sign: u8, size: u32) -> Option<i64>
+    ensures value { result ≡ with_sign sign size }
+    ensures size { IfSome result (λ offset. unsigned_abs offset ≡ size) }
+{
+    match sign {
+        b'+' => Some(i64::from(size)),
+        b'-' => Some(-i64::from(size)),
+        _ => None,
+    }
+}
+
+/// The number of two decimal digits, up to the most that it may be.
+fn number(tens: u8, ones: u8, most: u8) -> Option<u8>
+    ensures value { result ≡ number_up_to most tens ones }
+    ensures most { IfSome result (λ n. n ≤ most) }
+{
+    if !tens.is_ascii_digit() || !ones.is_ascii_digit() {
+        return None;
+    }
+    let number = (tens - b'0') * 10 + (ones - b'0');
+    if number <= most { Some(number) } else { None }
+}
