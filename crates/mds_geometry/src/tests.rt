@@ -1,5 +1,5 @@
 use super::{Polygon, Position, Ring, RingFault, area_holds, coordinate_of};
-use mds_text::{Field, TextFault, Units7, int_tree, text_tree};
+use mds_text::{Field, TextFault, Units7, bool_tree, int_tree};
 use std::alloc::Global;
 use std::process::Abort;
 use std::test::Fail;
@@ -132,8 +132,7 @@ fn coordinates(rt: HostRuntime) -> Result<(), Fail> {
         let units = read.ok().map(|units| units.get());
         assert!(rt; units == want, "{degrees} of {most}");
     }
-    let text = text_tree(rt.alloc(), "90")?;
-    let read = coordinate_of(&text, Field::Lat, 90);
+    let read = coordinate_of(&bool_tree(true), Field::Lat, 90);
     assert!(rt; matches!(read, Err(TextFault::BadField(Field::Lat))));
     Ok(())
 }
