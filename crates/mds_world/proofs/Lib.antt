@@ -1,5 +1,6 @@
 mod Ascending
 mod Books
+mod Meaning
 mod OneLine
 mod Outcome
 mod Reported

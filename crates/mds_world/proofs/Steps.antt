@@ -84,7 +84,7 @@ reply_is w place None held call request = refl
 reply_is w place (Some operator) None call request = refl
 reply_is w place (Some operator) (Some rows) call request = refl
 
-set_here : (fleets : List Rows) (place : ℕ) (old new : Rows) → slice_get fleets place ≡ Some old → slice_get (set fleets place new) place ≡ Some new
+pub set_here : (fleets : List Rows) (place : ℕ) (old new : Rows) → slice_get fleets place ≡ Some old → slice_get (set fleets place new) place ≡ Some new
 set_here fleets place old new held =
     let within : place < length fleets = slice_get_within fleets place old held in
     let within_set : place < length (set fleets place new) = omega (arith, within, length-set fleets place new) in

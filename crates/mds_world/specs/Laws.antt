@@ -1,12 +1,15 @@
 -- Laws of the machine's steps.
-use Rattle.std.specs.Prelude.{◌≡◌, ◌≢◌, ℕ, get_or, slice_get}
+use Rattle.std.specs.Prelude.{◌≡◌, ◌≢◌, ℕ, List, [], ◌∷◌, ◌++◌, Some, get_or, slice_get}
+use Rattle.mds_catalog.specs.Publication.{Publication}
 use Rattle.mds_fleet.specs.Books.{Rows}
-use Rattle.mds_request.specs.Configuration.{actor_of}
+use Rattle.mds_request.specs.Configuration.{Configuration, Operator as Configured, actor_of}
 use Rattle.mds_request.specs.Request.{Request}
 use Rattle.mds_request.specs.Reply.{Reply, refused}
 use Rattle.mds_request.specs.declared.actor.Actor.TheVariants.{Author, Operator}
 use Rattle.mds_request.specs.declared.code.Code.TheVariants.{NoMemory}
-use Rattle.mds_world.specs.Step.{Step}
+use Rattle.mds_world.specs.Meaning.{own_step, AreRows, IsAnswer}
+use Rattle.mds_world.specs.Step.{Step, answered}
+use Rattle.mds_world.specs.Views.{Seen}
 use Rattle.mds_world.specs.World.{State}
 
 -- some reply is right to every request
@@ -53,3 +56,27 @@ IsIsolated =
     → actor_of w.configuration request.token ≡ Operator place → Agree w v place
     → Step w request reply next → Step v request other apart → reply ≢ refused NoMemory → other ≢ refused NoMemory
     → (reply ≡ other) × Agree next apart place
+
+-- the step of an operator's request is that operator's own step
+abbrev pub IsOwn : Type 0
+IsOwn =
+    (w : State) (request : Request) (place : ℕ) (operator : Configured) (rows : Rows)
+    → actor_of w.configuration request.token ≡ Operator place → slice_get w.configuration.operators place ≡ Some operator
+    → slice_get w.fleets place ≡ Some rows →
+    let own = own_step w.configuration operator w.publications rows request in
+    ((answered w request).0 ≡ own.0) × (slice_get (answered w request).1.fleets place ≡ Some own.1)
+
+-- the rows of a list of requests, after one more request's own step, are those of the list with this request at its end
+abbrev pub RowsGoOn : Type 0
+RowsGoOn =
+    (configuration : Configuration) (operator : Configured) (publications : List Publication) (requests : List Request)
+    (request : Request) (rows : Rows)
+    → AreRows configuration operator requests rows
+    → AreRows configuration operator (requests ++ request ∷ []) (own_step configuration operator publications rows request).1
+
+-- after each view there is just one answer to a request
+abbrev pub HasOneAnswer : Type 0
+HasOneAnswer =
+    (configuration : Configuration) (operator : Configured) (seen : List Seen) (request : Request)
+    → ((reply : Reply) × IsAnswer configuration operator seen request reply)
+    × ((reply other : Reply) → IsAnswer configuration operator seen request reply → IsAnswer configuration operator seen request other → reply ≡ other)

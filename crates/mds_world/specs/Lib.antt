@@ -5,6 +5,7 @@ pub mod Bodies
 pub mod Denial
 pub mod History
 pub mod Laws
+pub mod Meaning
 pub mod Operator
 pub mod Published
 pub mod Step

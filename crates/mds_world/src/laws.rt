@@ -1,6 +1,6 @@
 //! Laws of the machine's steps. Each function's contract is the law; the functions themselves do
 //! nothing.
-ghost use Rattle.mds_world.specs.Laws.{IsTotal, IsDetermined, LeavesOthers, LeavesRows, IsIsolated};
+ghost use Rattle.mds_world.specs.Laws.{IsTotal, IsDetermined, LeavesOthers, LeavesRows, IsIsolated, IsOwn, RowsGoOn, HasOneAnswer};
 
 /// Some reply is right to every request.
 pub fn is_total()
@@ -27,4 +27,22 @@ pub fn leaves_rows()
 /// there are.
 pub fn is_isolated()
     ensures { IsIsolated }
+{}
+
+/// The step of an operator's request is that operator's own step: a function of the configuration,
+/// what is published, this operator's rows and the request.
+pub fn is_own()
+    ensures { IsOwn }
+{}
+
+/// The rows that an operator's requests come to, by the list of them alone, are kept up by its own
+/// steps.
+pub fn rows_go_on()
+    ensures { RowsGoOn }
+{}
+
+/// What an operator has seen, its own requests and the publications in their order, defines one answer
+/// to its next request.
+pub fn has_one_answer()
+    ensures { HasOneAnswer }
 {}
