@@ -45,6 +45,10 @@ module _ {M : Type 0} (step : M → Request → Reply → M → Type 0) where
     pub one_line : AreLines replies
     pub output_is : output ≡ flat_map answer_line replies
 
+-- the first line isn't over the limit
+abbrev pub IsShort : List ℕ → Type 0
+IsShort input = length (configuration_of input) ≤ line_limit
+
 module _ {M : Type 0} (begins : List ℕ → M → Type 0) where
   -- a machine of the configuration that is a first line, which isn't over the limit
   abbrev pub Configures : List ℕ → M → Type 0

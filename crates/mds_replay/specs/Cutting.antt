@@ -2,6 +2,7 @@
 use Rattle.std.specs.Prelude.{ℕ, ◌+◌, ◌-◌, ◌*◌, Bool, ◌&&◌, ◌==◌, List, length, nat_le, fold, Option, Some, None, if◌then◌else◌}
 use Rattle.std.specs.List.{list_all, before_first, after_first}
 use Rattle.std.specs.Char.{is_ascii_digit}
+use Rattle.mds_text.specs.Fields.{last_moment}
 use Rattle.mds_request.specs.Request.{Request}
 use Rattle.mds_request.specs.Verb.{verb_of}
 use Rattle.mds_replay.specs.Framing.{is_filled}
@@ -23,10 +24,6 @@ are_digits bytes = list_all is_ascii_digit bytes
 -- the number that decimal digits stand for
 abbrev pub decimal : List ℕ → ℕ
 decimal digits = fold (λ n digit. 10 * n + (digit - 48)) 0 digits
-
--- the last moment, the end of the year 2099 in UTC
-abbrev pub last_moment : ℕ
-last_moment = 4102444799999
 
 -- 1 to 13 digits that stand for a moment
 abbrev pub is_moment : List ℕ → Bool

@@ -11,6 +11,8 @@ mod machine;
 mod place;
 mod replay;
 #[cfg(test)]
+mod script_tests;
+#[cfg(test)]
 mod tests;
 mod world;
 mod write;

@@ -7,7 +7,7 @@ ghost use Rattle.mds_replay.specs.Framing.{input_limit, line_limit};
 ghost use Rattle.mds_replay.specs.Writing.{Writes};
 ghost use Rattle.mds_replay.specs.Reader.{left, passed, Advances, FailsReading, IsLimited};
 ghost use Rattle.mds_replay.specs.Turning.{Replies, Turns, AnswersAll, AnswersSome, Begins, written_of};
-ghost use Rattle.mds_replay.specs.Answering.{IsUnconfigured, Answered, Started};
+ghost use Rattle.mds_replay.specs.Answering.{IsUnconfigured, IsShort, Answered, Started};
 
 use crate::cut::cut;
 use crate::ends::{Sink, Source};
@@ -51,6 +51,9 @@ pub fn replay<M: Machine, S: Source, W: Sink>(
         ⊎ IfSome (S.remaining source.old) (λ input. input_limit < length input) }
     ensures write { IsErrOf result ReplayFault.Write → W.failures sink.new ≡ W.failures sink.old + 1 }
     ensures bad_config { IsErrOf result ReplayFault.BadConfig → IfSome (S.remaining source.old) (IsUnconfigured M.begins) }
+    // Want of memory hides no failed read, and no first line that is over the limit.
+    ensures memory { IsErrOf result ReplayFault.NoMemory → (source.new ≡ source.old)
+        ⊎ ((S.failures source.new ≡ S.failures source.old) × IfSome (S.remaining source.old) IsShort) }
 
     // Before the first answer nothing is written.
     ensures unwritten_config { IsErrOf result ReplayFault.BadConfig → sink.new ≡ sink.old }
@@ -81,6 +84,8 @@ fn begin<M: Machine, S: Source>(
     ensures read { IsErrOf result ReplayFault.Read → FailsReading (S.failures source.old) (S.failures source.new)
         (passed reader.old) (left reader.old (S.remaining source.old)) }
     ensures bad_config { IsErrOf result ReplayFault.BadConfig → IfSome (left reader.old (S.remaining source.old)) (IsUnconfigured M.begins) }
+    ensures memory { IsErrOf result ReplayFault.NoMemory → (S.failures source.new ≡ S.failures source.old)
+        × IfSome (left reader.old (S.remaining source.old)) IsShort }
     ensures unwritten { IfErr result (λ fault. fault ≢ ReplayFault.Write) }
 {
     match reader.next(source) {

@@ -188,7 +188,7 @@ impl Sink for Drip {
 }
 
 /// What is written for a script, and how the replay ends.
-fn replayed(alloc: Global, script: &[u8]) -> (Result<(), ReplayFault>, ToBytes) {
+pub(crate) fn replayed(alloc: Global, script: &[u8]) -> (Result<(), ReplayFault>, ToBytes) {
     let mut source = FromBytes::new(script);
     let mut sink = ToBytes::new(alloc);
     let end = replay::<World<Plain>, _, _>(alloc, &mut source, &mut sink);
@@ -196,7 +196,7 @@ fn replayed(alloc: Global, script: &[u8]) -> (Result<(), ReplayFault>, ToBytes) 
 }
 
 /// The bytes of both, one after the other.
-fn joined(alloc: Global, front: &[u8], back: &[u8]) -> Result<Vec<u8>, Fail> {
+pub(crate) fn joined(alloc: Global, front: &[u8], back: &[u8]) -> Result<Vec<u8>, Fail> {
     let mut bytes = Vec::new(alloc);
     bytes.extend_from_slice(front)?;
     bytes.extend_from_slice(back)?;
