@@ -6,14 +6,15 @@ use Rattle.std.proofs.lemmas.Bool.{le-leb, cases_lt}
 use Rattle.std.proofs.lemmas.Bool.Decides.{nat_tests}
 use Rattle.std.proofs.lemmas.Int.Digits.{digits_value-lt, digits_value_more}
 use Rattle.std.proofs.lemmas.List.{take-append-drop}
-use Rattle.std.proofs.lemmas.Nat.{div-mul-add, div-add-mod', mod_below}
+use Rattle.std.proofs.lemmas.Nat.{div-mul-add, div-add-mod', mod_below, pow-add}
 use Rattle.std.specs.Char.{digit_value}
 use Rattle.std.specs.Prelude.{nat_le}
 use Rattle.std.specs.Str.Parse.{AllDigits, digits_value, digits_value_after}
 use Rattle.mds_text.proofs.Decimals.{ten_pos}
 use Rattle.mds_text.proofs.Leading.{digit_at-inside, digit_at-outside, leading-suc, leading-zero}
 use Rattle.mds_text.specs.Leading.{leading, places_of, HasDigits}
-use Rattle.mds_text.specs.Numbers.{Parts, rounded, scaled, size_of, tens_up}
+use Rattle.mds_text.specs.Laws.{dividend, divisor}
+use Rattle.mds_text.specs.Numbers.{Parts, all_digits, rounded, scaled, size_of, tens_down, tens_up}
 
 value_after-is : (n : ℕ) (ds : List ℕ) → digits_value_after 10 n ds ≡ n * 10 ^ length ds + digits_value 10 ds
 value_after-is n [] = omega arith
@@ -130,3 +131,43 @@ unfolding size_of
 size_of-leading n digits =
     tenths (n.whole ++ n.fraction) (length n.whole) (length n.fraction) (tens_up n) (cond n.lowers (digits_value 10 n.exponent) 0)
     (AllDigits-append n.whole n.fraction digits.whole digits.fraction) (length-append n.whole n.fraction)
+
+-- a number of units, times the divisor, is less than half a divisor below the dividend, and at most half a divisor above
+abbrev IsNearest : ℕ → ℕ → ℕ → Type 0
+IsNearest units m d = (2 * (units * d) ≤ 2 * m + d) × (2 * m < 2 * (units * d) + d)
+
+rounded-nearest : (m d : ℕ) → 0 < d → IsNearest (rounded m d) m d
+rounded-nearest m d some =
+    let whole = (2 * m + d) / (2 * d) in
+    let split : whole * (2 * d) + (2 * m + d) % (2 * d) ≡ 2 * m + d = div-add-mod' (2 * m + d) (2 * d) in
+    let below : (2 * m + d) % (2 * d) < 2 * d = mod_below (2 * m + d) (2 * d) (omega (arith, some)) in
+    (omega (arith, split), omega (arith, split, below))
+
+-- dividend and divisor times the same
+nearest-times : (units m d t : ℕ) → 0 < t → IsNearest units m d → IsNearest units (m * t) (d * t)
+nearest-times units m d t some near =
+    let above = mul-le-mul_right t near.0 in
+    let under : suc (2 * m) ≤ 2 * (units * d) + d = omega (arith, near.1) in
+    let below = mul-le-mul_right t under in
+    (omega (arith, above), omega (arith, below, some))
+
+scaled-nearest : (m up down : ℕ) → IsNearest (scaled m up down) (m * 10 ^ up) (10 ^ down)
+scaled-nearest m up down =
+    elim (cases_lt up down) [
+      | inl less ↦
+          let gap = down - up in
+          let sum : down ≡ gap + up = omega arith in
+          let power : 10 ^ gap * 10 ^ up ≡ 10 ^ down = sym (ap (λ k. 10 ^ k) sum ∙ pow-add 10 gap up) in
+          let near = nearest-times (rounded m (10 ^ gap)) m (10 ^ gap) (10 ^ up) (ten_pos up) (rounded-nearest m (10 ^ gap) (ten_pos gap)) in
+          subst (λ u. IsNearest u (m * 10 ^ up) (10 ^ down)) (sym (scaled_down m up down less)) (subst (λ d. IsNearest (rounded m (10 ^ gap)) (m * 10 ^ up) d) power near)
+      | inr more ↦
+          let gap = up - down in
+          let sum : up ≡ gap + down = omega arith in
+          let power : 10 ^ up ≡ 10 ^ gap * 10 ^ down = ap (λ k. 10 ^ k) sum ∙ pow-add 10 gap down in
+          let exact : m * 10 ^ gap * 10 ^ down ≡ m * 10 ^ up = omega (arith, ap (λ k. m * k) power) in
+          subst (λ u. IsNearest u (m * 10 ^ up) (10 ^ down)) (sym (scaled_up m up down more)) (omega (arith, exact), omega (arith, exact, ten_pos down))
+    ]
+
+pub size_of-nearest : (n : Parts) → IsNearest (size_of n) (dividend n) (divisor n)
+unfolding size_of
+size_of-nearest n = scaled-nearest (all_digits n) (7 + tens_up n) (tens_down n)

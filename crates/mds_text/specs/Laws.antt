@@ -1,7 +1,7 @@
 -- Laws of the definitions.
-use Rattle.std.specs.Prelude.{◌≡◌, ℕ, ℤ, pos, negsuc, ◌≤ℤ◌, List, Ok}
+use Rattle.std.specs.Prelude.{◌≡◌, ℕ, ◌+◌, ◌*◌, ◌^◌, ◌<◌, ◌≤◌, ℤ, pos, negsuc, ◌≤ℤ◌, List, Ok}
 use Rattle.std.specs.List.{concat}
-use Rattle.mds_text.specs.Numbers.{units_of}
+use Rattle.mds_text.specs.Numbers.{Parts, all_digits, size_of, tens_down, tens_up, units_of}
 use Rattle.mds_text.specs.Printed.{printed_degrees}
 use Rattle.mds_text.specs.Quoting.{pieces}
 
@@ -12,3 +12,21 @@ PrintedIsRead = (units : ℤ) → negsuc 1799999999 ≤ℤ units → units ≤�
 -- the pieces of a text, one behind the other, are the text: quotation marks are all that quoting adds
 abbrev pub PiecesAreTheText : Type 0
 PiecesAreTheText = (text : List ℕ) → concat (pieces text) ≡ text
+
+-- the exact size of a number of degrees in units of 10^-7 degree is a fraction: `dividend`, all its digits times ten
+-- for each of the seven places and of its tens up, divided by `divisor`, ten for each of its tens down
+abbrev pub dividend : Parts → ℕ
+dividend n = all_digits n * 10 ^ (7 + tens_up n)
+
+abbrev pub divisor : Parts → ℕ
+divisor n = 10 ^ tens_down n
+
+-- the size in whole units differs from the exact size by at most half a unit, upwards or downwards (both are
+-- multiplied by twice the divisor, so that half a unit is the divisor)
+abbrev pub WithinHalfAUnit : Type 0
+WithinHalfAUnit = (n : Parts) → (2 * (size_of n * divisor n) ≤ 2 * dividend n + divisor n) × (2 * dividend n ≤ 2 * (size_of n * divisor n) + divisor n)
+
+-- the size in whole units is never half a unit below the exact size: of two that are equally near it is the greater, so
+-- that the coordinate, which takes its sign afterwards, is the one farther from zero
+abbrev pub HalvesGoAwayFromZero : Type 0
+HalvesGoAwayFromZero = (n : Parts) → 2 * dividend n < 2 * (size_of n * divisor n) + divisor n
