@@ -1,4 +1,4 @@
-ghost use Rattle.std.specs.Prelude.{◌≡◌, IfOk, string_bytes};
+ghost use Rattle.std.specs.Prelude.{◌≡◌, IfOk, Some, string_bytes};
 ghost use Rattle.uuid.specs.Text.{parsed, hyphenated_text, lower};
 
 use std::alloc::{AllocError, Global};
@@ -31,9 +31,10 @@ impl Id {
         }
     }
 
-    /// The hyphenated spelling in lower case.
+    /// The hyphenated spelling in lower case, which `read` reads as this identifier.
     pub fn print(&self, alloc: Global) -> Result<String, AllocError>
         ensures text { IfOk result (λ s. string_bytes s ≡ hyphenated_text lower self.now) }
+        ensures back { IfOk result (λ s. parsed (string_bytes s) ≡ Some self.now) }
     {
         let mut buffer = Uuid::encode_buffer();
         let text = self.0.hyphenated().encode_lower(&mut buffer);
