@@ -1,5 +1,6 @@
 -- Why a document is refused, and what a reader owes to a definition.
-use Rattle.std.specs.Prelude.{◌≡◌, Option, Some, None, IsSome, Result, Ok, Err, IfErr}
+use Rattle.std.specs.Prelude.{◌≡◌, ℕ, List, ◌++◌, codes, Option, Some, None, IsSome, Result, Ok, Err, IfErr}
+use Rattle.mds_text.specs.Field.{name_of}
 use Rattle.mds_text.specs.declared.field.Field.{Field}
 use Rattle.mds_text.specs.declared.fault.NumberFault.{NumberFault}
 use Rattle.mds_text.specs.declared.fault.NumberFault.TheVariants as number
@@ -33,6 +34,19 @@ text_cause NoMemory = None
 abbrev pub number_cause : NumberFault → Option Fault
 number_cause number.BadNumber = Some bad_number
 number_cause number.OutOfRange = Some out_of_range
+
+-- what is written of a fault of a text: a bad field is written with its name
+abbrev pub text_wording : TextFault → List ℕ
+text_wording BadJson = codes "bad JSON"
+text_wording (BadField field) = codes "bad field " ++ name_of field
+text_wording BadNumber = codes "bad number"
+text_wording OutOfRange = codes "out of range"
+text_wording NoMemory = codes "no memory"
+
+-- the same of a fault of a number's text
+abbrev pub number_wording : NumberFault → List ℕ
+number_wording number.BadNumber = codes "bad number"
+number_wording number.OutOfRange = codes "out of range"
 
 -- the definition refuses for this reason; want of memory says nothing
 abbrev pub Refuses : {Y : Type 0} → Option Fault → Result Y Fault → Type 0

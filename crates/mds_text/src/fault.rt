@@ -19,6 +19,11 @@ pub enum TextFault {
 }
 
 impl fmt::Display for TextFault {
+    ghost use Rattle.std.specs.Prelude.{Some};
+    ghost use Rattle.mds_text.specs.Fault.{text_wording};
+
+    ghost output = { λ fault. Some (text_wording fault) };
+
     fn fmt<W: fmt::Write>(&self, f: &mut fmt::Formatter<W>) -> fmt::Result {
         match self {
             TextFault::BadJson => f.write_str("bad JSON"),
@@ -65,6 +70,11 @@ pub enum NumberFault {
 }
 
 impl fmt::Display for NumberFault {
+    ghost use Rattle.std.specs.Prelude.{Some};
+    ghost use Rattle.mds_text.specs.Fault.{number_wording};
+
+    ghost output = { λ fault. Some (number_wording fault) };
+
     fn fmt<W: fmt::Write>(&self, f: &mut fmt::Formatter<W>) -> fmt::Result {
         match self {
             NumberFault::BadNumber => f.write_str("bad number"),
