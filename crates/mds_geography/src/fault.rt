@@ -16,6 +16,11 @@ pub enum GeoFault {
 }
 
 impl fmt::Display for GeoFault {
+    ghost use Rattle.std.specs.Prelude.{Some};
+    ghost use Rattle.mds_geography.specs.Fault.{geo_wording};
+
+    ghost output = { λ fault. Some (geo_wording fault) };
+
     fn fmt<W: fmt::Write>(&self, f: &mut fmt::Formatter<W>) -> fmt::Result {
         match self {
             GeoFault::Text(fault) => write!(f, "{fault}"),

@@ -1,6 +1,6 @@
 -- Why a policy is refused.
-use Rattle.std.specs.Prelude.{Option, Some}
-use Rattle.mds_text.specs.Fault.{Fault, decimal, too_many_rules, text_cause}
+use Rattle.std.specs.Prelude.{ℕ, List, codes, Option, Some}
+use Rattle.mds_text.specs.Fault.{Fault, decimal, too_many_rules, text_cause, text_wording}
 use Rattle.mds_policy.specs.declared.fault.PolicyFault.{PolicyFault}
 use Rattle.mds_policy.specs.declared.fault.PolicyFault.TheVariants.{Text, Decimal, TooManyRules}
 
@@ -9,3 +9,9 @@ abbrev pub policy_cause : PolicyFault → Option Fault
 policy_cause (Text fault) = text_cause fault
 policy_cause Decimal = Some decimal
 policy_cause TooManyRules = Some too_many_rules
+
+-- what is written of a fault of a policy
+abbrev pub policy_wording : PolicyFault → List ℕ
+policy_wording (Text fault) = text_wording fault
+policy_wording Decimal = codes "decimal"
+policy_wording TooManyRules = codes "too many rules"

@@ -16,6 +16,11 @@ pub enum PolicyFault {
 }
 
 impl fmt::Display for PolicyFault {
+    ghost use Rattle.std.specs.Prelude.{Some};
+    ghost use Rattle.mds_policy.specs.Fault.{policy_wording};
+
+    ghost output = { λ fault. Some (policy_wording fault) };
+
     fn fmt<W: fmt::Write>(&self, f: &mut fmt::Formatter<W>) -> fmt::Result {
         match self {
             PolicyFault::Text(fault) => write!(f, "{fault}"),

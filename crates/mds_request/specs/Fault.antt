@@ -1,6 +1,6 @@
 -- The reason for a refusal that each error names.
 use Rattle.std.specs.Prelude.{ℕ, List, Option, Some, None, codes}
-use Rattle.mds_text.specs.Fault.{Fault, bad_zone, too_many_operators, alike, text_cause}
+use Rattle.mds_text.specs.Fault.{Fault, bad_zone, too_many_operators, alike, text_cause, text_wording}
 use Rattle.mds_text.specs.declared.fault.TextFault.TheVariants.{NoMemory as Exhausted, BadJson, BadField, BadNumber, OutOfRange}
 use Rattle.mds_request.specs.declared.fault.ConfigFault.{ConfigFault}
 use Rattle.mds_request.specs.declared.fault.ConfigFault.TheVariants.{Text, TooManyOperators, BadZone, Alike, NoMemory}
@@ -13,13 +13,13 @@ config_cause BadZone = Some bad_zone
 config_cause Alike = Some alike
 config_cause NoMemory = None
 
--- the text that is printed of a fault; nothing is said of how a fault of a text is printed
-abbrev pub fault_text : ConfigFault → Option (List ℕ)
-fault_text (Text fault) = None
-fault_text TooManyOperators = Some (codes "too many operators")
-fault_text BadZone = Some (codes "bad zone")
-fault_text Alike = Some (codes "alike")
-fault_text NoMemory = Some (codes "no memory")
+-- what is written of a fault of a configuration
+abbrev pub config_wording : ConfigFault → List ℕ
+config_wording (Text fault) = text_wording fault
+config_wording TooManyOperators = codes "too many operators"
+config_wording BadZone = codes "bad zone"
+config_wording Alike = codes "alike"
+config_wording NoMemory = codes "no memory"
 
 -- want of memory is told by itself, and not as a fault of the text
 abbrev pub IsApart : ConfigFault → Type 0

@@ -21,9 +21,10 @@ pub enum ConfigFault {
 }
 
 impl fmt::Display for ConfigFault {
-    ghost use Rattle.mds_request.specs.Fault.{fault_text};
+    ghost use Rattle.std.specs.Prelude.{Some};
+    ghost use Rattle.mds_request.specs.Fault.{config_wording};
 
-    ghost output = { fault_text };
+    ghost output = { λ fault. Some (config_wording fault) };
 
     fn fmt<W: fmt::Write>(&self, f: &mut fmt::Formatter<W>) -> fmt::Result {
         match self {
