@@ -8,7 +8,8 @@ use mds_policy::{Rule, Window};
 /// Whether a rule is open at a local time (MDS 2.0 Policy, rules: `start_time`, `end_time`, `days`).
 /// It is open from its start to its end, both included, on the days that it lists. With a start
 /// after the end it is open from the start to midnight on a listed day, and from midnight to the
-/// end, included, on the day after a listed one. On no day beyond Saturday is a rule open.
+/// end, included, on the day after a listed one. A local time that `Zone::local` gives has a weekday
+/// from 0 to 6; one beyond is never listed.
 pub fn open_at(rule: &Rule, local: Local) -> bool
     ensures { result ≡ is_open (rule_document rule.now).window local }
 {

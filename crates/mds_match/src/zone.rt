@@ -57,7 +57,7 @@ impl Model for Zone {
 }
 
 impl Zone {
-    ghost use Rattle.std.specs.Prelude.{Ok};
+    ghost use Rattle.std.specs.Prelude.{◌≡◌, Ok, IfErr};
     ghost use Rattle.mds_match.specs.Zone.{zone_of, offset_in, local_of};
     ghost use Rattle.mds_match.specs.ZoneFault.{zone_cause};
 
@@ -66,9 +66,10 @@ impl Zone {
     ///
     /// # Errors
     ///
-    /// `BadZone` for any other text.
+    /// `BadZone` for any other text; never `NoMemory`, since no zone of these asks for memory.
     pub fn read(text: &str) -> Result<Zone, ZoneFault>
-        ensures { Gives zone_cause (λ z. z) result (zone_of text.now) }
+        ensures zone { Gives zone_cause (λ z. z) result (zone_of text.now) }
+        ensures memory { IfErr result (λ fault. fault ≡ ZoneFault.BadZone) }
     {
         if text == "Z" {
             let kind = Kind::Fixed(0);
