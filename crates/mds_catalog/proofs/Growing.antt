@@ -4,17 +4,23 @@ use Rattle.std.specs.List.{list_any, flat_map}
 use Rattle.std.proofs.lemmas.Bool.{and_parts}
 use Rattle.std.proofs.lemmas.Bool.Decides.{nat_tests}
 use Rattle.std.proofs.lemmas.Grind.{flat_map-append}
-use Rattle.std.proofs.lemmas.List.{append-nil}
 use Rattle.mds_policy.specs.Policy.{Policy}
 use Rattle.mds_catalog.specs.Publication.{Publication, Published, find_policy, find_geography, published_policies, published_geographies, dated, supersedes, is_effective, is_among, is_lawful, extended}
-use Rattle.mds_catalog.specs.Laws.{OnlyAdds, StaysPublished, StaysSuperseded}
+use Rattle.mds_catalog.specs.Laws.{OnlyAdds, FoldGoesOn, folded_onto, StaysPublished, StaysSuperseded}
 use Rattle.mds_catalog.proofs.Found.{find_early}
 
 pub only_adds : OnlyAdds
-only_adds publications p = elim (is_lawful publications p) as (λ b. (rest : List Publication) × (cond b (publications ++ p ∷ []) publications ≡ publications ++ rest)) [
-  | true ↦ (p ∷ [], refl)
-  | false ↦ ([], sym (append-nil publications))
-]
+only_adds publications p = (
+  λ lawful. ap (λ b. cond b (publications ++ p ∷ []) publications) lawful,
+  λ unlawful. ap (λ b. cond b (publications ++ p ∷ []) publications) unlawful,
+)
+
+folded_on : (taken ps : List Publication) (p : Publication) → folded_onto taken (ps ++ p ∷ []) ≡ extended (folded_onto taken ps) p
+folded_on taken [] p = refl
+folded_on taken (q ∷ ps) p = folded_on (extended taken q) ps p
+
+pub fold_goes_on : FoldGoesOn
+fold_goes_on ps p = folded_on [] ps p
 
 pub stays_published : StaysPublished
 stays_published publications rest id = (

@@ -70,7 +70,7 @@ policies_for publications (Some operator) = filter (λ p. is_meant_for operator 
 abbrev pub is_effective : ℕ → Published Policy → Bool
 is_effective t p = nat_le p.moment t && nat_le p.document.start t
 
--- a policy of a later publication takes a policy's place from its own publication and start on,
+-- a published policy takes the place of those that it lists from its own publication and start on,
 -- whomever it is meant for and whether or not it has ended (MDS 2.0 Policy, `prev_policies`)
 abbrev pub supersedes : ℕ → List ℕ → Published Policy → Bool
 supersedes t id successor = is_effective t successor && is_among successor.document.previous id

@@ -1,9 +1,15 @@
 //! Laws of publications. Each function's contract is the law; the functions themselves do nothing.
-ghost use Rattle.mds_catalog.specs.Laws.{OnlyAdds, StaysPublished, StaysSuperseded};
+ghost use Rattle.mds_catalog.specs.Laws.{OnlyAdds, FoldGoesOn, StaysPublished, StaysSuperseded};
 
-/// A batch that is taken stands behind those that were there, and any other changes nothing.
+/// A batch that is lawful stands behind those that were there, and any other changes nothing.
 pub fn only_adds()
     ensures { OnlyAdds }
+{}
+
+/// The fold of a list of publications that is continued by one more is what `Catalogue::absorb` at Ok
+/// and `Catalogue::adopt` make of the fold.
+pub fn fold_goes_on()
+    ensures { FoldGoesOn }
 {}
 
 /// What is published stays published, with its moment (MDS 2.0 Policy: immutability).
