@@ -1,7 +1,6 @@
 pub mod Examples
 pub mod Kept
 pub mod Matching
-pub mod Places
 pub mod Row
 pub mod Zone
 pub mod ZoneFault

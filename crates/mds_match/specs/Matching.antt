@@ -8,7 +8,7 @@ use Rattle.mds_policy.specs.declared.rule.Kind.{Kind}
 use Rattle.mds_policy.specs.declared.rule.Kind.TheVariants.{Count, Time, Other}
 use Rattle.mds_policy.specs.declared.rule.Window.{Window}
 use Rattle.mds_match.specs.declared.local.Local.{Local}
-use Rattle.mds_match.specs.Places.{area_holds}
+use Rattle.mds_geometry.specs.Area.{area_holds}
 use Rattle.mds_match.specs.Row.{Row}
 
 -- a count rule, and a rule on time in one of the four units, is evaluated; no other is

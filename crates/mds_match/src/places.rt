@@ -6,7 +6,7 @@ use mds_text::Id;
 pub trait Places {
     ghost use Rattle.std.specs.Prelude.{◌≡◌, ℕ, List};
     ghost use Rattle.mds_geometry.specs.declared.position.Position.{Position};
-    ghost use Rattle.mds_match.specs.Places.{area_holds};
+    ghost use Rattle.mds_geometry.specs.Area.{area_holds};
 
     /// The polygons of a geography, each the list of its rings.
     ghost polygons: { Self → List ℕ → List (List (List Position)) };
