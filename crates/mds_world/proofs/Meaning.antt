@@ -33,8 +33,8 @@ use Rattle.mds_world.specs.Bodies.{result_json, removed_json}
 use Rattle.mds_world.specs.Laws.{IsOwn, RowsGoOn, HasOneAnswer}
 use Rattle.mds_world.specs.Meaning.{own_step, call_answered, event_read, event_at, event_of_call, event_of, events_of}
 use Rattle.mds_world.specs.Operator.{answer_at, rows_at, rows_after_read, taken_or_code, taken_word}
-use Rattle.mds_world.specs.Step.{answered, call_step, actor_step, operator_step}
-use Rattle.mds_world.specs.Views.{Seen, requests_of, publications_of}
+use Rattle.mds_world.specs.Step.{call_step, actor_step, operator_step}
+use Rattle.mds_world.specs.Views.{requests_of, publications_of}
 use Rattle.mds_world.specs.World.{State}
 use Rattle.mds_world.proofs.Steps.{set_here}
 

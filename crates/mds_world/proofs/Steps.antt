@@ -1,5 +1,5 @@
 -- What one step of the machine depends on, and what it leaves.
-use Rattle.std.proofs.Common.{◌≡◌, ◌≢◌, ℕ, ◌<◌, List, set, get_or, length, Option, Some, None, Result, Ok, Err, inl, inr, refl, sym, ap, subst, ◌∙◌, arith}
+use Rattle.std.proofs.Common.{◌≡◌, ◌≢◌, ℕ, ◌<◌, List, set, length, Option, Some, None, Result, Ok, Err, inl, inr, refl, sym, ap, subst, ◌∙◌, arith}
 use Rattle.std.specs.List.{slice_get}
 use Rattle.std.proofs.lemmas.List.{get_or-set_other, get_or-set_same, length-set}
 use Rattle.std.proofs.lemmas.Option.{slice_get-get_or, slice_get_within}
@@ -9,14 +9,13 @@ use Rattle.mds_request.specs.Configuration.{Configuration, Operator, actor_of}
 use Rattle.mds_request.specs.Call.{call_of}
 use Rattle.mds_request.specs.Request.{Request}
 use Rattle.mds_request.specs.Reply.{Reply, refused}
-use Rattle.mds_request.specs.declared.actor.Actor.{Actor}
-use Rattle.mds_request.specs.declared.actor.Actor.TheVariants.{Author, Operator as OperatorAt, Nobody}
+use Rattle.mds_request.specs.declared.actor.Actor.TheVariants.{Author, Operator as OperatorAt}
 use Rattle.mds_request.specs.declared.code.Code.TheVariants.{Token}
 use Rattle.mds_request.specs.declared.refusal.Refusal.{Refusal}
 use Rattle.mds_request.specs.declared.route.Call.{Call}
 use Rattle.mds_world.specs.Answer.{reply_of, after}
 use Rattle.mds_world.specs.Operator.{operator_answer, operator_rows}
-use Rattle.mds_world.specs.Step.{Step, answered, call_step, actor_step, operator_step, with_rows}
+use Rattle.mds_world.specs.Step.{answered, call_step, actor_step, operator_step, with_rows}
 use Rattle.mds_world.specs.World.{State}
 use Rattle.mds_world.specs.Laws.{IsLeft, Agree, IsTotal, IsDetermined, LeavesOthers, LeavesRows, IsIsolated}
 

@@ -1,6 +1,6 @@
--- Histories: requests with their replies, in order; and what they have drafted and published.
-use Rattle.std.specs.Prelude.{ℕ, ◌==◌, ◌&&◌, Bool, true, false, List, [], ◌∷◌, reverse, take, if◌then◌else◌, Option, Some, None, Result, Ok, Err, bytes_eq}
-use Rattle.std.specs.List.{flat_map, filter_map, list_any, enumerate_from}
+-- What a history, which is requests with their replies in order, has drafted and published.
+use Rattle.std.specs.Prelude.{ℕ, ◌==◌, Bool, true, false, List, [], ◌∷◌, ◌++◌, reverse, if◌then◌else◌, Option, Some, None, Result, Ok, Err, bytes_eq}
+use Rattle.std.specs.List.{flat_map, filter_map, list_any}
 use Rattle.std.specs.Option.{option_or}
 use Rattle.mds_text.specs.Fault.{Fault}
 use Rattle.mds_policy.specs.Policy.{Policy}
@@ -13,7 +13,6 @@ use Rattle.mds_drafts.specs.declared.draft.DraftKind.TheVariants as kinds
 use Rattle.mds_request.specs.Configuration.{Configuration}
 use Rattle.mds_request.specs.Call.{call_of}
 use Rattle.mds_request.specs.Request.{Request}
-use Rattle.mds_request.specs.Reply.{Reply}
 use Rattle.mds_request.specs.declared.code.Code.{Code}
 use Rattle.mds_request.specs.declared.refusal.Refusal.{Refusal}
 use Rattle.mds_request.specs.declared.verb.Verb.{Verb}
@@ -22,11 +21,7 @@ use Rattle.mds_request.specs.declared.route.Call.{Call}
 use Rattle.mds_request.specs.declared.route.Route.{Route}
 use Rattle.mds_request.specs.declared.route.Route.TheVariants.{Policies, Policy as PolicyRoute, Geographies, Geography as GeographyRoute, FleetEvents, FleetVehicles, FleetVehicle, Compliance, PolicyCompliance, PolicyDraft, GeographyDraft, Publish}
 use Rattle.mds_world.specs.Author.{document_of}
-
--- a request and the reply to it
-pub record Exchange : Type 0 where
-  pub request : Request
-  pub reply : Reply
+use Rattle.mds_world.specs.Step.{Exchange}
 
 -- whether a request was answered with a success
 abbrev pub is_done : Exchange → Bool
@@ -124,49 +119,54 @@ as_geography (Some (policy d)) = None
 as_geography (Some (geography d)) = Some d
 as_geography None = None
 
--- the documents that the drafts gave for the identifiers of a publish request, in the order of its lists
-abbrev pub publication_after : Configuration → Drafts → List Exchange → ℕ → Named → Publication
-publication_after configuration first before moment named =
+-- the documents that the drafts give for the identifiers of a publish request, in the order of its lists
+abbrev pub publication_named : (DraftKind → List ℕ → Option Document) → ℕ → Named → Publication
+publication_named held moment named =
     record {
       moment = moment;
-      geographies = filter_map (λ id. as_geography (draft_after configuration first before kinds.Geography id)) named.geographies;
-      policies = filter_map (λ id. as_policy (draft_after configuration first before kinds.Policy id)) named.policies;
+      geographies = filter_map (λ id. as_geography (held kinds.Geography id)) named.geographies;
+      policies = filter_map (λ id. as_policy (held kinds.Policy id)) named.policies;
     }
 
-abbrev pub published_named : Configuration → Drafts → List Exchange → ℕ → Result Named Fault → Option Publication
-published_named configuration first before moment (Ok named) = Some (publication_after configuration first before moment named)
-published_named configuration first before moment (Err fault) = None
+abbrev pub published_named : (DraftKind → List ℕ → Option Document) → ℕ → Result Named Fault → Option Publication
+published_named held moment (Ok named) = Some (publication_named held moment named)
+published_named held moment (Err fault) = None
 
 -- a publish request's call publishes, and no other
-abbrev pub published_at : Route → Configuration → Drafts → List Exchange → Request → Option Publication
-published_at Publish configuration first before request = published_named configuration first before request.at (read_publish_list request.body)
-published_at Policies configuration first before request = None
-published_at PolicyRoute configuration first before request = None
-published_at Geographies configuration first before request = None
-published_at GeographyRoute configuration first before request = None
-published_at FleetEvents configuration first before request = None
-published_at FleetVehicles configuration first before request = None
-published_at FleetVehicle configuration first before request = None
-published_at Compliance configuration first before request = None
-published_at PolicyCompliance configuration first before request = None
-published_at PolicyDraft configuration first before request = None
-published_at GeographyDraft configuration first before request = None
+abbrev pub published_at : Route → (DraftKind → List ℕ → Option Document) → Request → Option Publication
+published_at Publish held request = published_named held request.at (read_publish_list request.body)
+published_at Policies held request = None
+published_at PolicyRoute held request = None
+published_at Geographies held request = None
+published_at GeographyRoute held request = None
+published_at FleetEvents held request = None
+published_at FleetVehicles held request = None
+published_at FleetVehicle held request = None
+published_at Compliance held request = None
+published_at PolicyCompliance held request = None
+published_at PolicyDraft held request = None
+published_at GeographyDraft held request = None
 
-abbrev pub published_call : Result Call Refusal → Configuration → Drafts → List Exchange → Request → Option Publication
-published_call (Ok call) configuration first before request = published_at call.route configuration first before request
-published_call (Err refusal) configuration first before request = None
+abbrev pub published_call : Result Call Refusal → (DraftKind → List ℕ → Option Document) → Request → Option Publication
+published_call (Ok call) held request = published_at call.route held request
+published_call (Err refusal) held request = None
 
--- the publication that an exchange made, after those before it
-abbrev pub published_in : Configuration → Drafts → List Exchange → Exchange → Option Publication
-published_in configuration first before e =
-    if is_done e then published_call (call_of configuration e.request) configuration first before e.request else None
+-- the publication that an exchange made, by the drafts that were held just before it
+abbrev pub published_in : Configuration → (DraftKind → List ℕ → Option Document) → Exchange → Option Publication
+published_in configuration held e =
+    if is_done e then published_call (call_of configuration e.request) held e.request else None
 
 abbrev pub optional : {A : Type 0} → Option A → List A
 optional None = []
 optional (Some a) = a ∷ []
 
+-- each element of a list, with those before it; some stand before the list
+abbrev pub preceded : {A : Type 0} → List A → List A → List (List A × A)
+preceded before [] = []
+preceded before (a ∷ more) = (before, a) ∷ preceded (before ++ a ∷ []) more
+
 -- The publications of a history, in order: the moment of each publish request that was answered with a success, with
 -- the documents that the drafts gave just before it.
 abbrev pub publications_after : Configuration → Drafts → List Exchange → List Publication
 publications_after configuration first history =
-    flat_map (λ e. optional (published_in configuration first (take e.0 history) e.1)) (enumerate_from 0 history)
+    flat_map (λ e. optional (published_in configuration (draft_after configuration first e.0) e.1)) (preceded [] history)

@@ -73,13 +73,15 @@ Step w request reply next =
     ((reply ≡ (answered w request).0) × (next ≡ (answered w request).1))
     ⊎ (MayRunOut w request × (reply ≡ refused NoMemory) × (next ≡ w))
 
--- steps for a list of requests, one after another
-abbrev pub Run : State → List Request → List Reply → State → Type 0
-Run w [] [] next = next ≡ w
-Run w (request ∷ requests) (reply ∷ replies) next =
-    (between : State) × Step w request reply between × Run between requests replies next
-Run w [] (reply ∷ replies) next = ⊥
-Run w (request ∷ requests) [] next = ⊥
+-- a request and the reply to it
+pub record Exchange : Type 0 where
+  pub request : Request
+  pub reply : Reply
+
+-- a history: a step for each of its exchanges, one after another
+abbrev pub Run : State → List Exchange → State → Type 0
+Run w [] next = next ≡ w
+Run w (e ∷ history) next = (between : State) × Step w e.request e.reply between × Run between history next
 
 -- the state of a configuration before its first request: no publication, no draft, and no row of any operator
 abbrev pub new_state : Configuration → State

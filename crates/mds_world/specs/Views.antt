@@ -1,13 +1,15 @@
 -- What an operator sees of a history: its own requests and the publications, in their order, and nothing else.
-use Rattle.std.specs.Prelude.{◌≡◌, ℕ, ◌≤◌, ◌==◌, Bool, true, false, List, [], ◌∷◌, ◌++◌, map, take, drop, length, slice_get, if◌then◌else◌, Option, Some, None}
-use Rattle.std.specs.List.{flat_map, filter_map, enumerate_from}
+use Rattle.std.specs.Prelude.{◌≡◌, ℕ, ◌==◌, Bool, false, List, [], ◌∷◌, ◌++◌, map, drop, length, if◌then◌else◌, Option, Some, None}
+use Rattle.std.specs.List.{flat_map, filter_map}
 use Rattle.mds_catalog.specs.Publication.{Publication}
-use Rattle.mds_drafts.specs.Drafts.{Drafts}
+use Rattle.mds_drafts.specs.Drafts.{Drafts, Document}
+use Rattle.mds_drafts.specs.declared.draft.DraftKind.{DraftKind}
 use Rattle.mds_request.specs.Configuration.{Configuration, actor_of}
 use Rattle.mds_request.specs.Request.{Request}
 use Rattle.mds_request.specs.declared.actor.Actor.{Actor}
 use Rattle.mds_request.specs.declared.actor.Actor.TheVariants.{Author, Operator, Nobody}
-use Rattle.mds_world.specs.History.{Exchange, published_in, optional}
+use Rattle.mds_world.specs.History.{draft_after, published_in, optional, preceded}
+use Rattle.mds_world.specs.Step.{Exchange}
 
 -- something that an operator sees
 pub data Seen : Type 0 where
@@ -23,17 +25,17 @@ is_place place Nobody = false
 abbrev pub is_of : Configuration → ℕ → Request → Bool
 is_of configuration place request = is_place place (actor_of configuration request.token)
 
--- what an operator sees of an exchange, after those before it
-abbrev pub seen_in : Configuration → Drafts → ℕ → List Exchange → Exchange → List Seen
-seen_in configuration first place before e =
+-- what an operator sees of an exchange, by the drafts that were held just before it
+abbrev pub seen_in : Configuration → ℕ → (DraftKind → List ℕ → Option Document) → Exchange → List Seen
+seen_in configuration place held e =
     if is_of configuration place e.request then asked e.request ∷ []
-    else map published (optional (published_in configuration first before e))
+    else map published (optional (published_in configuration held e))
 
 -- The view of an operator, from the drafts held at first: in the history's order its requests, without replies, and the
 -- publications.
 abbrev pub view : Configuration → Drafts → List Exchange → ℕ → List Seen
 view configuration first history place =
-    flat_map (λ e. seen_in configuration first place (take e.0 history) e.1) (enumerate_from 0 history)
+    flat_map (λ e. seen_in configuration place (draft_after configuration first e.0) e.1) (preceded [] history)
 
 -- the publications and the requests of a view
 abbrev pub as_publication : Seen → Option Publication
@@ -60,8 +62,7 @@ Rise before (front ∷ fronts) = IsFront before front × Rise front fronts
 
 -- A view woven on: for each request in turn the publications of its front past as many as the view has, and then the
 -- request.
-abbrev pub woven : List Seen → List Request → List (List Publication) → List Seen
-woven seen [] fronts = seen
-woven seen (request ∷ requests) [] = seen
-woven seen (request ∷ requests) (front ∷ fronts) =
-    woven (seen ++ map published (drop (length (publications_of seen)) front) ++ asked request ∷ []) requests fronts
+abbrev pub woven : List Seen → List (Request × List Publication) → List Seen
+woven seen [] = seen
+woven seen ((request, front) ∷ asks) =
+    woven (seen ++ map published (drop (length (publications_of seen)) front) ++ asked request ∷ []) asks
