@@ -1,10 +1,11 @@
 -- An operator's own steps keep up the rows that its requests come to.
-use Rattle.std.proofs.Common.{◌≡◌, ℕ, cond, List, [], ◌∷◌, ◌++◌, Option, Some, None, Result, Ok, Err, refl, sym, ap, subst, ◌∙◌}
+use Rattle.std.proofs.Common.{◌≡◌, ℕ, cond, inl, inr, List, [], ◌∷◌, ◌++◌, Option, Some, None, Result, Ok, Err, refl, sym, ap, subst, ◌∙◌}
 use Rattle.std.specs.Prelude.{reverse}
-use Rattle.std.specs.Option.{is_some}
+use Rattle.std.specs.Option.{is_some, option_map}
 use Rattle.std.specs.List.{filter_map, slice_get}
-use Rattle.std.specs.FinMap.{get, remove, same_map}
+use Rattle.std.specs.FinMap.{get, remove, same_map, empty, get-empty}
 use Rattle.std.proofs.lemmas.List.{reverse-append}
+use Rattle.std.proofs.lemmas.Option.{slice_get-map}
 use Rattle.std.proofs.lemmas.List.Elements.{filter_map-append}
 use Rattle.mds_text.specs.Fault.{Fault}
 use Rattle.mds_catalog.specs.Publication.{Publication}
@@ -30,7 +31,7 @@ use Rattle.mds_request.specs.declared.code.Code.{Code}
 use Rattle.mds_request.specs.declared.code.Code.TheVariants.{NotFound}
 use Rattle.mds_world.specs.Answer.{after, coded, told, ◌>>=◌}
 use Rattle.mds_world.specs.Bodies.{result_json, removed_json}
-use Rattle.mds_world.specs.Laws.{IsOwn, RowsGoOn, HasOneAnswer}
+use Rattle.mds_world.specs.Laws.{IsOwn, RowsGoOn, HasOneAnswer, IsMeant, BeginsWithoutRows}
 use Rattle.mds_world.specs.Meaning.{own_step, call_answered, event_read, event_at, event_of_call, event_of, events_of}
 use Rattle.mds_world.specs.Operator.{answer_at, rows_at, rows_after_read, taken_or_code, taken_word}
 use Rattle.mds_world.specs.Step.{call_step, actor_step, operator_step}
@@ -158,3 +159,19 @@ module _ (w : State) (request : Request) (place : ℕ) (operator : Operator) (ro
 
 pub is_own : IsOwn
 is_own w request place operator rows whose found held = own_call w request place operator rows whose found held (call_of w.configuration request)
+
+pub is_meant : IsMeant
+is_meant w request reply next place operator rows seen whose found held shown are h really = elim h [
+  | inl a ↦ let own = is_own w request place operator rows whose found held in
+      let step : List Publication → Reply × Rows = λ publications. own_step w.configuration operator publications rows request in (
+        (rows, are, a.0 ∙ own.0 ∙ ap (λ publications. (step publications).0) (sym shown)),
+        ((step w.publications).1, ap (λ s. slice_get s.fleets place) a.1 ∙ own.1, rows_go_on w.configuration operator w.publications (requests_of seen) request rows are),
+      )
+  | inr a ↦ absurd (really a.1)
+]
+
+pub begins_without_rows : BeginsWithoutRows
+begins_without_rows configuration place operator found = (
+  slice_get-map (λ operator. empty) configuration.operators place ∙ ap (λ found. option_map (λ operator. empty) found) found,
+  λ device. get-empty _ device,
+)

@@ -1,5 +1,6 @@
 -- Laws of the machine's steps.
 use Rattle.std.specs.Prelude.{◌≡◌, ◌≢◌, ℕ, List, [], ◌∷◌, ◌++◌, Some, get_or, slice_get}
+use Rattle.std.specs.FinMap.{empty}
 use Rattle.mds_catalog.specs.Publication.{Publication}
 use Rattle.mds_fleet.specs.Books.{Rows}
 use Rattle.mds_request.specs.Configuration.{Configuration, Operator as Configured, actor_of}
@@ -8,8 +9,8 @@ use Rattle.mds_request.specs.Reply.{Reply, refused}
 use Rattle.mds_request.specs.declared.actor.Actor.TheVariants.{Author, Operator}
 use Rattle.mds_request.specs.declared.code.Code.TheVariants.{NoMemory}
 use Rattle.mds_world.specs.Meaning.{own_step, AreRows, IsAnswer}
-use Rattle.mds_world.specs.Step.{Step, answered}
-use Rattle.mds_world.specs.Views.{Seen}
+use Rattle.mds_world.specs.Step.{Step, answered, new_state}
+use Rattle.mds_world.specs.Views.{Seen, publications_of, requests_of}
 use Rattle.mds_world.specs.World.{State}
 
 -- some reply is right to every request
@@ -80,3 +81,22 @@ HasOneAnswer =
     (configuration : Configuration) (operator : Configured) (seen : List Seen) (request : Request)
     → ((reply : Reply) × IsAnswer configuration operator seen request reply)
     × ((reply other : Reply) → IsAnswer configuration operator seen request reply → IsAnswer configuration operator seen request other → reply ≡ other)
+
+-- Where the publications and an operator's rows are those of a view, a request of that operator has the answer that
+-- this view gives, and its rows afterwards are those of the view's requests with this one at their end.
+abbrev pub IsMeant : Type 0
+IsMeant =
+    (w : State) (request : Request) (reply : Reply) (next : State) (place : ℕ) (operator : Configured) (rows : Rows) (seen : List Seen)
+    → actor_of w.configuration request.token ≡ Operator place → slice_get w.configuration.operators place ≡ Some operator
+    → slice_get w.fleets place ≡ Some rows → publications_of seen ≡ w.publications
+    → AreRows w.configuration operator (requests_of seen) rows
+    → Step w request reply next → reply ≢ refused NoMemory
+    → IsAnswer w.configuration operator seen request reply
+    × ((after : Rows) × (slice_get next.fleets place ≡ Some after) × AreRows w.configuration operator (requests_of seen ++ request ∷ []) after)
+
+-- a new machine's rows of an operator are those of no requests
+abbrev pub BeginsWithoutRows : Type 0
+BeginsWithoutRows =
+    (configuration : Configuration) (place : ℕ) (operator : Configured)
+    → slice_get configuration.operators place ≡ Some operator
+    → (slice_get (new_state configuration).fleets place ≡ Some empty) × AreRows configuration operator [] empty

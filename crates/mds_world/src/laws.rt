@@ -1,6 +1,6 @@
 //! Laws of the machine's steps. Each function's contract is the law; the functions themselves do
 //! nothing.
-ghost use Rattle.mds_world.specs.Laws.{IsTotal, IsDetermined, LeavesOthers, LeavesRows, IsIsolated, IsOwn, RowsGoOn, HasOneAnswer};
+ghost use Rattle.mds_world.specs.Laws.{IsTotal, IsDetermined, LeavesOthers, LeavesRows, IsIsolated, IsOwn, RowsGoOn, HasOneAnswer, IsMeant, BeginsWithoutRows};
 
 /// Some reply is right to every request.
 pub fn is_total()
@@ -45,4 +45,16 @@ pub fn rows_go_on()
 /// to its next request.
 pub fn has_one_answer()
     ensures { HasOneAnswer }
+{}
+
+/// Where the publications and an operator's rows are those of what it has seen, a step of its request
+/// gives the answer that this defines, and its rows afterwards are those of its requests, this one
+/// included.
+pub fn is_meant()
+    ensures { IsMeant }
+{}
+
+/// A new machine's rows of an operator are those of no requests.
+pub fn begins_without_rows()
+    ensures { BeginsWithoutRows }
 {}
