@@ -1,0 +1,4 @@
+pub mod Drafted
+pub mod Rows
+pub mod Years
+pub mod Session

@@ -1,0 +1,30 @@
+use Rattle.std.proofs.Common.{codes, refl}
+use Rattle.mds_examples.specs.Computed.{documents, places, zones}
+use Rattle.mds_examples.proofs.Rows.{no_entries, one_entry, two_entries}
+use Rattle.mds_examples.proofs.Session.{first_reported, second_reported}
+use Rattle.mds_examples.specs.Vehicles.{in_the_square}
+use Rattle.mds_examples.proofs.machine.compliance_of_two.Goals as goal
+
+pub returns-clause-none : goal.returns-clause-none
+unfolding documents places zones
+returns-clause-none c = rw no_entries refl
+
+pub returns-clause-first : goal.returns-clause-first
+unfolding documents
+returns-clause-first c = first_reported (codes "/fleet/events") (in_the_square (codes "401")) refl refl
+
+pub returns-clause-kept : goal.returns-clause-kept
+unfolding documents places zones
+returns-clause-kept c = rw one_entry refl
+
+pub returns-clause-second : goal.returns-clause-second
+unfolding documents
+returns-clause-second c = second_reported (codes "/fleet/events") (in_the_square (codes "402")) refl refl
+
+pub returns-clause-violated : goal.returns-clause-violated
+unfolding documents places zones
+returns-clause-violated c = rw two_entries refl
+
+pub returns-clause-of_the_other : goal.returns-clause-of_the_other
+unfolding documents places zones
+returns-clause-of_the_other c = rw no_entries refl

@@ -1,0 +1,17 @@
+use Rattle.std.proofs.Common.{refl}
+use Rattle.mds_examples.specs.Computed.{documents}
+use Rattle.mds_examples.proofs.Drafted.{the_cap}
+use Rattle.mds_examples.proofs.Rows.{one_first, one_entry, first_out}
+use Rattle.mds_examples.proofs.machine.served.Goals as goal
+
+pub returns-clause-draft : goal.returns-clause-draft
+unfolding documents
+returns-clause-draft c = rw the_cap refl
+
+pub returns-clause-vehicles : goal.returns-clause-vehicles
+unfolding documents
+returns-clause-vehicles c = rw one_entry refl
+
+pub returns-clause-removed : goal.returns-clause-removed
+unfolding documents
+returns-clause-removed c = rw (one_first, first_out) refl

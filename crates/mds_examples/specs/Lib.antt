@@ -1,0 +1,12 @@
+pub mod Computed
+pub mod Geographies
+pub mod Histories
+pub mod Ids
+pub mod Machine
+pub mod Policies
+pub mod Publications
+pub mod Requests
+pub mod Values
+pub mod Vehicles
+pub mod Verdicts
+pub mod Zones

@@ -1,0 +1,38 @@
+-- Publications: of a policy, and of one that takes its place.
+use Rattle.std.specs.Prelude.{ℕ, List, [], ◌∷◌, map, Option}
+use Rattle.mds_catalog.specs.Publication.{Publication, in_force}
+use Rattle.mds_policy.specs.Policy.{Policy}
+use Rattle.mds_examples.specs.Geographies.{square_document}
+use Rattle.mds_examples.specs.Ids.{id, cap_id, next_id}
+use Rattle.mds_examples.specs.Policies.{cap}
+
+abbrev pub first_operator : List ℕ
+first_operator = id 0 161
+
+abbrev pub second_operator : List ℕ
+second_operator = id 0 177
+
+-- a policy in the place of the cap, from a start to an end, for some operators or for all
+abbrev pub next_policy : ℕ → Option ℕ → List (List ℕ) → Policy
+next_policy start end providers =
+    record cap { id = next_id; start = start; end = end; providers = providers; previous = cap_id ∷ [] }
+
+-- the policies of one publication
+abbrev pub publication : ℕ → List Policy → Publication
+publication moment policies = record { moment = moment; geographies = []; policies = policies }
+
+-- the square and the cap at 1000
+abbrev pub first_publication : Publication
+first_publication = record { moment = 1000; geographies = square_document ∷ []; policies = cap ∷ [] }
+
+-- that one, and the policy in its place at 2000
+abbrev pub then_next : Policy → List Publication
+then_next policy = first_publication ∷ publication 2000 (policy ∷ []) ∷ []
+
+-- one policy at 1000
+abbrev pub alone : Policy → List Publication
+alone policy = publication 1000 (policy ∷ []) ∷ []
+
+-- the policies in force, by their identifiers
+abbrev pub ids_in_force : List Publication → List ℕ → ℕ → List (List ℕ)
+ids_in_force publications operator t = map (λ p. p.document.id) (in_force publications operator t)
