@@ -4,7 +4,7 @@ use Rattle.std.specs.FinMap.{empty}
 use Rattle.mds_drafts.specs.Drafts.{Drafts}
 use Rattle.mds_request.specs.Request.{Request}
 use Rattle.mds_request.specs.declared.verb.Verb.TheVariants.{Post, Delete}
-use Rattle.mds_world.specs.History.{Exchange}
+use Rattle.mds_world.specs.Step.{Exchange}
 use Rattle.mds_examples.specs.Machine.{error, done, put_square, put_cap, cap_path, publish, report, ask}
 use Rattle.mds_examples.specs.Requests.{request}
 use Rattle.mds_examples.specs.Vehicles.{in_the_square}
