@@ -1,5 +1,7 @@
 mod Ascending
 mod Books
+mod Drafting
+mod Histories
 mod Meaning
 mod OneLine
 mod Outcome

@@ -4,6 +4,7 @@ pub mod Author
 pub mod Bodies
 pub mod Denial
 pub mod History
+pub mod Isolation
 pub mod Laws
 pub mod Meaning
 pub mod Operator

@@ -1,6 +1,10 @@
 //! Laws of the machine's steps. Each function's contract is the law; the functions themselves do
 //! nothing.
 ghost use Rattle.mds_world.specs.Laws.{IsTotal, IsDetermined, LeavesOthers, LeavesRows, IsIsolated, IsOwn, RowsGoOn, HasOneAnswer, IsMeant, BeginsWithoutRows};
+ghost use Rattle.mds_world.specs.Isolation.{GoesByHistory, BeginsKeyed, AreKeyed};
+ghost use Rattle.mds_world.specs.World.{state_of};
+
+use crate::world::World;
 
 /// Some reply is right to every request.
 pub fn is_total()
@@ -57,4 +61,21 @@ pub fn is_meant()
 /// A new machine's rows of an operator are those of no requests.
 pub fn begins_without_rows()
     ensures { BeginsWithoutRows }
+{}
+
+/// The machine's drafts and publications after a history are those of the history: each draft is the
+/// last document that was put with success, unless it was dropped or published after that, and each
+/// publication has the documents that were drafts just before it.
+pub fn goes_by_history()
+    ensures { GoesByHistory }
+{}
+
+/// A new machine holds each of its drafts under its own identifier.
+pub fn begins_keyed()
+    ensures { BeginsKeyed }
+{}
+
+/// Every world holds each of its drafts under its own identifier.
+pub fn is_keyed<E: Drop>(world: &World<E>)
+    ensures { AreKeyed (state_of world.now).drafts }
 {}
