@@ -51,17 +51,22 @@ along So on before (e ∷ history) w next so run =
 
 -- ---- drafts and publications
 
+-- what an exchange publishes, by the history before it
+pub now_published : (first : State) (before : List Exchange) (w : State) (e : Exchange) (next : State) → IsAfter first before w → Step w e.request e.reply next → next.publications ≡ w.publications ++ optional (published_in first.configuration (draft_after first.configuration first.drafts before) e)
+now_published first before w e next is step =
+    let held : draft_at w.drafts ≡ draft_after first.configuration first.drafts before = λ i kind id. is.drafts kind id i in
+    (made w e next is.keyed step).publications
+    ∙ ap (λ c. w.publications ++ optional (published_in c (draft_at w.drafts) e)) is.configuration
+    ∙ ap (λ h. w.publications ++ optional (published_in first.configuration h e)) held
+
 pub after_one : (first : State) (before : List Exchange) (w : State) (e : Exchange) (next : State) → IsAfter first before w → Step w e.request e.reply next → IsAfter first (before ++ e ∷ []) next
 after_one first before w e next is step =
     let one = made w e next is.keyed step in
     let configuration = first.configuration in
-    let held : draft_at w.drafts ≡ draft_after configuration first.drafts before = λ i kind id. is.drafts kind id i in
-    let past = first.publications ++ publications_after configuration first.drafts before in
     record {
       configuration = one.configuration ∙ is.configuration;
-      publications = one.publications ∙ ap (λ ps. ps ++ optional (published_in w.configuration (draft_at w.drafts) e)) is.publications
-          ∙ ap (λ c. past ++ optional (published_in c (draft_at w.drafts) e)) is.configuration
-          ∙ ap (λ h. past ++ optional (published_in configuration h e)) held
+      publications = now_published first before w e next is step
+          ∙ ap (λ ps. ps ++ optional (published_in configuration (draft_after configuration first.drafts before) e)) is.publications
           ∙ append_assoc first.publications (publications_after configuration first.drafts before) (optional (published_in configuration (draft_after configuration first.drafts before) e))
           ∙ ap (λ ps. first.publications ++ ps) (sym (each_on (λ e. optional (published_in configuration (draft_after configuration first.drafts e.0) e.1)) before e));
       drafts = λ kind id. one.drafts kind id ∙ ap (λ c. drafted (fate_in c kind id e) (draft_at w.drafts kind id)) is.configuration

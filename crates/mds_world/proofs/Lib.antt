@@ -2,6 +2,7 @@ mod Ascending
 mod Books
 mod Drafting
 mod Histories
+mod Isolated
 mod Meaning
 mod OneLine
 mod Outcome

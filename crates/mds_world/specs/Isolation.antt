@@ -1,10 +1,16 @@
--- Laws of the machine's histories.
-use Rattle.std.specs.Prelude.{◌≡◌, ℕ, List, ◌++◌, Some}
+-- Laws of the machine's histories: what they draft and publish, what they answer to an operator, and that this depends
+-- on what the operator has seen alone.
+use Rattle.std.specs.Prelude.{◌≡◌, ◌≢◌, ℕ, List, ◌∷◌, ◌++◌, true, Some, slice_get}
 use Rattle.mds_drafts.specs.Drafts.{Drafts, Document, draft_at, id_of}
 use Rattle.mds_drafts.specs.declared.draft.DraftKind.{DraftKind}
-use Rattle.mds_request.specs.Configuration.{Configuration}
+use Rattle.mds_fleet.specs.Books.{Rows}
+use Rattle.mds_request.specs.Configuration.{Configuration, Operator}
+use Rattle.mds_request.specs.Reply.{refused}
+use Rattle.mds_request.specs.declared.code.Code.TheVariants.{NoMemory}
 use Rattle.mds_world.specs.History.{draft_after, publications_after}
+use Rattle.mds_world.specs.Meaning.{AreRows, IsAnswer}
 use Rattle.mds_world.specs.Step.{Exchange, Run, new_state}
+use Rattle.mds_world.specs.Views.{Seen, is_of, view, publications_of, requests_of}
 use Rattle.mds_world.specs.World.{State}
 
 -- each draft is held under its own identifier
@@ -28,3 +34,25 @@ GoesByHistory = (w next : State) (history : List Exchange) → AreKeyed w.drafts
 -- a new machine holds each of its drafts, of which there is none, under its own identifier
 abbrev pub BeginsKeyed : Type 0
 BeginsKeyed = (configuration : Configuration) → AreKeyed (new_state configuration).drafts
+
+-- an exchange stands in a history, after those before it
+abbrev pub StandsAfter : List Exchange → Exchange → List Exchange → Type 0
+StandsAfter before e history = (rest : List Exchange) × (history ≡ before ++ e ∷ rest)
+
+-- no request of an operator was refused for want of memory
+abbrev pub HasMemory : Configuration → ℕ → List Exchange → Type 0
+HasMemory configuration place history =
+    (before : List Exchange) (e : Exchange)
+    → StandsAfter before e history → is_of configuration place e.request ≡ true → e.reply ≢ refused NoMemory
+
+-- Meaning. An operator's requests have the answers that its view before each of them defines: the view before the
+-- history, which its publications and rows at first are those of (the empty one, for a new machine), followed by what
+-- it has seen of the history.
+abbrev pub IsMeantThroughout : Type 0
+IsMeantThroughout =
+    (w next : State) (history : List Exchange) (place : ℕ) (operator : Operator) (rows : Rows) (seen : List Seen)
+    → AreKeyed w.drafts → Run w history next → slice_get w.configuration.operators place ≡ Some operator
+    → slice_get w.fleets place ≡ Some rows → publications_of seen ≡ w.publications
+    → AreRows w.configuration operator (requests_of seen) rows → HasMemory w.configuration place history
+    → (before : List Exchange) (e : Exchange) → StandsAfter before e history → is_of w.configuration place e.request ≡ true
+    → IsAnswer w.configuration operator (seen ++ view w.configuration w.drafts before place) e.request e.reply

@@ -1,7 +1,7 @@
 //! Laws of the machine's steps. Each function's contract is the law; the functions themselves do
 //! nothing.
 ghost use Rattle.mds_world.specs.Laws.{IsTotal, IsDetermined, LeavesOthers, LeavesRows, IsIsolated, IsOwn, RowsGoOn, HasOneAnswer, IsMeant, BeginsWithoutRows};
-ghost use Rattle.mds_world.specs.Isolation.{GoesByHistory, BeginsKeyed, AreKeyed};
+ghost use Rattle.mds_world.specs.Isolation.{GoesByHistory, BeginsKeyed, AreKeyed, IsMeantThroughout};
 ghost use Rattle.mds_world.specs.World.{state_of};
 
 use crate::world::World;
@@ -78,4 +78,11 @@ pub fn begins_keyed()
 /// Every world holds each of its drafts under its own identifier.
 pub fn is_keyed<E: Drop>(world: &World<E>)
     ensures { AreKeyed (state_of world.now).drafts }
+{}
+
+/// An operator's requests have the answers that the published texts and its own requests before each
+/// of them define, however many others ask in between and whatever is drafted, as long as memory
+/// suffices for its own.
+pub fn is_meant_throughout()
+    ensures { IsMeantThroughout }
 {}
