@@ -1,5 +1,5 @@
 -- A coordinate of a document: degrees, kept in units of 10^-7 degree (RFC 7946, section 3.1.1).
-use Rattle.std.specs.Prelude.{ℕ, ℤ, pos, neg_ℤ, ◌*◌, ◌*ℤ◌, Bool, ◌&&◌, int_le, if◌then◌else◌, Result, Ok, Err}
+use Rattle.std.specs.Prelude.{ℕ, ℤ, pos, neg_ℤ, ◌*◌, ◌*ℤ◌, ◌&&◌, int_le, if◌then◌else◌, Result, Ok, Err}
 use Rattle.mds_text.specs.Tree.{Json, null, boolean, int, text, degrees, list, object}
 use Rattle.mds_text.specs.Fault.{Fault, bad_field, out_of_range, ◌>>=◌}
 use Rattle.mds_text.specs.Numbers.{units_of}
