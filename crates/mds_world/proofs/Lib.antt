@@ -9,3 +9,4 @@ mod Outcome
 mod Reported
 mod Shown
 mod Steps
+mod TwoWorlds

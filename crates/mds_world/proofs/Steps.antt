@@ -139,7 +139,7 @@ module _ (w v : State) (request : Request) (place : ℕ) (agree : Agree w v plac
       subst (λ a. ((actor_step w a call request).0 ≡ (actor_step v (actor_of v.configuration request.token) call request).0) × Agree (actor_step w a call request).1 (actor_step v (actor_of v.configuration request.token) call request).1 place) (sym whose)
       (subst (λ b. ((actor_step w (OperatorAt place) call request).0 ≡ (actor_step v b call request).0) × Agree (actor_step w (OperatorAt place) call request).1 (actor_step v b call request).1 place) (sym whose') (same_operator call))
 
-  same_answer : actor_of w.configuration request.token ≡ OperatorAt place → ((answered w request).0 ≡ (answered v request).0) × Agree (answered w request).1 (answered v request).1 place
+  pub same_answer : actor_of w.configuration request.token ≡ OperatorAt place → ((answered w request).0 ≡ (answered v request).0) × Agree (answered w request).1 (answered v request).1 place
   same_answer whose =
       let whose' : actor_of v.configuration request.token ≡ OperatorAt place = ap (λ c. actor_of c request.token) (sym agree.configuration) ∙ whose in
       subst (λ call. ((answered w request).0 ≡ (call_step v call request).0) × Agree (answered w request).1 (call_step v call request).1 place)

@@ -1,13 +1,15 @@
 -- Laws of the machine's histories: what they draft and publish, what they answer to an operator, and that this depends
 -- on what the operator has seen alone.
-use Rattle.std.specs.Prelude.{◌≡◌, ◌≢◌, ℕ, List, ◌∷◌, ◌++◌, true, Some, slice_get}
+use Rattle.std.specs.Prelude.{◌≡◌, ◌≢◌, ℕ, List, ◌∷◌, ◌++◌, map, true, Some, slice_get}
+use Rattle.std.specs.List.{filter}
 use Rattle.mds_drafts.specs.Drafts.{Drafts, Document, draft_at, id_of}
 use Rattle.mds_drafts.specs.declared.draft.DraftKind.{DraftKind}
 use Rattle.mds_fleet.specs.Books.{Rows}
 use Rattle.mds_request.specs.Configuration.{Configuration, Operator}
-use Rattle.mds_request.specs.Reply.{refused}
+use Rattle.mds_request.specs.Reply.{Reply, refused}
 use Rattle.mds_request.specs.declared.code.Code.TheVariants.{NoMemory}
 use Rattle.mds_world.specs.History.{draft_after, publications_after}
+use Rattle.mds_world.specs.Laws.{Agree}
 use Rattle.mds_world.specs.Meaning.{AreRows, IsAnswer}
 use Rattle.mds_world.specs.Step.{Exchange, Run, new_state}
 use Rattle.mds_world.specs.Views.{Seen, is_of, view, publications_of, requests_of}
@@ -56,3 +58,17 @@ IsMeantThroughout =
     → AreRows w.configuration operator (requests_of seen) rows → HasMemory w.configuration place history
     → (before : List Exchange) (e : Exchange) → StandsAfter before e history → is_of w.configuration place e.request ≡ true
     → IsAnswer w.configuration operator (seen ++ view w.configuration w.drafts before place) e.request e.reply
+
+-- the replies to an operator's requests, in their order
+abbrev pub replies_to : Configuration → ℕ → List Exchange → List Reply
+replies_to configuration place history = map (λ e. e.reply) (filter (λ e. is_of configuration place e.request) history)
+
+-- Two worlds. In two histories from states that agree for an operator, if what it sees of them is the same, its replies
+-- are the same and the states afterwards agree for it, whatever drafts and requests of others there are in them.
+abbrev pub IsIsolatedThroughout : Type 0
+IsIsolatedThroughout =
+    (w v next apart : State) (history other : List Exchange) (place : ℕ)
+    → AreKeyed w.drafts → AreKeyed v.drafts → Agree w v place → Run w history next → Run v other apart
+    → view w.configuration w.drafts history place ≡ view v.configuration v.drafts other place
+    → HasMemory w.configuration place history → HasMemory v.configuration place other
+    → (replies_to w.configuration place history ≡ replies_to v.configuration place other) × Agree next apart place

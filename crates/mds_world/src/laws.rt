@@ -1,7 +1,7 @@
 //! Laws of the machine's steps. Each function's contract is the law; the functions themselves do
 //! nothing.
 ghost use Rattle.mds_world.specs.Laws.{IsTotal, IsDetermined, LeavesOthers, LeavesRows, IsIsolated, IsOwn, RowsGoOn, HasOneAnswer, IsMeant, BeginsWithoutRows};
-ghost use Rattle.mds_world.specs.Isolation.{GoesByHistory, BeginsKeyed, AreKeyed, IsMeantThroughout};
+ghost use Rattle.mds_world.specs.Isolation.{GoesByHistory, BeginsKeyed, AreKeyed, IsMeantThroughout, IsIsolatedThroughout};
 ghost use Rattle.mds_world.specs.World.{state_of};
 
 use crate::world::World;
@@ -85,4 +85,12 @@ pub fn is_keyed<E: Drop>(world: &World<E>)
 /// suffices for its own.
 pub fn is_meant_throughout()
     ensures { IsMeantThroughout }
+{}
+
+/// In two histories, from states that agree for an operator, that look the same to it (its own
+/// requests and the publications, at the same moments and in the same order), its replies are the
+/// same, and the states afterwards agree for it, whatever drafts and requests of others stand between,
+/// as long as memory suffices for its own.
+pub fn is_isolated_throughout()
+    ensures { IsIsolatedThroughout }
 {}
