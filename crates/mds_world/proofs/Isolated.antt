@@ -1,6 +1,7 @@
 -- An operator's replies in a history are those that its view of it defines.
 use Rattle.std.proofs.Common.{◌≡◌, ◌≢◌, ℕ, ◌+◌, suc, zero, Bool, true, false, cond, List, [], ◌∷◌, ◌++◌, map, set, Option, Some, None, Result, Ok, Err, inl, inr, refl, sym, ap, subst, ◌∙◌, arith}
 use Rattle.std.specs.List.{slice_get}
+use Rattle.std.specs.FinMap.{empty}
 use Rattle.std.proofs.lemmas.Bool.{eqb-true, eqb-false, false≢true}
 use Rattle.std.proofs.lemmas.List.{append-nil, append_assoc}
 use Rattle.std.proofs.lemmas.List.Elements.{filter_map-append}
@@ -16,13 +17,13 @@ use Rattle.mds_request.specs.declared.code.Code.TheVariants.{NoMemory}
 use Rattle.mds_request.specs.declared.refusal.Refusal.{Refusal}
 use Rattle.mds_request.specs.declared.route.Call.{Call}
 use Rattle.mds_world.specs.History.{draft_after, published_in, optional}
-use Rattle.mds_world.specs.Isolation.{AreKeyed, IsAfter, StandsAfter, HasMemory, IsMeantThroughout}
+use Rattle.mds_world.specs.Isolation.{AreKeyed, IsAfter, StandsAfter, HasMemory, IsMeantThroughout, IsMeantFromNew}
 use Rattle.mds_world.specs.Meaning.{AreRows, IsAnswer}
-use Rattle.mds_world.specs.Step.{Exchange, Step, Run, call_step, actor_step, operator_step}
+use Rattle.mds_world.specs.Step.{Exchange, Step, Run, new_state, call_step, actor_step, operator_step}
 use Rattle.mds_world.specs.Views.{Seen, asked, published, is_place, is_of, seen_in, view, as_publication, as_request, publications_of, requests_of}
 use Rattle.mds_world.specs.World.{State}
-use Rattle.mds_world.proofs.Histories.{along, each_on, now_published, after_one, after_none}
-use Rattle.mds_world.proofs.Meaning.{is_meant}
+use Rattle.mds_world.proofs.Histories.{along, each_on, now_published, after_one, after_none, begins_keyed}
+use Rattle.mds_world.proofs.Meaning.{is_meant, begins_without_rows}
 use Rattle.mds_world.proofs.Steps.{leaves_others}
 
 -- ---- requests of others
@@ -190,3 +191,8 @@ module _ (first : State) (place : ℕ) (operator : Operator) (found : slice_get 
 pub is_meant_throughout : IsMeantThroughout
 is_meant_throughout w next history place operator rows seen keyed run found held shown are has =
     meant_throughout w place operator found seen next history rows keyed run held shown are has
+
+pub is_meant_from_new : IsMeantFromNew
+is_meant_from_new configuration next history place operator run found has =
+    let rows = begins_without_rows configuration place operator found in
+    is_meant_throughout (new_state configuration) next history place operator empty [] (begins_keyed configuration) run found rows.0 refl rows.1 has

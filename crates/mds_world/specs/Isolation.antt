@@ -59,6 +59,15 @@ IsMeantThroughout =
     → (before : List Exchange) (e : Exchange) → StandsAfter before e history → is_of w.configuration place e.request ≡ true
     → IsAnswer w.configuration operator (seen ++ view w.configuration w.drafts before place) e.request e.reply
 
+-- in a history from a new machine, its answers are those that the view of the history alone defines
+abbrev pub IsMeantFromNew : Type 0
+IsMeantFromNew =
+    (configuration : Configuration) (next : State) (history : List Exchange) (place : ℕ) (operator : Operator)
+    → Run (new_state configuration) history next → slice_get configuration.operators place ≡ Some operator
+    → HasMemory configuration place history
+    → (before : List Exchange) (e : Exchange) → StandsAfter before e history → is_of configuration place e.request ≡ true
+    → IsAnswer configuration operator (view configuration (new_state configuration).drafts before place) e.request e.reply
+
 -- the replies to an operator's requests, in their order
 abbrev pub replies_to : Configuration → ℕ → List Exchange → List Reply
 replies_to configuration place history = map (λ e. e.reply) (filter (λ e. is_of configuration place e.request) history)

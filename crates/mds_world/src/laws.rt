@@ -1,7 +1,7 @@
 //! Laws of the machine's steps. Each function's contract is the law; the functions themselves do
 //! nothing.
 ghost use Rattle.mds_world.specs.Laws.{IsTotal, IsDetermined, LeavesOthers, LeavesRows, IsIsolated, IsOwn, RowsGoOn, HasOneAnswer, IsMeant, BeginsWithoutRows};
-ghost use Rattle.mds_world.specs.Isolation.{GoesByHistory, BeginsKeyed, AreKeyed, IsMeantThroughout, IsIsolatedThroughout};
+ghost use Rattle.mds_world.specs.Isolation.{GoesByHistory, BeginsKeyed, AreKeyed, IsMeantThroughout, IsMeantFromNew, IsIsolatedThroughout};
 ghost use Rattle.mds_world.specs.World.{state_of};
 
 use crate::world::World;
@@ -85,6 +85,11 @@ pub fn is_keyed<E: Drop>(world: &World<E>)
 /// suffices for its own.
 pub fn is_meant_throughout()
     ensures { IsMeantThroughout }
+{}
+
+/// In a history from a new machine these are the answers that its view of the history alone defines.
+pub fn is_meant_from_new()
+    ensures { IsMeantFromNew }
 {}
 
 /// In two histories, from states that agree for an operator, that look the same to it (its own
