@@ -29,8 +29,8 @@ impl Report {
     /// # Errors
     ///
     /// `BadJson` for a text that is no JSON (RFC 8259); else the fault of the first member, in this
-    /// order, that is missing or of another kind (`BadField`), a coordinate's text that is no number
-    /// (`BadNumber`), or out of range (`OutOfRange`).
+    /// order, that is missing or of another kind (`BadField`), is a coordinate's text but no number
+    /// (`BadNumber`), or is out of range (`OutOfRange`).
     pub fn read(alloc: Global, text: &[u8]) -> Result<Report, TextFault>
         ensures { Gives text_cause report_document result (read_report text.now) }
     {

@@ -51,7 +51,7 @@ pub fn replay<M: Machine, S: Source, W: Sink>(
         ⊎ IfSome (S.remaining source.old) (λ input. input_limit < length input) }
     ensures write { IsErrOf result ReplayFault.Write → W.failures sink.new ≡ W.failures sink.old + 1 }
     ensures bad_config { IsErrOf result ReplayFault.BadConfig → IfSome (S.remaining source.old) (IsUnconfigured M.begins) }
-    // Want of memory hides no failed read, and no first line that is over the limit.
+    // Want of memory hides no failed read, and no first line that is over the limit, once something was read.
     ensures memory { IsErrOf result ReplayFault.NoMemory → (source.new ≡ source.old)
         ⊎ ((S.failures source.new ≡ S.failures source.old) × IfSome (S.remaining source.old) IsShort) }
 

@@ -190,7 +190,7 @@ fn keeps_moments_and_fleets_apart(rt: HostRuntime) -> Result<(), Fail> {
     )
 }
 
-/// A rule from 02:00 to 03:00 isn't open on the night on which the clocks skip that hour, nor is it
+/// A rule from 02:00:00 to 02:59:59 isn't open on the night on which the clocks skip that hour, nor is it
 /// judged by its minimum.
 #[test]
 fn closes_a_rule_in_a_gap_of_the_clocks(rt: HostRuntime) -> Result<(), Fail> {
@@ -355,9 +355,9 @@ fn keeps_the_last_report_until_it_is_removed(rt: HostRuntime) -> Result<(), Fail
     )
 }
 
-/// One fault in each of five policies.
+/// One fault in each of four policies, and one that is put under another identifier.
 #[test]
-fn tells_the_first_fault_of_a_policy(rt: HostRuntime) -> Result<(), Fail> {
+fn tells_the_fault_of_a_policy(rt: HostRuntime) -> Result<(), Fail> {
     has_first_answers(
         rt.alloc(),
         &rt,
