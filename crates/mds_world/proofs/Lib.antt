@@ -7,6 +7,7 @@ mod Meaning
 mod OneLine
 mod Outcome
 mod Reported
+mod Running
 mod Shown
 mod Steps
 mod TwoWorlds

@@ -1,6 +1,7 @@
 -- One step of the machine: a request comes in, a reply goes out, and the state may change.
 use Rattle.std.specs.Prelude.{◌≡◌, ◌⊎◌, ℕ, List, [], ◌∷◌, map, set, length, nat_lt, slice_get, true, false, Option, Some, None, Result, Ok, Err}
 use Rattle.std.specs.FinMap.{empty}
+use Rattle.std.specs.List.{zip}
 use Rattle.mds_fleet.specs.Books.{Rows}
 use Rattle.mds_request.specs.Configuration.{Configuration, Operator, actor_of}
 use Rattle.mds_request.specs.Call.{call_of, most_body, is_known}
@@ -77,6 +78,10 @@ Step w request reply next =
 pub record Exchange : Type 0 where
   pub request : Request
   pub reply : Reply
+
+-- the exchanges of requests with their replies, in order
+abbrev pub exchanges : List Request → List Reply → List Exchange
+exchanges requests replies = map (λ e. record { request = e.0; reply = e.1 }) (zip requests replies)
 
 -- a history: a step for each of its exchanges, one after another
 abbrev pub Run : State → List Exchange → State → Type 0

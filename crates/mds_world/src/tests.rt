@@ -93,16 +93,39 @@ fn machine(alloc: Global) -> Result<World<Plain>, Fail> {
     }
 }
 
-fn asked(world: &mut World<Plain>, exchange: &Exchange) -> Result<Reply, Fail> {
-    let (at, token, verb, target, body, _) = *exchange;
-    let at = Moment::new(at).ok_or("no moment")?;
-    Ok(world.answer(&Request {
+fn moment(exchange: &Exchange) -> Result<Moment, Fail> {
+    Ok(Moment::new(exchange.0).ok_or("no moment")?)
+}
+
+fn request(at: Moment, exchange: &Exchange) -> Request<'_> {
+    let (_, token, verb, target, body, _) = *exchange;
+    Request {
         at,
         token: token.as_bytes(),
         verb,
         target: target.as_bytes(),
         body: body.as_bytes(),
-    }))
+    }
+}
+
+fn asked(world: &mut World<Plain>, exchange: &Exchange) -> Result<Reply, Fail> {
+    Ok(world.answer(&request(moment(exchange)?, exchange)))
+}
+
+/// The replies to the requests; a second call where the first found no memory.
+fn run(world: &mut World<Plain>, requests: &[Request<'_>]) -> Result<Vec<Reply>, Fail> {
+    match world.run(requests) {
+        Ok(replies) => Ok(replies),
+        Err(_) => Ok(world.run(requests)?),
+    }
+}
+
+/// These are the replies to the first requests.
+fn assert_successes(rt: &impl Abort, replies: &[Reply]) {
+    for (reply, exchange) in replies.iter().zip(&EXCHANGES) {
+        assert_eq!(rt; reply.status(), 200);
+        assert_eq!(rt; reply.body(), exchange.5.as_bytes());
+    }
 }
 
 /// With one growth refused, wherever it is, one answer is 503 `no_memory`; the same request is then
@@ -119,5 +142,34 @@ fn answers_or_wants_memory(rt: HostRuntime) -> Result<(), Fail> {
         assert_eq!(rt; reply.status(), 200);
         assert_eq!(rt; reply.body(), exchange.5.as_bytes());
     }
+    Ok(())
+}
+
+/// All requests in one call. With one growth refused, wherever it is, the call is refused and the same
+/// call again answers them all; or one answer is 503 `no_memory`, those before it are as they should
+/// be, and a new machine answers all of them.
+#[test]
+fn runs_or_wants_memory(rt: HostRuntime) -> Result<(), Fail> {
+    let [first, second, third, fourth, fifth, sixth, seventh] = &EXCHANGES;
+    let requests = [
+        request(moment(first)?, first),
+        request(moment(second)?, second),
+        request(moment(third)?, third),
+        request(moment(fourth)?, fourth),
+        request(moment(fifth)?, fifth),
+        request(moment(sixth)?, sixth),
+        request(moment(seventh)?, seventh),
+    ];
+    let mut replies = run(&mut machine(rt.alloc())?, &requests)?;
+    if let Some(place) = replies.iter().position(|reply| reply.status() == 503) {
+        assert_eq!(rt;
+            replies[place].body(),
+            br#"{"error":"no_memory"}"#.as_slice()
+        );
+        assert_successes(&rt, &replies[..place]);
+        replies = run(&mut machine(rt.alloc())?, &requests)?;
+    }
+    assert_eq!(rt; replies.len(), EXCHANGES.len());
+    assert_successes(&rt, &replies);
     Ok(())
 }

@@ -1,4 +1,4 @@
-ghost use Rattle.std.specs.Prelude.{◌≡◌, map, IfOk};
+ghost use Rattle.std.specs.Prelude.{◌≡◌, map, length, IfOk, OnErr};
 ghost use Rattle.std.specs.FinMap.{empty};
 ghost use Rattle.mds_request.specs.Configuration.{configuration, operator as operator_of};
 
@@ -44,7 +44,7 @@ impl<E: Evaluator<Catalogue> + Drop> World<E> {
     ghost use Rattle.mds_request.specs.Configuration.{actor_of};
     ghost use Rattle.mds_request.specs.Request.{request_of};
     ghost use Rattle.mds_request.specs.declared.actor.Actor.TheVariants.{Operator as OperatorAt};
-    ghost use Rattle.mds_world.specs.Step.{Step, Comes, actor_step, author_step, new_state};
+    ghost use Rattle.mds_world.specs.Step.{Step, Run, Comes, actor_step, author_step, exchanges, new_state};
     ghost use Rattle.mds_world.specs.World.{state_of};
 
     /// A machine of this configuration that no request has come to: without a publication, a draft or
@@ -80,6 +80,28 @@ impl<E: Evaluator<Catalogue> + Drop> World<E> {
             Ok(call) => self.answer_call(&call, request),
             Err(refusal) => Reply::from(refusal),
         }
+    }
+
+    /// Answers requests one after another, each as `answer` does, and gives their replies in that order.
+    ///
+    /// A reply may be 503 `no_memory`; the requests behind it are answered all the same.
+    ///
+    /// # Errors
+    ///
+    /// There is no memory for the list of replies. No request was answered then, and nothing has
+    /// changed.
+    pub fn run(&mut self, requests: &[Request<'_>]) -> Result<Vec<Reply>, AllocError>
+        ensures history { IfOk result (λ replies. Run (state_of self.old) (exchanges (map request_of requests.now) replies.items) (state_of self.new)) }
+        ensures each { IfOk result (λ replies. length replies.items ≡ length requests.now) }
+        ensures unchanged { OnErr result (self.new ≡ self.old) }
+    {
+        let alloc = *self.books.allocator();
+        let mut replies = Vec::with_capacity(alloc, requests.len())?;
+        for request in requests {
+            let reply = self.answer(request);
+            replies.push_reserved(reply);
+        }
+        Ok(replies)
     }
 
     /// Answers a call of whoever the access token belongs to.
