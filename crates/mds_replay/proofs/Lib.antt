@@ -1,5 +1,6 @@
 pub mod Framed
 pub mod Gathered
+pub mod Histories
 pub mod Places
 pub mod Progress
 pub mod Reading

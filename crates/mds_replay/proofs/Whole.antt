@@ -56,7 +56,7 @@ answers_feeds (reply ∷ replies) h =
     omega (arith, both, answer_feeds reply parts.0, answers_feeds replies parts.1)
 
 module _ {M : Type 0} (step : M → Request → Reply → M → Type 0) where
-  run_length : (lines : List (List ℕ)) (replies : List Reply) (first last : M) → Run step first lines replies last → length replies ≡ length lines
+  pub run_length : (lines : List (List ℕ)) (replies : List Reply) (first last : M) → Run step first lines replies last → length replies ≡ length lines
   run_length [] [] first last r = refl
   run_length [] (reply ∷ replies) first last r = absurd r
   run_length (line ∷ lines) [] first last r = absurd r

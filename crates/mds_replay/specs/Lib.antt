@@ -5,6 +5,7 @@ pub mod Ends
 pub mod Exit
 pub mod Framing
 pub mod Gathering
+pub mod Laws
 pub mod Reader
 pub mod Total
 pub mod Turning

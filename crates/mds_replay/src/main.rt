@@ -6,6 +6,7 @@ mod cut;
 mod ends;
 mod fault;
 mod gather;
+mod laws;
 mod lines;
 mod machine;
 mod place;
