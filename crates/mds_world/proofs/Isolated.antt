@@ -17,7 +17,7 @@ use Rattle.mds_request.specs.declared.code.Code.TheVariants.{NoMemory}
 use Rattle.mds_request.specs.declared.refusal.Refusal.{Refusal}
 use Rattle.mds_request.specs.declared.route.Call.{Call}
 use Rattle.mds_world.specs.History.{draft_after, published_in, optional}
-use Rattle.mds_world.specs.Isolation.{AreKeyed, IsAfter, StandsAfter, HasMemory, IsMeantThroughout, IsMeantFromNew}
+use Rattle.mds_world.specs.Isolation.{AreKeyed, IsAfter, StandsAfter, HasMemory, IsMeantThroughout, KeepsMeaning, IsMeantFromNew}
 use Rattle.mds_world.specs.Meaning.{AreRows, IsAnswer}
 use Rattle.mds_world.specs.Step.{Exchange, Step, Run, new_state, call_step, actor_step, operator_step}
 use Rattle.mds_world.specs.Views.{Seen, asked, published, is_place, is_of, seen_in, view, as_publication, as_request, publications_of, requests_of}
@@ -187,6 +187,16 @@ module _ (first : State) (place : ℕ) (operator : Operator) (found : slice_get 
       (own_known before parts.0 e parts.2.0 so.0
       (so.1 (memory_front first.configuration place before (e ∷ stands.0) (subst (HasMemory first.configuration place) stands.1 has)))
       own parts.2.1 (has before e stands own)).0
+
+  meaning_kept : (next : State) (history : List Exchange) (rows : Rows) → AreKeyed first.drafts → Run first history next → slice_get first.fleets place ≡ Some rows → publications_of seen ≡ first.publications → AreRows first.configuration operator (requests_of seen) rows → HasMemory first.configuration place history → Known history next
+  meaning_kept next history rows keyed run held shown are has =
+      let known : Known [] first = subst (λ s. Knows first.configuration operator place s first) (sym (append-nil seen)) (record { rows = rows; held = held; shown = shown; are = are }) in
+      (along So on [] history first next (after_none first keyed, λ h. known) run).1 has
+
+pub keeps_meaning : KeepsMeaning
+keeps_meaning w next history place operator rows seen keyed run found held shown are has =
+    let known = meaning_kept w place operator found seen next history rows keyed run held shown are has in
+    (known.shown, (known.rows, known.held, known.are))
 
 pub is_meant_throughout : IsMeantThroughout
 is_meant_throughout w next history place operator rows seen keyed run found held shown are has =

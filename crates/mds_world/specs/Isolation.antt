@@ -47,9 +47,8 @@ HasMemory configuration place history =
     (before : List Exchange) (e : Exchange)
     → StandsAfter before e history → is_of configuration place e.request ≡ true → e.reply ≢ refused NoMemory
 
--- Meaning. An operator's requests have the answers that its view before each of them defines: the view before the
--- history, which its publications and rows at first are those of (the empty one, for a new machine), followed by what
--- it has seen of the history.
+-- Meaning. An operator's requests have the answers that its view before each of them defines: a view whose publications
+-- and rows are those at first (the empty one, for a new machine), followed by what it has seen of the history.
 abbrev pub IsMeantThroughout : Type 0
 IsMeantThroughout =
     (w next : State) (history : List Exchange) (place : ℕ) (operator : Operator) (rows : Rows) (seen : List Seen)
@@ -67,6 +66,17 @@ IsMeantFromNew =
     → HasMemory configuration place history
     → (before : List Exchange) (e : Exchange) → StandsAfter before e history → is_of configuration place e.request ≡ true
     → IsAnswer configuration operator (view configuration (new_state configuration).drafts before place) e.request e.reply
+
+-- What is published after the history, and the operator's rows, are again those of what it has seen.
+abbrev pub KeepsMeaning : Type 0
+KeepsMeaning =
+    (w next : State) (history : List Exchange) (place : ℕ) (operator : Operator) (rows : Rows) (seen : List Seen)
+    → AreKeyed w.drafts → Run w history next → slice_get w.configuration.operators place ≡ Some operator
+    → slice_get w.fleets place ≡ Some rows → publications_of seen ≡ w.publications
+    → AreRows w.configuration operator (requests_of seen) rows → HasMemory w.configuration place history →
+    let after = seen ++ view w.configuration w.drafts history place in
+    (publications_of after ≡ next.publications)
+    × ((left : Rows) × (slice_get next.fleets place ≡ Some left) × AreRows w.configuration operator (requests_of after) left)
 
 -- the replies to an operator's requests, in their order
 abbrev pub replies_to : Configuration → ℕ → List Exchange → List Reply

@@ -1,7 +1,8 @@
 //! Laws of the machine's steps. Each function's contract is the law; the functions themselves do
 //! nothing.
+ghost use Rattle.std.specs.Prelude.{◌≡◌, length};
 ghost use Rattle.mds_world.specs.Laws.{IsTotal, IsDetermined, LeavesOthers, LeavesRows, IsIsolated, IsOwn, RowsGoOn, HasOneAnswer, IsMeant, BeginsWithoutRows};
-ghost use Rattle.mds_world.specs.Isolation.{GoesByHistory, BeginsKeyed, AreKeyed, IsMeantThroughout, IsMeantFromNew, IsIsolatedThroughout};
+ghost use Rattle.mds_world.specs.Isolation.{GoesByHistory, BeginsKeyed, AreKeyed, IsMeantThroughout, KeepsMeaning, IsMeantFromNew, IsIsolatedThroughout};
 ghost use Rattle.mds_world.specs.World.{state_of};
 
 use crate::world::World;
@@ -75,6 +76,11 @@ pub fn begins_keyed()
     ensures { BeginsKeyed }
 {}
 
+/// Every world has rows, which may be none, of each operator of its configuration.
+pub fn has_rows<E: Drop>(world: &World<E>)
+    ensures { length (state_of world.now).fleets ≡ length (state_of world.now).configuration.operators }
+{}
+
 /// Every world holds each of its drafts under its own identifier.
 pub fn is_keyed<E: Drop>(world: &World<E>)
     ensures { AreKeyed (state_of world.now).drafts }
@@ -85,6 +91,12 @@ pub fn is_keyed<E: Drop>(world: &World<E>)
 /// suffices for its own.
 pub fn is_meant_throughout()
     ensures { IsMeantThroughout }
+{}
+
+/// After such a history what is published, and the operator's rows, are again those of what it has
+/// seen, so that a further history goes on from there.
+pub fn keeps_meaning()
+    ensures { KeepsMeaning }
 {}
 
 /// In a history from a new machine these are the answers that its view of the history alone defines.
