@@ -23,7 +23,7 @@ done word = success (codes "{\"result\":\"" ++ word ++ codes "\"}")
 abbrev pub error : ℕ → List ℕ → Reply
 error status code = record { status = status; body = codes "{\"error\":\"" ++ code ++ codes "\"}" }
 
--- the body of compliance at a moment after so many publications, with these reports
+-- the reply of compliance at a moment after so many publications, with these reports
 abbrev pub compliance : List ℕ → List ℕ → List ℕ → Reply
 compliance at reports revision =
     success (codes "{\"at\":" ++ at ++ codes ",\"policies\":[" ++ reports ++ codes "],\"revision\":" ++ revision ++ codes ",\"version\":1}")

@@ -133,7 +133,7 @@ with_rules rules =
       rules = rules;
     }
 
--- a rule that is always open, and limits this, so, in one geography
+-- a rule of this kind that is always open, with these bounds, in one geography
 abbrev pub rule : List ℕ → Kind → List ℕ → Bounds → Rule
 rule id kind geography bounds =
     record {

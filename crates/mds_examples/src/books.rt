@@ -35,7 +35,7 @@ pub fn refused()
 /// The beginning of a run stays while the state does, and another state begins a run of its own, also
 /// when it is one that was before.
 pub fn runs()
-    ensures first_report { row_after None (first_report 2000) ≡ row_from (first_report 2000) 2000 }
+    ensures first { row_after None (first_report 2000) ≡ row_from (first_report 2000) 2000 }
     ensures same_state { row_after (Some first_vehicle) (first_report 5000) ≡ row_from (first_report 5000) 2000 }
     ensures other_state { row_after (Some first_vehicle) (busy_report 5000) ≡ row_from (busy_report 5000) 5000 }
     ensures state_before { row_after (Some (row_from (busy_report 5000) 5000)) (first_report 6000) ≡ row_from (first_report 6000) 6000 }

@@ -35,7 +35,7 @@ pub fn range()
 pub fn lengths()
     ensures exponent { units_of (codes "1e1000") ≡ Err bad_number }
     ensures zero_before { units_of (codes "1e0001") ≡ Err bad_number }
-    ensures whole { units_of (codes "0." ++ replicate 62 48) ≡ Ok (pos 0) }
+    ensures sixty_four_bytes { units_of (codes "0." ++ replicate 62 48) ≡ Ok (pos 0) }
     ensures one_more { units_of (codes "0." ++ replicate 63 48) ≡ Err bad_number }
 {}
 

@@ -29,8 +29,9 @@ pub fn superseded()
     ensures from_publication { ids_in_force (then_next (next_policy 1500 None [])) first_operator 2000 ≡ next_id ∷ [] }
 {}
 
-/// It does so when it has ended itself, and when it is meant for another operator.
-pub fn superseded_by_none()
+/// A successor takes a policy's place also when it has ended itself, and when it is meant for another
+/// operator.
+pub fn superseded_by_one_not_in_force()
     ensures ended { ids_in_force (then_next (next_policy 3000 (Some 4000) [])) first_operator 4000 ≡ [] }
     ensures never_in_force { ids_in_force (then_next (next_policy 3000 (Some 3000) [])) first_operator 3000 ≡ [] }
     ensures for_another { ids_in_force (then_next (next_policy 3000 None (second_operator ∷ []))) first_operator 3000 ≡ [] }
@@ -42,10 +43,10 @@ pub fn superseded_by_none()
 pub fn lawful()
     ensures geography_with_it { IsTrue (is_lawful [] first_publication) }
     ensures no_geography { ¬ IsTrue (is_lawful [] (publication 1000 (cap ∷ []))) }
-    ensures missing_geography { missing_geography [] (publication 1000 (cap ∷ [])) ≡ Some square_id }
+    ensures square_missing { missing_geography [] (publication 1000 (cap ∷ [])) ≡ Some square_id }
     ensures successor { IsTrue (is_lawful (first_publication ∷ []) (publication 2000 (next_policy 3000 None [] ∷ []))) }
     ensures successor_with_it { ¬ IsTrue (is_lawful [] (record first_publication { policies = cap ∷ next_policy 3000 None [] ∷ [] })) }
-    ensures missing_predecessor { missing_predecessor [] (record first_publication { policies = cap ∷ next_policy 3000 None [] ∷ [] }) ≡ Some cap_id }
+    ensures cap_missing { missing_predecessor [] (record first_publication { policies = cap ∷ next_policy 3000 None [] ∷ [] }) ≡ Some cap_id }
     ensures again { ¬ IsTrue (is_lawful (first_publication ∷ []) (publication 2000 (cap ∷ []))) }
     ensures published { first_published (first_publication ∷ []) (publication 2000 (cap ∷ [])) ≡ Some cap_id }
     ensures twice { ¬ IsTrue (is_lawful (first_publication ∷ []) (publication 2000 (next_policy 3000 None [] ∷ next_policy 4000 None [] ∷ []))) }

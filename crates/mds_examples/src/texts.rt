@@ -47,7 +47,7 @@ pub fn strings()
 {}
 
 /// A value is printed without spaces. Five of the bytes below 32 are escaped by a letter, the others by
-/// their number, and all above 32 but two stand as they are.
+/// their number, and all from 32 on but two stand as they are.
 pub fn printing()
     ensures escapes { printed (text (34 ∷ 92 ∷ 8 ∷ 9 ∷ 10 ∷ 12 ∷ 13 ∷ 31 ∷ 127 ∷ 195 ∷ 169 ∷ [])) ≡ codes "\"\\\"\\\\\\b\\t\\n\\f\\r\\u001f" ++ 127 ∷ 195 ∷ 169 ∷ 34 ∷ [] }
     ensures values { printed (object (members_of ((codes "a", list (items_of (null ∷ boolean true ∷ int (neg_ℤ (pos 5)) ∷ degrees (pos 15000000) ∷ []))) ∷ (codes "b", list no_items) ∷ (codes "c", object no_members) ∷ []))) ≡ codes "{\"a\":[null,true,-5,1.5],\"b\":[],\"c\":{}}" }

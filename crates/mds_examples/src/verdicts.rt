@@ -33,7 +33,7 @@ pub fn bounds()
 /// A rule of another type isn't evaluated, open or not, and catches nobody, so the rule behind it does.
 pub fn other_type()
     ensures closed { verdicts (with_rules (on_sundays (rule second_rule_id Other square_id (at_most 15)) ∷ [])) areas (first_vehicle ∷ []) (at 4 0 0 2) 2000 ≡ verdict second_rule_id NotEvaluated 0 ∷ [] }
-    ensures verdicts { verdicts (with_rules (rule second_rule_id Other square_id (at_most 15) ∷ rule first_rule_id Count square_id (at_most 1) ∷ [])) areas (first_vehicle ∷ []) (at 4 0 0 2) 2000 ≡ verdict second_rule_id NotEvaluated 0 ∷ verdict first_rule_id Ok 1 ∷ [] }
+    ensures behind { verdicts (with_rules (rule second_rule_id Other square_id (at_most 15) ∷ rule first_rule_id Count square_id (at_most 1) ∷ [])) areas (first_vehicle ∷ []) (at 4 0 0 2) 2000 ≡ verdict second_rule_id NotEvaluated 0 ∷ verdict first_rule_id Ok 1 ∷ [] }
 {}
 
 /// A rule that is closed is inactive, and isn't judged by its minimum; the rule behind it catches its
