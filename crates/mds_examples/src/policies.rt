@@ -2,7 +2,7 @@
 //! served.
 #![tactic(auto, unfolding(crate::specs::Computed::documents))]
 
-ghost use Rattle.std.specs.Prelude.{◌≡◌, ◌++◌, codes, Ok, Err, Some, None};
+ghost use Rattle.std.specs.Prelude.{◌≡◌, [], ◌∷◌, ◌++◌, codes, Ok, Err, Some, None};
 ghost use Rattle.mds_text.specs.Fault.{bad_json, bad_field, out_of_range, decimal};
 ghost use Rattle.mds_text.specs.Printed.{printed};
 ghost use Rattle.mds_text.specs.declared.field.Field.TheVariants.{Document, PolicyId, Geographies, States, VehicleTypes, InclusiveMaximum, StartTime, EndTime, Days};
@@ -10,7 +10,8 @@ ghost use Rattle.mds_policy.specs.Reading.{read_policy, kind_of};
 ghost use Rattle.mds_policy.specs.Served.{served};
 ghost use Rattle.mds_policy.specs.declared.rule.Kind.TheVariants.{Count, Time, Other};
 ghost use Rattle.mds_policy.specs.declared.rule.TimeUnit.TheVariants.{Hours};
-ghost use Rattle.mds_examples.specs.Policies.{cap, cap_text, full_text, full_policy, read_of, read_without_tree, cap_with, cap_served, in_the_square};
+ghost use Rattle.mds_examples.specs.Ids.{square_id, first_rule_id};
+ghost use Rattle.mds_examples.specs.Policies.{cap, cap_text, full_text, full_policy, read_of, read_without_tree, cap_with, cap_served, in_the_square, with_rules, rule, below, more_than};
 
 /// The text of a policy reads as the policy that it says.
 pub fn policy()
@@ -26,6 +27,12 @@ pub fn all_members()
 /// An optional member that is null is absent.
 pub fn nulls()
     ensures rule { read_without_tree (cap_with (in_the_square ++ codes ",\"maximum\":1,\"minimum\":null,\"states\":null,\"vehicle_types\":null,\"inclusive_maximum\":null,\"start_time\":null,\"end_time\":null,\"days\":null")) ≡ Ok (read_of cap) }
+{}
+
+/// A bound is included unless it is said not to be, each of the two by itself.
+pub fn excluded_bounds()
+    ensures minimum { read_without_tree (cap_with (in_the_square ++ codes ",\"minimum\":1,\"inclusive_minimum\":false")) ≡ Ok (read_of (with_rules (rule first_rule_id Count square_id (more_than 1) ∷ []))) }
+    ensures maximum { read_without_tree (cap_with (in_the_square ++ codes ",\"maximum\":1,\"inclusive_maximum\":false")) ≡ Ok (read_of (with_rules (rule first_rule_id Count square_id (below 1) ∷ []))) }
 {}
 
 /// The same text with one fault.
