@@ -1,33 +1,72 @@
--- A history of the author and two operators.
-use Rattle.std.specs.Prelude.{List, [], ◌∷◌, codes}
+-- A history of the author and two operators, with the replies that the machine gives.
+use Rattle.std.specs.Prelude.{ℕ, List, [], ◌∷◌, ◌++◌, codes}
 use Rattle.std.specs.FinMap.{empty}
 use Rattle.mds_drafts.specs.Drafts.{Drafts}
+use Rattle.mds_request.specs.Reply.{Reply, success}
 use Rattle.mds_request.specs.Request.{Request}
-use Rattle.mds_request.specs.declared.verb.Verb.TheVariants.{Post, Delete}
+use Rattle.mds_request.specs.declared.verb.Verb.TheVariants.{Get, Post, Delete}
 use Rattle.mds_world.specs.Step.{Exchange}
-use Rattle.mds_examples.specs.Machine.{error, done, put_square, put_cap, cap_path, publish, report, ask}
+use Rattle.mds_examples.specs.Ids.{id_text}
+use Rattle.mds_examples.specs.Machine.{error, done, compliance, put_square, put_cap, cap_path, publish, publish_alone, report, ask}
 use Rattle.mds_examples.specs.Requests.{request}
 use Rattle.mds_examples.specs.Vehicles.{in_the_square}
+use Rattle.mds_examples.specs.Verdicts.{report_text}
 
 abbrev pub no_drafts : Drafts
 no_drafts = record { policies = empty; geographies = empty }
 
--- a request that was answered with a success, and one that was refused
-abbrev pub granted : Request → Exchange
-granted request = record { request = request; reply = done (codes "new") }
+-- a request and the reply to it
+abbrev pub exchange : Request → Reply → Exchange
+exchange request reply = record { request = request; reply = reply }
+
+-- a request that was answered with a success and this word as its result, and one for which there was no memory
+abbrev pub granted : Request → List ℕ → Exchange
+granted request word = exchange request (done word)
 
 abbrev pub denied : Request → Exchange
-denied request = record { request = request; reply = error 503 (codes "no_memory") }
+denied request = exchange request (error 503 (codes "no_memory"))
+
+abbrev pub square_put : Exchange
+square_put = granted put_square (codes "new")
+
+abbrev pub cap_put : Exchange
+cap_put = granted put_cap (codes "new")
 
 abbrev pub drop_cap : Request
 drop_cap = request 1000 (codes "city") Delete cap_path []
+
+abbrev pub cap_dropped : Exchange
+cap_dropped = exchange drop_cap (success (codes "{\"removed\":\"" ++ id_text (codes "201") ++ codes "\"}"))
+
+-- the first operator asks for the policy
+abbrev pub ask_for_cap : Request
+ask_for_cap = request 2000 (codes "alfa") Get (codes "/policies/" ++ id_text (codes "201")) []
 
 -- a report by the other operator
 abbrev pub other_report : Request
 other_report = request 2000 (codes "bravo") Post (codes "/fleet/events") (in_the_square (codes "402"))
 
--- the geography and the policy are put and published; each operator reports a vehicle, the first before the publication,
--- and the first asks
+-- The geography and the policy are put and published, and each operator reports a vehicle, the first before the
+-- publication. Refused are the first operator, which asks for the policy too early, a stranger, and the author, who
+-- would publish the policy without its geography.
+abbrev pub before_question : List Exchange
+before_question =
+    square_put
+    ∷ granted (report 2000 (codes "401")) (codes "new")
+    ∷ cap_put
+    ∷ exchange ask_for_cap (error 404 (codes "not_found"))
+    ∷ exchange (ask 2000 (codes "nobody")) (error 401 (codes "token"))
+    ∷ exchange publish_alone (error 409 (codes "no_geography"))
+    ∷ exchange publish (success (codes "{\"published_date\":1000,\"revision\":1}"))
+    ∷ granted other_report (codes "new")
+    ∷ []
+
+-- then the first operator asks for compliance
+abbrev pub question : Request
+question = ask 2000 (codes "alfa")
+
+abbrev pub answer : Reply
+answer = compliance (codes "2000") (report_text (codes "1") (codes "ok")) (codes "1")
+
 abbrev pub history : List Exchange
-history =
-    granted put_square ∷ granted (report 2000 (codes "401")) ∷ granted put_cap ∷ granted publish ∷ granted other_report ∷ granted (ask 2000 (codes "alfa")) ∷ []
+history = before_question ++ exchange question answer ∷ []

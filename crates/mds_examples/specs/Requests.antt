@@ -1,7 +1,7 @@
 -- A configuration, and requests under it.
 use Rattle.std.specs.Prelude.{ℕ, pos, List, [], ◌∷◌, ◌++◌, codes}
 use Rattle.mds_match.specs.Zone.{fixed}
-use Rattle.mds_request.specs.Configuration.{Configuration}
+use Rattle.mds_request.specs.Configuration.{Configuration, Operator}
 use Rattle.mds_request.specs.Request.{Request}
 use Rattle.mds_request.specs.declared.verb.Verb.{Verb}
 use Rattle.mds_examples.specs.Ids.{id_text}
@@ -13,15 +13,19 @@ configuration_text author limit zone =
     codes "{\"author\":\"" ++ author ++ codes "\",\"operators\":[{\"id\":\"" ++ id_text (codes "0a1") ++ codes "\",\"limit\":" ++ limit
     ++ codes ",\"token\":\"alfa\"},{\"id\":\"" ++ id_text (codes "0b1") ++ codes "\",\"limit\":2,\"token\":\"bravo\"}],\"zone\":\"" ++ zone ++ codes "\"}"
 
--- two operators, each with two vehicles at most, in UTC
+-- two operators, each with two vehicles at most
+abbrev pub alfa : Operator
+alfa = record { id = first_operator; limit = 2; token = codes "alfa" }
+
+abbrev pub bravo : Operator
+bravo = record { id = second_operator; limit = 2; token = codes "bravo" }
+
+-- these two, in UTC
 abbrev pub configuration : Configuration
 configuration =
     record {
       author = codes "city";
-      operators =
-          (record { id = first_operator; limit = 2; token = codes "alfa" })
-          ∷ (record { id = second_operator; limit = 2; token = codes "bravo" })
-          ∷ [];
+      operators = alfa ∷ bravo ∷ [];
       zone = fixed (pos 0);
     }
 
