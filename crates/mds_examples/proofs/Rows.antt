@@ -6,7 +6,7 @@ use Rattle.mds_fleet.specs.Books.{Rows, device_cmp}
 use Rattle.mds_match.specs.Row.{Row}
 use Rattle.mds_examples.specs.Vehicles.{first_device, second_device, third_device, first_vehicle, second_inside, one_row, two_rows}
 
-abbrev no_rows : Rows
+abbrev pub no_rows : Rows
 no_rows = empty
 
 -- the entries of rows, in the order of their devices

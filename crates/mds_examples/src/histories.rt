@@ -1,17 +1,19 @@
-//! What a history of requests has drafted and published, and what an operator sees of it.
+//! What a history of requests has drafted and published, what an operator sees of it, and what it is
+//! answered.
 #![tactic(auto, unfolding(crate::specs::Computed::documents))]
 
 ghost use Rattle.std.specs.Prelude.{◌≡◌, [], ◌∷◌, Some, None, codes};
 ghost use Rattle.mds_drafts.specs.Drafts.{policy};
 ghost use Rattle.mds_drafts.specs.declared.draft.DraftKind.TheVariants.{Policy};
 ghost use Rattle.mds_world.specs.History.{draft_after, publications_after};
-ghost use Rattle.mds_world.specs.Views.{view, asked, published};
-ghost use Rattle.mds_examples.specs.Histories.{no_drafts, denied, square_put, cap_put, drop_cap, cap_dropped, ask_for_cap, other_report, question, history};
+ghost use Rattle.mds_world.specs.Meaning.{IsAnswer};
+ghost use Rattle.mds_world.specs.Views.{view, asked, published, woven};
+ghost use Rattle.mds_examples.specs.Histories.{no_drafts, denied, square_put, cap_put, drop_cap, cap_dropped, ask_for_cap, other_report, before_question, question, answer, history};
 ghost use Rattle.mds_examples.specs.Ids.{cap_id};
-ghost use Rattle.mds_examples.specs.Machine.{publish, report};
+ghost use Rattle.mds_examples.specs.Machine.{publish, report, ask};
 ghost use Rattle.mds_examples.specs.Policies.{cap};
-ghost use Rattle.mds_examples.specs.Publications.{first_publication};
-ghost use Rattle.mds_examples.specs.Requests.{configuration};
+ghost use Rattle.mds_examples.specs.Publications.{next_policy, publication, first_publication, then_next};
+ghost use Rattle.mds_examples.specs.Requests.{alfa, configuration};
 
 /// A draft is what was put last with success, until it is dropped or published with success.
 pub fn drafts()
@@ -28,4 +30,15 @@ pub fn views()
     ensures publications { publications_after configuration no_drafts history ≡ first_publication ∷ [] }
     ensures of_the_first { view configuration no_drafts history 0 ≡ asked (report 2000 (codes "401")) ∷ asked ask_for_cap ∷ published first_publication ∷ asked question ∷ [] }
     ensures of_the_second { view configuration no_drafts history 1 ≡ published first_publication ∷ asked other_report ∷ [] }
+{}
+
+/// A view is woven on by each request in turn, after the publications that its front has and the view
+/// hasn't.
+pub fn weaving()
+    ensures same_front_first { woven (published first_publication ∷ []) ((question, first_publication ∷ []) ∷ (ask 3000 (codes "alfa"), then_next (next_policy 3000 None [])) ∷ []) ≡ published first_publication ∷ asked question ∷ published (publication 2000 (next_policy 3000 None [] ∷ [])) ∷ asked (ask 3000 (codes "alfa")) ∷ [] }
+{}
+
+/// The first operator's question has the answer that its view before defines.
+pub fn meaning()
+    ensures of_the_view { IsAnswer configuration alfa (view configuration no_drafts before_question 0) question answer }
 {}
