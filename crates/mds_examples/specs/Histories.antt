@@ -6,10 +6,11 @@ use Rattle.mds_request.specs.Reply.{Reply, success}
 use Rattle.mds_request.specs.Request.{Request}
 use Rattle.mds_request.specs.declared.verb.Verb.TheVariants.{Get, Post, Delete}
 use Rattle.mds_world.specs.Step.{Exchange}
+use Rattle.mds_world.specs.World.{State}
 use Rattle.mds_examples.specs.Ids.{id_text}
-use Rattle.mds_examples.specs.Machine.{error, done, compliance, put_square, put_cap, cap_path, publish, publish_alone, report, ask}
+use Rattle.mds_examples.specs.Machine.{error, done, compliance, after_publication, put_square, put_cap, cap_path, publish, publish_alone, report, ask}
 use Rattle.mds_examples.specs.Requests.{request}
-use Rattle.mds_examples.specs.Vehicles.{in_the_square}
+use Rattle.mds_examples.specs.Vehicles.{in_the_square, one_row, other_row}
 use Rattle.mds_examples.specs.Verdicts.{report_text}
 
 abbrev pub no_drafts : Drafts
@@ -70,3 +71,7 @@ answer = compliance (codes "2000") (report_text (codes "1") (codes "ok")) (codes
 
 abbrev pub history : List Exchange
 history = before_question ++ exchange question answer ∷ []
+
+-- the state after it: each operator has one vehicle
+abbrev pub after_history : State
+after_history = record after_publication { fleets = one_row ∷ other_row ∷ [] }

@@ -74,3 +74,7 @@ one_row = insert empty first_device first_vehicle
 
 abbrev pub two_rows : Rows
 two_rows = insert one_row second_device second_inside
+
+-- another operator's rows after the report of the second vehicle in the square
+abbrev pub other_row : Rows
+other_row = insert empty second_device second_inside

@@ -7,13 +7,19 @@ ghost use Rattle.mds_drafts.specs.Drafts.{policy};
 ghost use Rattle.mds_drafts.specs.declared.draft.DraftKind.TheVariants.{Policy};
 ghost use Rattle.mds_world.specs.History.{draft_after, publications_after};
 ghost use Rattle.mds_world.specs.Meaning.{IsAnswer};
+ghost use Rattle.mds_world.specs.Step.{Run};
 ghost use Rattle.mds_world.specs.Views.{view, asked, published, woven};
-ghost use Rattle.mds_examples.specs.Histories.{no_drafts, denied, square_put, cap_put, drop_cap, cap_dropped, ask_for_cap, other_report, before_question, question, answer, history};
+ghost use Rattle.mds_examples.specs.Histories.{no_drafts, denied, square_put, cap_put, drop_cap, cap_dropped, ask_for_cap, other_report, before_question, question, answer, history, after_history};
 ghost use Rattle.mds_examples.specs.Ids.{cap_id};
-ghost use Rattle.mds_examples.specs.Machine.{publish, report, ask};
+ghost use Rattle.mds_examples.specs.Machine.{start, publish, report, ask};
 ghost use Rattle.mds_examples.specs.Policies.{cap};
 ghost use Rattle.mds_examples.specs.Publications.{next_policy, publication, first_publication, then_next};
 ghost use Rattle.mds_examples.specs.Requests.{alfa, configuration};
+
+/// A new machine gives the replies of the history.
+pub fn run()
+    ensures allowed { Run start history after_history }
+{}
 
 /// A draft is what was put last with success, until it is dropped or published with success.
 pub fn drafts()

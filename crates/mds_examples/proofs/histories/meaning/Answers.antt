@@ -1,6 +1,6 @@
 use Rattle.std.proofs.Common.{◌≡◌, ℕ, List, [], ◌∷◌, codes, refl, sym, subst}
 use Rattle.std.specs.FinMap.{get}
-use Rattle.mds_fleet.specs.Books.{Rows, outcome, rows_after}
+use Rattle.mds_fleet.specs.Books.{outcome, rows_after}
 use Rattle.mds_fleet.specs.History.{Event, arrival, accepted_reports, row_by}
 use Rattle.mds_fleet.specs.Laws.{Follows}
 use Rattle.mds_fleet.proofs.ByHistory.{follows_history, follows_report}
