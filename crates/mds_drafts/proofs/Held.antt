@@ -24,8 +24,8 @@ use Rattle.mds_drafts.specs.Drafts.{id_cmp, Drafts, Document, policy, geography,
 use Rattle.mds_drafts.specs.Entries.{document_of, drafts_in}
 use Rattle.mds_drafts.specs.declared.draft.Draft.{Draft}
 use Rattle.mds_drafts.specs.declared.draft.Draft.TheVariants as drafts
-use Rattle.mds_drafts.specs.declared.draft.DraftKind.{DraftKind}
-use Rattle.mds_drafts.specs.declared.draft.DraftKind.TheVariants as kinds
+use Rattle.mds_text.specs.declared.draft_kind.DraftKind.{DraftKind}
+use Rattle.mds_text.specs.declared.draft_kind.DraftKind.TheVariants as kinds
 
 -- identifiers tie where their bytes are equal
 pub id_ties : (a b : List ℕ) → eq_by_cmp id_cmp b a ≡ bytes_eq a b

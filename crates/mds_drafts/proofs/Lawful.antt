@@ -15,8 +15,8 @@ use Rattle.mds_drafts.specs.Entries.{document_of, drafts_in}
 use Rattle.mds_drafts.specs.Named.{Named, names_nothing}
 use Rattle.mds_drafts.specs.Publishing.{first_undrafted, first_refusal}
 use Rattle.mds_drafts.specs.declared.draft.Draft.{Draft}
-use Rattle.mds_drafts.specs.declared.draft.DraftKind.{DraftKind}
-use Rattle.mds_drafts.specs.declared.draft.DraftKind.TheVariants as kinds
+use Rattle.mds_text.specs.declared.draft_kind.DraftKind.{DraftKind}
+use Rattle.mds_text.specs.declared.draft_kind.DraftKind.TheVariants as kinds
 use Rattle.mds_drafts.specs.declared.publish.PublishFault.{PublishFault}
 use Rattle.mds_drafts.specs.declared.publish.PublishFault.TheVariants as faults
 use Rattle.mds_drafts.proofs.Held.{draft_at-cons, draft_at_none}

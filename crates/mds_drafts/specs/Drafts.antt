@@ -7,8 +7,8 @@ use Rattle.std.specs.FinMap.{FinMap, get, insert, remove, len}
 use Rattle.mds_policy.specs.Policy.{Policy}
 use Rattle.mds_geography.specs.Geography.{Geography}
 use Rattle.mds_catalog.specs.Publication.{Publication, policy_ids, geography_ids}
-use Rattle.mds_drafts.specs.declared.draft.DraftKind.{DraftKind}
-use Rattle.mds_drafts.specs.declared.draft.DraftKind.TheVariants as kinds
+use Rattle.mds_text.specs.declared.draft_kind.DraftKind.{DraftKind}
+use Rattle.mds_text.specs.declared.draft_kind.DraftKind.TheVariants as kinds
 use Rattle.mds_drafts.specs.declared.drafts.Put.{Put}
 use Rattle.mds_drafts.specs.declared.drafts.Put.TheVariants.{New, Replaced}
 use Rattle.mds_drafts.specs.declared.drafts.PutFault.{PutFault}

@@ -7,7 +7,7 @@ use Rattle.mds_catalog.specs.Publication.{Publication, publication_of, first_pub
 use Rattle.mds_catalog.specs.declared.batch.Batch.{Batch}
 use Rattle.mds_drafts.specs.declared.publish.PublishFault.{PublishFault}
 use Rattle.mds_drafts.specs.declared.publish.PublishFault.TheVariants.{Empty, NoDraft, Published, NoGeography, NoPredecessor, CatalogFull, NoMemory}
-use Rattle.mds_drafts.specs.declared.draft.DraftKind.TheVariants as kinds
+use Rattle.mds_text.specs.declared.draft_kind.DraftKind.TheVariants as kinds
 use Rattle.mds_drafts.specs.Drafts.{Drafts, has_draft}
 use Rattle.mds_drafts.specs.Named.{Named, names_nothing}
 

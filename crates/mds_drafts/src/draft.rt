@@ -1,14 +1,7 @@
 use mds_geography::Geography;
 use mds_policy::Policy;
-use mds_text::Id;
+use mds_text::{DraftKind, Id};
 use std::sync::Arc;
-
-/// The two kinds of documents.
-#[derive(Clone, Copy, Debug, PartialEq, Eq)]
-pub enum DraftKind {
-    Policy,
-    Geography,
-}
 
 /// A document that isn't published yet, shared so that a batch can have it too.
 #[derive(Drop)]

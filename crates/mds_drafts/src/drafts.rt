@@ -1,13 +1,13 @@
 ghost use Rattle.std.specs.Prelude.{◌≡◌, ◌<◌, filter, not};
 ghost use Rattle.mds_drafts.specs.Entries.{drafts_in, document_of};
 ghost use Rattle.mds_drafts.specs.Drafts.{count_of, is_of};
-ghost use Rattle.mds_drafts.specs.declared.draft.DraftKind.TheVariants as kinds;
+ghost use Rattle.mds_text.specs.declared.draft_kind.DraftKind.TheVariants as kinds;
 
-use crate::draft::{Draft, DraftKind};
+use crate::draft::Draft;
 use mds_catalog::Batch;
 use mds_geography::Geography;
 use mds_policy::Policy;
-use mds_text::Id;
+use mds_text::{DraftKind, Id};
 use std::alloc::{AllocError, Global};
 use std::sync::Arc;
 

@@ -6,7 +6,7 @@ mod drafts;
 mod list;
 mod publish;
 
-pub use draft::{Draft, DraftKind};
+pub use draft::Draft;
 pub use drafts::{Drafts, NoDraft, Put, PutFault};
 pub use list::PublishList;
 pub use publish::PublishFault;

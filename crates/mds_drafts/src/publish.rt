@@ -5,13 +5,12 @@ ghost use Rattle.mds_catalog.specs.Publication.{publication_of};
 ghost use Rattle.mds_catalog.specs.Catalogue.{publications_of};
 ghost use Rattle.mds_drafts.specs.Publishing.{first_refusal};
 
-use crate::draft::DraftKind;
 use crate::drafts::Drafts;
 use crate::list::PublishList;
 use mds_catalog::{Batch, Catalogue};
 use mds_geography::Geography;
 use mds_policy::Policy;
-use mds_text::{Id, Moment};
+use mds_text::{DraftKind, Id, Moment};
 use std::alloc::{AllocError, Global};
 use std::sync::Arc;
 

@@ -1,11 +1,11 @@
-use crate::draft::{Draft, DraftKind};
+use crate::draft::Draft;
 use crate::drafts::{Drafts, Put};
 use crate::list::PublishList;
 use crate::publish::PublishFault;
 use mds_catalog::{Batch, Catalogue};
 use mds_geography::Geography;
 use mds_policy::Policy;
-use mds_text::{Id, Moment};
+use mds_text::{DraftKind, Id, Moment};
 use std::alloc::Global;
 use std::process::Abort;
 use std::sync::Arc;

@@ -4,7 +4,7 @@
 
 ghost use Rattle.std.specs.Prelude.{◌≡◌, [], ◌∷◌, Some, None, codes};
 ghost use Rattle.mds_drafts.specs.Drafts.{policy};
-ghost use Rattle.mds_drafts.specs.declared.draft.DraftKind.TheVariants.{Policy};
+ghost use Rattle.mds_text.specs.declared.draft_kind.DraftKind.TheVariants.{Policy};
 ghost use Rattle.mds_world.specs.History.{draft_after, publications_after};
 ghost use Rattle.mds_world.specs.Meaning.{IsAnswer};
 ghost use Rattle.mds_world.specs.Step.{Run};

@@ -3,7 +3,7 @@
 //! is a bad field of that name.
 ghost use Rattle.std.specs.Prelude.{◌≡◌, option_map, map};
 ghost use Rattle.mds_text.specs.Fault.{Gives, IsCaused, text_cause};
-ghost use Rattle.mds_text.specs.Fields.{find_member, member_at, optional_at, required_at, required_member, document_of};
+ghost use Rattle.mds_text.specs.Fields.{find_member, member_at, optional_at, required_at, required_member, object_of, document_of};
 ghost use Rattle.mds_text.specs.Fields.{text_of, bool_of, int_of, id_of, token_of, moment_of, bound_of, list_of, list_each};
 ghost use Rattle.mds_text.specs.Tree.{members_of};
 ghost use Rattle.mds_text.specs.View.{view, member_view};
@@ -24,9 +24,17 @@ pub fn document_of(tree: &Tree) -> Result<&Tree, TextFault>
     ensures value { Gives text_cause (λ t. view t.now) result (document_of (view tree.now)) }
     ensures memory { IsCaused result }
 {
+    object_of(tree, Field::Document)
+}
+
+/// The value, which has to be an object. Anything else is a bad field of this name.
+pub fn object_of(tree: &Tree, field: Field) -> Result<&Tree, TextFault>
+    ensures value { Gives text_cause (λ t. view t.now) result (object_of field (view tree.now)) }
+    ensures memory { IsCaused result }
+{
     match tree {
         Tree::Object(_) => Ok(tree),
-        _ => Err(TextFault::BadField(Field::Document)),
+        _ => Err(TextFault::BadField(field)),
     }
 }
 

@@ -2,6 +2,7 @@
 #![tactic(auto)]
 
 mod degrees;
+mod draft_kind;
 mod fault;
 mod field;
 mod fields;
@@ -18,11 +19,12 @@ mod tree;
 mod units;
 
 pub use degrees::units_of;
+pub use draft_kind::DraftKind;
 pub use fault::{NumberFault, TextFault};
 pub use field::Field;
 pub use fields::{
     bool_at, bool_of, bound_at, bound_of, document_of, id_at, id_of, ids_at, ids_of, int_at,
-    int_of, list_at, list_of, member_at, moment_at, moment_of, required_id, required_ids,
+    int_of, list_at, list_of, member_at, moment_at, moment_of, object_of, required_id, required_ids,
     required_int, required_list, required_member, required_moment, required_text, required_token,
     text_at, text_of, token_at, token_of, tokens_at, tokens_of,
 };

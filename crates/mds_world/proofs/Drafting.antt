@@ -16,8 +16,8 @@ use Rattle.mds_catalog.specs.Publication.{Publication, policy_ids, geography_ids
 use Rattle.mds_drafts.specs.Drafts.{id_cmp, Drafts, Document, policy, geography, draft_at, has_draft, is_of, id_of, put_answer, with_draft, without_draft, without_keys, taken_out}
 use Rattle.mds_drafts.specs.Named.{Named, read_publish_list, names_nothing}
 use Rattle.mds_drafts.specs.Publishing.{batch_of, publication_from, or_refused}
-use Rattle.mds_drafts.specs.declared.draft.DraftKind.{DraftKind}
-use Rattle.mds_drafts.specs.declared.draft.DraftKind.TheVariants as kinds
+use Rattle.mds_text.specs.declared.draft_kind.DraftKind.{DraftKind}
+use Rattle.mds_text.specs.declared.draft_kind.DraftKind.TheVariants as kinds
 use Rattle.mds_drafts.specs.declared.drafts.Put.{Put}
 use Rattle.mds_drafts.specs.declared.drafts.PutFault.{PutFault}
 use Rattle.mds_drafts.specs.declared.publish.PublishFault.{PublishFault}

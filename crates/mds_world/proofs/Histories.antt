@@ -8,8 +8,8 @@ use Rattle.std.proofs.lemmas.Slice.Eq.{bytes_eq-Decides}
 use Rattle.mds_drafts.specs.Drafts.{Drafts, Document, policy, geography, draft_at, is_of, id_of}
 use Rattle.mds_drafts.specs.Entries.{document_of, drafts_in}
 use Rattle.mds_drafts.specs.declared.draft.Draft.{Draft}
-use Rattle.mds_drafts.specs.declared.draft.DraftKind.{DraftKind}
-use Rattle.mds_drafts.specs.declared.draft.DraftKind.TheVariants as kinds
+use Rattle.mds_text.specs.declared.draft_kind.DraftKind.{DraftKind}
+use Rattle.mds_text.specs.declared.draft_kind.DraftKind.TheVariants as kinds
 use Rattle.mds_drafts.proofs.Held.{draft_at-cons, draft_at_none}
 use Rattle.mds_request.specs.Configuration.{Configuration}
 use Rattle.mds_world.specs.History.{Fate, stands, is_gone, fate_in, first_word, drafted, draft_after, published_in, optional, preceded, publications_after}

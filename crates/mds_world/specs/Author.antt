@@ -12,8 +12,8 @@ use Rattle.mds_catalog.specs.Publication.{Publication}
 use Rattle.mds_drafts.specs.Drafts.{Drafts, Document, policy, geography, id_of, draft_at, has_draft, with_draft, without_draft, put_answer, taken_out}
 use Rattle.mds_drafts.specs.Named.{read_publish_list}
 use Rattle.mds_drafts.specs.Publishing.{batch_of}
-use Rattle.mds_drafts.specs.declared.draft.DraftKind.{DraftKind}
-use Rattle.mds_drafts.specs.declared.draft.DraftKind.TheVariants as kinds
+use Rattle.mds_text.specs.declared.draft_kind.DraftKind.{DraftKind}
+use Rattle.mds_text.specs.declared.draft_kind.DraftKind.TheVariants as kinds
 use Rattle.mds_drafts.specs.declared.drafts.Put.{Put}
 use Rattle.mds_drafts.specs.declared.drafts.Put.TheVariants.{New, Replaced}
 use Rattle.mds_drafts.specs.declared.drafts.PutFault.{PutFault}

@@ -8,8 +8,8 @@ use Rattle.mds_geography.specs.Geography.{Geography}
 use Rattle.mds_catalog.specs.Publication.{Publication}
 use Rattle.mds_drafts.specs.Drafts.{Drafts, Document, policy, geography, draft_at}
 use Rattle.mds_drafts.specs.Named.{Named, read_publish_list}
-use Rattle.mds_drafts.specs.declared.draft.DraftKind.{DraftKind}
-use Rattle.mds_drafts.specs.declared.draft.DraftKind.TheVariants as kinds
+use Rattle.mds_text.specs.declared.draft_kind.DraftKind.{DraftKind}
+use Rattle.mds_text.specs.declared.draft_kind.DraftKind.TheVariants as kinds
 use Rattle.mds_request.specs.Configuration.{Configuration}
 use Rattle.mds_request.specs.Call.{call_of}
 use Rattle.mds_request.specs.Request.{Request}

@@ -3,7 +3,7 @@
 use Rattle.std.specs.Prelude.{◌≡◌, ◌≢◌, ℕ, List, ◌∷◌, ◌++◌, map, true, Some, slice_get}
 use Rattle.std.specs.List.{filter}
 use Rattle.mds_drafts.specs.Drafts.{Drafts, Document, draft_at, id_of}
-use Rattle.mds_drafts.specs.declared.draft.DraftKind.{DraftKind}
+use Rattle.mds_text.specs.declared.draft_kind.DraftKind.{DraftKind}
 use Rattle.mds_fleet.specs.Books.{Rows}
 use Rattle.mds_request.specs.Configuration.{Configuration, Operator}
 use Rattle.mds_request.specs.Reply.{Reply, refused}

@@ -19,11 +19,11 @@ use crate::bodies::{draft_reply, published_reply, removed_reply};
 use crate::denied::Denied;
 use crate::published::{Reader, geographies, geography, policies, policy};
 use mds_catalog::{Batch, Catalogue};
-use mds_drafts::{Draft, DraftKind, Drafts, PublishList, Put};
+use mds_drafts::{Draft, Drafts, PublishList, Put};
 use mds_geography::Geography;
 use mds_policy::Policy;
 use mds_request::{Call, Code, Reply, Request, Route, Verb};
-use mds_text::{Id, Tree};
+use mds_text::{DraftKind, Id, Tree};
 use std::alloc::{AllocError, Global};
 use std::sync::Arc;
 

@@ -1,7 +1,7 @@
 use Rattle.std.proofs.Common.{◌≡◌, is_some, ap, sym, ◌∙◌, arith}
 use Rattle.mds_drafts.specs.Drafts.{kind_of, id_of, with_draft, is_held}
 use Rattle.mds_drafts.specs.Entries.{drafts_in, document_of}
-use Rattle.mds_drafts.specs.declared.draft.DraftKind.TheVariants as kinds
+use Rattle.mds_text.specs.declared.draft_kind.DraftKind.TheVariants as kinds
 use Rattle.mds_drafts.proofs.Held.{added, none_at_position, count_more}
 use Rattle.mds_drafts.proofs.drafts.Drafts.add.Goals as goal
 
