@@ -1,13 +1,16 @@
 -- Requests of the session whose texts are long: what the machine answers to any text that reads so.
-use Rattle.std.proofs.Common.{◌≡◌, ℕ, List, codes, Some, None, Ok, refl}
+use Rattle.std.proofs.Common.{◌≡◌, ℕ, List, codes, Ok, refl}
 use Rattle.mds_fleet.specs.Reading.{read_report}
 use Rattle.mds_geography.specs.Reading.{read_geography}
 use Rattle.mds_policy.specs.Reading.{read_policy}
+use Rattle.mds_text.specs.declared.draft_kind.DraftKind.TheVariants.{Policy, Geography}
 use Rattle.mds_request.specs.Call.{call_of}
-use Rattle.mds_request.specs.declared.route.Call.{Call}
-use Rattle.mds_request.specs.declared.route.Route.TheVariants.{FleetEvents, GeographyDraft, PolicyDraft}
-use Rattle.mds_request.specs.declared.verb.Verb.TheVariants.{Put, Post}
-use Rattle.mds_world.specs.Step.{answered}
+use Rattle.mds_request.specs.declared.call.AuthorCall.TheVariants.{PutDraft}
+use Rattle.mds_request.specs.declared.call.Call.{Call}
+use Rattle.mds_request.specs.declared.call.Call.TheVariants.{Author, Operator}
+use Rattle.mds_request.specs.declared.call.OperatorCall.TheVariants.{Report}
+use Rattle.mds_request.specs.declared.request.Verb.TheVariants.{Put, Post}
+use Rattle.mds_machine.specs.Step.{answered}
 use Rattle.mds_examples.proofs.Drafted.{no_square, geography_count, no_cap, policy_count, the_cap}
 use Rattle.mds_examples.proofs.Rows.{none_first, none_count, one_second, one_count, two_third, two_count}
 use Rattle.mds_examples.specs.Geographies.{square_document}
@@ -18,13 +21,13 @@ use Rattle.mds_examples.specs.Requests.{configuration, request}
 use Rattle.mds_examples.specs.Vehicles.{first_report, second_report, third_report}
 
 abbrev pub report_call : Call
-report_call = record { route = FleetEvents; verb = Post; id = None }
+report_call = Operator 0 Report
 
 abbrev pub square_call : Call
-square_call = record { route = GeographyDraft; verb = Put; id = Some square_id }
+square_call = Author (PutDraft Geography square_id)
 
 abbrev pub cap_call : Call
-cap_call = record { route = PolicyDraft; verb = Put; id = Some cap_id }
+cap_call = Author (PutDraft Policy cap_id)
 
 pub square_put : (target body : List ℕ) → call_of configuration (request 1000 (codes "city") Put target body) ≡ Ok square_call → read_geography body ≡ Ok square_document → answered start (request 1000 (codes "city") Put target body) ≡ (done (codes "new"), after_square)
 square_put target body call read = rw (call, read, no_square, geography_count) refl

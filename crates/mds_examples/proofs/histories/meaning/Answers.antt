@@ -4,8 +4,8 @@ use Rattle.mds_fleet.specs.Books.{outcome, rows_after}
 use Rattle.mds_fleet.specs.History.{Event, arrival, accepted_reports, row_by}
 use Rattle.mds_fleet.specs.Laws.{Follows}
 use Rattle.mds_fleet.proofs.ByHistory.{follows_history, follows_report}
-use Rattle.mds_world.specs.Meaning.{IsAnswer, own_step, events_of}
-use Rattle.mds_world.specs.Views.{Seen, asked, published, view}
+use Rattle.mds_machine.specs.Meaning.{IsAnswer, own_step, events_of}
+use Rattle.mds_machine.specs.Views.{Seen, asked, published, view}
 use Rattle.mds_examples.specs.Computed.{documents, places, zones}
 use Rattle.mds_examples.specs.Histories.{no_drafts, ask_for_cap, before_question, question, answer}
 use Rattle.mds_examples.specs.Machine.{report}

@@ -7,9 +7,8 @@ use Rattle.mds_policy.specs.Reading.{read_policy}
 use Rattle.mds_request.specs.Call.{call_of}
 use Rattle.mds_request.specs.Reply.{Reply, success}
 use Rattle.mds_request.specs.Request.{Request}
-use Rattle.mds_request.specs.declared.verb.Verb.TheVariants.{Put, Post}
-use Rattle.mds_world.specs.Step.{Step, Run, answered}
-use Rattle.mds_world.specs.World.{State}
+use Rattle.mds_request.specs.declared.request.Verb.TheVariants.{Put, Post}
+use Rattle.mds_machine.specs.Step.{State, Step, Run, answered}
 use Rattle.mds_examples.specs.Computed.{documents, places, zones}
 use Rattle.mds_examples.specs.Geographies.{square_text}
 use Rattle.mds_examples.specs.Histories.{ask_for_cap, other_report, question, answer, history, after_history}
