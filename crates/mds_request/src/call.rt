@@ -1,113 +1,66 @@
 //! From a request to its call.
-ghost use Rattle.std.specs.Prelude.{◌≡◌, option_copied};
-ghost use Rattle.mds_request.specs.Call.{has_method, is_for, is_known, call_of, identified};
+ghost use Rattle.std.specs.Prelude.{◌≡◌};
+ghost use Rattle.mds_request.specs.Call.{call_of, called_at, verb_at};
 ghost use Rattle.mds_request.specs.Configuration.{configuration};
 ghost use Rattle.mds_request.specs.Request.{request_of};
 
-use crate::actor::Actor;
 use crate::code::Code;
-use crate::config::Config;
-use crate::refusal::Refusal;
-use crate::request::Request;
-use crate::route::{Call, Route};
-use crate::routes::Routes;
-use crate::verb::Verb;
-use mds_text::Id;
+use crate::config::{Actor, Config};
+use crate::request::{Request, Verb};
+use crate::routes::{Route, Routes};
+use mds_text::{DraftKind, Id};
 
-/// The most bytes of a body.
-const MOST_BODY: usize = 1_048_576;
+/// The most bytes of a request's body.
+pub const MOST_BODY: usize = 1_048_576;
 
-/// What a request calls for.
-///
-/// # Errors
-///
-/// The first of these refusals: the body is over 1,048,576 bytes (`TooLarge`), the access token is
-/// nobody's (`Token`), no route has the path (`NoRoute`), the route hasn't the method (`Method`), the
-/// method isn't for the one who asks (`Role`), the identifier in the path is none (`BadId`).
-pub fn read_call(routes: &Routes, config: &Config, request: &Request) -> Result<Call, Refusal>
-    ensures { result ≡ call_of (configuration config.now) (request_of request.now) }
-{
-    if request.body.len() > MOST_BODY {
-        return Err(Refusal::new(Code::TooLarge));
-    }
-    let actor = config.actor(request.token);
-    if !is_known(actor) {
-        return Err(Refusal::new(Code::Token));
-    }
-    let Some(place) = routes.place_at(request.target) else {
-        return Err(Refusal::new(Code::NoRoute));
-    };
-    if !has_method(place.route, request.verb) {
-        return Err(Refusal::new(Code::Method));
-    }
-    if !is_for(place.route, actor) {
-        return Err(Refusal::new(Code::Role));
-    }
-    identified(place.route, request.verb, place.id)
+/// What the author calls for.
+#[derive(Clone, Copy, Debug, PartialEq, Eq)]
+pub enum AuthorCall {
+    /// All published policies.
+    Policies,
+    /// A published policy.
+    Policy(Id),
+    /// All published geographies.
+    Geographies,
+    /// A published geography.
+    Geography(Id),
+    /// To keep the body as a draft, in place of one under this identifier.
+    PutDraft(DraftKind, Id),
+    /// A draft.
+    Draft(DraftKind, Id),
+    /// To drop a draft.
+    DropDraft(DraftKind, Id),
+    /// To publish the drafts that the body names.
+    Publish,
 }
 
-fn identified(route: Route, verb: Verb, segment: Option<&str>) -> Result<Call, Refusal>
-    ensures { result ≡ identified route verb (option_copied segment.entry) }
-{
-    let Some(segment) = segment else {
-        return Ok(Call {
-            route,
-            verb,
-            id: None,
-        });
-    };
-    match Id::read(segment) {
-        Some(id) => Ok(Call {
-            route,
-            verb,
-            id: Some(id),
-        }),
-        None => Err(Refusal::new(Code::BadId)),
-    }
+/// What an operator calls for.
+#[derive(Clone, Copy, Debug, PartialEq, Eq)]
+pub enum OperatorCall {
+    /// The published policies that are meant for it.
+    Policies,
+    /// A published policy that is meant for it.
+    Policy(Id),
+    /// All published geographies.
+    Geographies,
+    /// A published geography.
+    Geography(Id),
+    /// To take the body as a report of a vehicle.
+    Report,
+    /// Its vehicles.
+    Vehicles,
+    /// To forget one of its vehicles.
+    RemoveVehicle(Id),
+    /// How its vehicles stand to all policies in force for it.
+    Compliance,
+    /// How they stand to one of these.
+    PolicyCompliance(Id),
 }
 
-fn is_known(actor: Actor) -> bool
-    ensures { result ≡ is_known actor }
-{
-    match actor {
-        Actor::Author | Actor::Operator(_) => true,
-        Actor::Nobody => false,
-    }
-}
-
-/// Whether the route has the method.
-fn has_method(route: Route, verb: Verb) -> bool
-    ensures { result ≡ has_method route verb }
-{
-    match route {
-        Route::FleetEvents | Route::Publish => matches!(verb, Verb::Post),
-        Route::FleetVehicle => matches!(verb, Verb::Delete),
-        Route::PolicyDraft | Route::GeographyDraft => {
-            matches!(verb, Verb::Get | Verb::Put | Verb::Delete)
-        }
-        Route::Policies
-        | Route::Policy
-        | Route::Geographies
-        | Route::Geography
-        | Route::FleetVehicles
-        | Route::Compliance
-        | Route::PolicyCompliance => matches!(verb, Verb::Get),
-    }
-}
-
-/// Whether the route is for the one who asks.
-fn is_for(route: Route, actor: Actor) -> bool
-    ensures { result ≡ is_for route actor }
-{
-    match route {
-        Route::Policies | Route::Policy | Route::Geographies | Route::Geography => is_known(actor),
-        Route::FleetEvents
-        | Route::FleetVehicles
-        | Route::FleetVehicle
-        | Route::Compliance
-        | Route::PolicyCompliance => matches!(actor, Actor::Operator(_)),
-        Route::PolicyDraft | Route::GeographyDraft | Route::Publish => {
-            matches!(actor, Actor::Author)
-        }
-    }
+/// What a request calls for, by who asks.
+#[derive(Clone, Copy, Debug, PartialEq, Eq)]
+pub enum Call {
+    Author(AuthorCall),
+    /// By the operator at this place of the configuration.
+    Operator(usize, OperatorCall),
 }
