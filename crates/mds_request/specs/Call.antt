@@ -1,6 +1,6 @@
 -- What a request calls for, or the first refusal.
-use Rattle.std.specs.Prelude.{ℕ, List, [], ◌∷◌, Bool, true, false, ◌&&◌, nat_lt, bytes_eq, codes, length, filter, if◌then◌else◌, Option, Some, None, option_map, Result, Ok, Err}
-use Rattle.std.specs.List.{before_first, slice_split}
+use Rattle.std.specs.Prelude.{ℕ, List, [], ◌∷◌, Bool, true, false, ◌&&◌, ◌==◌, nat_lt, bytes_eq, codes, length, filter, if◌then◌else◌, Option, Some, None, option_map, Result, Ok, Err}
+use Rattle.std.specs.List.{list_any, before_first, slice_split}
 use Rattle.std.specs.Str.{is_utf8}
 use Rattle.uuid.specs.Text.{parsed}
 use Rattle.mds_text.specs.declared.draft_kind.DraftKind.TheVariants.{Policy, Geography}
@@ -20,7 +20,7 @@ use Rattle.mds_request.specs.declared.config.Actor.TheVariants.{Author, Operator
 use Rattle.mds_request.specs.declared.request.Verb.{Verb}
 use Rattle.mds_request.specs.declared.request.Verb.TheVariants.{Get, Put, Post, Delete}
 
--- a segment of a row's path: a word, or `{id}`, which is any segment that isn't empty
+-- a segment of a row's path: a word, or `{id}`, which is any segment
 pub data Part : Type 0 where
   word : (text : List ℕ) → Part
   id : Part
@@ -84,18 +84,33 @@ table =
     ∷ row Post (word (codes "publish") ∷ []) (plain author.Publish) none
     ∷ []
 
+abbrev pub is_query_mark : ℕ → Bool
+is_query_mark b = b == 63
+
 -- The path is what stands before the first `?` of the target (RFC 3986, section 3.4).
 abbrev pub path_of : List ℕ → List ℕ
-path_of target = before_first (λ b. b == 63) target
+path_of target = before_first is_query_mark target
+
+abbrev pub is_slash : ℕ → Bool
+is_slash b = b == 47
+
+-- no byte
+abbrev pub is_empty : List ℕ → Bool
+is_empty [] = true
+is_empty (b ∷ bs) = false
+
+-- the segments, if none of them is empty
+abbrev pub all_some : List (List ℕ) → List (List ℕ)
+all_some segments = if list_any is_empty segments then [] else segments
 
 -- the segments stand behind a path's first slash, with which it begins (RFC 3986, section 3.3); any other path has none
 abbrev pub behind_slash : List (List ℕ) → List (List ℕ)
-behind_slash ([] ∷ segments) = segments
+behind_slash ([] ∷ segments) = all_some segments
 behind_slash pieces = []
 
 -- the segments of a path; one that isn't UTF-8 has none
 abbrev pub segments_in : List ℕ → List (List ℕ)
-segments_in path = if is_utf8 path then behind_slash (slice_split (λ b. b == 47) path) else []
+segments_in path = if is_utf8 path then behind_slash (slice_split is_slash path) else []
 
 -- the segments of a target's path
 abbrev pub segments_of : List ℕ → List (List ℕ)
@@ -104,8 +119,8 @@ segments_of target = segments_in (path_of target)
 -- the segments are those of a row's path
 abbrev pub fits : List Part → List (List ℕ) → Bool
 fits [] [] = true
-fits (word w ∷ parts) (segment ∷ segments) = bytes_eq segment w && fits parts segments
-fits (id ∷ parts) ((b ∷ segment) ∷ segments) = fits parts segments
+fits (word w ∷ parts) (segment ∷ segments) = fits parts segments && bytes_eq segment w
+fits (id ∷ parts) (segment ∷ segments) = fits parts segments
 fits parts segments = false
 
 -- the identifier in the path (RFC 9562, section 4), where the row has one
@@ -130,7 +145,7 @@ is_verb Get Get = true
 is_verb Put Put = true
 is_verb Post Post = true
 is_verb Delete Delete = true
-is_verb verb other = false
+is_verb _ _ = false
 
 -- the call of the first of these rows that has the method
 abbrev pub by_verb : Actor → Verb → List (List ℕ) → List Row → Result Call Code
@@ -143,11 +158,13 @@ abbrev pub by_rows : Actor → Verb → List (List ℕ) → List Row → Result 
 by_rows actor verb segments [] = Err NoRoute
 by_rows actor verb segments (row ∷ rows) = by_verb actor verb segments (row ∷ rows)
 
--- the call at a path, by the rows of the table that have it
+-- the rows of the table that have the path
+abbrev pub rows_at : List (List ℕ) → List Row
+rows_at segments = filter (λ row. fits row.path segments) table
+
 abbrev pub called_at : Actor → Verb → List (List ℕ) → Result Call Code
 called_at Nobody verb segments = Err Token
-called_at actor verb segments =
-    by_rows actor verb segments (filter (λ row. fits row.path segments) table)
+called_at actor verb segments = by_rows actor verb segments (rows_at segments)
 
 -- The call, or the first refusal in this order: the body is too large, the token is nobody's, no row has the path, no
 -- row with the path has the method, the row makes no call for the one who asks, and the identifier is none.
