@@ -1,4 +1,5 @@
 mod Actors
 mod Alike
+mod Calls
 mod Lists
 mod Paths

@@ -2,6 +2,7 @@
 use Rattle.std.proofs.Common.{◌≡◌, ℕ, suc, ◌+◌, Bool, true, false, not, cond, List, [], ◌∷◌, length, take, nat_lt, Option, Some, None, position, refl, ap, sym, ◌∙◌, arith, MatchOption, Result, subst, lit<}
 use Rattle.std.specs.List.{list_any, slice_split, onto_first, position_or_len, before_first, after_first}
 use Rattle.std.specs.Str.{IsUtf8, is_utf8}
+use Rattle.std.proofs.Math.Bool.{and-false}
 use Rattle.std.proofs.lemmas.Bool.{ltb-false}
 use Rattle.std.proofs.lemmas.List.{take_all}
 use Rattle.std.proofs.lemmas.List.Splits.{slice_split_first, slice_split-cons_no}
@@ -57,17 +58,17 @@ none_of : (segments : List (List ℕ)) (empty : Bool) → rows_at segments ≡ [
 none_of segments true e = refl
 none_of segments false e = e
 
-more_pieces : (a b c : List ℕ) (pieces : List (List ℕ)) (first : ℕ) → rows_at (a ∷ b ∷ c ∷ onto_first first pieces) ≡ []
-more_pieces a b c [] first = refl
-more_pieces a b c (piece ∷ pieces) first = refl
+four : (a b c d : List ℕ) (rest : List (List ℕ)) → rows_at (a ∷ b ∷ c ∷ d ∷ rest) ≡ []
+four a b c d rest = simp and-false
 
 some_piece : (a b c : List ℕ) (x : ℕ) (pieces : List (List ℕ)) (slash : Bool) → rows_at (a ∷ b ∷ c ∷ cond slash ([] ∷ pieces) (onto_first x pieces)) ≡ []
-some_piece a b c x pieces true = refl
-some_piece a b c x pieces false = more_pieces a b c pieces x
+some_piece a b c x pieces true = four a b c [] pieces
+some_piece a b c x [] false = four a b c (x ∷ []) []
+some_piece a b c x (piece ∷ pieces) false = four a b c (x ∷ piece) pieces
 
 -- no row has more than three segments
 too_many : (a b c text : List ℕ) → rows_at (a ∷ b ∷ c ∷ slice_split is_slash text) ≡ []
-too_many a b c [] = refl
+too_many a b c [] = four a b c [] []
 too_many a b c (x ∷ text) = some_piece a b c x (slice_split is_slash text) (is_slash x)
 
 pub four_segments : (path rest third last a b c : List ℕ) → slice_split is_slash path ≡ a ∷ slice_split is_slash rest → slice_split is_slash rest ≡ b ∷ slice_split is_slash third → slice_split is_slash third ≡ c ∷ slice_split is_slash last

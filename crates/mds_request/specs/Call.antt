@@ -119,7 +119,7 @@ segments_of target = segments_in (path_of target)
 -- the segments are those of a row's path
 abbrev pub fits : List Part → List (List ℕ) → Bool
 fits [] [] = true
-fits (word w ∷ parts) (segment ∷ segments) = fits parts segments && bytes_eq segment w
+fits (word w ∷ parts) (segment ∷ segments) = bytes_eq segment w && fits parts segments
 fits (id ∷ parts) (segment ∷ segments) = fits parts segments
 fits parts segments = false
 

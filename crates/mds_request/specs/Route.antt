@@ -1,11 +1,10 @@
 -- The segments that each route of the program is.
 use Rattle.std.specs.Prelude.{◌≡◌, ℕ, List, [], ◌∷◌, codes, Result, Ok, Err}
-use Rattle.mds_text.specs.declared.draft_kind.DraftKind.TheVariants.{Policy as OfPolicy, Geography as OfGeography}
 use Rattle.mds_request.specs.Call.{rows_at}
 use Rattle.mds_request.specs.declared.code.Code.{Code}
 use Rattle.mds_request.specs.declared.code.Code.TheVariants.{NoRoute}
 use Rattle.mds_request.specs.declared.routes.Route.{Route}
-use Rattle.mds_request.specs.declared.routes.Route.TheVariants.{Policies, Policy, Geographies, Geography, FleetEvents, FleetVehicles, FleetVehicle, Compliance, PolicyCompliance, Draft, Publish}
+use Rattle.mds_request.specs.declared.routes.Route.TheVariants.{Policies, Policy, Geographies, Geography, FleetEvents, FleetVehicles, FleetVehicle, Compliance, PolicyCompliance, PolicyDraft, GeographyDraft, Publish}
 
 abbrev pub spelled : Route → List (List ℕ)
 spelled Policies = codes "policies" ∷ []
@@ -17,8 +16,8 @@ spelled FleetVehicles = codes "fleet" ∷ codes "vehicles" ∷ []
 spelled (FleetVehicle id) = codes "fleet" ∷ codes "vehicles" ∷ id.now ∷ []
 spelled Compliance = codes "compliance" ∷ []
 spelled (PolicyCompliance id) = codes "compliance" ∷ id.now ∷ []
-spelled (Draft OfPolicy id) = codes "drafts" ∷ codes "policies" ∷ id.now ∷ []
-spelled (Draft OfGeography id) = codes "drafts" ∷ codes "geographies" ∷ id.now ∷ []
+spelled (PolicyDraft id) = codes "drafts" ∷ codes "policies" ∷ id.now ∷ []
+spelled (GeographyDraft id) = codes "drafts" ∷ codes "geographies" ∷ id.now ∷ []
 spelled Publish = codes "publish" ∷ []
 
 -- a route is found exactly where the table has a row

@@ -7,6 +7,7 @@ ghost use Rattle.mds_request.specs.Request.{request_of};
 ghost use Rattle.mds_request.specs.Route.{spelled};
 ghost use Rattle.mds_request.specs.declared.config.Actor.TheVariants.{Author as the_author, Operator as the_operator};
 ghost use Rattle.mds_request.specs.declared.code.Code.TheVariants.{BadId};
+ghost use Rattle.mds_request.specs.declared.request.Verb.TheVariants.{Get, Put, Post, Delete};
 
 use crate::code::Code;
 use crate::config::{Actor, Config};
@@ -92,42 +93,139 @@ pub fn read_call(routes: &Routes, config: &Config, request: &Request) -> Result<
 fn author_call(route: Route, verb: Verb) -> Result<Call, Code>
     ensures { result ≡ called_at the_author verb (spelled route.entry) }
 {
-    let call = match (route, verb) {
-        (Route::Policies, Verb::Get) => AuthorCall::Policies,
-        (Route::Policy(id), Verb::Get) => AuthorCall::Policy(read_id(id)?),
-        (Route::Geographies, Verb::Get) => AuthorCall::Geographies,
-        (Route::Geography(id), Verb::Get) => AuthorCall::Geography(read_id(id)?),
-        (Route::Draft(kind, id), Verb::Put) => AuthorCall::PutDraft(kind, read_id(id)?),
-        (Route::Draft(kind, id), Verb::Get) => AuthorCall::Draft(kind, read_id(id)?),
-        (Route::Draft(kind, id), Verb::Delete) => AuthorCall::DropDraft(kind, read_id(id)?),
-        (Route::Publish, Verb::Post) => AuthorCall::Publish,
-        (Route::FleetEvents, Verb::Post)
-        | (Route::FleetVehicles | Route::Compliance | Route::PolicyCompliance(_), Verb::Get)
-        | (Route::FleetVehicle(_), Verb::Delete) => return Err(Code::Role),
-        _ => return Err(Code::Method),
+    match verb {
+        Verb::Get => author_get(route),
+        Verb::Put => author_put(route),
+        Verb::Post => author_post(route),
+        Verb::Delete => author_delete(route),
+        Verb::Other => Err(Code::Method),
+    }
+}
+
+fn author_get(route: Route) -> Result<Call, Code>
+    ensures { result ≡ called_at the_author Get (spelled route.entry) }
+{
+    let call = match route {
+        Route::Policies => AuthorCall::Policies,
+        Route::Policy(id) => AuthorCall::Policy(read_id(id)?),
+        Route::Geographies => AuthorCall::Geographies,
+        Route::Geography(id) => AuthorCall::Geography(read_id(id)?),
+        Route::PolicyDraft(id) => AuthorCall::Draft(DraftKind::Policy, read_id(id)?),
+        Route::GeographyDraft(id) => AuthorCall::Draft(DraftKind::Geography, read_id(id)?),
+        Route::FleetVehicles | Route::Compliance | Route::PolicyCompliance(_) => {
+            return Err(Code::Role);
+        }
+        Route::FleetEvents | Route::FleetVehicle(_) | Route::Publish => {
+            return Err(Code::Method);
+        }
     };
     Ok(Call::Author(call))
+}
+
+fn author_put(route: Route) -> Result<Call, Code>
+    ensures { result ≡ called_at the_author Put (spelled route.entry) }
+{
+    match route {
+        Route::PolicyDraft(id) => Ok(Call::Author(AuthorCall::PutDraft(
+            DraftKind::Policy,
+            read_id(id)?,
+        ))),
+        Route::GeographyDraft(id) => Ok(Call::Author(AuthorCall::PutDraft(
+            DraftKind::Geography,
+            read_id(id)?,
+        ))),
+        _ => Err(Code::Method),
+    }
+}
+
+fn author_post(route: Route) -> Result<Call, Code>
+    ensures { result ≡ called_at the_author Post (spelled route.entry) }
+{
+    match route {
+        Route::Publish => Ok(Call::Author(AuthorCall::Publish)),
+        Route::FleetEvents => Err(Code::Role),
+        _ => Err(Code::Method),
+    }
+}
+
+fn author_delete(route: Route) -> Result<Call, Code>
+    ensures { result ≡ called_at the_author Delete (spelled route.entry) }
+{
+    match route {
+        Route::PolicyDraft(id) => {
+            let id = read_id(id)?;
+            Ok(Call::Author(AuthorCall::DropDraft(DraftKind::Policy, id)))
+        }
+        Route::GeographyDraft(id) => {
+            let id = read_id(id)?;
+            Ok(Call::Author(AuthorCall::DropDraft(DraftKind::Geography, id)))
+        }
+        Route::FleetVehicle(_) => Err(Code::Role),
+        _ => Err(Code::Method),
+    }
 }
 
 fn operator_call(place: usize, route: Route, verb: Verb) -> Result<Call, Code>
     ensures { result ≡ called_at (the_operator place) verb (spelled route.entry) }
 {
-    let call = match (route, verb) {
-        (Route::Policies, Verb::Get) => OperatorCall::Policies,
-        (Route::Policy(id), Verb::Get) => OperatorCall::Policy(read_id(id)?),
-        (Route::Geographies, Verb::Get) => OperatorCall::Geographies,
-        (Route::Geography(id), Verb::Get) => OperatorCall::Geography(read_id(id)?),
-        (Route::FleetEvents, Verb::Post) => OperatorCall::Report,
-        (Route::FleetVehicles, Verb::Get) => OperatorCall::Vehicles,
-        (Route::FleetVehicle(id), Verb::Delete) => OperatorCall::RemoveVehicle(read_id(id)?),
-        (Route::Compliance, Verb::Get) => OperatorCall::Compliance,
-        (Route::PolicyCompliance(id), Verb::Get) => OperatorCall::PolicyCompliance(read_id(id)?),
-        (Route::Draft(..), Verb::Put | Verb::Get | Verb::Delete) | (Route::Publish, Verb::Post) => {
-            return Err(Code::Role);
-        }
-        _ => return Err(Code::Method),
-    };
-    Ok(Call::Operator(place, call))
+    match verb {
+        Verb::Get => operator_get(place, route),
+        Verb::Put => operator_put(place, route),
+        Verb::Post => operator_post(place, route),
+        Verb::Delete => operator_delete(place, route),
+        Verb::Other => Err(Code::Method),
+    }
+}
+
+fn operator_get(place: usize, route: Route) -> Result<Call, Code>
+    ensures { result ≡ called_at (the_operator place) Get (spelled route.entry) }
+{
+    match route {
+        Route::Policies => Ok(Call::Operator(place, OperatorCall::Policies)),
+        Route::Policy(id) => Ok(Call::Operator(place, OperatorCall::Policy(read_id(id)?))),
+        Route::Geographies => Ok(Call::Operator(place, OperatorCall::Geographies)),
+        Route::Geography(id) => Ok(Call::Operator(place, OperatorCall::Geography(read_id(id)?))),
+        Route::FleetVehicles => Ok(Call::Operator(place, OperatorCall::Vehicles)),
+        Route::Compliance => Ok(Call::Operator(place, OperatorCall::Compliance)),
+        Route::PolicyCompliance(id) => Ok(Call::Operator(
+            place,
+            OperatorCall::PolicyCompliance(read_id(id)?),
+        )),
+        Route::PolicyDraft(_) | Route::GeographyDraft(_) => Err(Code::Role),
+        _ => Err(Code::Method),
+    }
+}
+
+fn operator_put(place: usize, route: Route) -> Result<Call, Code>
+    ensures { result ≡ called_at (the_operator place) Put (spelled route.entry) }
+{
+    match route {
+        Route::PolicyDraft(_) | Route::GeographyDraft(_) => Err(Code::Role),
+        _ => Err(Code::Method),
+    }
+}
+
+fn operator_post(place: usize, route: Route) -> Result<Call, Code>
+    ensures { result ≡ called_at (the_operator place) Post (spelled route.entry) }
+{
+    match route {
+        Route::FleetEvents => Ok(Call::Operator(place, OperatorCall::Report)),
+        Route::Publish => Err(Code::Role),
+        _ => Err(Code::Method),
+    }
+}
+
+fn operator_delete(place: usize, route: Route) -> Result<Call, Code>
+    ensures { result ≡ called_at (the_operator place) Delete (spelled route.entry) }
+{
+    match route {
+        Route::FleetVehicle(id) => match Id::read(id) {
+            Some(id) => Ok(Call::Operator(place, OperatorCall::RemoveVehicle(id))),
+            None => Err(Code::BadId),
+        },
+        Route::PolicyDraft(_) | Route::GeographyDraft(_) => Err(Code::Role),
+        _ => Err(Code::Method),
+    }
 }
 
 /// The identifier in a path, a UUID (RFC 9562, section 4).

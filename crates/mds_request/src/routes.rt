@@ -5,7 +5,6 @@ ghost use Rattle.mds_request.specs.Call.{is_query_mark, is_slash, path_of, all_s
 ghost use Rattle.mds_request.specs.Route.{Finds};
 
 use crate::code::Code;
-use mds_text::DraftKind;
 use std::alloc::{AllocError, Global};
 use std::str;
 
@@ -30,8 +29,10 @@ pub(crate) enum Route<'a> {
     Compliance,
     /// `/compliance/{id}`
     PolicyCompliance(&'a str),
-    /// `/drafts/policies/{id}` and `/drafts/geographies/{id}`
-    Draft(DraftKind, &'a str),
+    /// `/drafts/policies/{id}`
+    PolicyDraft(&'a str),
+    /// `/drafts/geographies/{id}`
+    GeographyDraft(&'a str),
     /// `/publish`
     Publish,
 }
@@ -177,9 +178,9 @@ fn of_three<'a>(a: &str, b: &str, c: &'a str) -> Result<Route<'a>, Code>
     } else if a == "fleet" && b == "vehicles" {
         Ok(Route::FleetVehicle(c))
     } else if a == "drafts" && b == "policies" {
-        Ok(Route::Draft(DraftKind::Policy, c))
+        Ok(Route::PolicyDraft(c))
     } else if a == "drafts" && b == "geographies" {
-        Ok(Route::Draft(DraftKind::Geography, c))
+        Ok(Route::GeographyDraft(c))
     } else {
         Err(Code::NoRoute)
     }
