@@ -92,16 +92,11 @@ is_superseded publications t id = list_any (supersedes t id) (published_policies
 abbrev pub is_withdrawn : List Publication → ℕ → List ℕ → Bool
 is_withdrawn publications t id = list_any (λ p. nat_le p.moment t && is_among p.withdrawn id) publications
 
--- a moment is before an end; an open end is after every moment
-abbrev pub is_before : ℕ → Option ℕ → Bool
-is_before t None = true
-is_before t (Some end) = nat_lt t end
-
 -- whether a published policy is in force for an operator at a moment
 abbrev pub is_in_force : List Publication → List ℕ → ℕ → Published Policy → Bool
 is_in_force publications operator t p =
     is_effective t p
-    && is_before t p.document.end
+    && option_map_or (nat_lt t) p.document.end true
     && is_meant_for operator p.document
     && not (is_superseded publications t p.document.id)
     && not (is_withdrawn publications t p.document.id)
