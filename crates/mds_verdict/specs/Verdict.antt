@@ -95,14 +95,14 @@ judged rule local measure rows =
     else if not (is_open rule.window local) then (record { rule = rule.id; status = Inactive; measure = 0; devices = [] })
     else (record { rule = rule.id; status = status_of rule.kind rule.bounds measure; measure = measure; devices = listed (status_of rule.kind rule.bounds measure) rows })
 
--- the verdict on the rule with this number in a policy, by the rows that it counts
-abbrev pub verdict_of : Policy → ℕ → Rule → (List ℕ → List (List (List Position))) → List Row → Local → ℕ → Verdict
-verdict_of policy n rule polygons rows local t =
-    judged rule local (length (measured policy n rule polygons rows local t)) (measured policy n rule polygons rows local t)
+-- one verdict for each rule of a policy, in their order, by the rows that are counted and those that are listed
+abbrev pub verdicts_by : Policy → (List ℕ → List (List (List Position))) → List Row → List Row → Local → ℕ → List Verdict
+verdicts_by policy polygons counted named local t =
+    map (λ e. judged e.1 local (length (measured policy e.0 e.1 polygons counted local t)) (measured policy e.0 e.1 polygons named local t)) (enumerate_from 0 policy.rules)
 
--- one verdict for each rule of a policy, in their order
+-- the verdicts on a policy's rules
 abbrev pub verdicts : Policy → (List ℕ → List (List (List Position))) → List Row → Local → ℕ → List Verdict
-verdicts policy polygons rows local t = map (λ e. verdict_of policy e.0 e.1 polygons rows local t) (enumerate_from 0 policy.rules)
+verdicts policy polygons rows local t = verdicts_by policy polygons rows rows local t
 
 -- a status, as it stands in a report
 abbrev pub status_name : Status → List ℕ
