@@ -99,8 +99,8 @@ fn list<P: Places>(
 fn count_in(verdict: &mut RuleVerdict, rule: &Rule)
     requires { verdict.old.measure < 2 ^ 63 }
     ensures { verdict_document verdict.new ≡ record (verdict_document verdict.old) {
-        status = status_of (rule_document rule.now).kind (rule_document rule.now).bounds (verdict.old.measure + 1);
-        measure = verdict.old.measure + 1;
+      status = status_of (rule_document rule.now).kind (rule_document rule.now).bounds (verdict.old.measure + 1);
+      measure = verdict.old.measure + 1;
     } }
 {
     verdict.measure += 1;

@@ -6,7 +6,9 @@ ghost use Rattle.mds_verdict.specs.Verdict.{printed_id, reported, reported_devic
 
 use crate::verdict::{RuleVerdict, Status};
 use mds_policy::Policy;
-use mds_text::{Id, Member, Tree, add_member, id_tree, int_tree, list_tree, object_tree, text_tree};
+use mds_text::{
+    Id, Member, Tree, add_member, id_tree, int_tree, list_tree, object_tree, text_tree,
+};
 use std::alloc::{AllocError, Global};
 
 /// The report on a policy, as the server prints it: an object with the policy's identifier and, for
@@ -55,7 +57,11 @@ fn devices_member(alloc: Global, verdict: &RuleVerdict) -> Result<Vec<Member>, A
 {
     let mut members = Vec::new(alloc);
     if verdict.status == Status::Violated {
-        add_member(&mut members, "devices", devices_tree(alloc, &verdict.devices)?)?;
+        add_member(
+            &mut members,
+            "devices",
+            devices_tree(alloc, &verdict.devices)?,
+        )?;
     }
     Ok(members)
 }
