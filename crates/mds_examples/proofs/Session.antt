@@ -20,8 +20,9 @@ use Rattle.mds_examples.specs.Policies.{cap}
 use Rattle.mds_examples.specs.Requests.{configuration, request}
 use Rattle.mds_examples.specs.Vehicles.{first_report, second_report, third_report}
 
-abbrev pub report_call : Call
-report_call = Operator 0 Report
+-- a report by the operator at this place
+abbrev pub report_call : ℕ → Call
+report_call place = Operator place Report
 
 abbrev pub square_call : Call
 square_call = Author (PutDraft Geography square_id)
@@ -38,11 +39,11 @@ cap_put target body call read = rw (call, read, no_cap, policy_count) refl
 pub cap_again : (target body : List ℕ) → call_of configuration (request 1000 (codes "city") Put target body) ≡ Ok cap_call → read_policy body ≡ Ok cap → (answered after_cap (request 1000 (codes "city") Put target body)).0 ≡ done (codes "replaced")
 cap_again target body call read = rw (call, read, the_cap) refl
 
-pub first_reported : (target body : List ℕ) → call_of configuration (request 2000 (codes "alfa") Post target body) ≡ Ok report_call → read_report body ≡ Ok (first_report 2000) → answered after_publication (request 2000 (codes "alfa") Post target body) ≡ (done (codes "new"), after_first_vehicle)
+pub first_reported : (target body : List ℕ) → call_of configuration (request 2000 (codes "alfa") Post target body) ≡ Ok (report_call 0) → read_report body ≡ Ok (first_report 2000) → answered after_publication (request 2000 (codes "alfa") Post target body) ≡ (done (codes "new"), after_first_vehicle)
 first_reported target body call read = rw (call, read, none_first, none_count, none_first) refl
 
-pub second_reported : (target body : List ℕ) → call_of configuration (request 2001 (codes "alfa") Post target body) ≡ Ok report_call → read_report body ≡ Ok (second_report 2000) → answered after_first_vehicle (request 2001 (codes "alfa") Post target body) ≡ (done (codes "new"), after_second_vehicle)
+pub second_reported : (target body : List ℕ) → call_of configuration (request 2001 (codes "alfa") Post target body) ≡ Ok (report_call 0) → read_report body ≡ Ok (second_report 2000) → answered after_first_vehicle (request 2001 (codes "alfa") Post target body) ≡ (done (codes "new"), after_second_vehicle)
 second_reported target body call read = rw (call, read, one_second, one_count, one_second) refl
 
-pub third_reported : (target body : List ℕ) → call_of configuration (request 2500 (codes "alfa") Post target body) ≡ Ok report_call → read_report body ≡ Ok (third_report 2000) → answered after_second_vehicle (request 2500 (codes "alfa") Post target body) ≡ (error 409 (codes "fleet_full"), after_second_vehicle)
+pub third_reported : (target body : List ℕ) → call_of configuration (request 2500 (codes "alfa") Post target body) ≡ Ok (report_call 0) → read_report body ≡ Ok (third_report 2000) → answered after_second_vehicle (request 2500 (codes "alfa") Post target body) ≡ (error 409 (codes "fleet_full"), after_second_vehicle)
 third_reported target body call read = rw (call, read, two_third, two_count) refl
