@@ -67,6 +67,12 @@ is_lowering s = has_exponent s && begins_with 45 (drop 1 s)
 abbrev pub if_all : {A : Type 0} → A → List ℕ → Option A
 if_all a s = if length s == 0 then Some a else None
 
+-- the number of two decimal digits, where it isn't more than it may be
+abbrev pub two_digits : ℕ → ℕ → ℕ → Option ℕ
+two_digits most tens ones =
+    if is_ascii_digit tens && is_ascii_digit ones && nat_le ((tens - 48) * 10 + (ones - 48)) most
+    then Some ((tens - 48) * 10 + (ones - 48)) else None
+
 -- number: a minus perhaps, int, frac and exp, and nothing else
 unfoldable pub number_of : List ℕ → Option Parts
 number_of s =
@@ -114,6 +120,9 @@ most_exponent_digits = 3
 
 abbrev pub most_units : ℕ
 most_units = 1800000000
+
+abbrev pub least_units : ℤ
+least_units = neg_ℤ (pos most_units)
 
 -- a number whose text isn't too long
 abbrev pub short_number : ℕ → Option Parts → Result Parts Fault

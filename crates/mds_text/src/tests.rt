@@ -180,7 +180,6 @@ fn members_are_read(rt: HostRuntime) -> Result<(), Fail> {
     assert!(rt; Some(required_id(document, Field::PolicyId)?) == Id::read(FOUR));
     assert_eq!(rt; required_moment(document, Field::StartDate)?.get(), 0);
     assert_eq!(rt; bound_at(document, Field::Minimum)?, Some(1_000_000_000));
-    assert_eq!(rt; required_int(document, Field::Limit)?, -7);
     assert_eq!(rt; bool_at(document, Field::InclusiveMinimum)?, Some(false));
     assert_eq!(rt;
         required_token(document, Field::VehicleType)?.as_str(),
