@@ -1,8 +1,8 @@
 -- What a number is (RFC 8259, section 6), which one it is, and how it is kept in units of 10^-7 degree.
-use Rattle.std.specs.Prelude.{ℕ, ℤ, pos, neg_ℤ, ◌+◌, ◌-◌, ◌*◌, ◌/◌, ◌^◌, ◌==◌, ◌&&◌, ◌||◌, not, nat_le, Bool, false, if◌then◌else◌, List, [], ◌∷◌, ◌++◌, length, drop, Option, Some, None, option_and_then, Result, Ok, Err}
-use Rattle.std.specs.Char.{is_ascii_digit}
+use Rattle.std.specs.Prelude.{ℕ, zero, suc, ℤ, pos, neg_ℤ, ◌+◌, ◌-◌, ◌*◌, ◌/◌, ◌^◌, ◌==◌, ◌&&◌, ◌||◌, not, nat_le, nat_lt, Bool, false, if◌then◌else◌, List, [], ◌∷◌, ◌++◌, length, drop, slice_index, Option, Some, None, option_and_then, Result, Ok, Err}
+use Rattle.std.specs.Char.{digit_value, is_ascii_digit}
 use Rattle.std.specs.List.{prefix_len, take_while}
-use Rattle.std.specs.Str.Parse.{digits_value}
+use Rattle.std.specs.Str.Parse.{AllDigits, digits_value}
 use Rattle.mds_text.specs.declared.number.Number.{Number}
 use Rattle.mds_text.specs.Fault.{Fault, bad_number, out_of_range, ◌>>=◌}
 
@@ -136,6 +136,29 @@ in_range negative size = if nat_le size most_units then Ok (signed negative size
 -- the units of a number's text
 unfoldable pub units_of : List ℕ → Result ℤ Fault
 units_of s = short_number (length s) (number_of s) >>= λ n. in_range n.negative (size_of n)
+
+-- the parts of a number are digits
+pub record HasDigits (n : Parts) : Type 0 where
+  pub whole : AllDigits 10 n.whole
+  pub fraction : AllDigits 10 n.fraction
+  pub exponent : AllDigits 10 n.exponent
+
+-- the digit at a place, and zero behind the last
+abbrev pub digit_at : List ℕ → ℕ → ℕ
+digit_at ds place = if nat_lt place (length ds) then digit_value (slice_index ds place) else 0
+
+-- the number that so many digits write
+unfoldable pub leading : List ℕ → ℕ → ℕ
+leading ds zero = 0
+leading ds (suc place) = leading ds place * 10 + digit_at ds place
+
+-- how many digits of a number of degrees stand in front of the hundredths of a unit
+abbrev pub places_of : Parts → ℕ
+places_of n = length n.whole + 8 + tens_up n - (if n.lowers then digits_value 10 n.exponent else 0)
+
+-- a number up to a limit
+abbrev pub up_to_limit : ℕ → ℕ → Option ℕ
+up_to_limit most n = if nat_le n most then Some n else None
 
 -- the parts that a `Number` lends
 abbrev pub parts_view : Number → Parts

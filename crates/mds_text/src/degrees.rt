@@ -3,7 +3,7 @@ ghost use Rattle.std.specs.Prelude.{◌≡◌, ◌+◌, ◌^◌, ◌<◌, ◌≤
 ghost use Rattle.std.specs.Char.{digit_value};
 ghost use Rattle.std.specs.Str.Parse.{AllDigits, digits_value};
 ghost use Rattle.mds_text.specs.Fault.{Gives, number_cause};
-ghost use Rattle.mds_text.specs.Leading.{digit_at, leading, places_of, up_to_limit, HasDigits};
+ghost use Rattle.mds_text.specs.Numbers.{digit_at, leading, places_of, up_to_limit, HasDigits};
 ghost use Rattle.mds_text.specs.Numbers.{in_range, most_bytes, most_exponent_digits, most_units, number_of, parts_view, short_number, size_of, units_of};
 
 use crate::fault::NumberFault;

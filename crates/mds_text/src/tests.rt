@@ -133,6 +133,15 @@ fn tokens_moments_and_units(rt: HostRuntime) {
 }
 
 #[test]
+fn two_digits_are_read(rt: HostRuntime) {
+    assert_eq!(rt; two_digits(b'0', b'0', 23), Some(0));
+    assert_eq!(rt; two_digits(b'2', b'3', 23), Some(23));
+    assert_eq!(rt; two_digits(b'2', b'4', 23), None);
+    assert_eq!(rt; two_digits(b'+', b'1', 23), None);
+    assert_eq!(rt; two_digits(b'1', b':', 23), None);
+}
+
+#[test]
 fn documents_are_read_and_printed(rt: HostRuntime) -> Result<(), Fail> {
     let alloc = rt.alloc();
     let image = read_tree(alloc, IMAGE.as_bytes())?;
