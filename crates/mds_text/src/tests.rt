@@ -196,7 +196,7 @@ fn members_are_read(rt: HostRuntime) -> Result<(), Fail> {
     );
     let rules = required_list(document, Field::Rules)?;
     assert_eq!(rt; rules.len(), 2);
-    assert_eq!(rt; int_of(&rules[1], Field::Rules)?, 2);
+    assert!(rt; matches!(&rules[1], Tree::Int(2)));
     assert_eq!(rt;
         list_of(required_member(document, Field::Rules)?, Field::Rules)?.len(),
         2
