@@ -32,22 +32,18 @@ optional read (Some value) = read value >>= λ a. Ok (Some a)
 abbrev pub optional_at : {A : Type 0} → (Field → Json → Result A Fault) → Json → Field → Result (Option A) Fault
 optional_at read document field = member_at document field >>= optional (read field)
 
--- a member that has to be there
-abbrev pub or_missing : {A : Type 0} → Field → Option A → Result A Fault
-or_missing field None = Err (bad_field field)
-or_missing field (Some a) = Ok a
-
-abbrev pub required_at : {A : Type 0} → (Field → Json → Result A Fault) → Json → Field → Result A Fault
-required_at read document field = optional_at read document field >>= or_missing field
-
--- a member that has to be there, whatever it is
-abbrev pub required_member : Json → Field → Result Json Fault
-required_member document field = member_at document field >>= or_missing field
-
--- the value or a bad field
+-- the value, or a bad field where there is none
 abbrev pub or_bad : {A : Type 0} → Field → Option A → Result A Fault
 or_bad field None = Err (bad_field field)
 or_bad field (Some a) = Ok a
+
+-- a member that has to be there
+abbrev pub required_at : {A : Type 0} → (Field → Json → Result A Fault) → Json → Field → Result A Fault
+required_at read document field = optional_at read document field >>= or_bad field
+
+-- a member that has to be there, whatever it is
+abbrev pub required_member : Json → Field → Result Json Fault
+required_member document field = member_at document field >>= or_bad field
 
 abbrev pub text_of : Field → Json → Result (List ℕ) Fault
 text_of field (text s) = Ok s

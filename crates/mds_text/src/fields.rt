@@ -75,7 +75,7 @@ pub fn text_of<'a>(value: &'a Tree, field: Field) -> Result<&'a str, TextFault>
 }
 
 /// A truth value.
-pub fn bool_of(value: &Tree, field: Field) -> Result<bool, TextFault>
+fn bool_of(value: &Tree, field: Field) -> Result<bool, TextFault>
     ensures value { Gives text_cause (λ b. b) result (bool_of field (view value.now)) }
     ensures memory { IsCaused result }
 {
@@ -86,7 +86,7 @@ pub fn bool_of(value: &Tree, field: Field) -> Result<bool, TextFault>
 }
 
 /// A plain whole number.
-pub fn int_of(value: &Tree, field: Field) -> Result<i64, TextFault>
+fn int_of(value: &Tree, field: Field) -> Result<i64, TextFault>
     ensures value { Gives text_cause (λ z. z) result (int_of field (view value.now)) }
     ensures memory { IsCaused result }
 {
@@ -148,7 +148,7 @@ pub fn bound_of(value: &Tree, field: Field) -> Result<u64, TextFault>
 }
 
 /// A list of identifiers, read in order up to the first fault.
-pub fn ids_of(alloc: Global, value: &Tree, field: Field) -> Result<Vec<Id>, TextFault>
+fn ids_of(alloc: Global, value: &Tree, field: Field) -> Result<Vec<Id>, TextFault>
     ensures { Gives text_cause (λ v. v.items) result (list_each id_of field (view value.now)) }
 {
     let entries = list_of(value, field)?;
@@ -189,17 +189,6 @@ pub fn bool_at(document: &Tree, field: Field) -> Result<Option<bool>, TextFault>
 {
     match member_at(document, field)? {
         Some(value) => Ok(Some(bool_of(value, field)?)),
-        None => Ok(None),
-    }
-}
-
-/// An optional whole number.
-pub fn int_at(document: &Tree, field: Field) -> Result<Option<i64>, TextFault>
-    ensures value { Gives text_cause (option_map (λ z. z)) result (optional_at int_of (view document.now) field) }
-    ensures memory { IsCaused result }
-{
-    match member_at(document, field)? {
-        Some(value) => Ok(Some(int_of(value, field)?)),
         None => Ok(None),
     }
 }
@@ -313,14 +302,6 @@ pub fn required_moment(document: &Tree, field: Field) -> Result<Moment, TextFaul
     ensures memory { IsCaused result }
 {
     moment_at(document, field)?.ok_or(TextFault::BadField(field))
-}
-
-/// A whole number that has to be there.
-pub fn required_int(document: &Tree, field: Field) -> Result<i64, TextFault>
-    ensures value { Gives text_cause (λ z. z) result (required_at int_of (view document.now) field) }
-    ensures memory { IsCaused result }
-{
-    int_at(document, field)?.ok_or(TextFault::BadField(field))
 }
 
 /// A list that has to be there.
