@@ -1,7 +1,7 @@
 -- The members of a document and their general readings (MDS 2.0, general information; RFC 8259, section 4).
 use Rattle.std.specs.Prelude.{ℕ, ℤ, pos, negsuc, List, [], ◌∷◌, Bool, nat_le, if◌then◌else◌, Option, Some, None, Result, Ok, Err, bytes_eq}
 use Rattle.uuid.specs.Text.{parsed}
-use Rattle.mds_text.specs.Tree.{Json, null, boolean, int, text, degrees, list, object, Members, no_members, member, entries}
+use Rattle.mds_text.specs.Tree.{Json, null, boolean, int, text, list, object, Members, no_members, member, entries}
 use Rattle.mds_text.specs.Fault.{Fault, bad_field, out_of_range, ◌>>=◌}
 use Rattle.mds_text.specs.Field.{name_of}
 use Rattle.mds_text.specs.declared.field.Field.{Field}
