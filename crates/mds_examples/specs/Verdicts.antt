@@ -9,7 +9,7 @@ use Rattle.mds_examples.specs.Ids.{id_text}
 abbrev pub verdict : List ℕ → Status → ℕ → Verdict
 verdict rule status measure = record { rule = rule; status = status; measure = measure; devices = [] }
 
--- the verdict on a rule that these devices violate
+-- the verdict on a rule that is violated, with the devices that it names
 abbrev pub violated : List ℕ → ℕ → List (List ℕ) → Verdict
 violated rule measure devices = record { rule = rule; status = Violated; measure = measure; devices = devices }
 

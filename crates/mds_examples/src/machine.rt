@@ -37,8 +37,8 @@ pub fn compliance_of_two()
     ensures before_publication { (answered after_second_vehicle (ask 999 (codes "alfa"))).0 ≡ compliance (codes "999") (codes "") (codes "1") }
 {}
 
-/// A policy that is withdrawn isn't reported on from that moment on, and stays published; a draft under its identifier
-/// stays one.
+/// A policy that is withdrawn isn't reported on from that moment on; a draft under its identifier
+/// stays a draft.
 pub fn withdrawal()
     ensures withdrawn { answered again_drafted (withdraw_cap 3000) ≡ (success (codes "{\"published_date\":3000,\"revision\":2}"), after_withdrawal) }
     ensures compliance { (answered after_withdrawal (ask 3000 (codes "alfa"))).0 ≡ compliance (codes "3000") (codes "") (codes "2") }

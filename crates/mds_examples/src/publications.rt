@@ -37,8 +37,8 @@ pub fn superseded_by_one_not_in_force()
     ensures for_this { ids_in_force (then_next (next_policy 3000 None (second_operator ∷ []))) second_operator 3000 ≡ next_id ∷ [] }
 {}
 
-/// A policy is withdrawn from the moment of a publication that withdraws it on, of the first such moment where there
-/// are several. It stays published, and goes on superseding.
+/// A policy is out of force from the earliest moment on at which a publication withdraws it. It stays
+/// published, and goes on superseding.
 pub fn withdrawn()
     ensures before { ids_in_force then_withdrawn first_operator 2999 ≡ cap_id ∷ [] }
     ensures from_then_on { ids_in_force then_withdrawn first_operator 3000 ≡ [] }
@@ -49,7 +49,7 @@ pub fn withdrawn()
 {}
 
 /// A publication may follow where its documents are new, and its rules' geographies are published or
-/// come with it; a predecessor, and a policy that it withdraws, has to be published before.
+/// come with it; a predecessor and a policy that it withdraws have to be published before.
 pub fn lawful()
     ensures geography_with_it { IsTrue (is_lawful [] first_publication) }
     ensures no_geography { ¬ IsTrue (is_lawful [] (publication 1000 (cap ∷ []))) }

@@ -1,7 +1,7 @@
 //! What a configuration reads as, and which call a request is.
 #![tactic(auto, unfolding(crate::specs::Computed::documents, crate::specs::Computed::zones))]
 
-ghost use Rattle.std.specs.Prelude.{◌≡◌, ◌++◌, [], ◌∷◌, replicate, codes, Ok, Err, Some, None};
+ghost use Rattle.std.specs.Prelude.{◌≡◌, ◌++◌, [], ◌∷◌, replicate, codes, Ok, Err};
 ghost use Rattle.mds_drafts.specs.Named.{read_publish_list};
 ghost use Rattle.mds_text.specs.Fault.{bad_field, out_of_range, bad_zone, alike};
 ghost use Rattle.mds_text.specs.declared.field.Field.TheVariants.{Author, Geographies, Policies, Withdraw};
