@@ -40,7 +40,7 @@ use Rattle.mds_machine.specs.Answer.{settled, coded, told, leaving, ◌>>=◌}
 use Rattle.mds_machine.specs.Author.{author_does, document_of, under, put_word, beside, draft_answer}
 use Rattle.mds_machine.specs.Bodies.{result_json, removed_json, published_json}
 use Rattle.mds_machine.specs.Codes.{fault_code, put_code, publish_code}
-use Rattle.mds_machine.specs.History.{Fate, stands, is_gone, is_same_kind, named_ids, fate_named, fate_by, fate_in, drafted, as_policy, as_geography, publication_named, published_by, published_in}
+use Rattle.mds_machine.specs.History.{Fate, stands, is_gone, is_same_kind, named_ids, fate_by, fate_in, drafted, as_policy, as_geography, publication_named, published_by, published_in}
 use Rattle.mds_machine.specs.Isolation.{AreKeyed}
 use Rattle.mds_machine.specs.Operator.{operator_does}
 use Rattle.mds_machine.specs.Published.{policy_answer, geography_answer}
@@ -301,7 +301,7 @@ module _ (old : Drafts) (was : List Publication) (own : AreKeyed old) where
         ∙ taken (λ d. d.id) old.geographies (λ k d is. own kinds.Geography k (geography d) (ap (option_map geography) is)) q named.geographies
 
     abbrev named_fate : DraftKind → List ℕ → Option Fate
-    named_fate kind q = fate_named kind q named
+    named_fate kind q = cond (is_among (named_ids kind named) q) (Some is_gone) None
 
     drafts_out : (kind : DraftKind) (q : List ℕ) → draft_at (taken_out old out) kind q ≡ drafted (named_fate kind q) (draft_at old kind q)
     drafts_out kinds.Policy q = ap (option_map policy) (policies_out q) ∙ gone policy (is_among named.policies q) (get old.policies q)
@@ -324,7 +324,7 @@ module _ (old : Drafts) (was : List Publication) (own : AreKeyed old) where
   publish_batch request named (Err fault) is = refusal (publish_code fault) _ _
   publish_batch request named (Ok p) is = published named request.at p (batch_is (names_nothing named) _ (publication_from old named request.at) p is)
 
-  publishes : (request : Request) (found : Result Named Fault) → Did (λ kind id. option_and_then (fate_named kind id) (result_ok found)) (option_map (publication_named (draft_at old) request.at) (result_ok found)) (publishing request (coded fault_code found >>= λ named. coded publish_code (batch_of old named was request.at)))
+  publishes : (request : Request) (found : Result Named Fault) → Did (λ kind id. option_and_then (λ named. cond (is_among (named_ids kind named) id) (Some is_gone) None) (result_ok found)) (option_map (publication_named (draft_at old) request.at) (result_ok found)) (publishing request (coded fault_code found >>= λ named. coded publish_code (batch_of old named was request.at)))
   publishes request (Err fault) = refusal (fault_code fault) _ _
   publishes request (Ok named) = publish_batch request named (batch_of old named was request.at) refl
 
