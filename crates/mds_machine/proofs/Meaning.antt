@@ -37,7 +37,7 @@ use Rattle.mds_machine.specs.Codes.{fault_code, book_code}
 use Rattle.mds_machine.specs.Operator.{operator_does, taken_word, policy_compliance_answer}
 use Rattle.mds_machine.specs.Published.{policy_answer, geography_answer}
 use Rattle.mds_machine.specs.Laws.{RowsGoOn, HasOneAnswer, IsMeant, BeginsWithoutRows}
-use Rattle.mds_machine.specs.Meaning.{own_call, own_step, event_by, event_of, events_of, AreRows}
+use Rattle.mds_machine.specs.Meaning.{own_call, own_step, event_by, events_of, AreRows}
 use Rattle.mds_machine.specs.Step.{State, answered}
 use Rattle.mds_machine.specs.Views.{asked, as_publication, as_request, requests_of, publications_of}
 use Rattle.mds_machine.proofs.Callers.{IsBy}
@@ -119,6 +119,9 @@ module _ (configuration : Configuration) (operator : Operator) (publications : L
   by_call (Err code) = agrees
 
 -- ---- a list of requests
+
+abbrev event_of : Configuration → Request → Option Event
+event_of configuration request = event_by (call_of configuration request) request
 
 last_event : (f : Request → Option Event) (request : Request) (event : Option Event) (before : List Event) → f request ≡ event → reverse (filter_map f (request ∷ [])) ++ before ≡ onto event before
 last_event f request None before is = rw is refl

@@ -40,12 +40,9 @@ event_by (Ok (OperatorAt place Report)) request =
 event_by (Ok (OperatorAt place (RemoveVehicle device))) request = Some (removal device)
 event_by other request = None
 
-abbrev pub event_of : Configuration → Request → Option Event
-event_of configuration request = event_by (call_of configuration request) request
-
 -- the reports and removals of a list of requests, the last one first
 abbrev pub events_of : Configuration → List Request → List Event
-events_of configuration requests = reverse (filter_map (event_of configuration) requests)
+events_of configuration requests = reverse (filter_map (λ request. event_by (call_of configuration request) request) requests)
 
 -- The rows of an operator's list of requests: the row of each device is what its accepted reports come to. No order of
 -- work and no map is spoken of but the list itself.
