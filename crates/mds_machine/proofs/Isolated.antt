@@ -1,12 +1,11 @@
 -- An operator's replies in a history are those that its view of it defines.
-use Rattle.std.proofs.Common.{◌≡◌, ◌≢◌, ℕ, suc, zero, Bool, true, false, cond, List, [], ◌∷◌, ◌++◌, map, set, Option, Some, None, Result, Ok, Err, inl, inr, refl, sym, ap, subst, ◌∙◌}
+use Rattle.std.proofs.Common.{◌≡◌, ◌≢◌, ℕ, Bool, true, false, cond, List, [], ◌∷◌, ◌++◌, map, Option, Some, None, Result, Ok, Err, inl, inr, refl, sym, ap, subst, ◌∙◌}
 use Rattle.std.specs.List.{slice_get}
 use Rattle.std.specs.Option.{option_to_list}
 use Rattle.std.proofs.lemmas.Bool.{eqb-true, eqb-false, false≢true}
 use Rattle.std.proofs.lemmas.List.{append-nil, append_assoc}
 use Rattle.std.proofs.lemmas.List.Elements.{filter_map-append}
 use Rattle.mds_catalog.specs.Publication.{Publication}
-use Rattle.mds_fleet.specs.Books.{Rows}
 use Rattle.mds_request.specs.Configuration.{Configuration, Operator, actor_of}
 use Rattle.mds_request.specs.Call.{call_of}
 use Rattle.mds_request.specs.Request.{Request}
@@ -23,7 +22,6 @@ use Rattle.mds_machine.specs.History.{draft_after, published_in}
 use Rattle.mds_machine.specs.Isolation.{AreKeyed, StandsAfter, HasMemory, IsMeantThroughout, IsMeantFromNew}
 use Rattle.mds_machine.specs.Laws.{IsAfter}
 use Rattle.mds_machine.specs.Meaning.{AreRows, IsAnswer, Shows}
-use Rattle.mds_machine.specs.Operator.{operator_does}
 use Rattle.mds_machine.specs.Step.{State, Exchange, Step, Run, new_state}
 use Rattle.mds_machine.specs.Views.{Seen, asked, published, is_place, is_of, seen_in, view, as_publication, as_request, publications_of, requests_of}
 use Rattle.mds_machine.proofs.Callers.{IsBy, call_by}
