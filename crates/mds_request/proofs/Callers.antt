@@ -1,7 +1,7 @@
 -- Who makes a call.
 use Rattle.std.proofs.Common.{◌≡◌, ◌≤◌, ℕ, Bool, true, false, cond, List, [], ◌∷◌, length, nat_lt, refl, ◌∙◌, sym, ap, Option, Some, None, option_map, Result, Ok, Err}
 use Rattle.std.proofs.lemmas.Bool.{ltb-false}
-use Rattle.mds_request.specs.Call.{Row, made, call_with, id_in, is_verb, by_verb, by_rows, rows_at, called_at, segments_of, call_of}
+use Rattle.mds_request.specs.Call.{Row, made, call_with, id_in, is_verb, call_among, rows_at, called_at, segments_of, call_of}
 use Rattle.mds_request.specs.Configuration.{Configuration, actor_of}
 use Rattle.mds_request.specs.Request.{Request}
 use Rattle.mds_request.specs.declared.call.AuthorCall.{AuthorCall}
@@ -10,6 +10,7 @@ use Rattle.mds_request.specs.declared.call.Call.{Call}
 use Rattle.mds_request.specs.declared.call.Call.TheVariants as call
 use Rattle.mds_request.specs.declared.call.TheConstants.{MOST_BODY}
 use Rattle.mds_request.specs.declared.code.Code.{Code}
+use Rattle.mds_request.specs.declared.code.Code.TheVariants.{NoRoute, Method}
 use Rattle.mds_request.specs.declared.config.Actor.{Actor}
 use Rattle.mds_request.specs.declared.config.Actor.TheVariants.{Author, Operator, Nobody}
 use Rattle.mds_request.specs.declared.request.Verb.{Verb}
@@ -41,19 +42,15 @@ here_or_later : (actor : Actor) (here later : Result Call Code) (given : Call) (
 here_or_later actor here later given true h l e = h e
 here_or_later actor here later given false h l e = l e
 
-by_verb_caller : (actor : Actor) (verb : Verb) (segments : List (List ℕ)) (rows : List Row) (given : Call) → by_verb actor verb segments rows ≡ Ok given → caller given ≡ actor
-by_verb_caller actor verb segments [] given e = cc
-by_verb_caller actor verb segments (row ∷ rows) given e =
-    here_or_later actor _ _ given (is_verb verb row.verb) (call_with_caller actor row (id_in row.path segments) given) (by_verb_caller actor verb segments rows given) e
-
-by_rows_caller : (actor : Actor) (verb : Verb) (segments : List (List ℕ)) (rows : List Row) (given : Call) → by_rows actor verb segments rows ≡ Ok given → caller given ≡ actor
-by_rows_caller actor verb segments [] given e = cc
-by_rows_caller actor verb segments (row ∷ rows) given e = by_verb_caller actor verb segments (row ∷ rows) given e
+call_among_caller : (actor : Actor) (verb : Verb) (segments : List (List ℕ)) (refusal : Code) (rows : List Row) (given : Call) → call_among actor verb segments refusal rows ≡ Ok given → caller given ≡ actor
+call_among_caller actor verb segments refusal [] given e = cc
+call_among_caller actor verb segments refusal (row ∷ rows) given e =
+    here_or_later actor _ _ given (is_verb verb row.verb) (call_with_caller actor row (id_in row.path segments) given) (call_among_caller actor verb segments Method rows given) e
 
 called_at_caller : (actor : Actor) (verb : Verb) (segments : List (List ℕ)) (given : Call) → called_at actor verb segments ≡ Ok given → caller given ≡ actor
-called_at_caller Author verb segments given e = by_rows_caller Author verb segments (rows_at segments) given e
+called_at_caller Author verb segments given e = call_among_caller Author verb segments NoRoute (rows_at segments) given e
 called_at_caller (Operator place) verb segments given e =
-    by_rows_caller (Operator place) verb segments (rows_at segments) given e
+    call_among_caller (Operator place) verb segments NoRoute (rows_at segments) given e
 called_at_caller Nobody verb segments given e = cc
 
 not_refused : (refused : Bool) (code : Code) (answer : Result Call Code) (given : Call) → cond refused (Err code) answer ≡ Ok given → (refused ≡ false) × (answer ≡ Ok given)

@@ -1,14 +1,14 @@
 -- What the table makes of the program's routes.
 use Rattle.std.proofs.Common.{◌≡◌, ◌≤◌, ℕ, List, length, cond, refl, ◌∙◌, sym, ap, Result, Err}
 use Rattle.std.proofs.lemmas.Bool.{le-ltb}
-use Rattle.mds_request.specs.Call.{by_rows, rows_at, called_at, segments_of, call_of}
+use Rattle.mds_request.specs.Call.{call_among, rows_at, called_at, segments_of, call_of}
 use Rattle.mds_request.specs.Configuration.{Configuration, actor_of}
 use Rattle.mds_request.specs.Request.{Request}
 use Rattle.mds_request.specs.declared.call.TheConstants.{MOST_BODY}
 use Rattle.mds_request.specs.Route.{spelled}
 use Rattle.mds_request.specs.declared.call.Call.{Call}
 use Rattle.mds_request.specs.declared.code.Code.{Code}
-use Rattle.mds_request.specs.declared.code.Code.TheVariants.{TooLarge, Method}
+use Rattle.mds_request.specs.declared.code.Code.TheVariants.{TooLarge, NoRoute, Method}
 use Rattle.mds_request.specs.declared.config.Actor.{Actor}
 use Rattle.mds_request.specs.declared.config.Actor.TheVariants.{Author, Operator}
 use Rattle.mds_request.specs.declared.request.Verb.{Verb}
@@ -17,7 +17,7 @@ use Rattle.mds_request.specs.declared.routes.Route.{Route}
 use Rattle.mds_request.specs.declared.routes.Route.TheVariants.{Policies, Policy, Geographies, Geography, FleetEvents, FleetVehicles, FleetVehicle, Compliance, PolicyCompliance, PolicyDraft, GeographyDraft, Publish}
 
 -- no row has another method
-by_other : (actor : Actor) (route : Route) → Err Method ≡ by_rows actor Other (spelled route) (rows_at (spelled route))
+by_other : (actor : Actor) (route : Route) → Err Method ≡ call_among actor Other (spelled route) NoRoute (rows_at (spelled route))
 by_other actor Policies = refl
 by_other actor (Policy id) = refl
 by_other actor Geographies = refl

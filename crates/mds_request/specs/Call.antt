@@ -1,4 +1,5 @@
 -- What a request calls for, or the first refusal.
+use Prim.Native.String.{String}
 use Rattle.std.specs.Prelude.{ℕ, List, [], ◌∷◌, Bool, true, false, ◌&&◌, ◌==◌, nat_lt, bytes_eq, codes, length, filter, if◌then◌else◌, Option, Some, None, option_map, Result, Ok, Err}
 use Rattle.std.specs.List.{list_any, before_first, slice_split}
 use Rattle.std.specs.Str.{is_utf8}
@@ -22,7 +23,7 @@ use Rattle.mds_request.specs.declared.request.Verb.TheVariants.{Get, Put, Post, 
 
 -- a segment of a row's path: a word, or `{id}`, which is any segment
 pub data Part : Type 0 where
-  word : (text : List ℕ) → Part
+  word : (text : String) → Part
   id : Part
 
 -- one row of the table: a method and a path, and what each of the two calls for there, by the identifier in the path
@@ -35,53 +36,29 @@ pub record Row : Type 0 where
 abbrev pub row : Verb → List Part → Option (List ℕ → AuthorCall) → Option (List ℕ → OperatorCall) → Row
 row verb path author operator = record { verb = verb; path = path; author = author; operator = operator }
 
-abbrev pub policies : Part
-policies = word (codes "policies")
-
-abbrev pub geographies : Part
-geographies = word (codes "geographies")
-
-abbrev pub fleet : Part
-fleet = word (codes "fleet")
-
-abbrev pub vehicles : Part
-vehicles = word (codes "vehicles")
-
-abbrev pub compliance : Part
-compliance = word (codes "compliance")
-
-abbrev pub drafts : Part
-drafts = word (codes "drafts")
-
--- a call without an identifier, a call with one, and none
+-- a call without an identifier
 abbrev pub plain : {X : Type 0} → X → Option (List ℕ → X)
 plain x = Some (λ _. x)
-
-abbrev pub with : {X : Type 0} → (List ℕ → X) → Option (List ℕ → X)
-with f = Some f
-
-abbrev pub none : {X : Type 0} → Option X
-none = None
 
 -- the table of calls
 abbrev pub table : List Row
 table =
-    row Get (policies ∷ []) (plain author.Policies) (plain operator.Policies)
-    ∷ row Get (policies ∷ id ∷ []) (with author.Policy) (with operator.Policy)
-    ∷ row Get (geographies ∷ []) (plain author.Geographies) (plain operator.Geographies)
-    ∷ row Get (geographies ∷ id ∷ []) (with author.Geography) (with operator.Geography)
-    ∷ row Post (fleet ∷ word (codes "events") ∷ []) none (plain operator.Report)
-    ∷ row Get (fleet ∷ vehicles ∷ []) none (plain operator.Vehicles)
-    ∷ row Delete (fleet ∷ vehicles ∷ id ∷ []) none (with operator.RemoveVehicle)
-    ∷ row Get (compliance ∷ []) none (plain operator.Compliance)
-    ∷ row Get (compliance ∷ id ∷ []) none (with operator.PolicyCompliance)
-    ∷ row Put (drafts ∷ policies ∷ id ∷ []) (with (author.PutDraft Policy)) none
-    ∷ row Get (drafts ∷ policies ∷ id ∷ []) (with (author.Draft Policy)) none
-    ∷ row Delete (drafts ∷ policies ∷ id ∷ []) (with (author.DropDraft Policy)) none
-    ∷ row Put (drafts ∷ geographies ∷ id ∷ []) (with (author.PutDraft Geography)) none
-    ∷ row Get (drafts ∷ geographies ∷ id ∷ []) (with (author.Draft Geography)) none
-    ∷ row Delete (drafts ∷ geographies ∷ id ∷ []) (with (author.DropDraft Geography)) none
-    ∷ row Post (word (codes "publish") ∷ []) (plain author.Publish) none
+    row Get (word "policies" ∷ []) (plain author.Policies) (plain operator.Policies)
+    ∷ row Get (word "policies" ∷ id ∷ []) (Some author.Policy) (Some operator.Policy)
+    ∷ row Get (word "geographies" ∷ []) (plain author.Geographies) (plain operator.Geographies)
+    ∷ row Get (word "geographies" ∷ id ∷ []) (Some author.Geography) (Some operator.Geography)
+    ∷ row Post (word "fleet" ∷ word "events" ∷ []) None (plain operator.Report)
+    ∷ row Get (word "fleet" ∷ word "vehicles" ∷ []) None (plain operator.Vehicles)
+    ∷ row Delete (word "fleet" ∷ word "vehicles" ∷ id ∷ []) None (Some operator.RemoveVehicle)
+    ∷ row Get (word "compliance" ∷ []) None (plain operator.Compliance)
+    ∷ row Get (word "compliance" ∷ id ∷ []) None (Some operator.PolicyCompliance)
+    ∷ row Put (word "drafts" ∷ word "policies" ∷ id ∷ []) (Some (author.PutDraft Policy)) None
+    ∷ row Get (word "drafts" ∷ word "policies" ∷ id ∷ []) (Some (author.Draft Policy)) None
+    ∷ row Delete (word "drafts" ∷ word "policies" ∷ id ∷ []) (Some (author.DropDraft Policy)) None
+    ∷ row Put (word "drafts" ∷ word "geographies" ∷ id ∷ []) (Some (author.PutDraft Geography)) None
+    ∷ row Get (word "drafts" ∷ word "geographies" ∷ id ∷ []) (Some (author.Draft Geography)) None
+    ∷ row Delete (word "drafts" ∷ word "geographies" ∷ id ∷ []) (Some (author.DropDraft Geography)) None
+    ∷ row Post (word "publish" ∷ []) (plain author.Publish) None
     ∷ []
 
 abbrev pub is_query_mark : ℕ → Bool
@@ -119,7 +96,7 @@ segments_of target = segments_in (path_of target)
 -- the segments are those of a row's path
 abbrev pub fits : List Part → List (List ℕ) → Bool
 fits [] [] = true
-fits (word w ∷ parts) (segment ∷ segments) = bytes_eq segment w && fits parts segments
+fits (word w ∷ parts) (segment ∷ segments) = bytes_eq segment (codes w) && fits parts segments
 fits (id ∷ parts) (segment ∷ segments) = fits parts segments
 fits parts segments = false
 
@@ -131,9 +108,9 @@ id_in parts segments = Some []
 
 -- what a row makes for the one who asks
 abbrev pub made : Actor → Row → Option (List ℕ → Call)
-made Author row = option_map (λ f. λ i. call.Author (f i)) row.author
-made (Operator place) row = option_map (λ f. λ i. call.Operator place (f i)) row.operator
-made Nobody row = None
+made Author found = option_map (λ f. λ i. call.Author (f i)) found.author
+made (Operator place) found = option_map (λ f. λ i. call.Operator place (f i)) found.operator
+made Nobody found = None
 
 abbrev pub call_with : Option (List ℕ → Call) → Option (List ℕ) → Result Call Code
 call_with None i = Err Role
@@ -147,16 +124,12 @@ is_verb Post Post = true
 is_verb Delete Delete = true
 is_verb _ _ = false
 
--- the call of the first of these rows that has the method
-abbrev pub by_verb : Actor → Verb → List (List ℕ) → List Row → Result Call Code
-by_verb actor verb segments [] = Err Method
-by_verb actor verb segments (row ∷ rows) =
+-- the call of the first of these rows that has the method, or this refusal where there are none
+abbrev pub call_among : Actor → Verb → List (List ℕ) → Code → List Row → Result Call Code
+call_among actor verb segments refusal [] = Err refusal
+call_among actor verb segments refusal (row ∷ rows) =
     if is_verb verb row.verb then call_with (made actor row) (id_in row.path segments)
-    else by_verb actor verb segments rows
-
-abbrev pub by_rows : Actor → Verb → List (List ℕ) → List Row → Result Call Code
-by_rows actor verb segments [] = Err NoRoute
-by_rows actor verb segments (row ∷ rows) = by_verb actor verb segments (row ∷ rows)
+    else call_among actor verb segments Method rows
 
 -- the rows of the table that have the path
 abbrev pub rows_at : List (List ℕ) → List Row
@@ -164,7 +137,7 @@ rows_at segments = filter (λ row. fits row.path segments) table
 
 abbrev pub called_at : Actor → Verb → List (List ℕ) → Result Call Code
 called_at Nobody verb segments = Err Token
-called_at actor verb segments = by_rows actor verb segments (rows_at segments)
+called_at actor verb segments = call_among actor verb segments NoRoute (rows_at segments)
 
 -- The call, or the first refusal in this order: the body is too large, the token is nobody's, no row has the path, no
 -- row with the path has the method, the row makes no call for the one who asks, and the identifier is none.

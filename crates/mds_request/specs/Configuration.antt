@@ -85,15 +85,15 @@ abbrev pub in_limits : ℤ → Result ℕ Fault
 in_limits (pos n) = if nat_le 1 n && nat_le n MOST_VEHICLES then Ok n else Err out_of_range
 in_limits (negsuc n) = Err out_of_range
 
-abbrev pub limit_of : Field → Json → Result ℕ Fault
-limit_of field value = int_of field value >>= in_limits
+abbrev pub limit_at : Json → Result ℕ Fault
+limit_at entry = required_at int_of entry Limit >>= in_limits
 
 -- an operator's identifier, limit and access token, in this order
 abbrev pub operator_of : Json → Result Operator Fault
 operator_of value = do
   entry ← object_of Operators value
   id ← required_at id_of entry Id
-  limit ← required_member entry Limit >>= limit_of Limit
+  limit ← limit_at entry
   token ← access_at entry Token
   Ok (record { id = id; limit = limit; token = token })
 

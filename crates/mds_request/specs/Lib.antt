@@ -1,7 +1,6 @@
 pub mod Call
 pub mod Code
 pub mod Configuration
-pub mod Content
 pub mod Fault
 pub mod Reply
 pub mod Request

@@ -4,10 +4,9 @@ ghost use Rattle.std.specs.List.{list_all};
 ghost use Rattle.mds_text.specs.Fault.{Gives, text_cause};
 ghost use Rattle.mds_text.specs.Fields.{each};
 ghost use Rattle.mds_text.specs.View.{view};
-ghost use Rattle.mds_text.specs.declared.field.Field.TheVariants.{Limit as limit_name};
 ghost use Rattle.mds_match.specs.declared.vehicle.TheConstants.{MOST_VEHICLES};
 ghost use Rattle.mds_request.specs.declared.config.TheConstants.{MOST_OPERATORS};
-ghost use Rattle.mds_request.specs.Configuration.{configuration, operator, is_access_byte, is_access_token, access_of, access_at, limit_of, operator_of, operators_at, zone_at, configuration_of, read_configuration};
+ghost use Rattle.mds_request.specs.Configuration.{configuration, operator, is_access_byte, is_access_token, access_of, access_at, limit_at, operator_of, operators_at, zone_at, configuration_of, read_configuration};
 ghost use Rattle.mds_request.specs.Fault.{config_cause};
 
 use crate::config::{Config, MOST_OPERATORS, MOST_TOKEN, Operator};
@@ -15,8 +14,8 @@ use crate::fault::ConfigFault;
 use crate::lookup::are_alike;
 use mds_match::{MOST_VEHICLES, Zone};
 use mds_text::{
-    Field, TextFault, Tree, document_of, int_of, object_of, read_tree, required_id, required_list,
-    required_member, required_text, text_of,
+    Field, TextFault, Tree, document_of, object_of, read_tree, required_id, required_int,
+    required_list, required_member, required_text, text_of,
 };
 use std::alloc::Global;
 
@@ -113,19 +112,19 @@ fn operator_of(alloc: Global, value: &Tree) -> Result<Operator, TextFault>
 {
     let entry = object_of(value, Field::Operators)?;
     let id = required_id(entry, Field::Id)?;
-    let limit = limit_of(required_member(entry, Field::Limit)?)?;
+    let limit = limit_at(entry)?;
     let token = access_at(entry, Field::Token)?;
     let token = String::from_str(alloc, token)?;
     Ok(Operator { id, limit, token })
 }
 
 /// From 1 to `MOST_VEHICLES`.
-fn limit_of(value: &Tree) -> Result<usize, TextFault>
-    ensures reading { Gives text_cause (λ n. n) result (limit_of limit_name (view value.now)) }
+fn limit_at(entry: &Tree) -> Result<usize, TextFault>
+    ensures reading { Gives text_cause (λ n. n) result (limit_at (view entry.now)) }
     ensures least { IfOk result (λ n. 1 ≤ n) }
     ensures most { IfOk result (λ n. n ≤ MOST_VEHICLES) }
 {
-    let limit = int_of(value, Field::Limit)?;
+    let limit = required_int(entry, Field::Limit)?;
     if 1 <= limit && limit <= i64::from(MOST_VEHICLES) {
         Ok(limit as usize)
     } else {

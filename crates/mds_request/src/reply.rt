@@ -15,11 +15,9 @@ pub struct Reply {
 }
 
 impl Model for Reply {
-    ghost use Rattle.mds_request.specs.Reply.{Reply as Answer};
+    ghost use Rattle.mds_request.specs.Reply.{Reply as Answer, answer_of, IsOneLine};
 
     ghost Value = { Answer };
-
-    ghost use Rattle.mds_request.specs.Content.{answer_of, IsOneLine};
 
     ghost view = { λ r. answer_of r.content };
 
