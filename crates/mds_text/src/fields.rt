@@ -85,8 +85,8 @@ fn bool_of(value: &Tree, field: Field) -> Result<bool, TextFault>
     }
 }
 
-/// A plain whole number.
-fn int_of(value: &Tree, field: Field) -> Result<i64, TextFault>
+/// A plain whole number. Any other value is a bad field of this name.
+pub fn int_of(value: &Tree, field: Field) -> Result<i64, TextFault>
     ensures value { Gives text_cause (λ z. z) result (int_of field (view value.now)) }
     ensures memory { IsCaused result }
 {
