@@ -22,7 +22,7 @@ use Rattle.mds_machine.specs.Operator.{operator_does}
 use Rattle.mds_machine.specs.Step.{State}
 use Rattle.mds_machine.specs.Views.{Seen, requests_of, publications_of}
 
--- an operator's own call
+-- an operator's own call; one of the author is none, and no operator's request has it
 abbrev pub own_call : Call → Result OperatorCall Code
 own_call (OperatorAt place call) = Ok call
 own_call (Author call) = Err Role
