@@ -14,7 +14,7 @@ use crate::fault::ConfigFault;
 use crate::lookup::are_alike;
 use mds_match::{MOST_VEHICLES, Zone};
 use mds_text::{
-    Field, TextFault, Tree, document_of, object_of, read_tree, required_id, required_int,
+    Field, TextFault, Tree, document_of, int_of, object_of, read_tree, required_id,
     required_list, required_member, required_text, text_of,
 };
 use std::alloc::Global;
@@ -124,7 +124,7 @@ fn limit_at(entry: &Tree) -> Result<usize, TextFault>
     ensures least { IfOk result (λ n. 1 ≤ n) }
     ensures most { IfOk result (λ n. n ≤ MOST_VEHICLES) }
 {
-    let limit = required_int(entry, Field::Limit)?;
+    let limit = int_of(required_member(entry, Field::Limit)?, Field::Limit)?;
     if 1 <= limit && limit <= i64::from(MOST_VEHICLES) {
         Ok(limit as usize)
     } else {
