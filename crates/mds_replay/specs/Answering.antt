@@ -4,18 +4,21 @@ use Rattle.std.specs.List.{list_all, flat_map}
 use Rattle.mds_request.specs.declared.code.Code.TheVariants.{BadLine}
 use Rattle.mds_request.specs.Request.{Request}
 use Rattle.mds_request.specs.Reply.{Reply, is_line, refused}
-use Rattle.mds_replay.specs.Framing.{lines, line_limit, configuration_of, asked_of}
+use Rattle.mds_replay.specs.Framing.{is_feed, lines, line_limit, configuration_of, asked_of}
 use Rattle.std.specs.Io.KnownBytes.{Appends}
-use Rattle.mds_replay.specs.Gathering.{is_feed}
 use Rattle.mds_replay.specs.Cutting.{request_on}
 
 -- the three digits of a status (RFC 9112, section 4)
 abbrev pub status_text : ℕ → List ℕ
 status_text status = (48 + status / 100 % 10) ∷ (48 + status / 10 % 10) ∷ (48 + status % 10) ∷ []
 
--- the line that a reply is written as: its status, a space, its body and a line feed
+-- what a reply is written as: its status, a space and its body
+abbrev pub answer_text : Reply → List ℕ
+answer_text reply = status_text reply.status ++ 32 ∷ reply.body
+
+-- its line, which a line feed ends
 abbrev pub answer_line : Reply → List ℕ
-answer_line reply = status_text reply.status ++ (32 ∷ (reply.body ++ 10 ∷ []))
+answer_line reply = answer_text reply ++ 10 ∷ []
 
 -- the request on a line, or nothing where the line is over the limit or no request
 abbrev pub request_in : List ℕ → Option Request

@@ -1,4 +1,4 @@
--- What counts as a failure of a read or a write.
+-- What counts as a failure of a read or a write, and what has gone out.
 use Rattle.std.specs.Prelude.{ℕ, ◌==◌, Result, Ok, Err, if◌then◌else◌}
 
 -- a read that gave an error

@@ -1,6 +1,10 @@
 -- How an input is cut into lines.
 use Rattle.std.specs.Prelude.{ℕ, Bool, false, ◌&&◌, ◌==◌, List, [], ◌∷◌, length, drop, filter, nat_lt, if◌then◌else◌}
 
+-- a line feed
+abbrev pub is_feed : ℕ → Bool
+is_feed byte = byte == 10
+
 -- the byte goes in front of the first line; where there is no line yet, it is the last one
 abbrev pub onto_first : ℕ → List (List ℕ) → List (List ℕ)
 onto_first byte [] = (byte ∷ []) ∷ []

@@ -3,10 +3,7 @@ use Rattle.std.specs.Prelude.{◌≡◌, ℕ, ◌+◌, ◌<◌, ◌≤◌, Bool,
 use Rattle.std.specs.List.{list_any}
 use Rattle.mds_replay.specs.declared.lines.Found.{Found}
 use Rattle.mds_replay.specs.declared.lines.Found.TheVariants.{Line, TooLong, End}
-use Rattle.mds_replay.specs.Framing.{line_limit}
-
-abbrev pub is_feed : ℕ → Bool
-is_feed byte = byte == 10
+use Rattle.mds_replay.specs.Framing.{is_feed, line_limit}
 
 -- how many bytes of a line are kept: so many that a line that is cut off is over the limit, also
 -- where a carriage return is its last byte

@@ -1,5 +1,5 @@
+use Rattle.mds_replay.specs.Framing.{is_feed}
 use Rattle.std.proofs.Common.{◌≡◌, ◌+◌, take, drop, position, Some, None, sym, ap, ◌∙◌}
-use Rattle.mds_replay.specs.Gathering.{is_feed}
 use Rattle.mds_replay.proofs.Gathered.{feed_splits, feed_first, feed_length, feed_missing}
 use Rattle.mds_replay.proofs.gather.gather.Goals as goal
 
