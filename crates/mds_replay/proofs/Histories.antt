@@ -15,15 +15,14 @@ use Rattle.mds_world.specs.Views.{is_of}
 use Rattle.mds_world.specs.World.{State, state_of}
 use Rattle.mds_world.specs.declared.world.World.{World}
 use Rattle.mds_replay.specs.Answering.{Replays, AreLines, Run, answer_line, answer_text, request_in}
-use Rattle.mds_replay.specs.Begins.{IsNew}
 use Rattle.mds_replay.specs.Framing.{asked_of, configuration_of, is_feed}
 use Rattle.mds_replay.specs.Gathering.{IsWithoutFeed}
 use Rattle.mds_replay.specs.Laws.{GivesHistories, IsolatesOperators, AnswersByViews, AreReplies, exchanges_on, is_asked_by, answers_to}
 use Rattle.mds_replay.proofs.Framed.{no_feed_here, no_feed_later}
 use Rattle.mds_replay.proofs.Whole.{answer_plain, run_length}
 
-abbrev pub begins : {E : Type 0} → List ℕ → World E → Type 0
-begins text world = IsNew text world
+abbrev pub begins : {E : Type 0} → Configuration → World E → Type 0
+begins configuration world = state_of world ≡ new_state configuration
 
 abbrev pub steps : {E : Type 0} → World E → Request → Reply → World E → Type 0
 steps old request reply new = Step (state_of old) request reply (state_of new)
@@ -54,7 +53,7 @@ are_replies old new (line ∷ lines) [] run = absurd run
 pub gives_histories : {E : Type 0} → GivesHistories {E = E} begins steps
 gives_histories input output replays =
     let machine = replays.0 in
-    let fresh = replays.1.1 in
+    let fresh = replays.1 in
     let outputs = replays.2 in
     record {
       configuration = fresh.configuration;
@@ -63,7 +62,7 @@ gives_histories input output replays =
       each = are_replies machine outputs.last (asked_of input) outputs.replies outputs.run;
       output_is = outputs.output_is;
       last = state_of outputs.last;
-      history = subst (λ w. History w (exchanges_on (asked_of input) outputs.replies) (state_of outputs.last)) fresh.fresh
+      history = subst (λ w. History w (exchanges_on (asked_of input) outputs.replies) (state_of outputs.last)) fresh.begun
           (histories machine outputs.last (asked_of input) outputs.replies outputs.run);
     }
 
@@ -113,7 +112,7 @@ module _ {E : Type 0} where
   from_new : (configuration : Configuration) (input output : List ℕ) → read_configuration (configuration_of input) ≡ Ok configuration → (replay : Replays (begins {E = E}) steps input output) → History (new_state configuration) (exchanges_on (asked_of input) replay.2.replies) (state_of replay.2.last)
   unfolding gives_histories
   from_new configuration input output read replay =
-      let fresh = replay.1.1 in
+      let fresh = replay.1 in
       let same : fresh.configuration ≡ configuration = cc (read, fresh.read) in
       subst (λ c. History (new_state c) (exchanges_on (asked_of input) replay.2.replies) (state_of replay.2.last)) same (gives_histories input output replay).history
 

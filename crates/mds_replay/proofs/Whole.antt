@@ -4,6 +4,7 @@ use Rattle.std.specs.List.{count_by, list_all, list_any, flat_map}
 use Rattle.std.specs.Io.KnownBytes.{prepend_known}
 use Rattle.std.proofs.lemmas.Bool.{ne_eqb, and_parts, or_from, not-true}
 use Rattle.std.proofs.lemmas.List.Sums.{sum_by-append, sum_by-cons}
+use Rattle.mds_request.specs.Configuration.{Configuration}
 use Rattle.mds_request.specs.Request.{Request}
 use Rattle.mds_request.specs.Reply.{Reply, is_line}
 use Rattle.mds_replay.specs.Framing.{is_feed, lines, is_filled, asked_of}
@@ -81,7 +82,7 @@ module _ {M : Type 0} (step : M → Request → Reply → M → Type 0) where
   outputs_lines first lines output o =
       ap feeds_in o.output_is ∙ (answers_feeds o.replies o.one_line ∙ run_length lines o.replies first o.last o.run)
 
-  module _ (begins : List ℕ → M → Type 0) where
+  module _ (begins : Configuration → M → Type 0) where
     pub answered_whole : (remaining mid : Option (List ℕ)) (machine : M) (old new : Option (List ℕ)) → Begins begins remaining mid machine → AnswersAll step machine mid old new → Answered begins step remaining old new
     answered_whole None mid machine old new b a = (a.0, a.1, tt)
     answered_whole (Some input) None machine old new b a = absurd b

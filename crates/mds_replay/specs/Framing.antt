@@ -1,5 +1,7 @@
 -- How an input is cut into lines.
 use Rattle.std.specs.Prelude.{ℕ, Bool, false, ◌&&◌, ◌==◌, List, [], ◌∷◌, length, drop, filter, nat_lt, if◌then◌else◌}
+use Rattle.mds_replay.specs.declared.gather.TheConstants.{LINE_LIMIT}
+use Rattle.mds_replay.specs.declared.lines.TheConstants.{INPUT_LIMIT}
 
 -- a line feed
 abbrev pub is_feed : ℕ → Bool
@@ -25,11 +27,11 @@ lines (byte ∷ bytes) =
 
 -- the most bytes of a line, its end not counted
 abbrev pub line_limit : ℕ
-line_limit = 2097152
+line_limit = LINE_LIMIT
 
 -- the most bytes of a whole input
 abbrev pub input_limit : ℕ
-input_limit = 1073741824
+input_limit = INPUT_LIMIT
 
 -- the first line; an input without a byte has an empty one
 abbrev pub head_line : List (List ℕ) → List ℕ

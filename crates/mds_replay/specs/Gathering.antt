@@ -8,7 +8,7 @@ use Rattle.mds_replay.specs.Framing.{is_feed, line_limit}
 -- how many bytes of a line are kept: so many that a line that is cut off is over the limit, also
 -- where a carriage return is its last byte
 abbrev pub kept_limit : ℕ
-kept_limit = 2097154
+kept_limit = line_limit + 2
 
 -- no byte is a line feed
 abbrev pub IsWithoutFeed : List ℕ → Type 0

@@ -55,7 +55,7 @@ abbrev pub seen_on : Configuration → ℕ → List (List ℕ) → List Reply �
 seen_on configuration place lines replies =
     view configuration (new_state configuration).drafts (exchanges_on lines replies) place
 
-module _ {E : Type 0} (begins : List ℕ → World E → Type 0) (step : World E → Request → Reply → World E → Type 0) where
+module _ {E : Type 0} (begins : Configuration → World E → Type 0) (step : World E → Request → Reply → World E → Type 0) where
   -- the answers to an input are such a history
   abbrev pub GivesHistories : Type 0
   GivesHistories = (input output : List ℕ) → Replays begins step input output → IsHistory input output

@@ -1,5 +1,4 @@
 pub mod Answering
-pub mod Begins
 pub mod Cutting
 pub mod Ends
 pub mod Exit

@@ -1,6 +1,7 @@
 -- One turn of a replay: a line is found, and answered.
 use Rattle.std.specs.Prelude.{◌≡◌, ℕ, Bool, true, false, List, [], ◌++◌, filter, drop, Option, Some, None, Result, Ok, Err, IfSome, ⊤}
 use Rattle.std.specs.Io.KnownBytes.{Appends, IsAtEnd}
+use Rattle.mds_request.specs.Configuration.{Configuration}
 use Rattle.mds_request.specs.Request.{Request}
 use Rattle.mds_request.specs.Reply.{Reply, is_line}
 use Rattle.mds_replay.specs.declared.fault.ReplayFault.{ReplayFault}
@@ -18,7 +19,7 @@ written_of (Some reply) = answer_line reply
 abbrev pub filled_lines : List ℕ → List (List ℕ)
 filled_lines bytes = filter is_filled (lines bytes)
 
-module _ {M : Type 0} (begins : List ℕ → M → Type 0) where
+module _ {M : Type 0} (begins : Configuration → M → Type 0) where
   -- the machine is one of the configuration in front, and the other lines are left
   abbrev pub Begins : Option (List ℕ) → Option (List ℕ) → M → Type 0
   Begins None new machine = ⊤

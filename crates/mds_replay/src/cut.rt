@@ -3,7 +3,7 @@ ghost use Rattle.std.specs.Prelude.{◌≡◌, ◌^◌, ◌<◌, ◌≤◌, leng
 ghost use Rattle.mds_replay.specs.Cutting.{word_of, behind_word, are_digits, decimal, is_moment, request_from, request_on};
 ghost use Rattle.mds_request.specs.Request.{request_of};
 
-use crate::place::first_place;
+use crate::gather::first_place;
 use mds_request::{Request, Verb};
 use mds_text::Moment;
 
