@@ -2,8 +2,8 @@
 use Rattle.std.proofs.Common.{◌≡◌, ℕ, ◌+◌, ◌≤◌, Bool, true, false, ◌&&◌, cond, eqb, List, [], ◌∷◌, ◌++◌, length, refl, ap, ◌∙◌, arith}
 use Rattle.std.specs.List.{list_any}
 use Rattle.std.proofs.lemmas.Bool.{or_parts, and_right}
-use Rattle.mds_replay.specs.Framing.{is_feed, lines, onto_first, feeds}
-use Rattle.mds_replay.specs.Gathering.{IsWithoutFeed, without_return}
+use Rattle.mds_replay.specs.Input.{is_feed, lines, onto_first, feeds}
+use Rattle.mds_replay.specs.LineReading.{IsWithoutFeed, without_return}
 
 pub no_feed_here : (byte : ℕ) (bytes : List ℕ) → IsWithoutFeed (byte ∷ bytes) → eqb byte 10 ≡ false
 no_feed_here byte bytes h = (or_parts (eqb byte 10) (list_any is_feed bytes) h).0

@@ -9,8 +9,8 @@ use Rattle.std.proofs.lemmas.List.{take-append-drop, take_min, drop_more, length
 use Rattle.std.proofs.lemmas.List.Quantifiers.{position-Some}
 use Rattle.mds_replay.specs.declared.lines.Found.{Found}
 use Rattle.mds_replay.specs.declared.lines.Found.TheVariants.{Line, TooLong}
-use Rattle.mds_replay.specs.Framing.{is_feed, line_limit}
-use Rattle.mds_replay.specs.Gathering.{IsWithoutFeed, without_return, Closes}
+use Rattle.mds_replay.specs.Input.{is_feed, line_limit}
+use Rattle.mds_replay.specs.LineReading.{IsWithoutFeed, without_return, Closes}
 use Rattle.mds_replay.proofs.Places.{word_found, word_missing, none_before}
 
 -- what is added where there is room for so many bytes

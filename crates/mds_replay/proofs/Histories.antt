@@ -15,8 +15,8 @@ use Rattle.mds_world.specs.Views.{is_of}
 use Rattle.mds_world.specs.World.{State, state_of}
 use Rattle.mds_world.specs.declared.world.World.{World}
 use Rattle.mds_replay.specs.Answering.{Replays, AreLines, Run, answer_line, answer_text, request_in}
-use Rattle.mds_replay.specs.Framing.{asked_of, configuration_of, is_feed}
-use Rattle.mds_replay.specs.Gathering.{IsWithoutFeed}
+use Rattle.mds_replay.specs.Input.{asked_of, configuration_of, is_feed}
+use Rattle.mds_replay.specs.LineReading.{IsWithoutFeed}
 use Rattle.mds_replay.specs.Laws.{GivesHistories, IsolatesOperators, AnswersByViews, AreReplies, exchanges_on, is_asked_by, answers_to}
 use Rattle.mds_replay.proofs.Framed.{no_feed_here, no_feed_later}
 use Rattle.mds_replay.proofs.Whole.{answer_plain, run_length}

@@ -7,8 +7,8 @@ use Rattle.std.proofs.lemmas.List.Sums.{sum_by-append, sum_by-cons}
 use Rattle.mds_request.specs.Configuration.{Configuration}
 use Rattle.mds_request.specs.Request.{Request}
 use Rattle.mds_request.specs.Reply.{Reply, is_line}
-use Rattle.mds_replay.specs.Framing.{is_feed, lines, is_filled, asked_of}
-use Rattle.mds_replay.specs.Gathering.{IsWithoutFeed}
+use Rattle.mds_replay.specs.Input.{is_feed, lines, is_filled, asked_of}
+use Rattle.mds_replay.specs.LineReading.{IsWithoutFeed}
 use Rattle.mds_replay.specs.Answering.{Run, Outputs, AreLines, answer_line, answer_text, Answered, Started}
 use Rattle.mds_replay.specs.Turning.{Begins, AnswersAll, AnswersSome}
 

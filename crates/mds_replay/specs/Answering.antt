@@ -5,9 +5,8 @@ use Rattle.mds_request.specs.declared.code.Code.TheVariants.{BadLine}
 use Rattle.mds_request.specs.Configuration.{Configuration, read_configuration}
 use Rattle.mds_request.specs.Request.{Request}
 use Rattle.mds_request.specs.Reply.{Reply, is_line, refused}
-use Rattle.mds_replay.specs.Framing.{is_feed, lines, line_limit, configuration_of, asked_of}
+use Rattle.mds_replay.specs.Input.{is_feed, lines, line_limit, configuration_of, asked_of, request_on}
 use Rattle.std.specs.Io.KnownBytes.{Appends}
-use Rattle.mds_replay.specs.Cutting.{request_on}
 
 -- the three digits of a status (RFC 9112, section 4)
 abbrev pub status_text : ℕ → List ℕ

@@ -14,7 +14,7 @@ use Rattle.mds_world.specs.Views.{Seen, is_of, view}
 use Rattle.mds_world.specs.World.{State}
 use Rattle.mds_world.specs.declared.world.World.{World}
 use Rattle.mds_replay.specs.Answering.{Replays, answer_line, answer_text, request_in}
-use Rattle.mds_replay.specs.Framing.{asked_of, configuration_of, is_feed}
+use Rattle.mds_replay.specs.Input.{asked_of, configuration_of, is_feed}
 
 -- the requests on these lines with their replies; a line that is no request is left out
 abbrev pub exchanges_on : List (List ℕ) → List Reply → List Exchange

@@ -1,6 +1,6 @@
 //! A line of the script, cut into the parts of a request.
 ghost use Rattle.std.specs.Prelude.{◌≡◌, ◌^◌, ◌<◌, ◌≤◌, length, Some, None, IfSome, option_map, if◌then◌else◌};
-ghost use Rattle.mds_replay.specs.Cutting.{word_of, behind_word, are_digits, decimal, is_moment, request_from, request_on};
+ghost use Rattle.mds_replay.specs.Input.{word_of, behind_word, are_digits, decimal, is_moment, request_from, request_on};
 ghost use Rattle.mds_request.specs.Request.{request_of};
 
 use crate::gather::first_place;
@@ -21,7 +21,7 @@ pub fn cut(line: &[u8]) -> Option<Request<'_>>
 }
 
 /// The request of these words, unless one of the first four is empty or the first is no moment.
-#[tactic(auto, unfolding(crate::specs::Cutting::request_from))]
+#[tactic(auto, unfolding(crate::specs::Input::request_from))]
 fn checked<'a>(
     at: &[u8],
     token: &'a [u8],

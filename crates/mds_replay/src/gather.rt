@@ -1,8 +1,8 @@
 //! The bytes of one line, gathered from pieces of the input.
 ghost use Rattle.std.specs.Prelude.{◌≡◌, ◌==◌, ◌+◌, ◌<◌, ◌≤◌, ◌++◌, position, take, length, nat_lt, if◌then◌else◌, vec_len, vec_capacity};
 ghost use Rattle.std.specs.Io.BufRead.{ends_with_byte};
-ghost use Rattle.mds_replay.specs.Framing.{line_limit};
-ghost use Rattle.mds_replay.specs.Gathering.{Gathers, Closes, ClosesLast};
+ghost use Rattle.mds_replay.specs.Input.{line_limit};
+ghost use Rattle.mds_replay.specs.LineReading.{Gathers, Closes, ClosesLast};
 
 use crate::lines::Found;
 

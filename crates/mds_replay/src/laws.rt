@@ -4,8 +4,7 @@ ghost use Rattle.mds_replay.specs.Laws.{AnswersByViews, GivesHistories, Isolates
 
 use crate::machine::Machine;
 use mds_verdict::Plain;
-use mds_world::World;
-use mds_world::laws;
+use mds_world::{World, laws};
 
 /// What a replay writes is a reply to each line that isn't empty, in order, `bad_line` to one that is
 /// no request, and those to requests are a history from the new machine of the configuration that the

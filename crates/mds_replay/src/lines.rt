@@ -46,8 +46,7 @@ pub struct LineReader {
 impl LineReader {
     ghost use Rattle.std.specs.Prelude.{List, [], ◌++◌, ◌^◌, Bool, true, false, length, IfOk, OnOk, OnErr, IsTrue, IfSome, Some, ◌⊎◌, drop, MatchResult, MatchBool};
     ghost use Rattle.std.specs.Io.KnownBytes.{Keeps, IsAtEnd};
-    ghost use Rattle.mds_replay.specs.Reader.{ahead, held, passed, left, Advances, FailsReading, Finds, SameAhead, TakesLine};
-    ghost use Rattle.mds_replay.specs.Gathering.{Closes, ClosesLast};
+    ghost use Rattle.mds_replay.specs.LineReading.{ahead, held, passed, left, Advances, FailsReading, Finds, SameAhead, TakesLine, Closes, ClosesLast};
 
     /// A reader that has read nothing. The only error is want of memory.
     pub fn new(alloc: Global) -> Result<LineReader, AllocError>

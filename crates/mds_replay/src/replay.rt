@@ -4,9 +4,9 @@ ghost use Rattle.std.specs.Io.KnownBytes.{Appends, IsAtEnd};
 ghost use Rattle.mds_request.specs.Configuration.{read_configuration};
 ghost use Rattle.mds_request.specs.Reply.{is_line, refused};
 ghost use Rattle.mds_request.specs.declared.code.Code.TheVariants.{BadLine};
-ghost use Rattle.mds_replay.specs.Framing.{input_limit, line_limit};
-ghost use Rattle.mds_replay.specs.Writing.{Writes};
-ghost use Rattle.mds_replay.specs.Reader.{left, passed, Advances, FailsReading, IsLimited};
+ghost use Rattle.mds_replay.specs.Input.{input_limit, line_limit};
+ghost use Rattle.mds_replay.specs.Ends.{Writes};
+ghost use Rattle.mds_replay.specs.LineReading.{left, passed, Advances, FailsReading, IsLimited};
 ghost use Rattle.mds_replay.specs.Turning.{Replies, Turns, AnswersAll, AnswersSome, Begins, written_of};
 ghost use Rattle.mds_replay.specs.Answering.{Configures, IsUnconfigured, IsShort, Answered, Started};
 

@@ -1,7 +1,7 @@
 //! A replay from a reader of the standard library to a writer.
 ghost use Rattle.std.specs.Prelude.{◌≡◌, ◌≤◌, length, IfOk, IfSome, IsErrOf, OnOk};
 ghost use Rattle.mds_replay.specs.Answering.{Answered, IsUnconfigured};
-ghost use Rattle.mds_replay.specs.Framing.{input_limit};
+ghost use Rattle.mds_replay.specs.Input.{input_limit};
 
 use crate::ends::{FromReader, ToWriter};
 use crate::fault::ReplayFault;

@@ -1,6 +1,6 @@
 use Rattle.std.proofs.Common.{◌≡◌, ◌+◌, length, position, Some, None, sym, ◌∙◌, rules}
 use Rattle.std.proofs.lemmas.List.{take_rest, take_all, drop_all}
-use Rattle.mds_replay.specs.Cutting.{is_space}
+use Rattle.mds_replay.specs.Input.{is_space}
 use Rattle.mds_replay.proofs.Places.{word_found, behind_found, word_missing, behind_missing}
 use Rattle.mds_replay.proofs.cut.split_word.Goals as goal
 

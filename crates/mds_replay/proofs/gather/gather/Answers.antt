@@ -1,4 +1,4 @@
-use Rattle.mds_replay.specs.Framing.{is_feed}
+use Rattle.mds_replay.specs.Input.{is_feed}
 use Rattle.std.proofs.Common.{◌≡◌, ◌+◌, take, drop, position, Some, None, sym, ap, ◌∙◌}
 use Rattle.mds_replay.proofs.Gathered.{feed_splits, feed_first, feed_length, feed_missing}
 use Rattle.mds_replay.proofs.gather.gather.Goals as goal

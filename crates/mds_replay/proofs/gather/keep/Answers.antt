@@ -1,6 +1,6 @@
 use Rattle.std.proofs.Common.{◌≡◌, ◌-◌, min, length, take, ◌++◌, ap, ◌∙◌, arith}
 use Rattle.mds_replay.proofs.Gathered.{keeps_front}
-use Rattle.mds_replay.specs.Gathering.{kept_limit}
+use Rattle.mds_replay.specs.LineReading.{kept_limit}
 use Rattle.mds_replay.proofs.gather.keep.Goals as goal
 
 pub returns-clause-items : goal.returns-clause-items

@@ -1,7 +1,7 @@
 use Rattle.std.proofs.Common.{◌≡◌, ◌-◌, List, ℕ}
 use Rattle.std.specs.Io.KnownBytes.{Appends}
-use Rattle.mds_replay.specs.Framing.{input_limit}
-use Rattle.mds_replay.specs.Reader.{left, passed, Advances}
+use Rattle.mds_replay.specs.Input.{input_limit}
+use Rattle.mds_replay.specs.LineReading.{left, passed, Advances}
 use Rattle.mds_replay.proofs.Progress.{Ran}
 use Rattle.mds_replay.proofs.replay.answer_all.Given as goal
 

@@ -1,7 +1,7 @@
 use Rattle.std.proofs.Common.{◌≡◌, ◌∙◌, ap, subst}
 use Rattle.std.specs.Io.KnownBytes.{prepend_known}
 use Rattle.std.proofs.lemmas.Result.{on_ok_weaker, on_err_weaker}
-use Rattle.mds_replay.specs.Reader.{left}
+use Rattle.mds_replay.specs.LineReading.{left}
 use Rattle.mds_replay.specs.Turning.{Begins}
 use Rattle.mds_replay.proofs.Whole.{nothing_ahead, answered_whole, started_whole}
 use Rattle.mds_replay.proofs.replay.replay.Goals as goal

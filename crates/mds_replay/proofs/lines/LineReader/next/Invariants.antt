@@ -1,6 +1,6 @@
 use Rattle.std.proofs.Common.{◌≡◌, ◌-◌}
-use Rattle.mds_replay.specs.Framing.{input_limit}
-use Rattle.mds_replay.specs.Reader.{held, passed, left}
+use Rattle.mds_replay.specs.Input.{input_limit}
+use Rattle.mds_replay.specs.LineReading.{held, passed, left}
 use Rattle.mds_replay.proofs.Reading.{Gathered}
 use Rattle.mds_replay.proofs.lines.LineReader.next.Given as goal
 
