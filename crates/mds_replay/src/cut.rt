@@ -3,7 +3,7 @@ ghost use Rattle.std.specs.Prelude.{◌≡◌, ◌^◌, ◌<◌, ◌≤◌, leng
 ghost use Rattle.mds_replay.specs.Input.{word_of, behind_word, are_digits, decimal, is_moment, request_from, request_on};
 ghost use Rattle.mds_request.specs.Request.{request_of};
 
-use crate::gather::first_place;
+use crate::gather::position_of;
 use mds_request::{Request, Verb};
 use mds_text::Moment;
 
@@ -51,8 +51,8 @@ fn split_word(bytes: &[u8]) -> (&[u8], &[u8])
     ensures word { result.0.now ≡ word_of bytes.now }
     ensures behind { result.1.now ≡ behind_word bytes.now }
 {
-    match first_place(bytes, b' ') {
-        Some(place) => (&bytes[..place], &bytes[place + 1..]),
+    match position_of(bytes, b' ') {
+        Some(at) => (&bytes[..at], &bytes[at + 1..]),
         None => bytes.split_at(bytes.len()),
     }
 }

@@ -22,10 +22,10 @@ pub fn gather(line: &mut Vec<u8>, bytes: &[u8]) -> Option<usize>
     ensures short { vec_len line.new ≤ KEPT_LIMIT }
     ensures reserved { KEPT_LIMIT ≤ vec_capacity line.new }
 {
-    match first_place(bytes, b'\n') {
-        Some(place) => {
-            keep(line, &bytes[..place]);
-            Some(place + 1)
+    match position_of(bytes, b'\n') {
+        Some(at) => {
+            keep(line, &bytes[..at]);
+            Some(at + 1)
         }
         None => {
             keep(line, bytes);
@@ -104,8 +104,8 @@ fn found(line: &[u8]) -> Found
     }
 }
 
-/// The place of the first such byte.
-pub fn first_place(bytes: &[u8], wanted: u8) -> Option<usize>
+/// Where the first such byte stands.
+pub fn position_of(bytes: &[u8], wanted: u8) -> Option<usize>
     ensures { result ≡ position (λ byte. byte == wanted) bytes.now }
 {
     bytes.iter().position(|byte| *byte == wanted)
