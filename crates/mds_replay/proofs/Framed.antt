@@ -2,13 +2,13 @@
 use Rattle.std.proofs.Common.{◌≡◌, ℕ, ◌+◌, ◌≤◌, Bool, true, false, ◌&&◌, cond, eqb, List, [], ◌∷◌, ◌++◌, length, refl, ap, ◌∙◌, arith}
 use Rattle.std.specs.List.{list_any}
 use Rattle.std.proofs.lemmas.Bool.{or_parts, and_right}
-use Rattle.mds_replay.specs.Framing.{lines, onto_first, feeds}
-use Rattle.mds_replay.specs.Gathering.{is_feed, IsWithoutFeed, without_return}
+use Rattle.mds_replay.specs.Input.{is_feed, lines, onto_first, feeds}
+use Rattle.mds_replay.specs.LineReading.{IsWithoutFeed, without_return}
 
-no_feed_here : (byte : ℕ) (bytes : List ℕ) → IsWithoutFeed (byte ∷ bytes) → eqb byte 10 ≡ false
+pub no_feed_here : (byte : ℕ) (bytes : List ℕ) → IsWithoutFeed (byte ∷ bytes) → eqb byte 10 ≡ false
 no_feed_here byte bytes h = (or_parts (eqb byte 10) (list_any is_feed bytes) h).0
 
-no_feed_later : (byte : ℕ) (bytes : List ℕ) → IsWithoutFeed (byte ∷ bytes) → IsWithoutFeed bytes
+pub no_feed_later : (byte : ℕ) (bytes : List ℕ) → IsWithoutFeed (byte ∷ bytes) → IsWithoutFeed bytes
 no_feed_later byte bytes h = (or_parts (eqb byte 10) (list_any is_feed bytes) h).1
 
 -- a byte that is no line feed, and isn't right before one, belongs to the first line

@@ -9,9 +9,9 @@ use Rattle.std.proofs.lemmas.List.{take-append-drop, take_min, drop_more, length
 use Rattle.std.proofs.lemmas.List.Quantifiers.{position-Some}
 use Rattle.mds_replay.specs.declared.lines.Found.{Found}
 use Rattle.mds_replay.specs.declared.lines.Found.TheVariants.{Line, TooLong}
-use Rattle.mds_replay.specs.Framing.{line_limit}
-use Rattle.mds_replay.specs.Gathering.{is_feed, IsWithoutFeed, without_return, Closes}
-use Rattle.mds_replay.proofs.Places.{word_found, word_missing, none_before}
+use Rattle.mds_replay.specs.Input.{is_feed, line_limit}
+use Rattle.mds_replay.specs.LineReading.{IsWithoutFeed, without_return, Closes}
+use Rattle.mds_replay.proofs.Positions.{word_found, word_missing, none_before}
 
 -- what is added where there is room for so many bytes
 pub keeps_front : (limit : ℕ) (line bytes : List ℕ) → length line ≤ limit → line ++ take (min (length bytes) (limit - length line)) bytes ≡ take limit (line ++ bytes)

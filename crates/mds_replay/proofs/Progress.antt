@@ -12,10 +12,9 @@ use Rattle.mds_request.specs.Reply.{Reply, is_line, refused}
 use Rattle.mds_replay.specs.declared.fault.ReplayFault.{ReplayFault}
 use Rattle.mds_replay.specs.declared.fault.ReplayFault.TheVariants.{Read, Write, BadConfig, NoMemory}
 use Rattle.mds_replay.specs.declared.lines.Found.TheVariants.{TooLong}
-use Rattle.mds_replay.specs.Framing.{lines, line_limit, is_filled}
-use Rattle.mds_replay.specs.Cutting.{request_on}
-use Rattle.mds_replay.specs.Writing.{Writes}
-use Rattle.mds_replay.specs.Reader.{BeginsWithLine, Finds}
+use Rattle.mds_replay.specs.Input.{lines, line_limit, is_filled, request_on}
+use Rattle.mds_replay.specs.Ends.{Writes}
+use Rattle.mds_replay.specs.LineReading.{BeginsWithLine, Finds}
 use Rattle.mds_replay.specs.Answering.{Answers, Run, Outputs, AreLines, answer_line, request_in}
 use Rattle.mds_replay.specs.Turning.{Replies, Turned, Turns, AnswersAll, AnswersSome, written_of, filled_lines}
 use Rattle.mds_replay.proofs.Written.{appends_more}

@@ -7,9 +7,8 @@ use Rattle.std.proofs.lemmas.List.Folds.{list_any-append}
 use Rattle.std.proofs.lemmas.List.{take_all, length-take, length-take-le, length-append, append-nil, take-append-le, take-take, drop-take, drop-drop, drop_at}
 use Rattle.mds_replay.specs.declared.lines.Found.{Found}
 use Rattle.mds_replay.specs.declared.lines.Found.TheVariants.{Line, TooLong, End}
-use Rattle.mds_replay.specs.Framing.{lines, input_limit}
-use Rattle.mds_replay.specs.Gathering.{is_feed, IsWithoutFeed, without_return, kept_limit, Closes, ClosesLast}
-use Rattle.mds_replay.specs.Reader.{BeginsWithLine, Finds, Advances, FailsReading}
+use Rattle.mds_replay.specs.Input.{is_feed, lines, input_limit}
+use Rattle.mds_replay.specs.LineReading.{IsWithoutFeed, without_return, kept_limit, Closes, ClosesLast, BeginsWithLine, Finds, Advances, FailsReading}
 use Rattle.mds_replay.proofs.Framed.{first_line, last_line, length-without_return}
 
 -- From what was left, bytes without a line feed were read, of which the front is kept.

@@ -4,8 +4,7 @@ use Rattle.std.specs.Io.KnownBytes.{Keeps, IsAtEnd, prepend_known}
 use Rattle.mds_replay.specs.declared.lines.LineReader.{LineReader}
 use Rattle.mds_replay.specs.declared.lines.Found.{Found}
 use Rattle.mds_replay.specs.declared.lines.Found.TheVariants.{End}
-use Rattle.mds_replay.specs.Gathering.{Closes, ClosesLast}
-use Rattle.mds_replay.specs.Reader.{ahead, held, passed, left, Finds, Advances, TakesLine, SameAhead}
+use Rattle.mds_replay.specs.LineReading.{Closes, ClosesLast, ahead, held, passed, left, Finds, Advances, TakesLine, SameAhead}
 use Rattle.mds_replay.proofs.Reading.{Gathered, gathered_piece, gathered_kept, gathered_advances, feed_advances, found_at_feed, found_at_end, nearer_at_end}
 
 same_left : (old new : LineReader) (remaining : Option (List ℕ)) → SameAhead old new → left new remaining ≡ left old remaining

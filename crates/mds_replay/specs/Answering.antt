@@ -1,21 +1,24 @@
 -- The answers to the lines of an input.
-use Rattle.std.specs.Prelude.{◌≡◌, ℕ, ◌+◌, ◌/◌, ◌%◌, ◌≤◌, true, List, [], ◌∷◌, ◌++◌, length, nat_lt, count_by, IfSome, Option, None, MatchOption, ◌⊎◌, if◌then◌else◌}
+use Rattle.std.specs.Prelude.{◌≡◌, ℕ, ◌+◌, ◌/◌, ◌%◌, ◌<◌, ◌≤◌, true, false, List, [], ◌∷◌, ◌++◌, length, nat_lt, count_by, IfSome, Option, None, MatchOption, Ok, is_ok, ◌⊎◌, if◌then◌else◌}
 use Rattle.std.specs.List.{list_all, flat_map}
 use Rattle.mds_request.specs.declared.code.Code.TheVariants.{BadLine}
+use Rattle.mds_request.specs.Configuration.{Configuration, read_configuration}
 use Rattle.mds_request.specs.Request.{Request}
 use Rattle.mds_request.specs.Reply.{Reply, is_line, refused}
-use Rattle.mds_replay.specs.Framing.{lines, line_limit, configuration_of, asked_of}
+use Rattle.mds_replay.specs.Input.{is_feed, lines, line_limit, configuration_of, asked_of, request_on}
 use Rattle.std.specs.Io.KnownBytes.{Appends}
-use Rattle.mds_replay.specs.Gathering.{is_feed}
-use Rattle.mds_replay.specs.Cutting.{request_on}
 
 -- the three digits of a status (RFC 9112, section 4)
 abbrev pub status_text : ℕ → List ℕ
 status_text status = (48 + status / 100 % 10) ∷ (48 + status / 10 % 10) ∷ (48 + status % 10) ∷ []
 
--- the line that a reply is written as: its status, a space, its body and a line feed
+-- what a reply is written as: its status, a space and its body
+abbrev pub answer_text : Reply → List ℕ
+answer_text reply = status_text reply.status ++ 32 ∷ reply.body
+
+-- its line, which a line feed ends
 abbrev pub answer_line : Reply → List ℕ
-answer_line reply = status_text reply.status ++ (32 ∷ (reply.body ++ 10 ∷ []))
+answer_line reply = answer_text reply ++ 10 ∷ []
 
 -- the request on a line, or nothing where the line is over the limit or no request
 abbrev pub request_in : List ℕ → Option Request
@@ -49,16 +52,20 @@ module _ {M : Type 0} (step : M → Request → Reply → M → Type 0) where
 abbrev pub IsShort : List ℕ → Type 0
 IsShort input = length (configuration_of input) ≤ line_limit
 
-module _ {M : Type 0} (begins : List ℕ → M → Type 0) where
-  -- a machine of the configuration that is a first line, which isn't over the limit
-  abbrev pub Configures : List ℕ → M → Type 0
-  Configures line machine = (length line ≤ line_limit) × begins line machine
+-- the first line is over the limit, or it is no configuration
+abbrev pub IsUnconfigured : List ℕ → Type 0
+IsUnconfigured input =
+    let line = configuration_of input in (line_limit < length line) ⊎ (is_ok (read_configuration line) ≡ false)
 
-  -- the first line is no configuration
-  abbrev pub IsUnconfigured : List ℕ → Type 0
-  IsUnconfigured input = (machine : M) → Configures (configuration_of input) machine → ⊥
+module _ {M : Type 0} (begins : Configuration → M → Type 0) where
+  -- a new machine of the configuration that a first line reads as, which isn't over the limit
+  pub record Configures (line : List ℕ) (machine : M) : Type 0 where
+    pub short : length line ≤ line_limit
+    pub configuration : Configuration
+    pub read : read_configuration line ≡ Ok configuration
+    pub begun : begins configuration machine
 
-module _ {M : Type 0} (begins : List ℕ → M → Type 0) (step : M → Request → Reply → M → Type 0) where
+module _ {M : Type 0} (begins : Configuration → M → Type 0) (step : M → Request → Reply → M → Type 0) where
   -- The output is the answers to an input: to each line behind the first that isn't empty one line,
   -- in order, by one machine of the configuration that is the first line.
   abbrev pub Replays : List ℕ → List ℕ → Type 0

@@ -1,12 +1,8 @@
 pub mod Answering
-pub mod Begins
-pub mod Cutting
 pub mod Ends
 pub mod Exit
-pub mod Framing
-pub mod Gathering
+pub mod Input
 pub mod Laws
-pub mod Reader
+pub mod LineReading
 pub mod Total
 pub mod Turning
-pub mod Writing

@@ -1,14 +1,13 @@
 //! The bytes of one line, gathered from pieces of the input.
-ghost use Rattle.std.specs.Prelude.{◌≡◌, ◌+◌, ◌<◌, ◌≤◌, ◌++◌, take, length, nat_lt, if◌then◌else◌, vec_len, vec_capacity};
+ghost use Rattle.std.specs.Prelude.{◌≡◌, ◌==◌, ◌+◌, ◌<◌, ◌≤◌, ◌++◌, position, take, length, nat_lt, if◌then◌else◌, vec_len, vec_capacity};
 ghost use Rattle.std.specs.Io.BufRead.{ends_with_byte};
-ghost use Rattle.mds_replay.specs.Framing.{line_limit};
-ghost use Rattle.mds_replay.specs.Gathering.{Gathers, Closes, ClosesLast};
+ghost use Rattle.mds_replay.specs.Input.{line_limit};
+ghost use Rattle.mds_replay.specs.LineReading.{Gathers, Closes, ClosesLast};
 
 use crate::lines::Found;
-use crate::place::first_place;
 
 /// The most bytes of a line, its end not counted.
-const LINE_LIMIT: usize = 2_097_152;
+pub const LINE_LIMIT: usize = 2_097_152;
 
 /// How many bytes of a line are kept: one that is cut off there is over the limit, even if its last
 /// byte is a carriage return that is dropped.
@@ -17,16 +16,16 @@ pub const KEPT_LIMIT: usize = LINE_LIMIT + 2;
 /// Adds the bytes before the first line feed to the line, and gives how many bytes they and the
 /// line feed are. Without a line feed all bytes are added, and the answer is `None`.
 pub fn gather(line: &mut Vec<u8>, bytes: &[u8]) -> Option<usize>
-    requires short { vec_len line.old ≤ 2097154 }
-    requires reserved { 2097154 ≤ vec_capacity line.old }
+    requires short { vec_len line.old ≤ KEPT_LIMIT }
+    requires reserved { KEPT_LIMIT ≤ vec_capacity line.old }
     ensures gathers { Gathers line.old.items bytes.now result line.new.items }
-    ensures short { vec_len line.new ≤ 2097154 }
-    ensures reserved { 2097154 ≤ vec_capacity line.new }
+    ensures short { vec_len line.new ≤ KEPT_LIMIT }
+    ensures reserved { KEPT_LIMIT ≤ vec_capacity line.new }
 {
-    match first_place(bytes, b'\n') {
-        Some(place) => {
-            keep(line, &bytes[..place]);
-            Some(place + 1)
+    match position_of(bytes, b'\n') {
+        Some(at) => {
+            keep(line, &bytes[..at]);
+            Some(at + 1)
         }
         None => {
             keep(line, bytes);
@@ -37,11 +36,11 @@ pub fn gather(line: &mut Vec<u8>, bytes: &[u8]) -> Option<usize>
 
 /// Adds as many of the bytes as there is room for.
 fn keep(line: &mut Vec<u8>, bytes: &[u8])
-    requires short { vec_len line.old ≤ 2097154 }
-    requires reserved { 2097154 ≤ vec_capacity line.old }
-    ensures items { line.new.items ≡ take 2097154 (line.old.items ++ bytes.now) }
-    ensures short { vec_len line.new ≤ 2097154 }
-    ensures reserved { 2097154 ≤ vec_capacity line.new }
+    requires short { vec_len line.old ≤ KEPT_LIMIT }
+    requires reserved { KEPT_LIMIT ≤ vec_capacity line.old }
+    ensures items { line.new.items ≡ take KEPT_LIMIT (line.old.items ++ bytes.now) }
+    ensures short { vec_len line.new ≤ KEPT_LIMIT }
+    ensures reserved { KEPT_LIMIT ≤ vec_capacity line.new }
 {
     let room = KEPT_LIMIT - line.len();
     let count = bytes.len().min(room);
@@ -59,11 +58,11 @@ fn append(line: &mut Vec<u8>, bytes: &[u8])
 
 /// Ends a line at a line feed: drops a carriage return at its end, and looks at its length.
 pub fn close(line: &mut Vec<u8>) -> Found
-    requires short { vec_len line.old ≤ 2097154 }
-    requires reserved { 2097154 ≤ vec_capacity line.old }
+    requires short { vec_len line.old ≤ KEPT_LIMIT }
+    requires reserved { KEPT_LIMIT ≤ vec_capacity line.old }
     ensures closes { Closes line.old.items result line.new.items }
-    ensures short { vec_len line.new ≤ 2097154 }
-    ensures reserved { 2097154 ≤ vec_capacity line.new }
+    ensures short { vec_len line.new ≤ KEPT_LIMIT }
+    ensures reserved { KEPT_LIMIT ≤ vec_capacity line.new }
 {
     if ends_with_return(line) {
         line.pop();
@@ -83,7 +82,7 @@ fn ends_with_return(line: &[u8]) -> bool
 
 /// Ends the last line, which no line feed ends.
 pub fn close_last(line: &mut Vec<u8>) -> Found
-    requires { vec_len line.old ≤ 2097154 }
+    requires { vec_len line.old ≤ KEPT_LIMIT }
     ensures closes { ClosesLast line.old.items result line.new.items }
     ensures same { line.new ≡ line.old }
 {
@@ -103,4 +102,11 @@ fn found(line: &[u8]) -> Found
     } else {
         Found::Line
     }
+}
+
+/// Where the first such byte stands.
+pub fn position_of(bytes: &[u8], wanted: u8) -> Option<usize>
+    ensures { result ≡ position (λ byte. byte == wanted) bytes.now }
+{
+    bytes.iter().position(|byte| *byte == wanted)
 }

@@ -1,12 +1,14 @@
 //! The lines of an input, one after another, in memory that is made first.
 ghost use Rattle.std.specs.Prelude.{◌≡◌, ℕ, ◌+◌, ◌-◌, ◌<◌, ◌≤◌, vec_len, vec_capacity};
+ghost use Rattle.mds_replay.specs.declared.gather.TheConstants.{KEPT_LIMIT};
+ghost use Rattle.mds_replay.specs.declared.lines.TheConstants.{INPUT_LIMIT};
 
 use crate::ends::{Failed, Source};
 use crate::gather::{KEPT_LIMIT, close, close_last, gather};
 use std::alloc::{AllocError, Global};
 
 /// The most bytes of a whole input.
-const INPUT_LIMIT: usize = 1_073_741_824;
+pub const INPUT_LIMIT: usize = 1_073_741_824;
 
 /// How many bytes are asked of the source at once.
 const CHUNK: usize = 65_536;
@@ -36,16 +38,15 @@ pub struct LineReader {
     ghost within: { end ≤ vec_len chunk },
     ghost roomy: { 0 < vec_len chunk },
     ghost counted: { end - start ≤ total },
-    ghost limited: { total ≤ 1073741824 },
-    ghost short: { vec_len line ≤ 2097154 },
-    ghost reserved: { 2097154 ≤ vec_capacity line },
+    ghost limited: { total ≤ INPUT_LIMIT },
+    ghost short: { vec_len line ≤ KEPT_LIMIT },
+    ghost reserved: { KEPT_LIMIT ≤ vec_capacity line },
 }
 
 impl LineReader {
     ghost use Rattle.std.specs.Prelude.{List, [], ◌++◌, ◌^◌, Bool, true, false, length, IfOk, OnOk, OnErr, IsTrue, IfSome, Some, ◌⊎◌, drop, MatchResult, MatchBool};
     ghost use Rattle.std.specs.Io.KnownBytes.{Keeps, IsAtEnd};
-    ghost use Rattle.mds_replay.specs.Reader.{ahead, held, passed, left, Advances, FailsReading, Finds, SameAhead, TakesLine};
-    ghost use Rattle.mds_replay.specs.Gathering.{Closes, ClosesLast};
+    ghost use Rattle.mds_replay.specs.LineReading.{ahead, held, passed, left, Advances, FailsReading, Finds, SameAhead, TakesLine, Closes, ClosesLast};
 
     /// A reader that has read nothing. The only error is want of memory.
     pub fn new(alloc: Global) -> Result<LineReader, AllocError>

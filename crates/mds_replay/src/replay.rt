@@ -1,21 +1,22 @@
 //! A replay: its configuration, and then line after line.
 ghost use Rattle.std.specs.Prelude.{◌≡◌, ◌+◌, ◌*◌, ◌-◌, ◌^◌, ◌<◌, ◌≤◌, ◌⊎◌, ℕ, List, [], length, true, false, is_ok, if◌then◌else◌, IfOk, IfErr, OnOk, OnErr, IfSome, IsTrue, IsErrOf, ◌≢◌};
 ghost use Rattle.std.specs.Io.KnownBytes.{Appends, IsAtEnd};
+ghost use Rattle.mds_request.specs.Configuration.{read_configuration};
 ghost use Rattle.mds_request.specs.Reply.{is_line, refused};
 ghost use Rattle.mds_request.specs.declared.code.Code.TheVariants.{BadLine};
-ghost use Rattle.mds_replay.specs.Framing.{input_limit, line_limit};
-ghost use Rattle.mds_replay.specs.Writing.{Writes};
-ghost use Rattle.mds_replay.specs.Reader.{left, passed, Advances, FailsReading, IsLimited};
+ghost use Rattle.mds_replay.specs.Input.{input_limit, line_limit};
+ghost use Rattle.mds_replay.specs.Ends.{Writes};
+ghost use Rattle.mds_replay.specs.LineReading.{left, passed, Advances, FailsReading, IsLimited};
 ghost use Rattle.mds_replay.specs.Turning.{Replies, Turns, AnswersAll, AnswersSome, Begins, written_of};
-ghost use Rattle.mds_replay.specs.Answering.{IsUnconfigured, IsShort, Answered, Started};
+ghost use Rattle.mds_replay.specs.Answering.{Configures, IsUnconfigured, IsShort, Answered, Started};
 
 use crate::cut::cut;
 use crate::ends::{Sink, Source};
 use crate::fault::ReplayFault;
 use crate::lines::{Found, LineReader};
-use crate::machine::{Machine, Refused};
+use crate::machine::Machine;
 use crate::write::write_answer;
-use mds_request::{Code, Refusal, Reply};
+use mds_request::{Code, Config, Refusal, Reply};
 use std::alloc::Global;
 
 /// Reads a configuration line and request lines, and writes one answer line for each of the latter.
@@ -50,7 +51,7 @@ pub fn replay<M: Machine, S: Source, W: Sink>(
     ensures read { IsErrOf result ReplayFault.Read → (S.failures source.new ≡ S.failures source.old + 1)
         ⊎ IfSome (S.remaining source.old) (λ input. input_limit < length input) }
     ensures write { IsErrOf result ReplayFault.Write → W.failures sink.new ≡ W.failures sink.old + 1 }
-    ensures bad_config { IsErrOf result ReplayFault.BadConfig → IfSome (S.remaining source.old) (IsUnconfigured M.begins) }
+    ensures bad_config { IsErrOf result ReplayFault.BadConfig → IfSome (S.remaining source.old) IsUnconfigured }
     // Want of memory hides no failed read, and no first line that is over the limit, once something was read.
     ensures memory { IsErrOf result ReplayFault.NoMemory → (source.new ≡ source.old)
         ⊎ ((S.failures source.new ≡ S.failures source.old) × IfSome (S.remaining source.old) IsShort) }
@@ -59,14 +60,8 @@ pub fn replay<M: Machine, S: Source, W: Sink>(
     ensures unwritten_config { IsErrOf result ReplayFault.BadConfig → sink.new ≡ sink.old }
     ensures unwritten_memory { IsErrOf result ReplayFault.NoMemory → sink.new ≡ sink.old }
 {
-    let mut reader = match LineReader::new(alloc) {
-        Ok(reader) => reader,
-        Err(_) => return Err(ReplayFault::NoMemory),
-    };
-    let mut machine = match begin::<M, S>(alloc, &mut reader, source) {
-        Ok(machine) => machine,
-        Err(fault) => return Err(fault),
-    };
+    let mut reader = LineReader::new(alloc)?;
+    let mut machine = begin::<M, S>(alloc, &mut reader, source)?;
     answer_all(&mut reader, &mut machine, source, sink)
 }
 
@@ -83,7 +78,7 @@ fn begin<M: Machine, S: Source>(
     ensures read_on { OnOk result (S.failures source.new ≡ S.failures source.old) }
     ensures read { IsErrOf result ReplayFault.Read → FailsReading (S.failures source.old) (S.failures source.new)
         (passed reader.old) (left reader.old (S.remaining source.old)) }
-    ensures bad_config { IsErrOf result ReplayFault.BadConfig → IfSome (left reader.old (S.remaining source.old)) (IsUnconfigured M.begins) }
+    ensures bad_config { IsErrOf result ReplayFault.BadConfig → IfSome (left reader.old (S.remaining source.old)) IsUnconfigured }
     ensures memory { IsErrOf result ReplayFault.NoMemory → (S.failures source.new ≡ S.failures source.old)
         × IfSome (left reader.old (S.remaining source.old)) IsShort }
     ensures unwritten { IfErr result (λ fault. fault ≢ ReplayFault.Write) }
@@ -98,15 +93,12 @@ fn begin<M: Machine, S: Source>(
 
 /// The machine of the configuration that the text is.
 fn configured<M: Machine>(alloc: Global, text: &[u8]) -> Result<M, ReplayFault>
-    ensures begins { IfOk result (M.begins text.now) }
-    ensures bad_config { IsErrOf result ReplayFault.BadConfig → (machine : M) → M.begins text.now machine → ⊥ }
+    ensures begins { IfOk result (λ machine. length text.now ≤ line_limit → Configures M.begins text.now machine) }
+    ensures bad_config { IsErrOf result ReplayFault.BadConfig → is_ok (read_configuration text.now) ≡ false }
     ensures fault { IfErr result (λ fault. (fault ≡ ReplayFault.BadConfig) ⊎ (fault ≡ ReplayFault.NoMemory)) }
 {
-    match M::configure(alloc, text) {
-        Ok(machine) => Ok(machine),
-        Err(Refused::BadConfig) => Err(ReplayFault::BadConfig),
-        Err(Refused::NoMemory) => Err(ReplayFault::NoMemory),
-    }
+    let config = Config::read(alloc, text)?;
+    Ok(M::begin(alloc, config)?)
 }
 
 /// Answers all lines that are left.

@@ -1,6 +1,6 @@
 use Rattle.std.proofs.Common.{◌-◌, cond, ltb, length, take, ap, sym, ◌∙◌}
 use Rattle.mds_replay.specs.declared.lines.Found.TheVariants.{Line, TooLong}
-use Rattle.mds_replay.specs.Framing.{line_limit}
+use Rattle.mds_replay.specs.Input.{line_limit}
 use Rattle.std.specs.Io.BufRead.{ends_with_byte}
 use Rattle.mds_replay.proofs.Gathered.{return_dropped, no_return, closes}
 use Rattle.mds_replay.proofs.gather.close.Goals as goal

@@ -1,6 +1,6 @@
 use Rattle.std.proofs.Common.{◌∙◌}
 use Rattle.std.proofs.lemmas.Bool.{MatchBool-at_false}
-use Rattle.mds_replay.specs.Reader.{passed, left}
+use Rattle.mds_replay.specs.LineReading.{passed, left}
 use Rattle.mds_replay.proofs.Reading.{fails_from, gathered_advances}
 use Rattle.mds_replay.proofs.Steps.{after_no_feed, after_refill, line_found, line_advances, end_found, end_advances, end_nearer}
 use Rattle.mds_replay.proofs.lines.LineReader.next.Goals as goal

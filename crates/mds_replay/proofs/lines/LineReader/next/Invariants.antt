@@ -1,5 +1,6 @@
 use Rattle.std.proofs.Common.{◌≡◌, ◌-◌}
-use Rattle.mds_replay.specs.Reader.{held, passed, left}
+use Rattle.mds_replay.specs.Input.{input_limit}
+use Rattle.mds_replay.specs.LineReading.{held, passed, left}
 use Rattle.mds_replay.proofs.Reading.{Gathered}
 use Rattle.mds_replay.proofs.lines.LineReader.next.Given as goal
 
@@ -10,4 +11,4 @@ invariant-pieces g l = record {
 }
 
 abbrev pub decreases-pieces : goal.decreases-pieces
-decreases-pieces g l = 1073741824 - l.self.total
+decreases-pieces g l = input_limit - l.self.total
