@@ -11,9 +11,13 @@ use std::sync::Arc;
 /// from then on, each list in the order of the request.
 #[derive(Drop)]
 pub struct Batch {
+    /// When it is published, in milliseconds since the Unix epoch.
     pub moment: Moment,
+    /// The geographies that are published.
     pub geographies: Vec<Arc<Geography>>,
+    /// The policies that are published.
     pub policies: Vec<Arc<Policy>>,
+    /// The identifiers of the published policies that are withdrawn.
     pub withdrawn: Vec<Id>,
 }
 

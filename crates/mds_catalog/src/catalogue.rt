@@ -330,7 +330,8 @@ impl Catalogue {
         }
     }
 
-    /// Adds a share of the batch at the end where it is lawful, and changes nothing for any other.
+    /// Adds a share of the batch at the end where it is lawful, and changes nothing for any other: for a
+    /// catalogue that follows another's list of batches. `adopt` is handed a share of its own.
     ///
     /// # Errors
     ///

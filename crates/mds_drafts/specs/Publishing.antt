@@ -1,5 +1,5 @@
 -- The publication that drafts make, or the first reason why not.
-use Rattle.std.specs.Prelude.{◌≡◌, ℕ, List, not, if◌then◌else◌, Option, Some, None, Result, Ok, Err, find}
+use Rattle.std.specs.Prelude.{◌≡◌, ◌≢◌, ℕ, List, not, if◌then◌else◌, Option, Some, None, Result, Ok, Err, find}
 use Rattle.std.specs.List.{filter_map}
 use Rattle.std.specs.Option.{option_or, option_map}
 use Rattle.std.specs.FinMap.{get}
@@ -52,5 +52,5 @@ batch_of drafts named publications moment =
 -- an answer is the defined one, unless memory ran out
 abbrev pub AnswersPublish : Result Batch PublishFault → Result Publication PublishFault → Type 0
 AnswersPublish (Ok batch) defined = defined ≡ Ok (publication_of batch)
-AnswersPublish (Err NoMemory) defined = Unit {0}
+AnswersPublish (Err NoMemory) defined = (defined ≢ Err Empty) × ((id : List ℕ) → defined ≢ Err (NoDraft id))
 AnswersPublish (Err fault) defined = defined ≡ Err fault

@@ -52,7 +52,7 @@ impl PublishList {
     }
 
     /// Whether no identifier is named.
-    pub fn is_empty(&self) -> bool
+    pub(crate) fn is_empty(&self) -> bool
         ensures { result ≡ names_nothing (named_of self.now) }
     {
         self.geographies.is_empty() && self.policies.is_empty() && self.withdraw.is_empty()

@@ -138,13 +138,6 @@ impl Book {
         self.vehicles.len()
     }
 
-    /// The most devices that may be held.
-    pub fn limit(&self) -> u32
-        ensures { result ≡ self.now.limit }
-    {
-        self.limit
-    }
-
     /// All that is held, ascending by device id.
     ///
     /// # Errors

@@ -7,7 +7,7 @@ use mds_match::Vehicle;
 use mds_text::Id;
 
 /// Where a device stands among vehicles that ascend by device id, or where it would go.
-pub fn place_of(vehicles: &[Vehicle], device: Id) -> Result<usize, usize>
+pub(crate) fn place_of(vehicles: &[Vehicle], device: Id) -> Result<usize, usize>
     requires { IsTrue (is_sorted device_cmp (map entry vehicles.now)) }
     ensures found { IfOk result (IsAt (map entry vehicles.now) device) }
     ensures gap { IfErr result (IsGap device_cmp (map entry vehicles.now) device) }

@@ -17,32 +17,32 @@ use Rattle.mds_request.specs.declared.routes.Route.{Route}
 use Rattle.mds_request.specs.declared.routes.Route.TheVariants.{Policies, Policy, Geographies, Geography, FleetEvents, FleetVehicles, FleetVehicle, Compliance, PolicyCompliance, PolicyDraft, GeographyDraft, Publish}
 
 -- no row has another method
-by_other : (actor : Actor) (route : Route) → Err Method ≡ call_among actor Other (spelled route) NoRoute (rows_at (spelled route))
-by_other actor Policies = refl
-by_other actor (Policy id) = refl
-by_other actor Geographies = refl
-by_other actor (Geography id) = refl
-by_other actor FleetEvents = refl
-by_other actor FleetVehicles = refl
-by_other actor (FleetVehicle id) = refl
-by_other actor Compliance = refl
-by_other actor (PolicyCompliance id) = refl
-by_other actor (PolicyDraft id) = refl
-by_other actor (GeographyDraft id) = refl
-by_other actor Publish = refl
+by_other : (actor : Actor) (route : Route) (id : List ℕ) → Err Method ≡ call_among actor Other (spelled route id) NoRoute (rows_at (spelled route id))
+by_other actor Policies id = refl
+by_other actor Policy id = refl
+by_other actor Geographies id = refl
+by_other actor Geography id = refl
+by_other actor FleetEvents id = refl
+by_other actor FleetVehicles id = refl
+by_other actor FleetVehicle id = refl
+by_other actor Compliance id = refl
+by_other actor PolicyCompliance id = refl
+by_other actor PolicyDraft id = refl
+by_other actor GeographyDraft id = refl
+by_other actor Publish id = refl
 
-pub author_other : (route : Route) (verb : Verb) → verb ≡ Other → Err Method ≡ called_at Author verb (spelled route)
-author_other route verb e =
-    by_other Author route ∙ ap (λ v. called_at Author v (spelled route)) (sym e)
+pub author_other : (route : Route) (id : List ℕ) (verb : Verb) → verb ≡ Other → Err Method ≡ called_at Author verb (spelled route id)
+author_other route id verb e =
+    by_other Author route id ∙ ap (λ v. called_at Author v (spelled route id)) (sym e)
 
-pub operator_other : (place : ℕ) (route : Route) (verb : Verb) → verb ≡ Other → Err Method ≡ called_at (Operator place) verb (spelled route)
-operator_other place route verb e =
-    by_other (Operator place) route ∙ ap (λ v. called_at (Operator place) v (spelled route)) (sym e)
+pub operator_other : (place : ℕ) (route : Route) (id : List ℕ) (verb : Verb) → verb ≡ Other → Err Method ≡ called_at (Operator place) verb (spelled route id)
+operator_other place route id verb e =
+    by_other (Operator place) route id ∙ ap (λ v. called_at (Operator place) v (spelled route id)) (sym e)
 
 -- the call at the place that a target names
-pub answered : (c : Configuration) (r : Request) (actor : Actor) (route : Route) (found : Result Call Code) → length r.body ≤ MOST_BODY → actor ≡ actor_of c r.token → spelled route ≡ segments_of r.target → found ≡ called_at actor r.verb (spelled route)
+pub answered : (c : Configuration) (r : Request) (actor : Actor) (route : Route) (id : List ℕ) (found : Result Call Code) → length r.body ≤ MOST_BODY → actor ≡ actor_of c r.token → spelled route id ≡ segments_of r.target → found ≡ called_at actor r.verb (spelled route id)
     → found ≡ call_of c r
-answered c r actor route found small a s e =
+answered c r actor route id found small a s e =
     e
     ∙ ap (λ segments. called_at actor r.verb segments) s
     ∙ ap (λ a. called_at a r.verb (segments_of r.target)) a

@@ -84,53 +84,59 @@ pub fn read_call(routes: &Routes, config: &Config, request: &Request) -> Result<
         return Err(Code::TooLarge);
     }
     match config.actor(request.token) {
-        Actor::Author => author_call(routes.find(request.target)?, request.verb),
-        Actor::Operator(place) => operator_call(place, routes.find(request.target)?, request.verb),
+        Actor::Author => {
+            let (route, id) = routes.find(request.target)?;
+            author_call(route, id, request.verb)
+        }
+        Actor::Operator(place) => {
+            let (route, id) = routes.find(request.target)?;
+            operator_call(place, route, id, request.verb)
+        }
         Actor::Nobody => Err(Code::Token),
     }
 }
 
-fn author_call(route: Route, verb: Verb) -> Result<Call, Code>
-    ensures { result ≡ called_at the_author verb (spelled route.entry) }
+fn author_call(route: Route, id: &str, verb: Verb) -> Result<Call, Code>
+    ensures { result ≡ called_at the_author verb (spelled route id.now) }
 {
     match verb {
-        Verb::Get => author_get(route),
-        Verb::Put => author_put(route),
-        Verb::Post => author_post(route),
-        Verb::Delete => author_delete(route),
+        Verb::Get => author_get(route, id),
+        Verb::Put => author_put(route, id),
+        Verb::Post => author_post(route, id),
+        Verb::Delete => author_delete(route, id),
         Verb::Other => Err(Code::Method),
     }
 }
 
-fn author_get(route: Route) -> Result<Call, Code>
-    ensures { result ≡ called_at the_author Get (spelled route.entry) }
+fn author_get(route: Route, id: &str) -> Result<Call, Code>
+    ensures { result ≡ called_at the_author Get (spelled route id.now) }
 {
     let call = match route {
         Route::Policies => AuthorCall::Policies,
-        Route::Policy(id) => AuthorCall::Policy(read_id(id)?),
+        Route::Policy => AuthorCall::Policy(read_id(id)?),
         Route::Geographies => AuthorCall::Geographies,
-        Route::Geography(id) => AuthorCall::Geography(read_id(id)?),
-        Route::PolicyDraft(id) => AuthorCall::Draft(DraftKind::Policy, read_id(id)?),
-        Route::GeographyDraft(id) => AuthorCall::Draft(DraftKind::Geography, read_id(id)?),
-        Route::FleetVehicles | Route::Compliance | Route::PolicyCompliance(_) => {
+        Route::Geography => AuthorCall::Geography(read_id(id)?),
+        Route::PolicyDraft => AuthorCall::Draft(DraftKind::Policy, read_id(id)?),
+        Route::GeographyDraft => AuthorCall::Draft(DraftKind::Geography, read_id(id)?),
+        Route::FleetVehicles | Route::Compliance | Route::PolicyCompliance => {
             return Err(Code::Role);
         }
-        Route::FleetEvents | Route::FleetVehicle(_) | Route::Publish => {
+        Route::FleetEvents | Route::FleetVehicle | Route::Publish => {
             return Err(Code::Method);
         }
     };
     Ok(Call::Author(call))
 }
 
-fn author_put(route: Route) -> Result<Call, Code>
-    ensures { result ≡ called_at the_author Put (spelled route.entry) }
+fn author_put(route: Route, id: &str) -> Result<Call, Code>
+    ensures { result ≡ called_at the_author Put (spelled route id.now) }
 {
     match route {
-        Route::PolicyDraft(id) => Ok(Call::Author(AuthorCall::PutDraft(
+        Route::PolicyDraft => Ok(Call::Author(AuthorCall::PutDraft(
             DraftKind::Policy,
             read_id(id)?,
         ))),
-        Route::GeographyDraft(id) => Ok(Call::Author(AuthorCall::PutDraft(
+        Route::GeographyDraft => Ok(Call::Author(AuthorCall::PutDraft(
             DraftKind::Geography,
             read_id(id)?,
         ))),
@@ -138,8 +144,8 @@ fn author_put(route: Route) -> Result<Call, Code>
     }
 }
 
-fn author_post(route: Route) -> Result<Call, Code>
-    ensures { result ≡ called_at the_author Post (spelled route.entry) }
+fn author_post(route: Route, id: &str) -> Result<Call, Code>
+    ensures { result ≡ called_at the_author Post (spelled route id.now) }
 {
     match route {
         Route::Publish => Ok(Call::Author(AuthorCall::Publish)),
@@ -148,65 +154,65 @@ fn author_post(route: Route) -> Result<Call, Code>
     }
 }
 
-fn author_delete(route: Route) -> Result<Call, Code>
-    ensures { result ≡ called_at the_author Delete (spelled route.entry) }
+fn author_delete(route: Route, id: &str) -> Result<Call, Code>
+    ensures { result ≡ called_at the_author Delete (spelled route id.now) }
 {
     match route {
-        Route::PolicyDraft(id) => {
+        Route::PolicyDraft => {
             let id = read_id(id)?;
             Ok(Call::Author(AuthorCall::DropDraft(DraftKind::Policy, id)))
         }
-        Route::GeographyDraft(id) => {
+        Route::GeographyDraft => {
             let id = read_id(id)?;
             Ok(Call::Author(AuthorCall::DropDraft(DraftKind::Geography, id)))
         }
-        Route::FleetVehicle(_) => Err(Code::Role),
+        Route::FleetVehicle => Err(Code::Role),
         _ => Err(Code::Method),
     }
 }
 
-fn operator_call(place: usize, route: Route, verb: Verb) -> Result<Call, Code>
-    ensures { result ≡ called_at (the_operator place) verb (spelled route.entry) }
+fn operator_call(place: usize, route: Route, id: &str, verb: Verb) -> Result<Call, Code>
+    ensures { result ≡ called_at (the_operator place) verb (spelled route id.now) }
 {
     match verb {
-        Verb::Get => operator_get(place, route),
-        Verb::Put => operator_put(place, route),
-        Verb::Post => operator_post(place, route),
-        Verb::Delete => operator_delete(place, route),
+        Verb::Get => operator_get(place, route, id),
+        Verb::Put => operator_put(place, route, id),
+        Verb::Post => operator_post(place, route, id),
+        Verb::Delete => operator_delete(place, route, id),
         Verb::Other => Err(Code::Method),
     }
 }
 
-fn operator_get(place: usize, route: Route) -> Result<Call, Code>
-    ensures { result ≡ called_at (the_operator place) Get (spelled route.entry) }
+fn operator_get(place: usize, route: Route, id: &str) -> Result<Call, Code>
+    ensures { result ≡ called_at (the_operator place) Get (spelled route id.now) }
 {
     match route {
         Route::Policies => Ok(Call::Operator(place, OperatorCall::Policies)),
-        Route::Policy(id) => Ok(Call::Operator(place, OperatorCall::Policy(read_id(id)?))),
+        Route::Policy => Ok(Call::Operator(place, OperatorCall::Policy(read_id(id)?))),
         Route::Geographies => Ok(Call::Operator(place, OperatorCall::Geographies)),
-        Route::Geography(id) => Ok(Call::Operator(place, OperatorCall::Geography(read_id(id)?))),
+        Route::Geography => Ok(Call::Operator(place, OperatorCall::Geography(read_id(id)?))),
         Route::FleetVehicles => Ok(Call::Operator(place, OperatorCall::Vehicles)),
         Route::Compliance => Ok(Call::Operator(place, OperatorCall::Compliance)),
-        Route::PolicyCompliance(id) => Ok(Call::Operator(
+        Route::PolicyCompliance => Ok(Call::Operator(
             place,
             OperatorCall::PolicyCompliance(read_id(id)?),
         )),
-        Route::PolicyDraft(_) | Route::GeographyDraft(_) => Err(Code::Role),
+        Route::PolicyDraft | Route::GeographyDraft => Err(Code::Role),
         _ => Err(Code::Method),
     }
 }
 
-fn operator_put(place: usize, route: Route) -> Result<Call, Code>
-    ensures { result ≡ called_at (the_operator place) Put (spelled route.entry) }
+fn operator_put(place: usize, route: Route, id: &str) -> Result<Call, Code>
+    ensures { result ≡ called_at (the_operator place) Put (spelled route id.now) }
 {
     match route {
-        Route::PolicyDraft(_) | Route::GeographyDraft(_) => Err(Code::Role),
+        Route::PolicyDraft | Route::GeographyDraft => Err(Code::Role),
         _ => Err(Code::Method),
     }
 }
 
-fn operator_post(place: usize, route: Route) -> Result<Call, Code>
-    ensures { result ≡ called_at (the_operator place) Post (spelled route.entry) }
+fn operator_post(place: usize, route: Route, id: &str) -> Result<Call, Code>
+    ensures { result ≡ called_at (the_operator place) Post (spelled route id.now) }
 {
     match route {
         Route::FleetEvents => Ok(Call::Operator(place, OperatorCall::Report)),
@@ -215,15 +221,15 @@ fn operator_post(place: usize, route: Route) -> Result<Call, Code>
     }
 }
 
-fn operator_delete(place: usize, route: Route) -> Result<Call, Code>
-    ensures { result ≡ called_at (the_operator place) Delete (spelled route.entry) }
+fn operator_delete(place: usize, route: Route, id: &str) -> Result<Call, Code>
+    ensures { result ≡ called_at (the_operator place) Delete (spelled route id.now) }
 {
     match route {
-        Route::FleetVehicle(id) => match Id::read(id) {
+        Route::FleetVehicle => match Id::read(id) {
             Some(id) => Ok(Call::Operator(place, OperatorCall::RemoveVehicle(id))),
             None => Err(Code::BadId),
         },
-        Route::PolicyDraft(_) | Route::GeographyDraft(_) => Err(Code::Role),
+        Route::PolicyDraft | Route::GeographyDraft => Err(Code::Role),
         _ => Err(Code::Method),
     }
 }

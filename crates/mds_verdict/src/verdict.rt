@@ -21,6 +21,7 @@ pub const MOST_DEVICES: usize = 100;
 pub struct RuleVerdict {
     /// The rule's identifier.
     pub rule: Id,
+    /// Whether the rule is kept.
     pub status: Status,
     /// For a rule on the count the number of vehicles that it catches, and for a rule on time the
     /// number of those whose time in their state is outside the bounds; 0 for a rule that isn't
