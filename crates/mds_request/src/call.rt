@@ -7,7 +7,7 @@ ghost use Rattle.mds_request.specs.Request.{request_of};
 ghost use Rattle.mds_request.specs.Route.{spelled};
 ghost use Rattle.mds_request.specs.declared.config.Actor.TheVariants.{Author as the_author, Operator as the_operator};
 ghost use Rattle.mds_request.specs.declared.code.Code.TheVariants.{BadId};
-ghost use Rattle.mds_request.specs.declared.request.Verb.TheVariants.{Get, Put, Post, Delete};
+ghost use Rattle.mds_request.specs.declared.request.Verb.TheVariants.{Get, Put, Delete};
 
 use crate::code::Code;
 use crate::config::{Actor, Config};
@@ -102,7 +102,11 @@ fn author_call(route: Route, id: &str, verb: Verb) -> Result<Call, Code>
     match verb {
         Verb::Get => author_get(route, id),
         Verb::Put => author_put(route, id),
-        Verb::Post => author_post(route, id),
+        Verb::Post => match route {
+            Route::Publish => Ok(Call::Author(AuthorCall::Publish)),
+            Route::FleetEvents => Err(Code::Role),
+            _ => Err(Code::Method),
+        },
         Verb::Delete => author_delete(route, id),
         Verb::Other => Err(Code::Method),
     }
@@ -132,24 +136,14 @@ fn author_put(route: Route, id: &str) -> Result<Call, Code>
     ensures { result ≡ called_at the_author Put (spelled route id.now) }
 {
     match route {
-        Route::PolicyDraft => Ok(Call::Author(AuthorCall::PutDraft(
-            DraftKind::Policy,
-            read_id(id)?,
-        ))),
-        Route::GeographyDraft => Ok(Call::Author(AuthorCall::PutDraft(
-            DraftKind::Geography,
-            read_id(id)?,
-        ))),
-        _ => Err(Code::Method),
-    }
-}
-
-fn author_post(route: Route, id: &str) -> Result<Call, Code>
-    ensures { result ≡ called_at the_author Post (spelled route id.now) }
-{
-    match route {
-        Route::Publish => Ok(Call::Author(AuthorCall::Publish)),
-        Route::FleetEvents => Err(Code::Role),
+        Route::PolicyDraft => {
+            let id = read_id(id)?;
+            Ok(Call::Author(AuthorCall::PutDraft(DraftKind::Policy, id)))
+        }
+        Route::GeographyDraft => {
+            let id = read_id(id)?;
+            Ok(Call::Author(AuthorCall::PutDraft(DraftKind::Geography, id)))
+        }
         _ => Err(Code::Method),
     }
 }
@@ -176,8 +170,15 @@ fn operator_call(place: usize, route: Route, id: &str, verb: Verb) -> Result<Cal
 {
     match verb {
         Verb::Get => operator_get(place, route, id),
-        Verb::Put => operator_put(place, route, id),
-        Verb::Post => operator_post(place, route, id),
+        Verb::Put => match route {
+            Route::PolicyDraft | Route::GeographyDraft => Err(Code::Role),
+            _ => Err(Code::Method),
+        },
+        Verb::Post => match route {
+            Route::FleetEvents => Ok(Call::Operator(place, OperatorCall::Report)),
+            Route::Publish => Err(Code::Role),
+            _ => Err(Code::Method),
+        },
         Verb::Delete => operator_delete(place, route, id),
         Verb::Other => Err(Code::Method),
     }
@@ -202,33 +203,14 @@ fn operator_get(place: usize, route: Route, id: &str) -> Result<Call, Code>
     }
 }
 
-fn operator_put(place: usize, route: Route, id: &str) -> Result<Call, Code>
-    ensures { result ≡ called_at (the_operator place) Put (spelled route id.now) }
-{
-    match route {
-        Route::PolicyDraft | Route::GeographyDraft => Err(Code::Role),
-        _ => Err(Code::Method),
-    }
-}
-
-fn operator_post(place: usize, route: Route, id: &str) -> Result<Call, Code>
-    ensures { result ≡ called_at (the_operator place) Post (spelled route id.now) }
-{
-    match route {
-        Route::FleetEvents => Ok(Call::Operator(place, OperatorCall::Report)),
-        Route::Publish => Err(Code::Role),
-        _ => Err(Code::Method),
-    }
-}
-
 fn operator_delete(place: usize, route: Route, id: &str) -> Result<Call, Code>
     ensures { result ≡ called_at (the_operator place) Delete (spelled route id.now) }
 {
     match route {
-        Route::FleetVehicle => match Id::read(id) {
-            Some(id) => Ok(Call::Operator(place, OperatorCall::RemoveVehicle(id))),
-            None => Err(Code::BadId),
-        },
+        Route::FleetVehicle => {
+            let id = read_id(id)?;
+            Ok(Call::Operator(place, OperatorCall::RemoveVehicle(id)))
+        }
         Route::PolicyDraft | Route::GeographyDraft => Err(Code::Role),
         _ => Err(Code::Method),
     }
