@@ -24,9 +24,9 @@ pub use fault::{NumberFault, TextFault};
 pub use field::Field;
 pub use fields::{
     bool_at, bound_at, bound_of, document_of, id_at, id_of, ids_at, int_of, list_at, list_of,
-    member_at, moment_at, moment_of, object_of, required_id, required_ids, required_list, required_member,
-    required_moment, required_text, required_token, text_at, text_of, token_at, token_of,
-    tokens_at, tokens_of,
+    member_at, moment_at, moment_of, object_of, required_id, required_ids, required_list,
+    required_member, required_moment, required_text, required_token, text_at, text_of, token_at,
+    token_of, tokens_at, tokens_of,
 };
 pub use id::Id;
 pub use make::{
