@@ -1,42 +1,30 @@
 -- The codes of refusals, with their statuses (RFC 9110, section 15) and bodies.
 use Rattle.std.specs.Prelude.{ℕ, List, ◌++◌, codes}
 use Rattle.mds_request.specs.declared.code.Code.{Code}
-use Rattle.mds_request.specs.declared.code.Code.TheVariants.{BadLine, Clock, BadBody, NoSnapshot, TooLarge, Token, NoRoute, Method, Role, BadId, BadJson, Decimal, BadField, BadNumber, OutOfRange, TooManyRules, TooManyPoints, RingShort, RingOpen, IdMismatch, Future, Stale, FleetFull, DraftsFull, NoDraft, NotFound, Empty, Published, NoGeography, NoPredecessor, CatalogFull, NoMemory}
+use Rattle.mds_request.specs.declared.code.Code.TheVariants.{BadLine, Clock, BadBody, NoSnapshot, TooLarge, Token, NoRoute, Method, Role, BadId, BadJson, Decimal, BadField, BadNumber, OutOfRange, TooManyRules, TooManyPoints, RingShort, RingOpen, IdMismatch, Future, Stale, FleetFull, DraftsFull, NoDraft, NotFound, Empty, Published, NoGeography, NoPredecessor, NotPublished, CatalogFull, NoMemory}
 
 -- the status of a refusal
 abbrev pub status_of : Code → ℕ
-status_of BadLine = 400
-status_of Clock = 503
-status_of BadBody = 400
-status_of NoSnapshot = 503
-status_of TooLarge = 413
 status_of Token = 401
-status_of NoRoute = 404
-status_of Method = 405
 status_of Role = 403
-status_of BadId = 400
-status_of BadJson = 400
-status_of Decimal = 400
-status_of BadField = 400
-status_of BadNumber = 400
-status_of OutOfRange = 400
-status_of TooManyRules = 400
-status_of TooManyPoints = 400
-status_of RingShort = 400
-status_of RingOpen = 400
-status_of IdMismatch = 400
+status_of NoRoute = 404
+status_of NoDraft = 404
+status_of NotFound = 404
+status_of Method = 405
 status_of Future = 409
 status_of Stale = 409
 status_of FleetFull = 409
 status_of DraftsFull = 409
-status_of NoDraft = 404
-status_of NotFound = 404
-status_of Empty = 400
 status_of Published = 409
 status_of NoGeography = 409
 status_of NoPredecessor = 409
+status_of NotPublished = 409
 status_of CatalogFull = 409
+status_of TooLarge = 413
+status_of Clock = 503
+status_of NoSnapshot = 503
 status_of NoMemory = 503
+status_of code = 400
 
 -- a code's name
 abbrev pub name_of : Code → List ℕ
@@ -70,6 +58,7 @@ name_of Empty = codes "empty"
 name_of Published = codes "published"
 name_of NoGeography = codes "no_geography"
 name_of NoPredecessor = codes "no_predecessor"
+name_of NotPublished = codes "not_published"
 name_of CatalogFull = codes "catalog_full"
 name_of NoMemory = codes "no_memory"
 

@@ -6,7 +6,7 @@ use Rattle.mds_request.specs.Reply.{Reply, is_line, success, refused}
 
 abbrev pub answer_of : Content → Reply
 answer_of (Success body) = success body.items
-answer_of (Refused refusal) = refused refusal.code
+answer_of (Refused code) = refused code
 
 abbrev pub IsOneLine : Content → Type 0
 IsOneLine content = IsTrue (is_line (answer_of content).body)

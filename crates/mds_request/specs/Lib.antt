@@ -1,4 +1,3 @@
-pub mod Access
 pub mod Call
 pub mod Code
 pub mod Configuration
@@ -7,4 +6,3 @@ pub mod Fault
 pub mod Reply
 pub mod Request
 pub mod Route
-pub mod Verb

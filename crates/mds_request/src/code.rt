@@ -61,6 +61,8 @@ pub enum Code {
     NoGeography,
     /// A policy that is to be replaced isn't published.
     NoPredecessor,
+    /// A policy that is to be withdrawn isn't published.
+    NotPublished,
     /// The batch doesn't fit the limits of the catalogue.
     CatalogFull,
     /// Memory ran out, and nothing has changed.
@@ -87,6 +89,7 @@ impl Code {
             | Code::Published
             | Code::NoGeography
             | Code::NoPredecessor
+            | Code::NotPublished
             | Code::CatalogFull => 409,
             Code::TooLarge => 413,
             Code::Clock | Code::NoSnapshot | Code::NoMemory => 503,
@@ -142,6 +145,7 @@ impl Code {
             Code::Published => b"{\"error\":\"published\"}",
             Code::NoGeography => b"{\"error\":\"no_geography\"}",
             Code::NoPredecessor => b"{\"error\":\"no_predecessor\"}",
+            Code::NotPublished => b"{\"error\":\"not_published\"}",
             Code::CatalogFull => b"{\"error\":\"catalog_full\"}",
             Code::NoMemory => b"{\"error\":\"no_memory\"}",
         }

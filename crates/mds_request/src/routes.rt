@@ -1,12 +1,41 @@
 //! The route that a target names.
-ghost use Rattle.std.specs.Prelude.{◌≡◌, ◌<◌, [], ◌∷◌, length, position, MatchOption, IfSome, IsOk, option_map};
+ghost use Rattle.std.specs.Prelude.{◌≡◌, ◌≢◌, ◌<◌, codes, [], ◌∷◌, length, position, MatchOption, IfSome, IsOk};
 ghost use Rattle.std.specs.List.{slice_split};
-ghost use Rattle.mds_request.specs.Route.{is_query_mark, is_slash, path_of, place, with_id, without_id, route_of, route_of_one, route_of_two, route_of_three, route_of_pieces, place_of, place_at};
+ghost use Rattle.mds_request.specs.Call.{is_query_mark, is_slash, path_of, all_some, behind_slash, segments_in, segments_of};
+ghost use Rattle.mds_request.specs.Route.{Finds};
 
-use crate::place::Place;
-use crate::route::Route;
+use crate::code::Code;
 use std::alloc::{AllocError, Global};
 use std::str;
+
+/// What a path names, with the segment that stands for the identifier, where there is one.
+#[derive(Clone, Copy)]
+pub(crate) enum Route<'a> {
+    /// `/policies`
+    Policies,
+    /// `/policies/{id}`
+    Policy(&'a str),
+    /// `/geographies`
+    Geographies,
+    /// `/geographies/{id}`
+    Geography(&'a str),
+    /// `/fleet/events`
+    FleetEvents,
+    /// `/fleet/vehicles`
+    FleetVehicles,
+    /// `/fleet/vehicles/{id}`
+    FleetVehicle(&'a str),
+    /// `/compliance`
+    Compliance,
+    /// `/compliance/{id}`
+    PolicyCompliance(&'a str),
+    /// `/drafts/policies/{id}`
+    PolicyDraft(&'a str),
+    /// `/drafts/geographies/{id}`
+    GeographyDraft(&'a str),
+    /// `/publish`
+    Publish,
+}
 
 /// The table of routes.
 #[derive(Drop)]
@@ -27,10 +56,10 @@ impl Routes {
     }
 
     /// What a target names. The query behind the first `?` is ignored.
-    pub(crate) fn place_at<'a>(&self, target: &'a [u8]) -> Option<Place<'a>>
-        ensures { option_map place result ≡ place_at target.now }
+    pub(crate) fn find<'a>(&self, target: &'a [u8]) -> Result<Route<'a>, Code>
+        ensures { Finds (segments_of target.now) result }
     {
-        place_of(path_of(target))
+        in_path(path_of(target))
     }
 }
 
@@ -51,12 +80,12 @@ fn query_mark(target: &[u8]) -> Option<usize>
     target.iter().position(|byte| *byte == b'?')
 }
 
-fn place_of(path: &[u8]) -> Option<Place<'_>>
-    ensures { option_map place result ≡ place_of path.now }
+fn in_path(path: &[u8]) -> Result<Route<'_>, Code>
+    ensures { Finds (segments_in path.now) result }
 {
     match str::from_utf8(path) {
-        Ok(path) => route_of_pieces(path),
-        Err(_) => None,
+        Ok(path) => in_pieces(path),
+        Err(_) => Err(Code::NoRoute),
     }
 }
 
@@ -70,93 +99,89 @@ fn cut(path: &str) -> Option<(&str, &str)>
 }
 
 /// The segments stand behind the slash with which a path begins.
-fn route_of_pieces(path: &str) -> Option<Place<'_>>
-    ensures { option_map place result ≡ route_of_pieces (slice_split is_slash path.now) }
+fn in_pieces(path: &str) -> Result<Route<'_>, Code>
+    ensures { Finds (behind_slash (slice_split is_slash path.now)) result }
 {
     match cut(path) {
-        Some(("", segments)) => route_of(segments),
-        _ => None,
+        Some(("", segments)) => in_segments(segments),
+        _ => Err(Code::NoRoute),
     }
 }
 
-fn route_of(path: &str) -> Option<Place<'_>>
-    ensures { option_map place result ≡ route_of (slice_split is_slash path.now) }
+fn in_segments(path: &str) -> Result<Route<'_>, Code>
+    ensures { Finds (all_some (slice_split is_slash path.now)) result }
 {
     let Some((first, rest)) = cut(path) else {
-        return route_of_one(path);
+        return of_one(path);
     };
     let Some((second, third)) = cut(rest) else {
-        return route_of_two(first, rest);
+        return of_two(first, rest);
     };
     match cut(third) {
-        None => route_of_three(first, second, third),
-        Some(_) => None,
+        None => of_three(first, second, third),
+        Some(_) => Err(Code::NoRoute),
     }
 }
 
-fn route_of_one(a: &str) -> Option<Place<'static>>
-    ensures { option_map place result ≡ route_of_one a.now }
+fn of_one(a: &str) -> Result<Route<'static>, Code>
+    ensures { Finds (all_some (a.now ∷ [])) result }
 {
     if a == "policies" {
-        without_id(Route::Policies)
+        Ok(Route::Policies)
     } else if a == "geographies" {
-        without_id(Route::Geographies)
+        Ok(Route::Geographies)
     } else if a == "compliance" {
-        without_id(Route::Compliance)
+        Ok(Route::Compliance)
     } else if a == "publish" {
-        without_id(Route::Publish)
+        Ok(Route::Publish)
     } else {
-        None
+        Err(Code::NoRoute)
     }
 }
 
-fn route_of_two<'a>(a: &str, b: &'a str) -> Option<Place<'a>>
-    ensures { option_map place result ≡ route_of_two a.now b.now }
+fn of_two<'a>(a: &str, b: &'a str) -> Result<Route<'a>, Code>
+    ensures { Finds (all_some (a.now ∷ b.now ∷ [])) result }
 {
-    if a == "policies" {
-        with_id(Route::Policy, b)
+    if b.is_empty() {
+        Err(Code::NoRoute)
+    } else if a == "policies" {
+        Ok(Route::Policy(b))
     } else if a == "geographies" {
-        with_id(Route::Geography, b)
+        Ok(Route::Geography(b))
     } else if a == "compliance" {
-        with_id(Route::PolicyCompliance, b)
-    } else if a == "fleet" && b == "events" {
-        without_id(Route::FleetEvents)
+        Ok(Route::PolicyCompliance(b))
+    } else if a == "fleet" {
+        of_fleet(b)
+    } else {
+        Err(Code::NoRoute)
+    }
+}
+
+fn of_fleet(b: &str) -> Result<Route<'static>, Code>
+    requires { b.now ≢ [] }
+    ensures { Finds (all_some (codes "fleet" ∷ b.now ∷ [])) result }
+{
+    if b == "events" {
+        Ok(Route::FleetEvents)
+    } else if b == "vehicles" {
+        Ok(Route::FleetVehicles)
+    } else {
+        Err(Code::NoRoute)
+    }
+}
+
+fn of_three<'a>(a: &str, b: &str, c: &'a str) -> Result<Route<'a>, Code>
+    ensures { Finds (all_some (a.now ∷ b.now ∷ c.now ∷ [])) result }
+{
+    if c.is_empty() {
+        Err(Code::NoRoute)
     } else if a == "fleet" && b == "vehicles" {
-        without_id(Route::FleetVehicles)
-    } else {
-        None
-    }
-}
-
-fn route_of_three<'a>(a: &str, b: &str, c: &'a str) -> Option<Place<'a>>
-    ensures { option_map place result ≡ route_of_three a.now b.now c.now }
-{
-    if a == "fleet" && b == "vehicles" {
-        with_id(Route::FleetVehicle, c)
+        Ok(Route::FleetVehicle(c))
     } else if a == "drafts" && b == "policies" {
-        with_id(Route::PolicyDraft, c)
+        Ok(Route::PolicyDraft(c))
     } else if a == "drafts" && b == "geographies" {
-        with_id(Route::GeographyDraft, c)
+        Ok(Route::GeographyDraft(c))
     } else {
-        None
-    }
-}
-
-fn without_id<'a>(route: Route) -> Option<Place<'a>>
-    ensures { option_map place result ≡ without_id route }
-{
-    Some(Place { route, id: None })
-}
-
-fn with_id(route: Route, segment: &str) -> Option<Place<'_>>
-    ensures { option_map place result ≡ with_id route segment.now }
-{
-    if segment.is_empty() {
-        None
-    } else {
-        Some(Place {
-            route,
-            id: Some(segment),
-        })
+        Err(Code::NoRoute)
     }
 }
