@@ -7,7 +7,7 @@ mod list;
 mod publish;
 
 pub use draft::Draft;
-pub use drafts::{Drafts, NoDraft, Put, PutFault};
+pub use drafts::{Drafts, MOST_DRAFTS, NoDraft, Put, PutFault};
 pub use list::PublishList;
 pub use publish::PublishFault;
 

@@ -27,6 +27,8 @@ pub enum PublishFault {
     NoGeography(Id),
     /// This policy, which a policy replaces, isn't published.
     NoPredecessor(Id),
+    /// This policy, which is to be withdrawn, isn't published.
+    NotPublished(Id),
     /// The batch would pass a limit of the catalogue.
     CatalogFull,
     /// Memory ran out.
@@ -105,14 +107,14 @@ impl Drafts {
         Ok(shares)
     }
 
-    /// The batch of the drafts that are named, published at this moment. It shares the documents, and
-    /// is lawful on the catalogue.
+    /// The batch of the drafts that are named, published at this moment, and of the policies that are
+    /// withdrawn. It shares the documents, and is lawful on the catalogue.
     ///
     /// # Errors
     ///
     /// The first reason why it isn't, each tested for the whole list before the next: no identifier,
-    /// one without a draft, one that is published, a rule's geography or a predecessor that is
-    /// missing, a limit of the catalogue. `NoMemory` where the shares found none.
+    /// one without a draft, one that is published, a rule's geography, a predecessor or a policy to
+    /// withdraw that is missing, a limit of the catalogue. `NoMemory` where the shares found none.
     pub fn batch(
         &self,
         alloc: Global,
@@ -133,10 +135,12 @@ impl Drafts {
         }
         let geographies = self.shared_geographies(alloc, &list.geographies)?;
         let policies = self.shared_policies(alloc, &list.policies)?;
+        let withdrawn = Vec::from_slice(alloc, &list.withdraw)?;
         let batch = Batch {
             moment,
             geographies,
             policies,
+            withdrawn,
         };
         match refusal(catalogue, &batch) {
             Some(fault) => Err(fault),
@@ -157,6 +161,9 @@ fn refusal(catalogue: &Catalogue, batch: &Batch) -> Option<PublishFault>
     }
     if let Some(id) = catalogue.missing_predecessor(batch) {
         return Some(PublishFault::NoPredecessor(id));
+    }
+    if let Some(id) = catalogue.first_unpublished(&batch.withdrawn) {
+        return Some(PublishFault::NotPublished(id));
     }
     if catalogue.fits(batch) {
         None

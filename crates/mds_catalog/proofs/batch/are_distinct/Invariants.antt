@@ -1,6 +1,6 @@
 use Rattle.std.proofs.Common.{◌≡◌, drop}
 use Rattle.mds_catalog.specs.Publication.{are_distinct}
-use Rattle.mds_drafts.proofs.list.differ.Given as goal
+use Rattle.mds_catalog.proofs.batch.are_distinct.Given as goal
 
 -- the rest differs where the whole list does
 abbrev pub invariant-loop-i : goal.invariant-loop-i
