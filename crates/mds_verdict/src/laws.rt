@@ -1,27 +1,33 @@
 //! What follows from the definition of verdicts, for all policies and vehicles, and for bounds that
 //! are worked out.
 
-ghost use Rattle.std.specs.Prelude.{◌≡◌, ℕ, ◌≤◌, List, IsTrue, All, IsPermutation, length};
+ghost use Rattle.std.specs.Prelude.{◌≡◌, ℕ, ◌≤◌, List, IsTrue, All, IsPermutation, length, map};
 ghost use Rattle.mds_geometry.specs.declared.position.Position.{Position};
 ghost use Rattle.mds_policy.specs.Policy.{Policy};
 ghost use Rattle.mds_policy.specs.declared.rule.TimeUnit.TheVariants.{Minutes};
 ghost use Rattle.mds_match.specs.declared.local.Local.{Local};
 ghost use Rattle.mds_match.specs.Row.{Row};
 ghost use Rattle.mds_verdict.specs.Verdict.{verdicts, within, millis};
+ghost use Rattle.mds_verdict.specs.declared.verdict.Status.{Status};
+ghost use Rattle.mds_verdict.specs.declared.verdict.TheConstants.{MOST_DEVICES};
 ghost use Rattle.mds_verdict.specs.Examples.{up_to, below, from_one};
 
-/// The verdicts don't depend on the order of the vehicles.
+/// Statuses and measures don't depend on the order of the vehicles.
 pub fn any_order()
     ensures { (policy : Policy) (polygons : List ℕ → List (List (List Position))) (rows others : List Row) (local : Local) (t : ℕ) →
-        IsPermutation rows others → verdicts policy polygons rows local t ≡ verdicts policy polygons others local t }
+        IsPermutation rows others → map {B = Status × ℕ} (λ v. (v.status, v.measure)) (verdicts policy polygons rows local t)
+        ≡ map {B = Status × ℕ} (λ v. (v.status, v.measure)) (verdicts policy polygons others local t) }
 {}
 
-/// There is one verdict for each rule, and no measure is greater than the number of vehicles.
+/// There is one verdict for each rule, no measure is greater than the number of vehicles, and no list
+/// of devices is longer than it may be.
 pub fn bounded()
     ensures each { (policy : Policy) (polygons : List ℕ → List (List (List Position))) (rows : List Row) (local : Local) (t : ℕ) →
         length (verdicts policy polygons rows local t) ≡ length policy.rules }
     ensures measures { (policy : Policy) (polygons : List ℕ → List (List (List Position))) (rows : List Row) (local : Local) (t : ℕ) →
         All (λ v. v.measure ≤ length rows) (verdicts policy polygons rows local t) }
+    ensures devices { (policy : Policy) (polygons : List ℕ → List (List (List Position))) (rows : List Row) (local : Local) (t : ℕ) →
+        All (λ v. length v.devices ≤ MOST_DEVICES) (verdicts policy polygons rows local t) }
 {}
 
 /// The inclusive flags hold for the bound times the unit: a minute is within a maximum of one minute,
