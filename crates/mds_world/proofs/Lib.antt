@@ -1,13 +1,5 @@
 mod Ascending
 mod Books
-mod Drafting
-mod Histories
-mod Isolated
-mod Meaning
 mod OneLine
-mod Outcome
-mod Reported
 mod Running
-mod Shown
-mod Steps
-mod TwoWorlds
+mod Settled

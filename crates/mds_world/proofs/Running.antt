@@ -5,8 +5,7 @@ use Rattle.std.proofs.lemmas.List.{length-map, length-take-le, map-append}
 use Rattle.mds_request.specs.Request.{Request, request_of}
 use Rattle.mds_request.specs.declared.request.Request.{Request as Lent}
 use Rattle.mds_request.specs.Reply.{Reply}
-use Rattle.mds_world.specs.Step.{Exchange, Step, Run, exchanges}
-use Rattle.mds_world.specs.World.{State}
+use Rattle.mds_machine.specs.Step.{State, Exchange, Step, Run, exchanges}
 
 -- one more exchange
 pub run_on : (w between next : State) (history : List Exchange) (e : Exchange) → Run w history between → Step between e.request e.reply next → Run w (history ++ e ∷ []) next

@@ -89,7 +89,7 @@ pub(crate) fn policy_compliance<E: Evaluator<Catalogue>>(
     let Some(found) = catalogue.policy(id) else {
         return Err(Denied::Refused(Code::NotFound));
     };
-    if !catalogue.is_in_force(operator.id, at, found) {
+    if !catalogue.is_in_force(operator.id, at, &found) {
         return Err(Denied::Refused(Code::NotFound));
     }
     let vehicles = fleet(book)?;

@@ -8,8 +8,6 @@ mod compliance;
 mod denied;
 mod operator;
 mod published;
-#[cfg(test)]
-mod tests;
 mod world;
 
 pub use author::{AuthorAct, author_step};

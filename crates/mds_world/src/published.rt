@@ -30,8 +30,8 @@ pub(crate) fn policies(
 }
 
 /// Whether an operator is shown a policy; the author, who is none, is shown any.
-fn is_shown(operator: Option<Id>, policy: Published<'_, Policy>) -> bool
-    ensures { result ≡ is_shown operator (lent_policy policy.entry) }
+fn is_shown(operator: Option<Id>, policy: &Published<'_, Policy>) -> bool
+    ensures { result ≡ is_shown operator (lent_policy policy.now) }
 {
     match operator {
         Some(operator) => is_meant_for(policy.document, operator),
@@ -51,7 +51,7 @@ pub(crate) fn policy(
     let Some(found) = catalogue.policy(id) else {
         return Err(Denied::Refused(Code::NotFound));
     };
-    if !is_shown(operator, found) {
+    if !is_shown(operator, &found) {
         return Err(Denied::Refused(Code::NotFound));
     }
     let served = found.document.served(alloc, Some(found.moment))?;
