@@ -5,7 +5,7 @@ use Rattle.std.specs.List.{flat_map}
 use Rattle.std.proofs.lemmas.List.{map-append, flat_map_more, length-map}
 use Rattle.std.proofs.lemmas.Bool.{and_parts}
 use borrow.Author.Tests.{ltb-true, leb-true}
-use Rattle.std.proofs.Common.{length-append, nat_lt, nat_le, ◌≤◌, arith}
+use Rattle.std.proofs.Common.{length-append, nat_lt, nat_le, ◌≤◌}
 use Rattle.std.specs.Option.{option_or}
 use Rattle.std.proofs.lemmas.List.Folds.{find-append}
 use Rattle.std.specs.declared.sync.Arc.{Arc}
@@ -13,7 +13,7 @@ use Rattle.std.specs.declared.alloc.Global.{Global}
 use Rattle.mds_policy.specs.Policy.{Policy, Rule, policy_document, rule_document}
 use Rattle.mds_policy.specs.declared.rule.Rule as rule
 use Rattle.mds_policy.specs.declared.policy.Policy as policy
-use Rattle.mds_geography.specs.Geography.{Geography, geography_document}
+use Rattle.mds_geography.specs.Geography.{Geography}
 use Rattle.mds_catalog.specs.declared.batch.Batch.{Batch}
 use Rattle.mds_catalog.specs.Publication.{Publication, publication_of, publications_in, dated, find_policy, find_geography, published_policies, published_geographies, fits, is_lawful}
 use Rattle.mds_catalog.specs.declared.catalogue.TheConstants.{MOST_POLICIES, MOST_GEOGRAPHIES, MOST_PUBLICATIONS}

@@ -1,13 +1,13 @@
 -- Publications grow at the end, and a successor stays effective.
-use Rattle.std.proofs.Common.{◌≡◌, ℕ, ◌≤◌, nat_le, ◌&&◌, ◌||◌, Bool, true, false, cond, List, [], ◌∷◌, ◌++◌, Some, refl, sym, ap, ◌∙◌, bytes_eq, find, map, arith}
-use Rattle.std.specs.List.{list_any, flat_map}
+use Rattle.std.proofs.Common.{◌≡◌, ℕ, ◌≤◌, nat_le, ◌&&◌, ◌||◌, Bool, true, false, cond, List, [], ◌∷◌, ◌++◌, refl, sym, ap, ◌∙◌, bytes_eq, find, map, arith}
+use Rattle.std.specs.List.{list_any}
 use Rattle.std.proofs.lemmas.Bool.{and_parts}
 use Rattle.std.proofs.lemmas.List.{append_assoc, append-nil}
 use Rattle.std.proofs.lemmas.Bool.Decides.{nat_tests}
 use Rattle.std.proofs.lemmas.Grind.{flat_map-append}
 use Rattle.mds_policy.specs.Policy.{Policy}
-use Rattle.mds_catalog.specs.Publication.{Publication, Published, find_policy, find_geography, published_policies, published_geographies, dated, supersedes, is_effective, is_among, is_lawful, extended}
-use Rattle.mds_catalog.specs.Laws.{AreLawful, FoldKeepsLawful, FoldGoesOn, folded_onto, StaysPublished, StaysOver}
+use Rattle.mds_catalog.specs.Publication.{Publication, Published, published_policies, published_geographies, dated, supersedes, is_effective, is_among, is_lawful, extended}
+use Rattle.mds_catalog.specs.Laws.{FoldKeepsLawful, FoldGoesOn, folded_onto, StaysPublished, StaysOver}
 use Rattle.mds_catalog.proofs.Found.{find_early}
 
 -- publications are lawful behind those that were taken

@@ -1,6 +1,6 @@
 -- What a catalogue keeps stays right under one lawful publication more.
-use Rattle.std.proofs.Common.{◌≡◌, ℕ, ◌+◌, ◌≤◌, nat_le, ◌&&◌, ◌||◌, Bool, true, false, not, cond, min, List, [], ◌∷◌, ◌++◌, Option, Some, None, is_some, is_none, length, map, find, take, bytes_eq, refl, sym, ap, ◌∙◌, arith}
-use Rattle.std.specs.List.{list_any, flat_map}
+use Rattle.std.proofs.Common.{◌≡◌, ℕ, ◌+◌, nat_le, ◌&&◌, ◌||◌, Bool, true, false, not, cond, min, List, [], ◌∷◌, ◌++◌, Option, Some, None, is_some, is_none, length, map, find, take, bytes_eq, refl, sym, ap, ◌∙◌, arith}
+use Rattle.std.specs.List.{list_any}
 use Rattle.std.specs.Option.{option_map_or}
 use Rattle.std.proofs.Math.Bool.{and-false, or-false}
 use Rattle.std.proofs.Math.Seq.{take-append_seam}

@@ -1,7 +1,7 @@
 -- Publications: batches of documents, each published whole at one moment, and which policies are in
 -- force (MDS 2.0 Policy: publication, immutability, superseding by `prev_policies`). That a publication may
 -- also withdraw policies is this server's own.
-use Rattle.std.specs.Prelude.{◌≡◌, ◌≤◌, ℕ, ◌+◌, List, [], ◌∷◌, ◌++◌, map, length, find, filter, Bool, true, not, ◌&&◌, ◌||◌, ◌==◌, nat_le, nat_lt, if◌then◌else◌, Option, Some, None, is_some, is_none, bytes_eq}
+use Rattle.std.specs.Prelude.{ℕ, ◌+◌, List, [], ◌∷◌, ◌++◌, map, length, find, filter, Bool, true, not, ◌&&◌, ◌||◌, ◌==◌, nat_le, nat_lt, if◌then◌else◌, Option, Some, None, is_some, is_none, bytes_eq}
 use Rattle.std.specs.List.{flat_map, list_any}
 use Rattle.std.specs.Option.{option_or, option_map_or}
 use Rattle.std.specs.declared.sync.Arc.{Arc}

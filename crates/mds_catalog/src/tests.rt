@@ -144,8 +144,10 @@ fn lends_the_published(rt: HostRuntime) -> Result<(), Fail> {
 
 /// Whether the first policy is in force for an operator at a moment.
 fn cap_in_force(catalogue: &Catalogue, at: i64) -> Result<bool, Fail> {
-    let cap = catalogue.policy(id(P1)?).ok_or("a policy")?;
-    Ok(catalogue.is_in_force(id(OA)?, moment(at)?, &cap))
+    match catalogue.policy(id(P1)?) {
+        Some(cap) => Ok(catalogue.is_in_force(id(OA)?, moment(at)?, &cap)),
+        None => Ok(false),
+    }
 }
 
 #[test]

@@ -1,4 +1,4 @@
-use Rattle.std.proofs.Common.{◌≡◌, ◌++◌, ◌+◌, ◌≤◌, length, map, take, drop, None, vec_len, vec_capacity}
+use Rattle.std.proofs.Common.{◌≡◌, ◌++◌, ◌+◌, map, take, None, vec_len, vec_capacity}
 use Rattle.mds_policy.specs.Policy.{policy_document}
 use Rattle.mds_catalog.proofs.withdrawals.list_policies.Given as goal
 
