@@ -1,5 +1,4 @@
 mod Ascending
 mod Books
 mod OneLine
-mod Running
 mod Settled

@@ -1,6 +1,6 @@
 use Rattle.std.proofs.Common.{arith}
 use Rattle.mds_world.specs.World.{state_of}
-use Rattle.mds_world.proofs.Running.{turn}
+use Rattle.mds_machine.proofs.Running.{turn}
 use Rattle.mds_world.proofs.world.World.run.Goals as goal
 
 pub loop-request-preserved : goal.loop-request-preserved
