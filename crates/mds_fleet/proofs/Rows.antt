@@ -19,8 +19,7 @@ use Rattle.mds_fleet.specs.declared.book.BookFault.TheVariants.{Future, Stale, F
 use Rattle.mds_fleet.specs.Books.{Report, device_cmp, is_same, outcome, outcome_at, reported, row_after, row_from, rows_after, Take}
 use Rattle.mds_fleet.proofs.Cases.{Case, IsNew}
 use Rattle.mds_fleet.proofs.Determined.{past, take_of_case, less}
-use Rattle.mds_fleet.specs.Fleet.{entry, rows_of, IsKept}
-use Rattle.mds_fleet.specs.Place.{IsAt, IsGap}
+use Rattle.mds_fleet.specs.Fleet.{entry, rows_of, IsKept, IsAt, IsGap}
 use Rattle.std.specs.declared.cmp.Ordering.TheVariants.{Less}
 use Rattle.std.specs.List.{AllByRecursion}
 use Rattle.std.specs.List.Sorted.{IsStrictlySortedBy}

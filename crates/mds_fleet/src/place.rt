@@ -1,8 +1,7 @@
 ghost use Rattle.std.specs.Prelude.{◌≡◌, IsTrue, IfOk, IfErr, map};
 ghost use Rattle.std.specs.FinMap.{is_sorted};
 ghost use Rattle.mds_fleet.specs.Books.{device_cmp};
-ghost use Rattle.mds_fleet.specs.Fleet.{entry};
-ghost use Rattle.mds_fleet.specs.Place.{IsAt, IsGap};
+ghost use Rattle.mds_fleet.specs.Fleet.{entry, IsAt, IsGap};
 
 use mds_match::Vehicle;
 use mds_text::Id;

@@ -2,7 +2,7 @@
 use Rattle.std.proofs.Common.{◌≡◌, ℕ, ◌==◌, ◌&&◌, ◌||◌, Bool, true, false, cond, List, [], ◌∷◌, ◌++◌, map, length, Option, Some, None, option_map, Result, Ok, Err, inl, inr, refl, sym, ap, subst, ◌∙◌, ◌+◌}
 use Rattle.std.specs.Prelude.{bytes_eq}
 use Rattle.std.specs.List.{filter_map, cons_option, slice_get}
-use Rattle.std.specs.Option.{option_and_then, option_to_list}
+use Rattle.std.specs.Option.{option_and_then, option_to_list, unwrap_or}
 use Rattle.std.specs.Result.{result_ok}
 use Rattle.std.specs.FinMap.{FinMap, get, remove}
 use Rattle.std.proofs.lemmas.List.{append-nil}
@@ -40,7 +40,7 @@ use Rattle.mds_machine.specs.Answer.{settled, coded, told, leaving, ◌>>=◌}
 use Rattle.mds_machine.specs.Author.{author_does, document_of, under, put_word, beside, draft_answer}
 use Rattle.mds_machine.specs.Bodies.{result_json, removed_json, published_json}
 use Rattle.mds_machine.specs.Codes.{fault_code, put_code, publish_code}
-use Rattle.mds_machine.specs.History.{Fate, stands, is_gone, is_same_kind, named_ids, fate_named, fate_by, fate_in, drafted, as_policy, as_geography, publication_named, published_by, published_in}
+use Rattle.mds_machine.specs.History.{is_same_kind, named_ids, fate_by, fate_in, as_policy, as_geography, publication_named, published_by, published_in}
 use Rattle.mds_machine.specs.Isolation.{AreKeyed}
 use Rattle.mds_machine.specs.Operator.{operator_does}
 use Rattle.mds_machine.specs.Published.{policy_answer, geography_answer}
@@ -120,7 +120,7 @@ module _ {X : Type 0} (id : X → List ℕ) (m : FinMap id_cmp X) (own : (k : Li
   taken [] = refl
   taken (name ∷ names) = taken_step name names (filter_map (get m) names) (get m name) refl (taken names)
 
-gone : {A : Type 0} (f : A → Document) (b : Bool) (o : Option A) → option_map f (cond b None o) ≡ drafted (cond b (Some is_gone) None) (option_map f o)
+gone : {A : Type 0} (f : A → Document) (b : Bool) (o : Option A) → option_map f (cond b None o) ≡ unwrap_or (cond b (Some None) None) (option_map f o)
 gone f true o = refl
 gone f false o = refl
 
@@ -150,39 +150,39 @@ batch_is false (Some fault) x p is = absurd (cc)
 
 -- ---- what a call does
 
-record Does (old : Drafts) (was : List Publication) (done : Bool) (fate : DraftKind → List ℕ → Option Fate) (made : Option Publication) (new : Drafts) (now : List Publication) : Type 0 where
+record Does (old : Drafts) (was : List Publication) (done : Bool) (fate : DraftKind → List ℕ → Option (Option Document)) (made : Option Publication) (new : Drafts) (now : List Publication) : Type 0 where
   publications : now ≡ was ++ option_to_list (cond done made None)
-  drafts : (kind : DraftKind) (id : List ℕ) → draft_at new kind id ≡ drafted (cond done (fate kind id) None) (draft_at old kind id)
+  drafts : (kind : DraftKind) (id : List ℕ) → draft_at new kind id ≡ unwrap_or (cond done (fate kind id) None) (draft_at old kind id)
   keyed : AreKeyed new
 
 unsaid : {A : Type 0} (done : Bool) (o : Option A) → o ≡ None → cond done o None ≡ None
 unsaid true o is = is
 unsaid false o is = refl
 
-keyed_step : (fate : Option Fate) (held : Option Document) (id : List ℕ) (document : Document) → drafted fate held ≡ Some document → (held ≡ Some document → id_of document ≡ id) → ((d : Document) → fate ≡ Some (stands d) → id_of d ≡ id) → id_of document ≡ id
+keyed_step : (fate : Option (Option Document)) (held : Option Document) (id : List ℕ) (document : Document) → unwrap_or fate held ≡ Some document → (held ≡ Some document → id_of document ≡ id) → ((d : Document) → fate ≡ Some (Some d) → id_of d ≡ id) → id_of document ≡ id
 keyed_step None held id document is before after = before is
-keyed_step (Some (stands d)) held id document is before after = let same : d ≡ document = cc in ap id_of (sym same) ∙ after d refl
-keyed_step (Some is_gone) held id document is before after = absurd (cc)
+keyed_step (Some (Some d)) held id document is before after = let same : d ≡ document = cc in ap id_of (sym same) ∙ after d refl
+keyed_step (Some None) held id document is before after = absurd (cc)
 
-standing : (b : Bool) (document : Document) (held : Option Document) → cond b (Some document) held ≡ drafted (cond b (Some (stands document)) None) held
+standing : (b : Bool) (document : Document) (held : Option Document) → cond b (Some document) held ≡ unwrap_or (cond b (Some (Some document)) None) held
 standing true document held = refl
 standing false document held = refl
 
-gone_if : (b : Bool) (held : Option Document) → cond b None held ≡ drafted (cond b (Some is_gone) None) held
+gone_if : (b : Bool) (held : Option Document) → cond b None held ≡ unwrap_or (cond b (Some None) None) held
 gone_if true held = refl
 gone_if false held = refl
 
-dropped : (kind : DraftKind) (id : List ℕ) (k : DraftKind) (q : List ℕ) (held : Option Document) → cond (is_key kind id k q) None held ≡ drafted (cond (is_same_kind k kind && bytes_eq id q) (Some is_gone) None) held
+dropped : (kind : DraftKind) (id : List ℕ) (k : DraftKind) (q : List ℕ) (held : Option Document) → cond (is_key kind id k q) None held ≡ unwrap_or (cond (is_same_kind k kind && bytes_eq id q) (Some None) None) held
 dropped kinds.Policy id kinds.Policy q held = gone_if (bytes_eq id q) held
 dropped kinds.Policy id kinds.Geography q held = refl
 dropped kinds.Geography id kinds.Policy q held = refl
 dropped kinds.Geography id kinds.Geography q held = gone_if (bytes_eq id q) held
 
-never : (b : Bool) (d : Document) → cond b (Some is_gone) None ≡ Some (stands d) → ⊥
+never : (b : Bool) (d : Document) → cond b (Some None) None ≡ Some (Some d) → ⊥
 never true d is = absurd (cc)
 never false d is = absurd (cc)
 
-own_fate : (document : Document) (k : DraftKind) (q : List ℕ) (b : Bool) → is_of document k q ≡ b → (d : Document) → cond b (Some (stands document)) None ≡ Some (stands d) → id_of d ≡ q
+own_fate : (document : Document) (k : DraftKind) (q : List ℕ) (b : Bool) → is_of document k q ≡ b → (d : Document) → cond b (Some (Some document)) None ≡ Some (Some d) → id_of d ≡ q
 own_fate (policy x) kinds.Policy q true of d is = let same : policy x ≡ d = cc in ap id_of (sym same) ∙ (bytes_eq-Decides x.id q).0 of
 own_fate (geography x) kinds.Geography q true of d is = let same : geography x ≡ d = cc in ap id_of (sym same) ∙ (bytes_eq-Decides x.id q).0 of
 own_fate (policy x) kinds.Geography q true of d is = absurd (cc)
@@ -209,24 +209,24 @@ of_is (geography d) kinds.Policy q = refl
 of_is (geography d) kinds.Geography q = refl
 
 module _ (old : Drafts) (was : List Publication) (own : AreKeyed old) where
-  still : (fate : DraftKind → List ℕ → Option Fate) (made : Option Publication) → Does old was false fate made old was
+  still : (fate : DraftKind → List ℕ → Option (Option Document)) (made : Option Publication) → Does old was false fate made old was
   still fate made = record { publications = sym (append-nil was); drafts = λ kind id. refl; keyed = own }
 
   -- a refused request does nothing
-  refusal : (c : Code) (fate : DraftKind → List ℕ → Option Fate) (made : Option Publication) → Does old was ((refused c).status == 200) fate made old was
+  refusal : (c : Code) (fate : DraftKind → List ℕ → Option (Option Document)) (made : Option Publication) → Does old was ((refused c).status == 200) fate made old was
   refusal c fate made = subst (λ b. Does old was b fate made old was) (sym (not_done c)) (still fate made)
 
   -- nor does one that says nothing
-  silent : (done : Bool) (fate : DraftKind → List ℕ → Option Fate) (made : Option Publication) → ((kind : DraftKind) (id : List ℕ) → fate kind id ≡ None) → made ≡ None → Does old was done fate made old was
+  silent : (done : Bool) (fate : DraftKind → List ℕ → Option (Option Document)) (made : Option Publication) → ((kind : DraftKind) (id : List ℕ) → fate kind id ≡ None) → made ≡ None → Does old was done fate made old was
   silent done fate made says makes =
       record {
         publications = sym (append-nil was) ∙ ap (λ o. was ++ option_to_list o) (sym (unsaid done made makes));
-        drafts = λ kind id. ap (λ o. drafted o (draft_at old kind id)) (sym (unsaid done (fate kind id) (says kind id)));
+        drafts = λ kind id. ap (λ o. unwrap_or o (draft_at old kind id)) (sym (unsaid done (fate kind id) (says kind id)));
         keyed = own;
       }
 
   -- what a call comes to
-  abbrev Did : (DraftKind → List ℕ → Option Fate) → Option Publication → Result (Reply × (Drafts × List Publication)) Code → Type 0
+  abbrev Did : (DraftKind → List ℕ → Option (Option Document)) → Option Publication → Result (Reply × (Drafts × List Publication)) Code → Type 0
   Did fate made outcome =
       let after = settled (old, was) outcome in
       Does old was (after.0.status == 200) fate made after.1.0 after.1.1
@@ -235,40 +235,40 @@ module _ (old : Drafts) (was : List Publication) (own : AreKeyed old) where
   read (Ok reply) = silent (reply.status == 200) (λ kind id. None) None (λ kind id. refl) refl
   read (Err c) = refusal c (λ kind id. None) None
 
-  keyed_by : (new : Drafts) (fate : DraftKind → List ℕ → Option Fate) → ((kind : DraftKind) (id : List ℕ) → draft_at new kind id ≡ drafted (fate kind id) (draft_at old kind id)) → ((kind : DraftKind) (id : List ℕ) (d : Document) → fate kind id ≡ Some (stands d) → id_of d ≡ id) → AreKeyed new
+  keyed_by : (new : Drafts) (fate : DraftKind → List ℕ → Option (Option Document)) → ((kind : DraftKind) (id : List ℕ) → draft_at new kind id ≡ unwrap_or (fate kind id) (draft_at old kind id)) → ((kind : DraftKind) (id : List ℕ) (d : Document) → fate kind id ≡ Some (Some d) → id_of d ≡ id) → AreKeyed new
   keyed_by new fate are says kind id document is =
       keyed_step (fate kind id) (draft_at old kind id) id document (sym (are kind id) ∙ is) (own kind id document) (says kind id)
 
   -- drafts change, and nothing is published
-  changed : (new : Drafts) (fate : DraftKind → List ℕ → Option Fate) → ((kind : DraftKind) (id : List ℕ) → draft_at new kind id ≡ drafted (fate kind id) (draft_at old kind id)) → ((kind : DraftKind) (id : List ℕ) (d : Document) → fate kind id ≡ Some (stands d) → id_of d ≡ id) → Does old was true fate None new was
+  changed : (new : Drafts) (fate : DraftKind → List ℕ → Option (Option Document)) → ((kind : DraftKind) (id : List ℕ) → draft_at new kind id ≡ unwrap_or (fate kind id) (draft_at old kind id)) → ((kind : DraftKind) (id : List ℕ) (d : Document) → fate kind id ≡ Some (Some d) → id_of d ≡ id) → Does old was true fate None new was
   changed new fate are says = record { publications = sym (append-nil was); drafts = are; keyed = keyed_by new fate are says }
 
   -- ---- a put
 
-  put_ok : (document : Document) (fate : DraftKind → List ℕ → Option Fate) → ((k : DraftKind) (q : List ℕ) → fate k q ≡ cond (is_of document k q) (Some (stands document)) None) → Does old was true fate None (with_draft old document) was
+  put_ok : (document : Document) (fate : DraftKind → List ℕ → Option (Option Document)) → ((k : DraftKind) (q : List ℕ) → fate k q ≡ cond (is_of document k q) (Some (Some document)) None) → Does old was true fate None (with_draft old document) was
   put_ok document fate says =
       changed (with_draft old document) fate
-      (λ k q. draft_at-with old document k q ∙ standing (is_of document k q) document (draft_at old k q) ∙ ap (λ f. drafted f (draft_at old k q)) (sym (says k q)))
+      (λ k q. draft_at-with old document k q ∙ standing (is_of document k q) document (draft_at old k q) ∙ ap (λ f. unwrap_or f (draft_at old k q)) (sym (says k q)))
       (λ k q d is. own_fate document k q (is_of document k q) refl d (sym (says k q) ∙ is))
 
   abbrev putting : Document → Result Put PutFault → Result (Reply × Drafts) Code
   putting document put = coded put_code put >>= λ put. Ok (told (result_json (put_word put)), with_draft old document)
 
-  put_room : (document : Document) (fate : DraftKind → List ℕ → Option Fate) (put : Result Put PutFault) → ((k : DraftKind) (q : List ℕ) → fate k q ≡ cond (is_of document k q) (Some (stands document)) None) → Did fate None (putting document put >>= beside was)
+  put_room : (document : Document) (fate : DraftKind → List ℕ → Option (Option Document)) (put : Result Put PutFault) → ((k : DraftKind) (q : List ℕ) → fate k q ≡ cond (is_of document k q) (Some (Some document)) None) → Did fate None (putting document put >>= beside was)
   put_room document fate (Ok put) says = put_ok document fate says
   put_room document fate (Err fault) says = refusal (put_code fault) fate None
 
-  put_under : (document : Document) (fate : DraftKind → List ℕ → Option Fate) (b : Bool) → (b ≡ true → (k : DraftKind) (q : List ℕ) → fate k q ≡ cond (is_of document k q) (Some (stands document)) None) → Did fate None ((cond b (Ok document) (Err code.IdMismatch) >>= λ document. putting document (put_answer old document)) >>= beside was)
+  put_under : (document : Document) (fate : DraftKind → List ℕ → Option (Option Document)) (b : Bool) → (b ≡ true → (k : DraftKind) (q : List ℕ) → fate k q ≡ cond (is_of document k q) (Some (Some document)) None) → Did fate None ((cond b (Ok document) (Err code.IdMismatch) >>= λ document. putting document (put_answer old document)) >>= beside was)
   put_under document fate true says = put_room document fate (put_answer old document) (says refl)
   put_under document fate false says = refusal code.IdMismatch fate None
 
   -- what a put says, as a document that stands
-  put_says : (kind : DraftKind) (id body : List ℕ) (d : Document) → document_of kind body ≡ Ok d → bytes_eq (id_of d) id ≡ true → (k : DraftKind) (q : List ℕ) → fate_by (Ok (call.Author (author.PutDraft kind id))) body k q ≡ cond (is_of d k q) (Some (stands d)) None
+  put_says : (kind : DraftKind) (id body : List ℕ) (d : Document) → document_of kind body ≡ Ok d → bytes_eq (id_of d) id ≡ true → (k : DraftKind) (q : List ℕ) → fate_by (Ok (call.Author (author.PutDraft kind id))) body k q ≡ cond (is_of d k q) (Some (Some d)) None
   put_says kind id body d is same k q =
-      ap (λ read. cond (is_same_kind k kind && bytes_eq id q) (option_map stands (result_ok read)) None) is
-      ∙ ap (λ i. cond (is_same_kind k kind && bytes_eq i q) (Some (stands d)) None) (sym ((bytes_eq-Decides (id_of d) id).0 same))
-      ∙ ap (λ of. cond (is_same_kind k of && bytes_eq (id_of d) q) (Some (stands d)) None) (sym (kind_read kind body d is))
-      ∙ ap (λ b. cond b (Some (stands d)) None) (of_is d k q)
+      ap (λ read. cond (is_same_kind k kind && bytes_eq id q) (option_map Some (result_ok read)) None) is
+      ∙ ap (λ i. cond (is_same_kind k kind && bytes_eq i q) (Some (Some d)) None) (sym ((bytes_eq-Decides (id_of d) id).0 same))
+      ∙ ap (λ of. cond (is_same_kind k of && bytes_eq (id_of d) q) (Some (Some d)) None) (sym (kind_read kind body d is))
+      ∙ ap (λ b. cond b (Some (Some d)) None) (of_is d k q)
 
   put : (kind : DraftKind) (id body : List ℕ) (found : Result Document Code) → document_of kind body ≡ found → Did (fate_by (Ok (call.Author (author.PutDraft kind id))) body) None ((found >>= λ read. under id read >>= λ document. putting document (put_answer old document)) >>= beside was)
   put kind id body (Err c) is = refusal c (fate_by (Ok (call.Author (author.PutDraft kind id))) body) None
@@ -300,10 +300,10 @@ module _ (old : Drafts) (was : List Publication) (own : AreKeyed old) where
         without old.geographies (geography_ids out) q
         ∙ taken (λ d. d.id) old.geographies (λ k d is. own kinds.Geography k (geography d) (ap (option_map geography) is)) q named.geographies
 
-    abbrev named_fate : DraftKind → List ℕ → Option Fate
-    named_fate kind q = fate_named kind q named
+    abbrev named_fate : DraftKind → List ℕ → Option (Option Document)
+    named_fate kind q = cond (is_among (named_ids kind named) q) (Some None) None
 
-    drafts_out : (kind : DraftKind) (q : List ℕ) → draft_at (taken_out old out) kind q ≡ drafted (named_fate kind q) (draft_at old kind q)
+    drafts_out : (kind : DraftKind) (q : List ℕ) → draft_at (taken_out old out) kind q ≡ unwrap_or (named_fate kind q) (draft_at old kind q)
     drafts_out kinds.Policy q = ap (option_map policy) (policies_out q) ∙ gone policy (is_among named.policies q) (get old.policies q)
     drafts_out kinds.Geography q = ap (option_map geography) (geographies_out q) ∙ gone geography (is_among named.geographies q) (get old.geographies q)
 
@@ -324,7 +324,7 @@ module _ (old : Drafts) (was : List Publication) (own : AreKeyed old) where
   publish_batch request named (Err fault) is = refusal (publish_code fault) _ _
   publish_batch request named (Ok p) is = published named request.at p (batch_is (names_nothing named) _ (publication_from old named request.at) p is)
 
-  publishes : (request : Request) (found : Result Named Fault) → Did (λ kind id. option_and_then (fate_named kind id) (result_ok found)) (option_map (publication_named (draft_at old) request.at) (result_ok found)) (publishing request (coded fault_code found >>= λ named. coded publish_code (batch_of old named was request.at)))
+  publishes : (request : Request) (found : Result Named Fault) → Did (λ kind id. option_and_then (λ named. cond (is_among (named_ids kind named) id) (Some None) None) (result_ok found)) (option_map (publication_named (draft_at old) request.at) (result_ok found)) (publishing request (coded fault_code found >>= λ named. coded publish_code (batch_of old named was request.at)))
   publishes request (Err fault) = refusal (fault_code fault) _ _
   publishes request (Ok named) = publish_batch request named (batch_of old named was request.at) refl
 
@@ -375,7 +375,7 @@ module _ (w : State) (request : Request) (own : AreKeyed w.drafts) where
 pub record Made (w : State) (e : Exchange) (next : State) : Type 0 where
   pub configuration : next.configuration ≡ w.configuration
   pub publications : next.publications ≡ w.publications ++ option_to_list (published_in w.configuration (draft_at w.drafts) e)
-  pub drafts : (kind : DraftKind) (id : List ℕ) → draft_at next.drafts kind id ≡ drafted (fate_in w.configuration kind id e) (draft_at w.drafts kind id)
+  pub drafts : (kind : DraftKind) (id : List ℕ) → draft_at next.drafts kind id ≡ unwrap_or (fate_in w.configuration kind id e) (draft_at w.drafts kind id)
   pub keyed : AreKeyed next.drafts
 
 made_by : (w : State) (e : Exchange) (next : State) (own : AreKeyed w.drafts) → Done w e.request own (call_of w.configuration e.request) (e.reply, next) → Made w e next

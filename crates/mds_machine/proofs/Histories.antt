@@ -1,7 +1,7 @@
 -- What the machine's drafts and publications are after a history.
-use Rattle.std.proofs.Common.{◌≡◌, ℕ, Bool, true, false, cond, List, [], ◌∷◌, ◌++◌, reverse, Option, Some, None, refl, sym, ap, subst, ◌∙◌}
-use Rattle.std.specs.Option.{option_or, option_to_list}
-use Rattle.std.specs.List.{flat_map, filter_map}
+use Rattle.std.proofs.Common.{◌≡◌, ℕ, Bool, true, false, cond, List, [], ◌∷◌, ◌++◌, reverse, get_or, Option, Some, None, refl, sym, ap, subst, ◌∙◌}
+use Rattle.std.specs.Option.{option_to_list, unwrap_or}
+use Rattle.std.specs.List.{flat_map, filter_map, cons_option}
 use Rattle.std.proofs.lemmas.Grind.{flat_map-append}
 use Rattle.std.proofs.lemmas.List.{append-nil, append_assoc, reverse-append}
 use Rattle.std.proofs.lemmas.List.Elements.{filter_map-append}
@@ -13,7 +13,7 @@ use Rattle.mds_text.specs.declared.draft_kind.DraftKind.{DraftKind}
 use Rattle.mds_text.specs.declared.draft_kind.DraftKind.TheVariants as kinds
 use Rattle.mds_drafts.proofs.Held.{draft_at-cons, draft_at_none}
 use Rattle.mds_request.specs.Configuration.{Configuration}
-use Rattle.mds_machine.specs.History.{Fate, stands, is_gone, fate_in, first_word, drafted, draft_after, published_in, preceded, publications_after}
+use Rattle.mds_machine.specs.History.{fate_in, draft_after, published_in, preceded, publications_after}
 use Rattle.mds_machine.specs.Isolation.{AreKeyed}
 use Rattle.mds_machine.specs.Laws.{IsAfter, GoesByHistory, BeginsKeyed}
 use Rattle.mds_machine.specs.Step.{State, Exchange, Step, Run}
@@ -21,16 +21,15 @@ use Rattle.mds_machine.proofs.Drafting.{made}
 
 -- ---- one more exchange
 
-last_first : (fate rest : Option Fate) (first : Option Document) → drafted (option_or fate rest) first ≡ drafted fate (drafted rest first)
+last_first : (fate : Option (Option Document)) (rest : List (Option Document)) (first : Option Document) → get_or (cons_option fate rest) 0 first ≡ unwrap_or fate (get_or rest 0 first)
 last_first None rest first = refl
-last_first (Some (stands document)) rest first = refl
-last_first (Some is_gone) rest first = refl
+last_first (Some word) rest first = refl
 
-pub draft_on : (configuration : Configuration) (first : Drafts) (before : List Exchange) (e : Exchange) (kind : DraftKind) (id : List ℕ) → draft_after configuration first (before ++ e ∷ []) kind id ≡ drafted (fate_in configuration kind id e) (draft_after configuration first before kind id)
+pub draft_on : (configuration : Configuration) (first : Drafts) (before : List Exchange) (e : Exchange) (kind : DraftKind) (id : List ℕ) → draft_after configuration first (before ++ e ∷ []) kind id ≡ unwrap_or (fate_in configuration kind id e) (draft_after configuration first before kind id)
 draft_on configuration first before e kind id =
     let word = fate_in configuration kind id in
-    ap (λ history. drafted (first_word word history) (draft_at first kind id)) (reverse-append before (e ∷ []))
-    ∙ last_first (word e) (first_word word (reverse before)) (draft_at first kind id)
+    ap (λ history. get_or (filter_map word history) 0 (draft_at first kind id)) (reverse-append before (e ∷ []))
+    ∙ last_first (word e) (filter_map word (reverse before)) (draft_at first kind id)
 
 preceded_on : {A : Type 0} (first before : List A) (a : A) → preceded first (before ++ a ∷ []) ≡ preceded first before ++ (first ++ before, a) ∷ []
 preceded_on first [] a = ap (λ xs. (xs, a) ∷ []) (sym (append-nil first))
@@ -79,8 +78,8 @@ after_one first before w e next is step =
           ∙ ap (λ ps. ps ++ option_to_list (published_in configuration (draft_after configuration first.drafts before) e)) is.publications
           ∙ append_assoc first.publications (publications_after configuration first.drafts before) (option_to_list (published_in configuration (draft_after configuration first.drafts before) e))
           ∙ ap (λ ps. first.publications ++ ps) (sym (each_found (λ e. published_in configuration (draft_after configuration first.drafts e.0) e.1) before e));
-      drafts = λ kind id. one.drafts kind id ∙ ap (λ c. drafted (fate_in c kind id e) (draft_at w.drafts kind id)) is.configuration
-          ∙ ap (λ d. drafted (fate_in configuration kind id e) d) (is.drafts kind id)
+      drafts = λ kind id. one.drafts kind id ∙ ap (λ c. unwrap_or (fate_in c kind id e) (draft_at w.drafts kind id)) is.configuration
+          ∙ ap (λ d. unwrap_or (fate_in configuration kind id e) d) (is.drafts kind id)
           ∙ sym (draft_on configuration first.drafts before e kind id);
       keyed = one.keyed;
     }

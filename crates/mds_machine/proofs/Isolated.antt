@@ -1,12 +1,11 @@
 -- An operator's replies in a history are those that its view of it defines.
-use Rattle.std.proofs.Common.{◌≡◌, ◌≢◌, ℕ, ◌+◌, suc, zero, Bool, true, false, cond, List, [], ◌∷◌, ◌++◌, map, set, Option, Some, None, Result, Ok, Err, inl, inr, refl, sym, ap, subst, ◌∙◌, arith}
+use Rattle.std.proofs.Common.{◌≡◌, ◌≢◌, ℕ, Bool, true, false, cond, List, [], ◌∷◌, ◌++◌, map, Option, Some, None, Result, Ok, Err, inl, inr, refl, sym, ap, subst, ◌∙◌}
 use Rattle.std.specs.List.{slice_get}
 use Rattle.std.specs.Option.{option_to_list}
 use Rattle.std.proofs.lemmas.Bool.{eqb-true, eqb-false, false≢true}
 use Rattle.std.proofs.lemmas.List.{append-nil, append_assoc}
 use Rattle.std.proofs.lemmas.List.Elements.{filter_map-append}
 use Rattle.mds_catalog.specs.Publication.{Publication}
-use Rattle.mds_fleet.specs.Books.{Rows}
 use Rattle.mds_request.specs.Configuration.{Configuration, Operator, actor_of}
 use Rattle.mds_request.specs.Call.{call_of}
 use Rattle.mds_request.specs.Request.{Request}
@@ -23,36 +22,18 @@ use Rattle.mds_machine.specs.History.{draft_after, published_in}
 use Rattle.mds_machine.specs.Isolation.{AreKeyed, StandsAfter, HasMemory, IsMeantThroughout, IsMeantFromNew}
 use Rattle.mds_machine.specs.Laws.{IsAfter}
 use Rattle.mds_machine.specs.Meaning.{AreRows, IsAnswer, Shows}
-use Rattle.mds_machine.specs.Operator.{operator_does}
 use Rattle.mds_machine.specs.Step.{State, Exchange, Step, Run, new_state}
 use Rattle.mds_machine.specs.Views.{Seen, asked, published, is_place, is_of, seen_in, view, as_publication, as_request, publications_of, requests_of}
 use Rattle.mds_machine.proofs.Callers.{IsBy, call_by}
 use Rattle.mds_machine.proofs.Histories.{along, each_on, now_published, after_one, after_none, begins_keyed}
 use Rattle.mds_machine.proofs.Meaning.{is_meant, begins_without_rows}
-use Rattle.mds_machine.proofs.Steps.{call_step, lifted, operator_step, authored_rows}
+use Rattle.mds_machine.proofs.Steps.{call_step, operator_left, authored_rows}
 
 -- ---- requests of others
-
-set_there : (rows : List Rows) (i j : ℕ) (new : Rows) → j ≢ i → slice_get (set rows i new) j ≡ slice_get rows j
-set_there [] i j new apart = refl
-set_there (x ∷ rows) zero zero new apart = absurd (apart refl)
-set_there (x ∷ rows) zero (suc j) new apart = refl
-set_there (x ∷ rows) (suc i) zero new apart = refl
-set_there (x ∷ rows) (suc i) (suc j) new apart = set_there rows i j new (λ is. apart (ap suc is))
 
 module _ (w : State) (place : ℕ) (request : Request) where
   abbrev Kept : State → Type 0
   Kept next = slice_get next.fleets place ≡ slice_get w.fleets place
-
-  lifted_keeps : (other : ℕ) (own : Result (Reply × Rows) Code) → place ≢ other → Kept (lifted w other own).1
-  lifted_keeps other (Err code) apart = refl
-  lifted_keeps other (Ok after) apart = set_there w.fleets other place after.1 apart
-
-  operator_leaves : (other : ℕ) (found : Option Operator) (held : Option Rows) (own : OperatorCall) → place ≢ other → Kept (operator_step w other found held own request).1
-  operator_leaves other None held own apart = refl
-  operator_leaves other (Some operator) None own apart = refl
-  operator_leaves other (Some operator) (Some rows) own apart =
-      lifted_keeps other (operator_does w.configuration.zone operator w.publications rows own request) apart
 
   -- a call of one who isn't the operator is not of the operator's place
   elsewhere : (actor : Actor) (other : ℕ) (own : OperatorCall) → IsBy actor (Ok (call.Operator other own)) → is_place place actor ≡ false → place ≢ other
@@ -63,7 +44,8 @@ module _ (w : State) (place : ℕ) (request : Request) where
   call_leaves : (actor : Actor) (called : Result Call Code) → IsBy actor called → is_place place actor ≡ false → Kept (call_step w called request).1
   call_leaves actor (Ok (call.Author own)) by is =
       ap (λ fleets. slice_get fleets place) (authored_rows w (author_does w.drafts w.publications own request))
-  call_leaves actor (Ok (call.Operator other own)) by is = operator_leaves other _ _ own (elsewhere actor other own by is)
+  call_leaves actor (Ok (call.Operator other own)) by is =
+      (operator_left w other place (slice_get w.configuration.operators other) (slice_get w.fleets other) own request (elsewhere actor other own by is)).0.rows
   call_leaves actor (Err code) by is = refl
 
 -- a request that isn't an operator's leaves its rows

@@ -37,9 +37,9 @@ use Rattle.mds_machine.specs.Codes.{fault_code, book_code}
 use Rattle.mds_machine.specs.Operator.{operator_does, taken_word, policy_compliance_answer}
 use Rattle.mds_machine.specs.Published.{policy_answer, geography_answer}
 use Rattle.mds_machine.specs.Laws.{RowsGoOn, HasOneAnswer, IsMeant, BeginsWithoutRows}
-use Rattle.mds_machine.specs.Meaning.{own_call, own_step, event_by, event_of, events_of, AreRows, Shows}
-use Rattle.mds_machine.specs.Step.{State, Step, answered}
-use Rattle.mds_machine.specs.Views.{Seen, asked, as_publication, as_request, requests_of, publications_of}
+use Rattle.mds_machine.specs.Meaning.{own_call, own_step, event_by, events_of, AreRows}
+use Rattle.mds_machine.specs.Step.{State, answered}
+use Rattle.mds_machine.specs.Views.{asked, as_publication, as_request, requests_of, publications_of}
 use Rattle.mds_machine.proofs.Callers.{IsBy}
 use Rattle.mds_machine.proofs.Steps.{call_step, lifted_reply, lifted_rows, operator_step, own_by, leaves_others}
 
@@ -113,12 +113,15 @@ module _ (configuration : Configuration) (operator : Operator) (publications : L
   by_author : (own : AuthorCall) → Left (event_by (Ok (call.Author own)) request) rows
   by_author own = agrees
 
-  by_call : (call : Result Call Code) → Left (event_by call request) (settled rows (call >>= λ any. own_call any >>= λ own. operator_does configuration.zone operator publications rows own request)).1
+  by_call : (call : Result Call Code) → Left (event_by call request) (settled rows (call >>= own_call >>= λ own. operator_does configuration.zone operator publications rows own request)).1
   by_call (Ok (call.Operator place own)) = by_own place own
   by_call (Ok (call.Author own)) = by_author own
   by_call (Err code) = agrees
 
 -- ---- a list of requests
+
+abbrev event_of : Configuration → Request → Option Event
+event_of configuration request = event_by (call_of configuration request) request
 
 last_event : (f : Request → Option Event) (request : Request) (event : Option Event) (before : List Event) → f request ≡ event → reverse (filter_map f (request ∷ [])) ++ before ≡ onto event before
 last_event f request None before is = rw is refl
@@ -150,7 +153,7 @@ has_one_answer configuration operator seen request =
 module _ (w : State) (request : Request) (place : ℕ) (operator : Operator) (rows : Rows) (found : slice_get w.configuration.operators place ≡ Some operator) (held : slice_get w.fleets place ≡ Some rows) where
   abbrev own_after : Result Call Code → Reply × Rows
   own_after call =
-      settled rows (call >>= λ any. own_call any >>= λ own. operator_does w.configuration.zone operator w.publications rows own request)
+      settled rows (call >>= own_call >>= λ own. operator_does w.configuration.zone operator w.publications rows own request)
 
   abbrev Own : Result Call Code → Reply × State → Type 0
   Own call s = (s.0 ≡ (own_after call).0) × (slice_get s.1.fleets place ≡ Some (own_after call).1)
@@ -182,7 +185,7 @@ is_meant w request reply next place operator seen whose found shows h really = e
         record {
           rows = (step w.publications).1;
           held = ap (λ s. slice_get s.fleets place) a.1 ∙ own.1;
-          publications = filter_map-append as_publication seen (asked request ∷ []) ∙ append-nil (publications_of seen) ∙ shows.publications ∙ sym left.publications;
+          publications = filter_map-append as_publication seen (asked request ∷ []) ∙ append-nil (publications_of seen) ∙ shows.publications ∙ sym left.0.publications;
           are = subst (λ requests. AreRows w.configuration operator requests (step w.publications).1) (sym (filter_map-append as_request seen (asked request ∷ [])))
               (rows_go_on w.configuration operator w.publications (requests_of seen) request shows.rows shows.are);
         },

@@ -1,7 +1,7 @@
 -- What one step of the machine depends on, and what it leaves.
-use Rattle.std.proofs.Common.{◌≡◌, ◌≢◌, ℕ, ◌+◌, ◌<◌, List, set, length, Option, Some, None, Result, Ok, Err, inl, inr, refl, sym, ap, subst, ◌∙◌, arith}
+use Rattle.std.proofs.Common.{◌≡◌, ◌≢◌, ℕ, ◌+◌, suc, zero, ◌<◌, List, [], ◌∷◌, set, length, Option, Some, None, Result, Ok, Err, inl, inr, refl, sym, ap, subst, ◌∙◌, arith}
 use Rattle.std.specs.List.{slice_get}
-use Rattle.std.proofs.lemmas.List.{get_or-set_other, get_or-set_same, length-set}
+use Rattle.std.proofs.lemmas.List.{get_or-set_same, length-set}
 use Rattle.std.proofs.lemmas.Option.{slice_get-get_or, slice_get_within}
 use Rattle.mds_catalog.specs.Publication.{Publication}
 use Rattle.mds_drafts.specs.Drafts.{Drafts}
@@ -10,7 +10,6 @@ use Rattle.mds_request.specs.Configuration.{Configuration, Operator, actor_of}
 use Rattle.mds_request.specs.Call.{call_of}
 use Rattle.mds_request.specs.Request.{Request}
 use Rattle.mds_request.specs.Reply.{Reply, refused}
-use Rattle.mds_request.specs.declared.call.AuthorCall.{AuthorCall}
 use Rattle.mds_request.specs.declared.call.OperatorCall.{OperatorCall}
 use Rattle.mds_request.specs.declared.call.Call.{Call}
 use Rattle.mds_request.specs.declared.call.Call.TheVariants as call
@@ -22,7 +21,7 @@ use Rattle.mds_machine.specs.Author.{author_does}
 use Rattle.mds_machine.specs.Operator.{operator_does}
 use Rattle.mds_machine.specs.Isolation.{Agree}
 use Rattle.mds_machine.specs.Step.{State, with_rows, call_does, answered}
-use Rattle.mds_machine.specs.Laws.{IsLeft, IsTotal, IsDetermined, LeavesOthers, LeavesRows, IsIsolated}
+use Rattle.mds_machine.specs.Laws.{IsTotal, IsDetermined, LeavesOthers, LeavesRows, IsIsolated}
 use Rattle.mds_machine.proofs.Callers.{IsBy, call_by}
 
 pub is_total : IsTotal
@@ -59,16 +58,26 @@ operator_step w place found held call request =
 
 -- ---- what is left
 
--- the state is left
-same : (w : State) (other : ℕ) → IsLeft w w other
-same w other = record { configuration = refl; publications = refl; drafts = refl; rows = λ d. refl }
+-- the state is left to an operator
+abbrev IsLeft : State → State → ℕ → Type 0
+IsLeft w next other = Agree next w other × (next.drafts ≡ w.drafts)
 
-lifted_left : (w : State) (place other : ℕ) (own : Result (Reply × Rows) Code) → other ≢ place → IsLeft w (lifted w place own).1 other
+same : (w : State) (other : ℕ) → IsLeft w w other
+same w other = (record { configuration = refl; publications = refl; rows = refl }, refl)
+
+set_there : (rows : List Rows) (i j : ℕ) (new : Rows) → j ≢ i → slice_get (set rows i new) j ≡ slice_get rows j
+set_there [] i j new apart = refl
+set_there (x ∷ rows) zero zero new apart = absurd (apart refl)
+set_there (x ∷ rows) zero (suc j) new apart = refl
+set_there (x ∷ rows) (suc i) zero new apart = refl
+set_there (x ∷ rows) (suc i) (suc j) new apart = set_there rows i j new (λ is. apart (ap suc is))
+
+pub lifted_left : (w : State) (place other : ℕ) (own : Result (Reply × Rows) Code) → other ≢ place → IsLeft w (lifted w place own).1 other
 lifted_left w place other (Err code) apart = same w other
 lifted_left w place other (Ok after) apart =
-    record { configuration = refl; publications = refl; drafts = refl; rows = λ d. get_or-set_other w.fleets place other after.1 d apart }
+    (record { configuration = refl; publications = refl; rows = set_there w.fleets place other after.1 apart }, refl)
 
-operator_left : (w : State) (place other : ℕ) (found : Option Operator) (held : Option Rows) (call : OperatorCall) (request : Request) → other ≢ place → IsLeft w (operator_step w place found held call request).1 other
+pub operator_left : (w : State) (place other : ℕ) (found : Option Operator) (held : Option Rows) (call : OperatorCall) (request : Request) → other ≢ place → IsLeft w (operator_step w place found held call request).1 other
 operator_left w place other None held call request apart = same w other
 operator_left w place other (Some operator) None call request apart = same w other
 operator_left w place other (Some operator) (Some rows) call request apart =
@@ -170,8 +179,8 @@ module _ (w v : State) (request : Request) (place : ℕ) (agree : Agree w v plac
       let left' = operator_left v place (place + 1) found' held' own request (λ is. omega (arith, is)) in (
         reply_is w place found held own request ∙ replies ∙ sym (reply_is v place found' held' own request),
         record {
-          configuration = left.configuration ∙ agree.configuration ∙ sym left'.configuration;
-          publications = left.publications ∙ agree.publications ∙ sym left'.publications;
+          configuration = left.0.configuration ∙ agree.configuration ∙ sym left'.0.configuration;
+          publications = left.0.publications ∙ agree.publications ∙ sym left'.0.publications;
           rows = rows_are w place found held own request refl ∙ rows ∙ sym (rows_are v place found' held' own request refl);
         },
       )

@@ -1,5 +1,5 @@
 -- What changes something is told as a success, so that any other reply leaves the state.
-use Rattle.std.proofs.Common.{◌≡◌, ◌≢◌, ℕ, Bool, true, false, cond, List, Option, Some, None, Result, Ok, Err, inl, inr, refl, sym, ap, ◌∙◌}
+use Rattle.std.proofs.Common.{◌≡◌, ◌≢◌, ℕ, Bool, true, false, cond, List, Option, Some, None, Result, Ok, Err, inl, inr, refl, ap, ◌∙◌}
 use Rattle.std.specs.List.{slice_get}
 use Rattle.std.specs.FinMap.{get}
 use Rattle.std.specs.Option.{is_some}
@@ -11,7 +11,7 @@ use Rattle.mds_fleet.specs.Reading.{read_report}
 use Rattle.mds_request.specs.Configuration.{Operator}
 use Rattle.mds_request.specs.Call.{call_of}
 use Rattle.mds_request.specs.Request.{Request}
-use Rattle.mds_request.specs.Reply.{Reply, refused}
+use Rattle.mds_request.specs.Reply.{Reply}
 use Rattle.mds_request.specs.declared.call.AuthorCall.{AuthorCall}
 use Rattle.mds_request.specs.declared.call.AuthorCall.TheVariants as author
 use Rattle.mds_request.specs.declared.call.OperatorCall.{OperatorCall}

@@ -1,7 +1,7 @@
 -- What a history, which is requests with their replies in order, has drafted and published.
-use Rattle.std.specs.Prelude.{ℕ, ◌==◌, ◌&&◌, Bool, true, false, List, [], ◌∷◌, ◌++◌, reverse, if◌then◌else◌, Option, Some, None, option_map, Result, Ok, Err, bytes_eq}
-use Rattle.std.specs.List.{flat_map, filter_map}
-use Rattle.std.specs.Option.{option_or, option_and_then}
+use Rattle.std.specs.Prelude.{ℕ, ◌==◌, ◌&&◌, Bool, true, false, List, [], ◌∷◌, ◌++◌, reverse, get_or, if◌then◌else◌, Option, Some, None, option_map, Result, Ok, bytes_eq}
+use Rattle.std.specs.List.{filter_map}
+use Rattle.std.specs.Option.{option_and_then}
 use Rattle.std.specs.Result.{result_ok}
 use Rattle.mds_text.specs.declared.draft_kind.DraftKind.{DraftKind}
 use Rattle.mds_text.specs.declared.draft_kind.DraftKind.TheVariants as kinds
@@ -20,17 +20,6 @@ use Rattle.mds_request.specs.declared.code.Code.{Code}
 use Rattle.mds_machine.specs.Author.{document_of}
 use Rattle.mds_machine.specs.Step.{Exchange}
 
--- whether a request was answered with a success
-abbrev pub is_done : Exchange → Bool
-is_done e = e.reply.status == 200
-
--- ---- drafts
-
--- what became of a draft: it is this document, or it is there no more
-pub data Fate : Type 0 where
-  stands : Document → Fate
-  is_gone : Fate
-
 abbrev pub is_same_kind : DraftKind → DraftKind → Bool
 is_same_kind kinds.Policy kinds.Policy = true
 is_same_kind kinds.Geography kinds.Geography = true
@@ -41,43 +30,28 @@ abbrev pub named_ids : DraftKind → Named → List (List ℕ)
 named_ids kinds.Policy named = named.policies
 named_ids kinds.Geography named = named.geographies
 
--- a publication takes out the drafts that it names
-abbrev pub fate_named : DraftKind → List ℕ → Named → Option Fate
-fate_named kind id named = if is_among (named_ids kind named) id then Some is_gone else None
-
--- What a call with this body says of the draft of a kind and an identifier: it is put, dropped or published; any other
--- call says nothing.
-abbrev pub fate_by : Result Call Code → List ℕ → DraftKind → List ℕ → Option Fate
+-- What a call with this body says of the draft of a kind and an identifier, if it says anything: that it is a document,
+-- which is put, or that there is none, since it is dropped or published.
+abbrev pub fate_by : Result Call Code → List ℕ → DraftKind → List ℕ → Option (Option Document)
 fate_by (Ok (Author (PutDraft of named))) body kind id =
-    if is_same_kind kind of && bytes_eq named id then option_map stands (result_ok (document_of of body)) else None
+    if is_same_kind kind of && bytes_eq named id then option_map Some (result_ok (document_of of body)) else None
 fate_by (Ok (Author (DropDraft of named))) body kind id =
-    if is_same_kind kind of && bytes_eq named id then Some is_gone else None
-fate_by (Ok (Author Publish)) body kind id = option_and_then (fate_named kind id) (result_ok (read_publish_list body))
+    if is_same_kind kind of && bytes_eq named id then Some None else None
+fate_by (Ok (Author Publish)) body kind id =
+    option_and_then (λ named. if is_among (named_ids kind named) id then Some None else None) (result_ok (read_publish_list body))
 fate_by other body kind id = None
 
 -- what an exchange says of the draft of a kind and an identifier: nothing, unless it was answered with a success
-abbrev pub fate_in : Configuration → DraftKind → List ℕ → Exchange → Option Fate
+abbrev pub fate_in : Configuration → DraftKind → List ℕ → Exchange → Option (Option Document)
 fate_in configuration kind id e =
-    if is_done e then fate_by (call_of configuration e.request) e.request.body kind id else None
+    if e.reply.status == 200 then fate_by (call_of configuration e.request) e.request.body kind id else None
 
--- the first exchange that says something, in a list of them
-abbrev pub first_word : (Exchange → Option Fate) → List Exchange → Option Fate
-first_word word [] = None
-first_word word (e ∷ es) = option_or (word e) (first_word word es)
-
--- what the last word on a draft comes to, or the draft that was held at first where there is none
-abbrev pub drafted : Option Fate → Option Document → Option Document
-drafted None first = first
-drafted (Some (stands document)) first = Some document
-drafted (Some is_gone) first = None
-
--- The draft of a kind and an identifier after a history, from the drafts held at first: the last document that was put
--- with success, unless a drop or a publication of it came after.
+-- The draft of a kind and an identifier after a history, from the drafts held at first: the last word on it, or the
+-- draft that was held at first. It is the last document that was put with success, unless a drop or a publication of it
+-- came after.
 abbrev pub draft_after : Configuration → Drafts → List Exchange → DraftKind → List ℕ → Option Document
 draft_after configuration first history kind id =
-    drafted (first_word (fate_in configuration kind id) (reverse history)) (draft_at first kind id)
-
--- ---- publications
+    get_or (filter_map (fate_in configuration kind id) (reverse history)) 0 (draft_at first kind id)
 
 abbrev pub as_policy : Option Document → Option Policy
 as_policy (Some (policy d)) = Some d
@@ -107,7 +81,7 @@ published_by other held request = None
 -- the publication that an exchange made, by the drafts that were held just before it
 abbrev pub published_in : Configuration → (DraftKind → List ℕ → Option Document) → Exchange → Option Publication
 published_in configuration held e =
-    if is_done e then published_by (call_of configuration e.request) held e.request else None
+    if e.reply.status == 200 then published_by (call_of configuration e.request) held e.request else None
 
 -- each element of a list, with those before it; some stand before the list
 abbrev pub preceded : {A : Type 0} → List A → List A → List (List A × A)

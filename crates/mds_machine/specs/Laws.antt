@@ -1,5 +1,5 @@
 -- Laws of the machine's steps, on which those of its histories stand.
-use Rattle.std.specs.Prelude.{◌≡◌, ◌≢◌, ℕ, List, [], ◌∷◌, ◌++◌, Some, get_or, slice_get}
+use Rattle.std.specs.Prelude.{◌≡◌, ◌≢◌, ℕ, List, [], ◌∷◌, ◌++◌, Some, slice_get}
 use Rattle.mds_text.specs.declared.draft_kind.DraftKind.{DraftKind}
 use Rattle.mds_catalog.specs.Publication.{Publication}
 use Rattle.mds_drafts.specs.Drafts.{draft_at}
@@ -32,17 +32,12 @@ RefusedLeaves =
     (w : State) (request : Request) (reply : Reply) (next : State)
     → Step w request reply next → reply.status ≢ 200 → next ≡ w
 
--- a request of an operator leaves the configuration, the publications, the drafts, and the rows of every other operator
-pub record IsLeft (w next : State) (other : ℕ) : Type 0 where
-  pub configuration : next.configuration ≡ w.configuration
-  pub publications : next.publications ≡ w.publications
-  pub drafts : next.drafts ≡ w.drafts
-  pub rows : (d : Rows) → get_or next.fleets other d ≡ get_or w.fleets other d
-
+-- a request of an operator leaves the drafts, and a state that agrees with the old one for every other operator
 abbrev pub LeavesOthers : Type 0
 LeavesOthers =
     (w : State) (request : Request) (reply : Reply) (next : State) (place other : ℕ)
-    → actor_of w.configuration request.token ≡ Operator place → Step w request reply next → other ≢ place → IsLeft w next other
+    → actor_of w.configuration request.token ≡ Operator place → Step w request reply next → other ≢ place
+    → Agree next w other × (next.drafts ≡ w.drafts)
 
 -- a request of the author leaves all rows
 abbrev pub LeavesRows : Type 0

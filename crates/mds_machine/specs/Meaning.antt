@@ -22,22 +22,16 @@ use Rattle.mds_machine.specs.Operator.{operator_does}
 use Rattle.mds_machine.specs.Step.{State}
 use Rattle.mds_machine.specs.Views.{Seen, requests_of, publications_of}
 
--- an operator has its own calls
+-- an operator's own call; one of the author is none, and no operator's request has it
 abbrev pub own_call : Call → Result OperatorCall Code
 own_call (OperatorAt place call) = Ok call
 own_call (Author call) = Err Role
-
-abbrev pub own_does : Configuration → Operator → List Publication → Rows → Request → Result (Reply × Rows) Code
-own_does configuration operator publications rows request = do
-  call ← call_of configuration request
-  own ← own_call call
-  operator_does configuration.zone operator publications rows own request
 
 -- An operator's own step: the reply to its request, and its rows after it, from the configuration, what is published,
 -- and the rows of this operator. Nothing else is asked.
 abbrev pub own_step : Configuration → Operator → List Publication → Rows → Request → Reply × Rows
 own_step configuration operator publications rows request =
-    settled rows (own_does configuration operator publications rows request)
+    settled rows (call_of configuration request >>= own_call >>= λ call. operator_does configuration.zone operator publications rows call request)
 
 -- what a call does to a fleet, if it does anything: it reports a vehicle, or it removes the one in the path
 abbrev pub event_by : Result Call Code → Request → Option Event
@@ -46,12 +40,9 @@ event_by (Ok (OperatorAt place Report)) request =
 event_by (Ok (OperatorAt place (RemoveVehicle device))) request = Some (removal device)
 event_by other request = None
 
-abbrev pub event_of : Configuration → Request → Option Event
-event_of configuration request = event_by (call_of configuration request) request
-
 -- the reports and removals of a list of requests, the last one first
 abbrev pub events_of : Configuration → List Request → List Event
-events_of configuration requests = reverse (filter_map (event_of configuration) requests)
+events_of configuration requests = reverse (filter_map (λ request. event_by (call_of configuration request) request) requests)
 
 -- The rows of an operator's list of requests: the row of each device is what its accepted reports come to. No order of
 -- work and no map is spoken of but the list itself.

@@ -1,16 +1,15 @@
 //! What follows from the definition of verdicts, for all policies and vehicles, and for bounds that
 //! are worked out.
 
-ghost use Rattle.std.specs.Prelude.{◌≡◌, ℕ, ◌≤◌, List, IsTrue, All, IsPermutation, length, map};
+ghost use Rattle.std.specs.Prelude.{◌≡◌, ℕ, ◌≤◌, List, Some, true, false, IsTrue, All, IsPermutation, length, map};
 ghost use Rattle.mds_geometry.specs.declared.position.Position.{Position};
 ghost use Rattle.mds_policy.specs.Policy.{Policy};
 ghost use Rattle.mds_policy.specs.declared.rule.TimeUnit.TheVariants.{Minutes};
 ghost use Rattle.mds_match.specs.declared.local.Local.{Local};
 ghost use Rattle.mds_match.specs.Row.{Row};
-ghost use Rattle.mds_verdict.specs.Verdict.{verdicts, within, millis};
+ghost use Rattle.mds_verdict.specs.Verdict.{verdicts, above_minimum, below_maximum, millis};
 ghost use Rattle.mds_verdict.specs.declared.verdict.Status.{Status};
 ghost use Rattle.mds_verdict.specs.declared.verdict.TheConstants.{MOST_DEVICES};
-ghost use Rattle.mds_verdict.specs.Examples.{up_to, below, from_one};
 
 /// Statuses and measures don't depend on the order of the vehicles.
 pub fn any_order()
@@ -33,10 +32,10 @@ pub fn bounded()
 /// The inclusive flags hold for the bound times the unit: a minute is within a maximum of one minute,
 /// and not below it. A minimum of one isn't met by none.
 pub fn ends_of_bounds()
-    ensures included { IsTrue (within (up_to 1) (millis Minutes) 60000) }
-    ensures after { ¬ IsTrue (within (up_to 1) (millis Minutes) 60001) }
-    ensures excluded { ¬ IsTrue (within (below 1) (millis Minutes) 60000) }
-    ensures before { IsTrue (within (below 1) (millis Minutes) 59999) }
-    ensures none { ¬ IsTrue (within from_one 1 0) }
-    ensures one { IsTrue (within from_one 1 1) }
+    ensures included { IsTrue (below_maximum (Some 1) true (millis Minutes) 60000) }
+    ensures after { ¬ IsTrue (below_maximum (Some 1) true (millis Minutes) 60001) }
+    ensures excluded { ¬ IsTrue (below_maximum (Some 1) false (millis Minutes) 60000) }
+    ensures before { IsTrue (below_maximum (Some 1) false (millis Minutes) 59999) }
+    ensures none { ¬ IsTrue (above_minimum (Some 1) true 1 0) }
+    ensures one { IsTrue (above_minimum (Some 1) true 1 1) }
 {}
