@@ -50,7 +50,6 @@ pub limits_kept : (books : List Fleet) (operators : List Operator) (place : ℕ)
 limits_kept books operators place book new limits here same =
     map-set_same limit_of books place new book (same ∙ ap limit_of here) ∙ limits
 
-
 -- an operator's call, where the operator and its rows are these
 abbrev own_does : State → ℕ → Option Operator → Option Rows → OperatorCall → Request → Result (Reply × State) Code
 own_does w place operator found call request = do

@@ -49,13 +49,13 @@ stepped w next request reply call is h =
     elim h [
       | inl k ↦ inl (k.0 ∙ ap (λ d. (settled w d).0) (sym as_defined), k.1 ∙ ap (λ d. (settled w d).1) (sym as_defined))
       | inr k ↦ inr (
-          record {
-            fits = λ r. present≢too_large call (sym is ∙ r);
-            known = λ r. present≢token call (sym is ∙ r);
-          },
-          k.1,
-          k.2,
-        )
+        record {
+          fits = λ r. present≢too_large call (sym is ∙ r);
+          known = λ r. present≢token call (sym is ∙ r);
+        },
+        k.1,
+        k.2,
+      )
     ]
 
 -- a request without a call is refused

@@ -147,17 +147,20 @@ fn act(
     ensures lawful { IfOk result (IsOpen (drafts_of drafts.old) (publications_of catalogue.now) (drafts_of drafts.new)) }
     ensures refused { OnErr result (drafts_of drafts.new ≡ drafts_of drafts.old) }
 {
-    let reply = match *call {
-        AuthorCall::Policies => policies(alloc, catalogue, None)?,
-        AuthorCall::Policy(id) => policy(alloc, catalogue, None, id)?,
-        AuthorCall::Geographies => geographies(alloc, catalogue)?,
-        AuthorCall::Geography(id) => geography(alloc, catalogue, id)?,
-        AuthorCall::PutDraft(kind, id) => put_draft(alloc, drafts, kind, id, request.body)?,
-        AuthorCall::Draft(kind, id) => show_draft(alloc, drafts, kind, id)?,
-        AuthorCall::DropDraft(kind, id) => drop_draft(alloc, drafts, kind, id)?,
-        AuthorCall::Publish => return publish(alloc, drafts, catalogue, request),
-    };
-    Ok(AuthorAct::Answer(reply))
+    match *call {
+        AuthorCall::Policies => Ok(AuthorAct::Answer(policies(alloc, catalogue, None)?)),
+        AuthorCall::Policy(id) => Ok(AuthorAct::Answer(policy(alloc, catalogue, None, id)?)),
+        AuthorCall::Geographies => Ok(AuthorAct::Answer(geographies(alloc, catalogue)?)),
+        AuthorCall::Geography(id) => Ok(AuthorAct::Answer(geography(alloc, catalogue, id)?)),
+        AuthorCall::PutDraft(kind, id) => {
+            Ok(AuthorAct::Answer(put_draft(alloc, drafts, kind, id, request.body)?))
+        }
+        AuthorCall::Draft(kind, id) => Ok(AuthorAct::Answer(show_draft(alloc, drafts, kind, id)?)),
+        AuthorCall::DropDraft(kind, id) => Ok(AuthorAct::Answer(drop_draft(
+            alloc, drafts, kind, id,
+        )?)),
+        AuthorCall::Publish => publish(alloc, drafts, catalogue, request),
+    }
 }
 
 /// Answers a call of the author, over the drafts and the published catalogue, or gives the batch
@@ -175,7 +178,7 @@ pub fn author_step(
     // once a batch that is to be published is, and its drafts are taken out, all is as defined
     ensures answer { let after = outcome (drafts_of drafts.new) (publications_of catalogue.now) result in
         Gives (Unit {0}) (drafts_of drafts.old, publications_of catalogue.now)
-            (author_does (drafts_of drafts.old) (publications_of catalogue.now) call.now (request_of request.now)) after.0 after.1 }
+        (author_does (drafts_of drafts.old) (publications_of catalogue.now) call.now (request_of request.now)) after.0 after.1 }
     ensures lawful { IsOpen (drafts_of drafts.old) (publications_of catalogue.now) (drafts_of drafts.new) result }
 {
     match act(alloc, drafts, catalogue, call, request) {

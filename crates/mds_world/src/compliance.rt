@@ -6,14 +6,15 @@ ghost use Rattle.mds_policy.specs.Policy.{policy_document};
 ghost use Rattle.mds_match.specs.Row.{row_of};
 ghost use Rattle.mds_verdict.specs.Verdict.{Ascends, verdicts, reported};
 ghost use Rattle.mds_catalog.specs.Publication.{published_area};
-ghost use Rattle.mds_catalog.specs.Catalogue.{publications_of};
+ghost use Rattle.mds_catalog.specs.Catalogue.{publications_of, lent_policy};
 ghost use Rattle.mds_request.specs.Configuration.{operator as operator_of};
+ghost use Rattle.mds_machine.specs.Bodies.{list_json};
 ghost use Rattle.mds_machine.specs.Operator.{compliance_reply, policy_compliance_answer};
 ghost use Rattle.mds_world.specs.Denied.{Meets};
 
 use crate::bodies::compliance_reply;
 use crate::denied::Denied;
-use mds_catalog::Catalogue;
+use mds_catalog::{Catalogue, Published};
 use mds_fleet::Book;
 use mds_match::{Local, Vehicle, Zone};
 use mds_policy::Policy;
@@ -49,6 +50,36 @@ fn policy_report<E: Evaluator<Catalogue>>(
     report_tree(alloc, policy, &verdicts)
 }
 
+/// The reports on these policies.
+fn policy_reports<E: Evaluator<Catalogue>>(
+    alloc: Global,
+    evaluator: &E,
+    catalogue: &Catalogue,
+    policies: &[Published<'_, Policy>],
+    vehicles: &[&Vehicle],
+    local: Local,
+    at: Moment,
+) -> Result<Tree, AllocError>
+    requires { Ascends (map (λ v. row_of v.now) vehicles.now) }
+    ensures { IfOk result (λ t. view t ≡ list_json (map (λ p. reported p.document
+        (verdicts p.document (published_area (publications_of catalogue.now)) (map (λ v. row_of v.now) vehicles.now) local at)) (map lent_policy policies.now))) }
+{
+    let mut reports = Vec::with_capacity(alloc, policies.len())?;
+    for policy in policies {
+        let report = policy_report(
+            alloc,
+            evaluator,
+            catalogue,
+            policy.document,
+            vehicles,
+            local,
+            at,
+        )?;
+        reports.push(report)?;
+    }
+    Ok(list_tree(reports))
+}
+
 /// The reports on all policies that are in force for the operator, in order of publication.
 pub(crate) fn compliance<E: Evaluator<Catalogue>>(
     alloc: Global,
@@ -64,12 +95,9 @@ pub(crate) fn compliance<E: Evaluator<Catalogue>>(
     let vehicles = fleet(book)?;
     let local = zone.local(at)?;
     let policies = catalogue.in_force(alloc, operator.id, at)?;
-    let mut reports = Vec::with_capacity(alloc, policies.len())?;
-    for policy in &policies {
-        let report = policy_report(alloc, evaluator, catalogue, policy.document, &vehicles, local, at)?;
-        reports.push(report)?;
-    }
-    compliance_reply(alloc, at, "policies", list_tree(reports), catalogue.revision())
+    let reports = policy_reports(alloc, evaluator, catalogue, &policies, &vehicles, local, at)?;
+    let reply = compliance_reply(alloc, at, "policies", reports, catalogue.revision())?;
+    Ok(reply)
 }
 
 /// The report on one policy, if it is in force for the operator.
@@ -94,7 +122,15 @@ pub(crate) fn policy_compliance<E: Evaluator<Catalogue>>(
     }
     let vehicles = fleet(book)?;
     let local = zone.local(at)?;
-    let report = policy_report(alloc, evaluator, catalogue, found.document, &vehicles, local, at)?;
+    let report = policy_report(
+        alloc,
+        evaluator,
+        catalogue,
+        found.document,
+        &vehicles,
+        local,
+        at,
+    )?;
     let reply = compliance_reply(alloc, at, "policy", report, catalogue.revision())?;
     Ok(reply)
 }

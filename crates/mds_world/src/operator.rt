@@ -95,7 +95,9 @@ fn answered<E: Evaluator<Catalogue>>(
         OperatorCall::Report => report(alloc, book, request),
         OperatorCall::Vehicles => Ok(vehicles(alloc, book)?),
         OperatorCall::RemoveVehicle(device) => remove(alloc, book, device),
-        OperatorCall::Compliance => Ok(compliance(alloc, evaluator, book, catalogue, zone, operator, at)?),
+        OperatorCall::Compliance => Ok(compliance(
+            alloc, evaluator, book, catalogue, zone, operator, at,
+        )?),
         OperatorCall::PolicyCompliance(id) => {
             policy_compliance(alloc, evaluator, book, catalogue, zone, operator, at, id)
         }
@@ -121,7 +123,7 @@ pub fn operator_step<E: Evaluator<Catalogue>>(
     requires limit { Some book.old.limit ≡ option_map (λ o. o.limit) (slice_get (configuration config.now).operators operator) }
     ensures answer { IfSome (slice_get (configuration config.now).operators operator) (λ o.
         Gives (Unit {0}) book.old.rows (operator_does (configuration config.now).zone o (publications_of catalogue.now)
-            book.old.rows call.now (request_of request.now)) result book.new.rows) }
+        book.old.rows call.now (request_of request.now)) result book.new.rows) }
     ensures limit { book.new.limit ≡ book.old.limit }
 {
     let operator = &config.operators()[operator];

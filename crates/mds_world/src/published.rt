@@ -1,17 +1,30 @@
 //! What is told of published documents: to the author of all, to an operator of the policies that are
 //! meant for it.
-ghost use Rattle.std.specs.Prelude.{◌≡◌, IfOk};
-ghost use Rattle.mds_catalog.specs.Catalogue.{publications_of, lent_policy};
-ghost use Rattle.mds_machine.specs.Published.{is_shown, policies_reply, policy_answer, geographies_reply, geography_answer};
+ghost use Rattle.std.specs.Prelude.{◌≡◌, IfOk, map};
+ghost use Rattle.mds_text.specs.View.{view};
+ghost use Rattle.mds_catalog.specs.Catalogue.{publications_of, lent_policy, lent_geography};
+ghost use Rattle.mds_machine.specs.Bodies.{list_json};
+ghost use Rattle.mds_machine.specs.Published.{policy_json, geography_json, is_shown, policies_reply, policy_answer, geographies_reply, geography_answer};
 ghost use Rattle.mds_world.specs.Denied.{Meets};
 
 use crate::bodies::revised_reply;
 use crate::denied::Denied;
 use mds_catalog::{Catalogue, Published, is_meant_for};
+use mds_geography::Geography;
 use mds_policy::Policy;
 use mds_request::{Code, Reply};
-use mds_text::{Id, list_tree};
+use mds_text::{Id, Tree, list_tree};
 use std::alloc::{AllocError, Global};
+
+fn policies_tree(alloc: Global, policies: &[Published<'_, Policy>]) -> Result<Tree, AllocError>
+    ensures { IfOk result (λ t. view t ≡ list_json (map policy_json (map lent_policy policies.now))) }
+{
+    let mut trees = Vec::with_capacity(alloc, policies.len())?;
+    for policy in policies {
+        trees.push(policy.document.served(alloc, Some(policy.moment))?)?;
+    }
+    Ok(list_tree(trees))
+}
 
 /// The policies that are meant for an operator, or all, in order of publication (MDS 2.0 Policy).
 pub(crate) fn policies(
@@ -22,11 +35,9 @@ pub(crate) fn policies(
     ensures { IfOk result (λ r. r ≡ policies_reply (publications_of catalogue.now) operator) }
 {
     let policies = catalogue.policies(alloc, operator)?;
-    let mut trees = Vec::with_capacity(alloc, policies.len())?;
-    for policy in &policies {
-        trees.push(policy.document.served(alloc, Some(policy.moment))?)?;
-    }
-    revised_reply(alloc, "policies", list_tree(trees), catalogue.revision())
+    let tree = policies_tree(alloc, &policies)?;
+    let reply = revised_reply(alloc, "policies", tree, catalogue.revision())?;
+    Ok(reply)
 }
 
 /// Whether an operator is shown a policy; the author, who is none, is shown any.
@@ -59,16 +70,27 @@ pub(crate) fn policy(
     Ok(reply)
 }
 
+fn geographies_tree(
+    alloc: Global,
+    geographies: &[Published<'_, Geography>],
+) -> Result<Tree, AllocError>
+    ensures { IfOk result (λ t. view t ≡ list_json (map geography_json (map lent_geography geographies.now))) }
+{
+    let mut trees = Vec::with_capacity(alloc, geographies.len())?;
+    for geography in geographies {
+        trees.push(geography.document.served(alloc, Some(geography.moment))?)?;
+    }
+    Ok(list_tree(trees))
+}
+
 /// All published geographies, in order of publication (MDS 2.0 Geography).
 pub(crate) fn geographies(alloc: Global, catalogue: &Catalogue) -> Result<Reply, AllocError>
     ensures { IfOk result (λ r. r ≡ geographies_reply (publications_of catalogue.now)) }
 {
     let geographies = catalogue.geographies(alloc)?;
-    let mut trees = Vec::with_capacity(alloc, geographies.len())?;
-    for geography in &geographies {
-        trees.push(geography.document.served(alloc, Some(geography.moment))?)?;
-    }
-    revised_reply(alloc, "geographies", list_tree(trees), catalogue.revision())
+    let tree = geographies_tree(alloc, &geographies)?;
+    let reply = revised_reply(alloc, "geographies", tree, catalogue.revision())?;
+    Ok(reply)
 }
 
 /// One published geography.

@@ -40,11 +40,11 @@ fn empty_books(alloc: Global, operators: &[Operator]) -> Result<Vec<Book>, Alloc
 }
 
 impl<E: Evaluator<Catalogue> + Drop> World<E> {
-    ghost use Rattle.std.specs.Prelude.{◌≢◌, ◌<◌, Ok};
-    ghost use Rattle.mds_request.specs.Call.{call_of};
+    ghost use Rattle.std.specs.Prelude.{◌≢◌, ◌<◌};
     ghost use Rattle.mds_request.specs.Request.{request_of};
     ghost use Rattle.mds_request.specs.declared.call.Call.TheVariants as call_kinds;
     ghost use Rattle.mds_machine.specs.Answer.{Gives};
+    ghost use Rattle.mds_machine.specs.Isolation.{IsIsolatedFrom, IsMeantFrom};
     ghost use Rattle.mds_machine.specs.Step.{Step, Run, call_does, exchanges, new_state};
     ghost use Rattle.mds_world.specs.World.{state_of};
 
@@ -96,6 +96,8 @@ impl<E: Evaluator<Catalogue> + Drop> World<E> {
     pub fn run(&mut self, requests: &[Request<'_>]) -> Result<Vec<Reply>, AllocError>
         ensures history { IfOk result (λ replies. Run (state_of self.old) (exchanges (map request_of requests.now) replies.items) (state_of self.new)) }
         ensures each { IfOk result (λ replies. length replies.items ≡ length requests.now) }
+        ensures isolation { IfOk result (λ replies. IsIsolatedFrom (state_of self.old) (exchanges (map request_of requests.now) replies.items) (state_of self.new)) }
+        ensures meaning { IfOk result (λ replies. IsMeantFrom (state_of self.old) (exchanges (map request_of requests.now) replies.items) (state_of self.new)) }
         ensures unchanged { OnErr result (self.new ≡ self.old) }
     {
         let alloc = *self.books.allocator();
