@@ -20,6 +20,15 @@ pub fn alone_in_force()
     ensures not_named { ids_in_force (alone (record cap { providers = second_operator ∷ [] })) first_operator 1000 ≡ [] }
 {}
 
+/// A policy that names operators is shown to these and to the author, and to no other operator; one that
+/// names nobody is shown to all.
+pub fn shown()
+    ensures to_another { ids_of (policies_for (alone (record cap { providers = second_operator ∷ [] })) (Some first_operator)) ≡ [] }
+    ensures to_the_named { ids_of (policies_for (alone (record cap { providers = second_operator ∷ [] })) (Some second_operator)) ≡ cap_id ∷ [] }
+    ensures to_the_author { ids_of (policies_for (alone (record cap { providers = second_operator ∷ [] })) None) ≡ cap_id ∷ [] }
+    ensures to_all { ids_of (policies_for (alone cap) (Some first_operator)) ≡ cap_id ∷ [] }
+{}
+
 /// A successor takes a policy's place from its own publication and start on. A moment before that
 /// brings the predecessor back.
 pub fn superseded()

@@ -120,7 +120,7 @@ impl Book {
         }
     }
 
-    /// What is held of a device. Takes no memory.
+    /// What is held of a device, for who asks for one alone. Takes no memory.
     pub fn get(&self, device: Id) -> Option<&Vehicle>
         ensures { option_map (λ v. row_of v.now) result ≡ finite.get self.now.rows device }
     {
@@ -130,7 +130,7 @@ impl Book {
         }
     }
 
-    /// How many devices are held. Takes no memory.
+    /// How many devices are held, for who asks for no more. Takes no memory.
     pub fn len(&self) -> usize
         ensures count { result ≡ finite.len self.now.rows }
         ensures within { result ≤ self.now.limit }

@@ -35,9 +35,9 @@ HasMemory configuration place history =
 abbrev pub replies_to : Configuration → ℕ → List Exchange → List Reply
 replies_to configuration place history = map (λ e. e.reply) (filter (λ e. is_of configuration place e.request) history)
 
--- Two worlds. Take any other history, from a state that agrees for an operator. If what the operator sees of both is the
--- same, its replies are the same and the states afterwards agree for it, whatever drafts and requests of others there
--- are in them.
+-- Two worlds. Take any other history, from a state that agrees for an operator and holds its drafts under their own
+-- identifiers, as a machine always does. If what the operator sees of both is the same, its replies are the same and the
+-- states afterwards agree for it, whatever drafts and requests of others there are in them.
 abbrev pub IsIsolatedFrom : State → List Exchange → State → Type 0
 IsIsolatedFrom w history next =
     (v apart : State) (other : List Exchange) (place : ℕ)

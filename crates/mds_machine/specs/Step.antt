@@ -30,8 +30,8 @@ abbrev pub with_rows : State → ℕ → Rows → State
 with_rows w place rows =
     record { configuration = w.configuration; publications = w.publications; drafts = w.drafts; fleets = set w.fleets place rows }
 
--- What a call does: the author's leaves all rows, and an operator's leaves all but its own. There is an operator at each
--- place that a call names, and it has rows, so that the two refusals don't come.
+-- What a call does: the author's leaves all rows, and an operator's leaves all but its own. In a state with rows for each
+-- operator, as a machine's has, the two refusals don't come.
 abbrev pub call_does : State → Call → Request → Result (Reply × State) Code
 call_does w (Author call) request = do
   after ← author_does w.drafts w.publications call request

@@ -48,7 +48,8 @@ pub fn begins_keyed()
 /// An operator's requests have the answers that the published texts and its own requests before each
 /// of them define, however many others ask in between and whatever is drafted, as long as memory
 /// suffices for its own; and what is published afterwards, and the operator's rows, are again those of
-/// what it has seen, so that a further history goes on from there.
+/// what it has seen, so that a further history goes on from there. The state at first holds each draft
+/// under its own identifier.
 pub fn is_meant_throughout()
     ensures { IsMeantThroughout }
 {}
@@ -61,7 +62,7 @@ pub fn is_meant_from_new()
 /// In two histories, from states that agree for an operator, that look the same to it (its own
 /// requests and the publications, at the same moments and in the same order), its replies are the
 /// same, and the states afterwards agree for it, whatever drafts and requests of others stand between,
-/// as long as memory suffices for its own.
+/// as long as memory suffices for its own. Both states hold each draft under its own identifier.
 pub fn is_isolated_throughout()
     ensures { IsIsolatedThroughout }
 {}

@@ -1,4 +1,4 @@
-//! The machine that the product is, as definitions: what each request is answered, what becomes of an
+//! The machine, as definitions: what each request is answered, what becomes of an
 //! operator's vehicles, of drafts and of publications, and what an operator's replies depend on.
 #![tactic(auto)]
 

@@ -35,7 +35,7 @@ pub enum AuthorCall {
     Draft(DraftKind, Id),
     /// To drop a draft.
     DropDraft(DraftKind, Id),
-    /// To publish the drafts that the body names.
+    /// To publish the drafts that the body names, and to withdraw the published policies that it names.
     Publish,
 }
 

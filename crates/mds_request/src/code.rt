@@ -3,11 +3,11 @@
 pub enum Code {
     /// A line of a replay is no request.
     BadLine,
-    /// The machine's clock gives no moment.
+    /// The machine's clock gives no moment: for a server that reads one.
     Clock,
-    /// The body broke off.
+    /// The body broke off: for a server that takes it from a connection.
     BadBody,
-    /// The published catalogue can't be looked at.
+    /// The published catalogue can't be looked at: for a server that shares it.
     NoSnapshot,
     /// The body is over its limit.
     TooLarge,
@@ -53,7 +53,7 @@ pub enum Code {
     NoDraft,
     /// There is no such document, device or policy in force for the one who asks.
     NotFound,
-    /// A publish request names no document.
+    /// A publish request names nothing: no draft, and no policy to withdraw.
     Empty,
     /// A document under this identifier is published already.
     Published,

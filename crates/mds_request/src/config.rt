@@ -71,7 +71,7 @@ impl Config {
         }
     }
 
-    /// The author's access token.
+    /// The author's access token, for who shows a configuration. `actor` says whose a token is.
     pub fn author(&self) -> &str
         ensures { result.now ≡ (configuration self.now).author }
     {
