@@ -12,12 +12,13 @@ use Rattle.mds_request.specs.Reply.{Reply, is_line, refused}
 use Rattle.mds_replay.specs.declared.fault.ReplayFault.{ReplayFault}
 use Rattle.mds_replay.specs.declared.fault.ReplayFault.TheVariants.{Read, Write, BadConfig, NoMemory}
 use Rattle.mds_replay.specs.declared.lines.Found.TheVariants.{TooLong}
-use Rattle.mds_replay.specs.Input.{lines, line_limit, is_filled, request_on}
+use Rattle.mds_replay.specs.Input.{lines, is_filled, request_on}
 use Rattle.mds_replay.specs.Ends.{Writes}
 use Rattle.mds_replay.specs.LineReading.{BeginsWithLine, Finds}
 use Rattle.mds_replay.specs.Answering.{Answers, Run, Outputs, AreLines, answer_line, request_in}
-use Rattle.mds_replay.specs.Turning.{Replies, Turned, Turns, AnswersAll, AnswersSome, written_of, filled_lines}
+use Rattle.mds_replay.specs.Turning.{Replies, Turned, Turns, written_of, filled_lines}
 use Rattle.mds_replay.proofs.Written.{appends_more}
+use Rattle.mds_replay.specs.declared.gather.TheConstants.{LINE_LIMIT}
 
 -- which lines were answered between these two places
 abbrev pub LinesBetween : Option (List ℕ) → Option (List ℕ) → List (List ℕ) → Type 0
@@ -50,10 +51,20 @@ lines_both before after one other =
     ∙ and_from (list_all (λ reply. is_line reply.body) before) (list_all (λ reply. is_line reply.body) after) one other
 
 module _ {M : Type 0} (step : M → Request → Reply → M → Type 0) where
+  -- the answers to all lines that were left were written
+  abbrev pub AnswersAll : M → Option (List ℕ) → Option (List ℕ) → Option (List ℕ) → Type 0
+  AnswersAll machine left written_old written_new =
+      (output : List ℕ) × Appends written_old written_new output × IfSome left (λ bytes. Outputs step machine (filled_lines bytes) output)
+
+  -- the front of them was
+  abbrev pub AnswersSome : M → Option (List ℕ) → Option (List ℕ) → Option (List ℕ) → Type 0
+  AnswersSome machine left written_old written_new =
+      (front : List ℕ) × (rest : List ℕ) × Appends written_old written_new front × IfSome left (λ bytes. Outputs step machine (filled_lines bytes) (front ++ rest))
+
   pub turns_from : (result : Result Bool ReplayFault) (reply : Option Reply) (old now : Option (List ℕ)) (machine_old machine_new : M) (written_old written_new : Option (List ℕ)) → Turned step old now machine_old machine_new reply → Writes written_old written_new result (written_of reply) → IfOk result (λ more. more ≡ true) → IfErr result (λ fault. fault ≡ Write) → Turns step result old now machine_old machine_new written_old written_new
   turns_from (Ok true) reply old now machine_old machine_new written_old written_new t w more fault = (reply, t, w)
   turns_from (Ok false) reply old now machine_old machine_new written_old written_new t w more fault = cc
-  turns_from (Err Write) reply old now machine_old machine_new written_old written_new t w more fault = (reply, t, w.0, w.1, w.2, w.3)
+  turns_from (Err Write) reply old now machine_old machine_new written_old written_new t w more fault = (reply, t, w)
   turns_from (Err Read) reply old now machine_old machine_new written_old written_new t w more fault = cc
   turns_from (Err BadConfig) reply old now machine_old machine_new written_old written_new t w more fault = cc
   turns_from (Err NoMemory) reply old now machine_old machine_new written_old written_new t w more fault = cc
@@ -66,7 +77,7 @@ module _ {M : Type 0} (step : M → Request → Reply → M → Type 0) where
     replied = (
       lt-ltb 0 (length f.0) (omega (arith, f.1)),
       subst (λ request. MatchOption request ((refused BadLine ≡ refused BadLine) × (machine ≡ machine)) (λ r. step machine r (refused BadLine) machine))
-          (sym (cond-true (ltb line_limit (length f.0)) None (request_on f.0) (lt-ltb line_limit (length f.0) f.1)))
+          (sym (cond-true (ltb LINE_LIMIT (length f.0)) None (request_on f.0) (lt-ltb LINE_LIMIT (length f.0) f.1)))
           (refl, refl),
     );
     one_line = one;

@@ -4,8 +4,14 @@ use Rattle.std.specs.Io.KnownBytes.{Keeps, IsAtEnd, prepend_known}
 use Rattle.mds_replay.specs.declared.lines.LineReader.{LineReader}
 use Rattle.mds_replay.specs.declared.lines.Found.{Found}
 use Rattle.mds_replay.specs.declared.lines.Found.TheVariants.{End}
-use Rattle.mds_replay.specs.LineReading.{Closes, ClosesLast, ahead, held, passed, left, Finds, Advances, TakesLine, SameAhead}
+use Rattle.mds_replay.specs.LineReading.{ahead, held, passed, left, Finds, Advances, TakesLine}
+use Rattle.mds_replay.proofs.Framed.{Closes, ClosesLast}
 use Rattle.mds_replay.proofs.Reading.{Gathered, gathered_piece, gathered_kept, gathered_advances, feed_advances, found_at_feed, found_at_end, nearer_at_end}
+
+-- the bytes ahead and how many lie before them stay as they were
+pub record SameAhead (old new : LineReader) : Type 0 where
+  pub ahead_same : ahead new ≡ ahead old
+  pub passed_same : passed new ≡ passed old
 
 same_left : (old new : LineReader) (remaining : Option (List ℕ)) → SameAhead old new → left new remaining ≡ left old remaining
 same_left old new remaining s = ap (λ xs. prepend_known xs remaining) s.ahead_same
