@@ -1,5 +1,5 @@
 -- An operator's own steps keep up the rows that its requests come to.
-use Rattle.std.proofs.Common.{◌≡◌, ℕ, ◌+◌, cond, inl, inr, List, [], ◌∷◌, ◌++◌, Option, Some, None, Result, Ok, Err, refl, sym, ap, subst, ◌∙◌, arith}
+use Rattle.std.proofs.Common.{◌≡◌, ◌≢◌, ℕ, ◌+◌, cond, inl, inr, List, [], ◌∷◌, ◌++◌, Option, Some, None, Result, Ok, Err, refl, sym, ap, subst, ◌∙◌, arith}
 use Rattle.std.specs.Prelude.{reverse}
 use Rattle.std.specs.Option.{is_some, option_map}
 use Rattle.std.specs.Result.{result_ok}
@@ -22,24 +22,24 @@ use Rattle.mds_fleet.proofs.Rows.{device_total, device_exact}
 use Rattle.mds_request.specs.Configuration.{Configuration, Operator, actor_of}
 use Rattle.mds_request.specs.Call.{call_of}
 use Rattle.mds_request.specs.Request.{Request}
-use Rattle.mds_request.specs.Reply.{Reply}
+use Rattle.mds_request.specs.Reply.{Reply, refused}
 use Rattle.mds_request.specs.declared.call.AuthorCall.{AuthorCall}
 use Rattle.mds_request.specs.declared.call.OperatorCall.{OperatorCall}
 use Rattle.mds_request.specs.declared.call.OperatorCall.TheVariants as operators
 use Rattle.mds_request.specs.declared.call.Call.{Call}
 use Rattle.mds_request.specs.declared.call.Call.TheVariants as call
 use Rattle.mds_request.specs.declared.code.Code.{Code}
-use Rattle.mds_request.specs.declared.code.Code.TheVariants.{NotFound}
+use Rattle.mds_request.specs.declared.code.Code.TheVariants.{NoMemory, NotFound}
 use Rattle.mds_request.specs.declared.config.Actor.TheVariants.{Operator as OperatorAt}
 use Rattle.mds_machine.specs.Answer.{settled, coded, told, leaving, ◌>>=◌}
 use Rattle.mds_machine.specs.Bodies.{result_json, removed_json}
 use Rattle.mds_machine.specs.Codes.{fault_code, book_code}
 use Rattle.mds_machine.specs.Operator.{operator_does, taken_word, policy_compliance_answer}
 use Rattle.mds_machine.specs.Published.{policy_answer, geography_answer}
-use Rattle.mds_machine.specs.Laws.{RowsGoOn, HasOneAnswer, IsMeant, BeginsWithoutRows}
-use Rattle.mds_machine.specs.Meaning.{own_call, own_step, event_by, events_of, AreRows}
-use Rattle.mds_machine.specs.Step.{State, answered}
-use Rattle.mds_machine.specs.Views.{asked, as_publication, as_request, requests_of, publications_of}
+use Rattle.mds_machine.specs.Laws.{HasOneAnswer}
+use Rattle.mds_machine.specs.Meaning.{own_call, own_step, event_by, events_of, AreRows, IsAnswer, Shows}
+use Rattle.mds_machine.specs.Step.{State, Step, answered, new_state}
+use Rattle.mds_machine.specs.Views.{Seen, asked, as_publication, as_request, requests_of, publications_of}
 use Rattle.mds_machine.proofs.Callers.{IsBy}
 use Rattle.mds_machine.proofs.Steps.{call_step, lifted_reply, lifted_rows, operator_step, own_by, leaves_others}
 
@@ -133,6 +133,14 @@ events_on configuration requests request =
     ap reverse (filter_map-append f requests (request ∷ [])) ∙ reverse-append (filter_map f requests) (filter_map f (request ∷ []))
     ∙ last_event f request (f request) (reverse (filter_map f requests)) refl
 
+-- the rows of a list of requests, after one more request's own step, are those of the list with this request at its end
+abbrev RowsGoOn : Type 0
+RowsGoOn =
+    (configuration : Configuration) (operator : Operator) (publications : List Publication) (requests : List Request)
+    (request : Request) (rows : Rows)
+    → AreRows configuration operator requests rows
+    → AreRows configuration operator (requests ++ request ∷ []) (own_step configuration operator publications rows request).1
+
 pub rows_go_on : RowsGoOn
 rows_go_on configuration operator publications requests request rows are =
     subst (λ events. Agrees operator.limit events (own_step configuration operator publications rows request).1)
@@ -176,6 +184,16 @@ pub is_own : (w : State) (request : Request) (place : ℕ) (operator : Operator)
 is_own w request place operator rows whose found held =
     own_is w request place operator rows found held (call_of w.configuration request) (own_by w request place whose)
 
+-- In a state that shows a view to an operator, a request of it has the answer that this view defines, and the state
+-- afterwards shows the view with this request at its end.
+abbrev IsMeant : Type 0
+IsMeant =
+    (w : State) (request : Request) (reply : Reply) (next : State) (place : ℕ) (operator : Operator) (seen : List Seen)
+    → actor_of w.configuration request.token ≡ OperatorAt place → slice_get w.configuration.operators place ≡ Some operator
+    → Shows w.configuration operator place seen w → Step w request reply next → reply ≢ refused NoMemory
+    → IsAnswer w.configuration operator seen request reply
+    × Shows w.configuration operator place (seen ++ asked request ∷ []) next
+
 pub is_meant : IsMeant
 is_meant w request reply next place operator seen whose found shows h really = elim h [
   | inl a ↦ let own = is_own w request place operator shows.rows whose found shows.held in
@@ -192,6 +210,13 @@ is_meant w request reply next place operator seen whose found shows h really = e
       )
   | inr a ↦ absurd (really a.1)
 ]
+
+-- a new machine shows the empty view to each operator
+abbrev BeginsWithoutRows : Type 0
+BeginsWithoutRows =
+    (configuration : Configuration) (place : ℕ) (operator : Operator)
+    → slice_get configuration.operators place ≡ Some operator
+    → Shows configuration operator place [] (new_state configuration)
 
 pub begins_without_rows : BeginsWithoutRows
 begins_without_rows configuration place operator found =

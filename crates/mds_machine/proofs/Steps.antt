@@ -14,14 +14,14 @@ use Rattle.mds_request.specs.declared.call.OperatorCall.{OperatorCall}
 use Rattle.mds_request.specs.declared.call.Call.{Call}
 use Rattle.mds_request.specs.declared.call.Call.TheVariants as call
 use Rattle.mds_request.specs.declared.code.Code.{Code}
-use Rattle.mds_request.specs.declared.code.Code.TheVariants.{Token}
+use Rattle.mds_request.specs.declared.code.Code.TheVariants.{NoMemory, Token}
 use Rattle.mds_request.specs.declared.config.Actor.TheVariants.{Author, Operator as OperatorAt}
 use Rattle.mds_machine.specs.Answer.{settled, or_code, ◌>>=◌}
 use Rattle.mds_machine.specs.Author.{author_does}
 use Rattle.mds_machine.specs.Operator.{operator_does}
 use Rattle.mds_machine.specs.Isolation.{Agree}
-use Rattle.mds_machine.specs.Step.{State, with_rows, call_does, answered}
-use Rattle.mds_machine.specs.Laws.{IsTotal, IsDetermined, LeavesOthers, LeavesRows, IsIsolated}
+use Rattle.mds_machine.specs.Step.{State, Step, with_rows, call_does, answered}
+use Rattle.mds_machine.specs.Laws.{IsTotal, IsDetermined, LeavesOthers, LeavesRows}
 use Rattle.mds_machine.proofs.Callers.{IsBy, call_by}
 
 pub is_total : IsTotal
@@ -197,6 +197,15 @@ module _ (w v : State) (request : Request) (place : ℕ) (agree : Agree w v plac
       subst (λ call. ((answered w request).0 ≡ (call_step v call request).0) × Agree (answered w request).1 (call_step v call request).1 place)
       (ap (λ c. call_of c request) agree.configuration)
       (same_call (call_of w.configuration request) (own_by w request place whose))
+
+-- in states that agree for an operator, a request of it has the same reply, and they agree for it afterwards,
+-- whatever drafts and rows of others there are
+abbrev IsIsolated : Type 0
+IsIsolated =
+    (w v : State) (request : Request) (reply other : Reply) (next apart : State) (place : ℕ)
+    → actor_of w.configuration request.token ≡ OperatorAt place → Agree w v place
+    → Step w request reply next → Step v request other apart → reply ≢ refused NoMemory → other ≢ refused NoMemory
+    → (reply ≡ other) × Agree next apart place
 
 pub is_isolated : IsIsolated
 is_isolated w v request reply other next apart place whose agree h k real really = elim h [

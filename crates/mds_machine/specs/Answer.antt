@@ -31,7 +31,7 @@ if_it code test a = if test a then Ok a else Err code
 abbrev pub told : Json → Reply
 told json = success (printed json)
 
--- a success that changes nothing, and one with what stands after it
+-- a success that changes nothing
 abbrev pub leaving : {S : Type 0} → S → Reply → Result (Reply × S) Code
 leaving old reply = Ok (reply, old)
 

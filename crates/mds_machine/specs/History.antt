@@ -1,7 +1,5 @@
 -- What a history, which is requests with their replies in order, has drafted and published.
-use Rattle.std.specs.Prelude.{ℕ, ◌==◌, ◌&&◌, Bool, true, false, List, [], ◌∷◌, ◌++◌, reverse, get_or, if◌then◌else◌, Option, Some, None, option_map, Result, Ok, bytes_eq}
-use Rattle.std.specs.List.{filter_map}
-use Rattle.std.specs.Option.{option_and_then}
+use Rattle.std.specs.Prelude.{ℕ, ◌==◌, ◌&&◌, Bool, true, false, List, [], ◌∷◌, ◌++◌, reverse, get_or, filter_map, if◌then◌else◌, Option, Some, None, option_map, option_and_then, Result, Ok, bytes_eq}
 use Rattle.std.specs.Result.{result_ok}
 use Rattle.mds_text.specs.declared.draft_kind.DraftKind.{DraftKind}
 use Rattle.mds_text.specs.declared.draft_kind.DraftKind.TheVariants as kinds

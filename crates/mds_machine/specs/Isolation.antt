@@ -1,6 +1,5 @@
 -- Isolation: an operator's replies in a history depend on what the operator sees of it, and on nothing else.
-use Rattle.std.specs.Prelude.{◌≡◌, ◌≢◌, ℕ, List, ◌∷◌, ◌++◌, map, true, Some, slice_get}
-use Rattle.std.specs.List.{filter}
+use Rattle.std.specs.Prelude.{◌≡◌, ◌≢◌, ℕ, List, ◌∷◌, ◌++◌, map, filter, true, Some, slice_get}
 use Rattle.mds_text.specs.declared.draft_kind.DraftKind.{DraftKind}
 use Rattle.mds_drafts.specs.Drafts.{Drafts, Document, draft_at, id_of}
 use Rattle.mds_request.specs.Configuration.{Configuration, Operator}
@@ -10,8 +9,7 @@ use Rattle.mds_machine.specs.Meaning.{IsAnswer, Shows}
 use Rattle.mds_machine.specs.Step.{State, Exchange, Run, new_state}
 use Rattle.mds_machine.specs.Views.{Seen, is_of, view}
 
--- two states agree for an operator: in the configuration, in what is published, and in that operator's rows; nothing
--- else is asked
+-- two states agree for an operator: in the configuration, in what is published, and in that operator's rows
 pub record Agree (w v : State) (place : ℕ) : Type 0 where
   pub configuration : w.configuration ≡ v.configuration
   pub publications : w.publications ≡ v.publications

@@ -1,9 +1,7 @@
--- Laws of the machine's steps, on which those of its histories stand.
-use Rattle.std.specs.Prelude.{◌≡◌, ◌≢◌, ℕ, List, [], ◌∷◌, ◌++◌, Some, slice_get}
+-- Laws of the machine's steps, and of its drafts and publications.
+use Rattle.std.specs.Prelude.{◌≡◌, ◌≢◌, ℕ, List, ◌++◌}
 use Rattle.mds_text.specs.declared.draft_kind.DraftKind.{DraftKind}
-use Rattle.mds_catalog.specs.Publication.{Publication}
 use Rattle.mds_drafts.specs.Drafts.{draft_at}
-use Rattle.mds_fleet.specs.Books.{Rows}
 use Rattle.mds_request.specs.Configuration.{Configuration, Operator as Configured, actor_of}
 use Rattle.mds_request.specs.Request.{Request}
 use Rattle.mds_request.specs.Reply.{Reply, refused}
@@ -11,9 +9,9 @@ use Rattle.mds_request.specs.declared.config.Actor.TheVariants.{Author, Operator
 use Rattle.mds_request.specs.declared.code.Code.TheVariants.{NoMemory}
 use Rattle.mds_machine.specs.History.{draft_after, publications_after}
 use Rattle.mds_machine.specs.Isolation.{Agree, AreKeyed}
-use Rattle.mds_machine.specs.Meaning.{own_step, AreRows, IsAnswer, Shows}
+use Rattle.mds_machine.specs.Meaning.{IsAnswer}
 use Rattle.mds_machine.specs.Step.{State, Exchange, Step, Run, new_state}
-use Rattle.mds_machine.specs.Views.{Seen, asked}
+use Rattle.mds_machine.specs.Views.{Seen}
 
 -- some reply is right to every request
 abbrev pub IsTotal : Type 0
@@ -45,46 +43,12 @@ LeavesRows =
     (w : State) (request : Request) (reply : Reply) (next : State)
     → actor_of w.configuration request.token ≡ Author → Step w request reply next → next.fleets ≡ w.fleets
 
--- in states that agree for an operator, a request of it has the same reply, and they agree for it afterwards,
--- whatever drafts and rows of others there are
-abbrev pub IsIsolated : Type 0
-IsIsolated =
-    (w v : State) (request : Request) (reply other : Reply) (next apart : State) (place : ℕ)
-    → actor_of w.configuration request.token ≡ Operator place → Agree w v place
-    → Step w request reply next → Step v request other apart → reply ≢ refused NoMemory → other ≢ refused NoMemory
-    → (reply ≡ other) × Agree next apart place
-
--- the rows of a list of requests, after one more request's own step, are those of the list with this request at its end
-abbrev pub RowsGoOn : Type 0
-RowsGoOn =
-    (configuration : Configuration) (operator : Configured) (publications : List Publication) (requests : List Request)
-    (request : Request) (rows : Rows)
-    → AreRows configuration operator requests rows
-    → AreRows configuration operator (requests ++ request ∷ []) (own_step configuration operator publications rows request).1
-
 -- after each view there is just one answer to a request
 abbrev pub HasOneAnswer : Type 0
 HasOneAnswer =
     (configuration : Configuration) (operator : Configured) (seen : List Seen) (request : Request)
     → ((reply : Reply) × IsAnswer configuration operator seen request reply)
     × ((reply other : Reply) → IsAnswer configuration operator seen request reply → IsAnswer configuration operator seen request other → reply ≡ other)
-
--- In a state that shows a view to an operator, a request of it has the answer that this view defines, and the state
--- afterwards shows the view with this request at its end.
-abbrev pub IsMeant : Type 0
-IsMeant =
-    (w : State) (request : Request) (reply : Reply) (next : State) (place : ℕ) (operator : Configured) (seen : List Seen)
-    → actor_of w.configuration request.token ≡ Operator place → slice_get w.configuration.operators place ≡ Some operator
-    → Shows w.configuration operator place seen w → Step w request reply next → reply ≢ refused NoMemory
-    → IsAnswer w.configuration operator seen request reply
-    × Shows w.configuration operator place (seen ++ asked request ∷ []) next
-
--- a new machine shows the empty view to each operator
-abbrev pub BeginsWithoutRows : Type 0
-BeginsWithoutRows =
-    (configuration : Configuration) (place : ℕ) (operator : Configured)
-    → slice_get configuration.operators place ≡ Some operator
-    → Shows configuration operator place [] (new_state configuration)
 
 -- What a state is after a history, told by the history alone: the drafts and the publications are what was put, dropped
 -- and published with success in it.

@@ -1,6 +1,5 @@
 -- What an operator is answered, told by what is published and by this operator's own requests alone: no state is kept.
-use Rattle.std.specs.Prelude.{◌≡◌, ℕ, List, reverse, Option, Some, None, option_map, Result, Ok, Err, slice_get}
-use Rattle.std.specs.List.{filter_map}
+use Rattle.std.specs.Prelude.{◌≡◌, ℕ, List, reverse, filter_map, Option, Some, None, option_map, Result, Ok, Err, slice_get}
 use Rattle.std.specs.FinMap.{get}
 use Rattle.std.specs.Result.{result_ok}
 use Rattle.mds_catalog.specs.Publication.{Publication}
@@ -27,8 +26,7 @@ abbrev pub own_call : Call → Result OperatorCall Code
 own_call (OperatorAt place call) = Ok call
 own_call (Author call) = Err Role
 
--- An operator's own step: the reply to its request, and its rows after it, from the configuration, what is published,
--- and the rows of this operator. Nothing else is asked.
+-- an operator's own step: the reply to its request, and its rows after it
 abbrev pub own_step : Configuration → Operator → List Publication → Rows → Request → Reply × Rows
 own_step configuration operator publications rows request =
     settled rows (call_of configuration request >>= own_call >>= λ call. operator_does configuration.zone operator publications rows call request)
@@ -44,8 +42,7 @@ event_by other request = None
 abbrev pub events_of : Configuration → List Request → List Event
 events_of configuration requests = reverse (filter_map (λ request. event_by (call_of configuration request) request) requests)
 
--- The rows of an operator's list of requests: the row of each device is what its accepted reports come to. No order of
--- work and no map is spoken of but the list itself.
+-- the rows of an operator's list of requests: the row of each device is what its accepted reports come to
 abbrev pub AreRows : Configuration → Operator → List Request → Rows → Type 0
 AreRows configuration operator requests rows =
     (device : List ℕ) → get rows device ≡ row_by (accepted_reports operator.limit (events_of configuration requests) device)

@@ -1,7 +1,6 @@
 -- One step of the machine: a request comes in, a reply goes out, and the state may change.
-use Rattle.std.specs.Prelude.{◌≡◌, ◌≢◌, ℕ, List, [], ◌∷◌, map, set, slice_get, Result, Ok, Err}
+use Rattle.std.specs.Prelude.{◌≡◌, ◌≢◌, ℕ, List, [], ◌∷◌, map, zip, set, slice_get, Result, Ok, Err}
 use Rattle.std.specs.FinMap.{empty}
-use Rattle.std.specs.List.{zip}
 use Rattle.mds_catalog.specs.Publication.{Publication}
 use Rattle.mds_drafts.specs.Drafts.{Drafts}
 use Rattle.mds_fleet.specs.Books.{Rows}

@@ -1,5 +1,5 @@
 //! Laws of the machine. Each function's contract is the law; the functions themselves do nothing.
-ghost use Rattle.mds_machine.specs.Laws.{IsTotal, IsDetermined, RefusedLeaves, LeavesOthers, LeavesRows, IsIsolated, RowsGoOn, HasOneAnswer, IsMeant, BeginsWithoutRows, GoesByHistory, BeginsKeyed};
+ghost use Rattle.mds_machine.specs.Laws.{IsTotal, IsDetermined, RefusedLeaves, LeavesOthers, LeavesRows, HasOneAnswer, GoesByHistory, BeginsKeyed};
 ghost use Rattle.mds_machine.specs.Isolation.{IsIsolatedThroughout, IsMeantThroughout, IsMeantFromNew};
 
 /// Some reply is right to every request.
@@ -27,34 +27,10 @@ pub fn leaves_rows()
     ensures { LeavesRows }
 {}
 
-/// In states that agree in the configuration, the publications and an operator's rows, a request of
-/// that operator has the same reply, and they agree afterwards, whatever drafts and rows of others
-/// there are.
-pub fn is_isolated()
-    ensures { IsIsolated }
-{}
-
-/// The rows that an operator's requests come to, by the list of them alone, are kept up by its own
-/// steps.
-pub fn rows_go_on()
-    ensures { RowsGoOn }
-{}
-
 /// What an operator has seen, its own requests and the publications in their order, defines one answer
 /// to its next request.
 pub fn has_one_answer()
     ensures { HasOneAnswer }
-{}
-
-/// Where the publications and an operator's rows are those of what it has seen, a step of its request
-/// gives the answer that this defines, and they are afterwards those of what it has seen then.
-pub fn is_meant()
-    ensures { IsMeant }
-{}
-
-/// A new machine's publications, and its rows of an operator, are those of one that has seen nothing.
-pub fn begins_without_rows()
-    ensures { BeginsWithoutRows }
 {}
 
 /// The machine's drafts and publications after a history are those of the history: each draft is the
