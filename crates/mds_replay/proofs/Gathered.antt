@@ -4,7 +4,7 @@ use Rattle.std.specs.List.{list_any}
 use Rattle.std.specs.Io.BufRead.{ends_with_byte, strip_last}
 use Rattle.std.proofs.Math.Nat.{min_comm}
 use Rattle.std.proofs.Math.Seq.{take-append-add}
-use Rattle.std.proofs.lemmas.Bool.{eqb-true, ltb-true, ltb-false, lt-ltb, cond-true, cond-false}
+use Rattle.std.proofs.lemmas.Bool.{eqb-true, ne_eqb, ltb-true, ltb-false, lt-ltb, cond-true, cond-false}
 use Rattle.std.proofs.lemmas.List.{take-append-drop, take_min, drop_more, length-take-le}
 use Rattle.std.proofs.lemmas.List.Quantifiers.{position-Some}
 use Rattle.mds_replay.specs.declared.lines.Found.{Found}
@@ -90,4 +90,6 @@ last_at byte old new false e same = (same, omega arith, ltb-false LINE_LIMIT (le
 pub closes_last : (old new : List ℕ) (found : Found) → found ≡ cond (eqb (length old) 0) End (cond (ltb LINE_LIMIT (length old)) TooLong Line) → new ≡ old → ClosesLast old found new
 closes_last [] new found e same = subst (λ r. ClosesLast [] r new) (sym e) (refl, same)
 closes_last (byte ∷ old) new found e same =
-    subst (λ r. ClosesLast (byte ∷ old) r new) (sym e) (last_at byte old new (ltb LINE_LIMIT (length (byte ∷ old))) refl same)
+    let some : eqb (length (byte ∷ old)) 0 ≡ false = ne_eqb (length (byte ∷ old)) 0 (λ none. omega (arith, none)) in
+    let rest = cond-false (eqb (length (byte ∷ old)) 0) End (cond (ltb LINE_LIMIT (length (byte ∷ old))) TooLong Line) some in
+    subst (λ r. ClosesLast (byte ∷ old) r new) (sym (e ∙ rest)) (last_at byte old new (ltb LINE_LIMIT (length (byte ∷ old))) refl same)

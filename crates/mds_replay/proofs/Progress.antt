@@ -153,7 +153,7 @@ module _ {M : Type 0} (step : M → Request → Reply → M → Type 0) where
         output_is = r.output_is;
       }
 
-  pub answers_all : (old now : Option (List ℕ)) (first last : M) (written_old written_now written_new : Option (List ℕ)) (output : List ℕ) → Ran old now first last output → Appends written_old written_now output → IsAtEnd now → Appends written_now written_new [] → AnswersAll step first old written_old written_new
+  pub answers_all : (old now : Option (List ℕ)) (first last : M) (written_old written_now written_new : Option (List ℕ)) (output : List ℕ) → Ran old now first last output → Appends written_old written_now output → IsAtEnd now → Appends written_now written_new [] → AnswersAll first old written_old written_new
   answers_all old now first last written_old written_now written_new output r a over none =
       (output, subst (Appends written_old written_new) (append-nil output) (appends_more written_old written_now written_new output [] a none), ran_all old now first last output r over)
 
@@ -186,7 +186,7 @@ module _ {M : Type 0} (step : M → Request → Reply → M → Type 0) where
           },
         )
 
-    pub answers_some : (fault : ReplayFault) (old mid now : Option (List ℕ)) (first between last : M) (written_old written_now written_new : Option (List ℕ)) (output : List ℕ) → Ran old mid first between output → Appends written_old written_now output → Turns step (Err fault) mid now between last written_now written_new → AnswersSome step first old written_old written_new
+    pub answers_some : (fault : ReplayFault) (old mid now : Option (List ℕ)) (first between last : M) (written_old written_now written_new : Option (List ℕ)) (output : List ℕ) → Ran old mid first between output → Appends written_old written_now output → Turns step (Err fault) mid now between last written_now written_new → AnswersSome first old written_old written_new
     answers_some Read old mid now first between last written_old written_now written_new output r a t =
         let more = ran_rest old mid first between output r in
         (output, more.0, subst (Appends written_old written_new) (append-nil output) (appends_more written_old written_now written_new output [] a t), more.1)
