@@ -1,9 +1,9 @@
 -- The answers to lines are a history of the machine, and the laws of its histories hold of them.
-use Rattle.std.proofs.Common.{◌≡◌, ℕ, ◌+◌, Bool, true, false, not, cond, eqb, List, [], ◌∷◌, ◌++◌, length, map, filter, suc, Option, Some, None, Ok, MatchOption, refl, sym, ap, subst, ◌∙◌, append_assoc}
+use Rattle.std.proofs.Common.{◌≡◌, ℕ, ◌+◌, Bool, true, false, cond, List, [], ◌∷◌, ◌++◌, length, map, filter, Option, Some, None, Ok, MatchOption, refl, sym, ap, subst, ◌∙◌, append_assoc}
 use Rattle.std.specs.Prelude.{slice_get}
 use Rattle.std.specs.Option.{option_map, option_map_or}
-use Rattle.std.specs.List.{cons_option, flat_map, list_all, list_any, onto_first, slice_split, zip}
-use Rattle.std.proofs.lemmas.Bool.{ne_eqb, and_parts, or_from, not-true}
+use Rattle.std.specs.List.{cons_option, flat_map, list_all, onto_first, slice_split, zip}
+use Rattle.std.proofs.lemmas.Bool.{and_parts}
 use Rattle.std.proofs.lemmas.List.Splits.{slice_split-cons_no}
 use Rattle.mds_request.specs.Configuration.{Configuration, read_configuration}
 use Rattle.mds_request.specs.Request.{Request}

@@ -192,11 +192,11 @@ module _ {M : Type 0} (step : M → Request → Reply → M → Type 0) where
         (output, more.0, subst (Appends written_old written_new) (append-nil output) (appends_more written_old written_now written_new output [] a t), more.1)
     answers_some Write old mid now first between last written_old written_now written_new output r a t =
         let more = ran_rest old now first last (output ++ written_of t.0) (ran_turn old mid now first between last output t.0 r t.1) in
-        let regrouped : (output ++ written_of t.0) ++ more.0 ≡ (output ++ t.2) ++ (t.3 ++ more.0) =
-        ap (λ xs. (output ++ xs) ++ more.0) t.4 ∙ (ap (λ xs. xs ++ more.0) (sym (append_assoc output t.2 t.3)) ∙ append_assoc (output ++ t.2) t.3 more.0) in (
-          output ++ t.2,
-          t.3 ++ more.0,
-          appends_more written_old written_now written_new output t.2 a t.5,
+        let regrouped : (output ++ written_of t.0) ++ more.0 ≡ (output ++ t.2.0) ++ (t.2.1 ++ more.0) =
+        ap (λ xs. (output ++ xs) ++ more.0) t.2.2 ∙ (ap (λ xs. xs ++ more.0) (sym (append_assoc output t.2.0 t.2.1)) ∙ append_assoc (output ++ t.2.0) t.2.1 more.0) in (
+          output ++ t.2.0,
+          t.2.1 ++ more.0,
+          appends_more written_old written_now written_new output t.2.0 a t.2.3,
           subst (λ xs. IfSome old (λ bytes. Outputs step first (filled_lines bytes) xs)) regrouped more.1,
         )
     answers_some BadConfig old mid now first between last written_old written_now written_new output r a t = absurd t

@@ -5,7 +5,7 @@ use Rattle.mds_request.specs.declared.code.Code.TheVariants.{BadLine}
 use Rattle.mds_request.specs.Configuration.{Configuration, read_configuration}
 use Rattle.mds_request.specs.Request.{Request}
 use Rattle.mds_request.specs.Reply.{Reply, is_line, refused}
-use Rattle.mds_replay.specs.Input.{is_feed, lines, configuration_of, asked_of, request_on}
+use Rattle.mds_replay.specs.Input.{is_feed, configuration_of, asked_of, request_on}
 use Rattle.std.specs.Io.KnownBytes.{Appends}
 use Rattle.mds_replay.specs.declared.gather.TheConstants.{LINE_LIMIT}
 

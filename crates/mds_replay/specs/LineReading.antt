@@ -1,5 +1,5 @@
 -- What a contract sees of the line reader, how it gathers the bytes of a line, and what one more line of it is.
-use Rattle.std.specs.Prelude.{◌≡◌, ℕ, ◌+◌, ◌<◌, ◌≤◌, Bool, false, ◌==◌, List, [], ◌∷◌, ◌++◌, length, take, Option, Some, None, if◌then◌else◌, ◌-◌, ◌⊎◌, true, drop, ⊤, IfSome}
+use Rattle.std.specs.Prelude.{◌≡◌, ℕ, ◌+◌, ◌<◌, ◌≤◌, Bool, false, List, [], ◌∷◌, ◌++◌, length, take, Option, Some, None, ◌-◌, ◌⊎◌, true, drop, ⊤, IfSome}
 use Rattle.std.specs.List.{list_any}
 use Rattle.std.specs.Io.KnownBytes.{Consumes, IsAtEnd, prepend_known}
 use Rattle.mds_replay.specs.declared.lines.Found.{Found}
@@ -57,11 +57,3 @@ Advances passed_old old passed_new new = (bytes : List ℕ) × Consumes old new 
 -- a read failed, or the input, of which so many bytes are passed and these are left, is over its limit
 abbrev pub FailsReading : ℕ → ℕ → ℕ → Option (List ℕ) → Type 0
 FailsReading failures_old failures_new passed_old old = (failures_new ≡ failures_old + 1) ⊎ IfSome old (λ bytes. INPUT_LIMIT < passed_old + length bytes)
-
--- The kept line gained the bytes ahead up to their first line feed, or all where there is none, so
--- many as there is room for.
-abbrev pub TakesLine : Bool → LineReader → LineReader → Type 0
-TakesLine true old new =
-    (front : List ℕ) × (ahead old ≡ front ++ 10 ∷ ahead new) × IsWithoutFeed front × (held new ≡ take KEPT_LIMIT (held old ++ front)) × (passed new ≡ passed old + length front + 1)
-TakesLine false old new =
-    IsWithoutFeed (ahead old) × (ahead new ≡ []) × (held new ≡ take KEPT_LIMIT (held old ++ ahead old)) × (passed new ≡ passed old + length (ahead old))

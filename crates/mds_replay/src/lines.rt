@@ -44,9 +44,9 @@ pub struct LineReader {
 }
 
 impl LineReader {
-    ghost use Rattle.std.specs.Prelude.{List, [], ◌++◌, ◌^◌, Bool, true, false, length, IfOk, OnOk, OnErr, IsTrue, IfSome, Some, ◌⊎◌, drop, MatchBool, ◌==◌, nat_lt, if◌then◌else◌};
+    ghost use Rattle.std.specs.Prelude.{List, [], ◌∷◌, ◌++◌, take, ◌^◌, Bool, true, false, length, IfOk, OnOk, OnErr, IsTrue, IfSome, Some, ◌⊎◌, drop, MatchBool, ◌==◌, nat_lt, if◌then◌else◌};
     ghost use Rattle.std.specs.Io.KnownBytes.{Keeps, IsAtEnd};
-    ghost use Rattle.mds_replay.specs.LineReading.{ahead, held, passed, left, Advances, FailsReading, Finds, TakesLine};
+    ghost use Rattle.mds_replay.specs.LineReading.{ahead, held, passed, left, Advances, FailsReading, Finds, IsWithoutFeed};
     ghost use Rattle.std.specs.Io.BufRead.{strip_last};
 
     /// A reader that has read nothing. The only error is want of memory.
@@ -121,10 +121,14 @@ impl LineReader {
         close_last(&mut self.line)
     }
 
-    /// Takes the bytes ahead up to their first line feed to the line, and tells whether there is
-    /// one. Without one all of them are taken.
+    /// Takes the bytes ahead up to their first line feed to the line, as many as there is room for,
+    /// and tells whether there is one. Without one all of them are taken.
     fn take_line(&mut self) -> bool
-        ensures takes { TakesLine result self.old self.new }
+        ensures takes { MatchBool result
+            ((front : List ℕ) × (ahead self.old ≡ front ++ 10 ∷ ahead self.new) × IsWithoutFeed front
+            × (held self.new ≡ take KEPT_LIMIT (held self.old ++ front)) × (passed self.new ≡ passed self.old + length front + 1))
+            (IsWithoutFeed (ahead self.old) × (ahead self.new ≡ [])
+            × (held self.new ≡ take KEPT_LIMIT (held self.old ++ ahead self.old)) × (passed self.new ≡ passed self.old + length (ahead self.old))) }
         ensures total { self.new.total ≡ self.old.total }
     {
         let window = &self.chunk[self.start..self.end];
