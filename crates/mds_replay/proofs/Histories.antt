@@ -1,23 +1,23 @@
 -- The answers to lines are a history of the machine, and the laws of its histories hold of them.
-use Rattle.std.proofs.Common.{◌≡◌, ℕ, ◌+◌, Bool, true, false, not, cond, eqb, List, [], ◌∷◌, ◌++◌, length, map, filter, suc, Option, Some, None, Ok, MatchOption, refl, sym, ap, subst, ◌∙◌, append_assoc}
+use Rattle.std.proofs.Common.{◌≡◌, ℕ, ◌+◌, Bool, true, false, cond, List, [], ◌∷◌, ◌++◌, length, map, filter, Option, Some, None, Ok, MatchOption, refl, sym, ap, subst, ◌∙◌, append_assoc}
 use Rattle.std.specs.Prelude.{slice_get}
-use Rattle.std.specs.Option.{option_map}
-use Rattle.std.specs.List.{cons_option, flat_map, list_all, list_any, onto_first, slice_split, zip}
-use Rattle.std.proofs.lemmas.Bool.{ne_eqb, and_parts, or_from, not-true}
+use Rattle.std.specs.Option.{option_map, option_map_or}
+use Rattle.std.specs.List.{cons_option, flat_map, list_all, onto_first, slice_split, zip}
+use Rattle.std.proofs.lemmas.Bool.{and_parts}
 use Rattle.std.proofs.lemmas.List.Splits.{slice_split-cons_no}
 use Rattle.mds_request.specs.Configuration.{Configuration, read_configuration}
 use Rattle.mds_request.specs.Request.{Request}
 use Rattle.mds_request.specs.Reply.{Reply, is_line, refused}
 use Rattle.mds_request.specs.declared.code.Code.TheVariants.{BadLine}
-use Rattle.mds_world.specs.Isolation.{BeginsKeyed, IsIsolatedThroughout, IsMeantFromNew, StandsAfter, replies_to}
-use Rattle.mds_world.specs.Step.{Exchange, Step, Run as History, new_state}
-use Rattle.mds_world.specs.Views.{is_of}
-use Rattle.mds_world.specs.World.{State, state_of}
+use Rattle.mds_machine.specs.Isolation.{BeginsKeyed, IsIsolatedThroughout, IsMeantFromNew, StandsAfter, replies_to}
+use Rattle.mds_machine.specs.Step.{State, Exchange, Step, Run as History, new_state}
+use Rattle.mds_machine.specs.Views.{is_of}
+use Rattle.mds_world.specs.World.{state_of}
 use Rattle.mds_world.specs.declared.world.World.{World}
 use Rattle.mds_replay.specs.Answering.{Replays, AreLines, Run, answer_line, answer_text, request_in}
 use Rattle.mds_replay.specs.Input.{asked_of, configuration_of, is_feed}
 use Rattle.mds_replay.specs.LineReading.{IsWithoutFeed}
-use Rattle.mds_replay.specs.Laws.{GivesHistories, IsolatesOperators, AnswersByViews, AreReplies, exchanges_on, is_asked_by, answers_to}
+use Rattle.mds_replay.specs.Laws.{GivesHistories, IsolatesOperators, AnswersByViews, AreReplies, exchanges_on, answers_to}
 use Rattle.mds_replay.proofs.Framed.{no_feed_here, no_feed_later}
 use Rattle.mds_replay.proofs.Whole.{answer_plain, run_length}
 
@@ -87,7 +87,7 @@ parts_of output replies one is = ap (slice_split is_feed) is ∙ split_output re
 
 module _ (configuration : Configuration) (place : ℕ) where
   abbrev asks : List ℕ × List ℕ → Bool
-  asks e = is_asked_by configuration place (request_in e.0)
+  asks e = option_map_or (is_of configuration place) (request_in e.0) false
 
   abbrev texts_to : List Exchange → List (List ℕ)
   texts_to history = map answer_text (replies_to configuration place history)
@@ -96,7 +96,7 @@ module _ (configuration : Configuration) (place : ℕ) where
   one_asked true line e pairs rest h = ap (λ xs. answer_text e.reply ∷ xs) h
   one_asked false line e pairs rest h = h
 
-  one_line : (found : Option Request) (line : List ℕ) (reply : Reply) (pairs : List (List ℕ × List ℕ)) (rest : List Exchange) → map (λ p. p.1) (filter asks pairs) ≡ texts_to rest → map (λ p. p.1) (cond (is_asked_by configuration place found) ((line, answer_text reply) ∷ filter asks pairs) (filter asks pairs)) ≡ texts_to (cons_option (option_map (λ request. record { request = request; reply = reply }) found) rest)
+  one_line : (found : Option Request) (line : List ℕ) (reply : Reply) (pairs : List (List ℕ × List ℕ)) (rest : List Exchange) → map (λ p. p.1) (filter asks pairs) ≡ texts_to rest → map (λ p. p.1) (cond (option_map_or (is_of configuration place) found false) ((line, answer_text reply) ∷ filter asks pairs) (filter asks pairs)) ≡ texts_to (cons_option (option_map (λ request. record { request = request; reply = reply }) found) rest)
   one_line None line reply pairs rest h = h
   one_line (Some request) line reply pairs rest h =
       one_asked (is_of configuration place request) line (record { request = request; reply = reply }) pairs rest h
@@ -126,9 +126,9 @@ module _ {E : Type 0} where
   pub isolates_operators : BeginsKeyed → IsIsolatedThroughout → IsolatesOperators {E = E} begins steps
   isolates_operators keyed isolated configuration place input output other apart read reads one two seen has had =
       let first = new_state configuration in
-      let same = isolated first first (state_of one.2.last) (state_of two.2.last) (exchanges_on (asked_of input) one.2.replies) (exchanges_on (asked_of other) two.2.replies) place
-      (keyed configuration) (keyed configuration) (record { configuration = refl; publications = refl; rows = refl })
-      (from_new configuration input output read one) (from_new configuration other apart reads two) seen has had in
+      let same = isolated first (state_of one.2.last) (exchanges_on (asked_of input) one.2.replies) (keyed configuration) (from_new configuration input output read one)
+      first (state_of two.2.last) (exchanges_on (asked_of other) two.2.replies) place (keyed configuration) (record { configuration = refl; publications = refl; rows = refl })
+      (from_new configuration other apart reads two) seen has had in
       told configuration place input output one ∙ (ap (map answer_text) same.0 ∙ sym (told configuration place other apart two))
 
 -- a line that is a request stands in the history behind those before it

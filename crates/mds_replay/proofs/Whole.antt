@@ -10,7 +10,8 @@ use Rattle.mds_request.specs.Reply.{Reply, is_line}
 use Rattle.mds_replay.specs.Input.{is_feed, lines, is_filled, asked_of}
 use Rattle.mds_replay.specs.LineReading.{IsWithoutFeed}
 use Rattle.mds_replay.specs.Answering.{Run, Outputs, AreLines, answer_line, answer_text, Answered, Started}
-use Rattle.mds_replay.specs.Turning.{Begins, AnswersAll, AnswersSome}
+use Rattle.mds_replay.specs.Turning.{Begins}
+use Rattle.mds_replay.proofs.Progress.{AnswersAll, AnswersSome}
 
 pub nothing_ahead : (remaining : Option (List ℕ)) → prepend_known [] remaining ≡ remaining
 nothing_ahead None = refl

@@ -1,21 +1,13 @@
 -- How an input is cut into lines, and a line into the parts of a request.
-use Rattle.std.specs.Prelude.{ℕ, Bool, false, ◌&&◌, ◌==◌, List, [], ◌∷◌, length, drop, filter, nat_lt, if◌then◌else◌, ◌+◌, ◌-◌, ◌*◌, nat_le, fold, Option, Some, None}
-use Rattle.std.specs.List.{list_all, before_first, after_first}
+use Rattle.std.specs.Prelude.{ℕ, Bool, false, ◌&&◌, ◌==◌, List, [], ◌∷◌, length, drop, get_or, filter, nat_lt, if◌then◌else◌, ◌+◌, ◌-◌, ◌*◌, nat_le, fold, Option, Some, None}
+use Rattle.std.specs.List.{list_all, before_first, after_first, onto_first}
 use Rattle.std.specs.Char.{is_ascii_digit}
 use Rattle.mds_text.specs.Fields.{last_moment}
-use Rattle.mds_request.specs.Request.{Request}
-use Rattle.mds_request.specs.Verb.{verb_of}
-use Rattle.mds_replay.specs.declared.gather.TheConstants.{LINE_LIMIT}
-use Rattle.mds_replay.specs.declared.lines.TheConstants.{INPUT_LIMIT}
+use Rattle.mds_request.specs.Request.{Request, verb_of}
 
 -- a line feed
 abbrev pub is_feed : ℕ → Bool
 is_feed byte = byte == 10
-
--- the byte goes in front of the first line; where there is no line yet, it is the last one
-abbrev pub onto_first : ℕ → List (List ℕ) → List (List ℕ)
-onto_first byte [] = (byte ∷ []) ∷ []
-onto_first byte (line ∷ lines) = (byte ∷ line) ∷ lines
 
 -- the next byte is a line feed
 abbrev pub feeds : List ℕ → Bool
@@ -30,26 +22,13 @@ lines (byte ∷ bytes) =
     if byte == 10 then [] ∷ lines bytes
     else (if (byte == 13) && feeds bytes then lines bytes else onto_first byte (lines bytes))
 
--- the most bytes of a line, its end not counted
-abbrev pub line_limit : ℕ
-line_limit = LINE_LIMIT
-
--- the most bytes of a whole input
-abbrev pub input_limit : ℕ
-input_limit = INPUT_LIMIT
-
--- the first line; an input without a byte has an empty one
-abbrev pub head_line : List (List ℕ) → List ℕ
-head_line [] = []
-head_line (line ∷ lines) = line
-
 -- there is a byte
 abbrev pub is_filled : List ℕ → Bool
 is_filled bytes = nat_lt 0 (length bytes)
 
--- the first line of an input is its configuration
+-- the first line of an input is its configuration; an input without a byte has an empty one
 abbrev pub configuration_of : List ℕ → List ℕ
-configuration_of input = head_line (lines input)
+configuration_of input = get_or (lines input) 0 []
 
 -- the lines that are answered: those behind the first that aren't empty
 abbrev pub asked_of : List ℕ → List (List ℕ)

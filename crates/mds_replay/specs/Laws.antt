@@ -1,17 +1,16 @@
 -- Laws of a replay by the server's machine: what it writes is the replies of one history, in which operators are
 -- isolated, and each answers what the operator has seen.
-use Rattle.std.specs.Prelude.{◌≡◌, ℕ, Bool, true, false, List, [], ◌∷◌, ◌++◌, length, map, filter, Option, Some, None, Ok, slice_get, MatchOption}
+use Rattle.std.specs.Prelude.{◌≡◌, ℕ, true, false, List, [], ◌∷◌, ◌++◌, length, map, filter, Some, Ok, slice_get, MatchOption}
 use Rattle.std.specs.List.{filter_map, flat_map, slice_split, zip}
-use Rattle.std.specs.Option.{option_map}
+use Rattle.std.specs.Option.{option_map, option_map_or}
 use Rattle.mds_request.specs.Configuration.{Configuration, Operator, read_configuration}
 use Rattle.mds_request.specs.Request.{Request}
 use Rattle.mds_request.specs.Reply.{Reply, refused}
 use Rattle.mds_request.specs.declared.code.Code.TheVariants.{BadLine}
-use Rattle.mds_world.specs.Isolation.{HasMemory}
-use Rattle.mds_world.specs.Meaning.{IsAnswer}
-use Rattle.mds_world.specs.Step.{Exchange, Run as History, new_state}
-use Rattle.mds_world.specs.Views.{Seen, is_of, view}
-use Rattle.mds_world.specs.World.{State}
+use Rattle.mds_machine.specs.Isolation.{HasMemory}
+use Rattle.mds_machine.specs.Meaning.{IsAnswer}
+use Rattle.mds_machine.specs.Step.{State, Exchange, Run as History, new_state}
+use Rattle.mds_machine.specs.Views.{Seen, is_of, view}
 use Rattle.mds_world.specs.declared.world.World.{World}
 use Rattle.mds_replay.specs.Answering.{Replays, answer_line, answer_text, request_in}
 use Rattle.mds_replay.specs.Input.{asked_of, configuration_of, is_feed}
@@ -26,8 +25,7 @@ abbrev pub AreReplies : List (List ℕ) → List Reply → Type 0
 AreReplies [] [] = Unit {0}
 AreReplies (line ∷ lines) (reply ∷ replies) =
     MatchOption (request_in line) (reply ≡ refused BadLine) (λ request. Unit {0}) × AreReplies lines replies
-AreReplies [] (reply ∷ replies) = ⊥
-AreReplies (line ∷ lines) [] = ⊥
+AreReplies lines replies = ⊥
 
 -- the output is the replies to an input's lines, and those to requests are a history of a new machine of the
 -- configuration that the first line reads as
@@ -40,15 +38,10 @@ pub record IsHistory (input output : List ℕ) : Type 0 where
   pub last : State
   pub history : History (new_state configuration) (exchanges_on (asked_of input) replies) last
 
--- a line is a request of the operator at this place
-abbrev pub is_asked_by : Configuration → ℕ → Option Request → Bool
-is_asked_by configuration place None = false
-is_asked_by configuration place (Some request) = is_of configuration place request
-
 -- the lines of an output that stand where the input's lines are requests of an operator
 abbrev pub answers_to : Configuration → ℕ → List ℕ → List ℕ → List (List ℕ)
 answers_to configuration place input output =
-    map (λ e. e.1) (filter (λ e. is_asked_by configuration place (request_in e.0)) (zip (asked_of input) (slice_split is_feed output)))
+    map (λ e. e.1) (filter (λ e. option_map_or (is_of configuration place) (request_in e.0) false) (zip (asked_of input) (slice_split is_feed output)))
 
 -- what an operator sees of the history on these lines, the first of an input
 abbrev pub seen_on : Configuration → ℕ → List (List ℕ) → List Reply → List Seen

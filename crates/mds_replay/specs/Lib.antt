@@ -4,5 +4,4 @@ pub mod Exit
 pub mod Input
 pub mod Laws
 pub mod LineReading
-pub mod Total
 pub mod Turning

@@ -1,46 +1,25 @@
 -- What a contract sees of the line reader, how it gathers the bytes of a line, and what one more line of it is.
-use Rattle.std.specs.Prelude.{◌≡◌, ℕ, ◌+◌, ◌<◌, ◌≤◌, Bool, false, ◌==◌, List, [], ◌∷◌, ◌++◌, length, take, Option, Some, None, if◌then◌else◌, ◌-◌, ◌⊎◌, true, drop, ⊤, IfSome}
+use Rattle.std.specs.Prelude.{◌≡◌, ℕ, ◌+◌, ◌<◌, ◌≤◌, Bool, false, List, [], ◌∷◌, ◌++◌, length, take, Option, Some, None, ◌-◌, ◌⊎◌, true, drop, ⊤, IfSome}
 use Rattle.std.specs.List.{list_any}
 use Rattle.std.specs.Io.KnownBytes.{Consumes, IsAtEnd, prepend_known}
 use Rattle.mds_replay.specs.declared.lines.Found.{Found}
 use Rattle.mds_replay.specs.declared.lines.Found.TheVariants.{Line, TooLong, End}
-use Rattle.mds_replay.specs.Input.{is_feed, line_limit, lines, input_limit}
+use Rattle.mds_replay.specs.Input.{is_feed, lines}
 use Rattle.mds_replay.specs.declared.lines.LineReader.{LineReader}
-
--- how many bytes of a line are kept: so many that a line that is cut off is over the limit, also
--- where a carriage return is its last byte
-abbrev pub kept_limit : ℕ
-kept_limit = line_limit + 2
+use Rattle.mds_replay.specs.declared.gather.TheConstants.{LINE_LIMIT, KEPT_LIMIT}
+use Rattle.mds_replay.specs.declared.lines.TheConstants.{INPUT_LIMIT}
 
 -- no byte is a line feed
 abbrev pub IsWithoutFeed : List ℕ → Type 0
 IsWithoutFeed bytes = list_any is_feed bytes ≡ false
-
--- the bytes without a carriage return at their end
-abbrev pub without_return : List ℕ → List ℕ
-without_return [] = []
-without_return (byte ∷ []) = if byte == 13 then [] else byte ∷ []
-without_return (byte ∷ next ∷ bytes) = byte ∷ without_return (next ∷ bytes)
 
 -- Of these bytes in front, the kept ones gained those before the first line feed, so many as there
 -- is room for. The answer is how many bytes that and the line feed are, or nothing where there is
 -- none.
 abbrev pub Gathers : List ℕ → List ℕ → Option ℕ → List ℕ → Type 0
 Gathers old bytes (Some count) new =
-    (front : List ℕ) × (rest : List ℕ) × (bytes ≡ front ++ 10 ∷ rest) × IsWithoutFeed front × (count ≡ length front + 1) × (new ≡ take kept_limit (old ++ front))
-Gathers old bytes None new = IsWithoutFeed bytes × (new ≡ take kept_limit (old ++ bytes))
-
--- the line that a kept line and its line feed end, or that it is over the limit
-abbrev pub Closes : List ℕ → Found → List ℕ → Type 0
-Closes old Line new = (new ≡ without_return old) × (length new ≤ line_limit)
-Closes old TooLong new = line_limit < length (without_return old)
-Closes old End new = ⊥
-
--- the last line, which no line feed ended, or that there is none
-abbrev pub ClosesLast : List ℕ → Found → List ℕ → Type 0
-ClosesLast old Line new = (new ≡ old) × (0 < length old) × (length old ≤ line_limit)
-ClosesLast old TooLong new = line_limit < length old
-ClosesLast old End new = (old ≡ []) × (new ≡ [])
+    (front : List ℕ) × (rest : List ℕ) × (bytes ≡ front ++ 10 ∷ rest) × IsWithoutFeed front × (count ≡ length front + 1) × (new ≡ take KEPT_LIMIT (old ++ front))
+Gathers old bytes None new = IsWithoutFeed bytes × (new ≡ take KEPT_LIMIT (old ++ bytes))
 
 -- the bytes that were read and belong to no line yet
 abbrev pub ahead : LineReader → List ℕ
@@ -67,8 +46,8 @@ BeginsWithLine (Some bytes) (Some rest) line = lines bytes ≡ line ∷ lines re
 -- What was found: the next line, kept in the reader; a line over the limit; or no further line, at
 -- the end of the input.
 abbrev pub Finds : Found → List ℕ → Option (List ℕ) → Option (List ℕ) → Type 0
-Finds Line kept old new = (length kept ≤ line_limit) × BeginsWithLine old new kept
-Finds TooLong kept old new = (line : List ℕ) × (line_limit < length line) × BeginsWithLine old new line
+Finds Line kept old new = (length kept ≤ LINE_LIMIT) × BeginsWithLine old new kept
+Finds TooLong kept old new = (line : List ℕ) × (LINE_LIMIT < length line) × BeginsWithLine old new line
 Finds End kept old new = (kept ≡ []) × IsAtEnd old × IsAtEnd new
 
 -- some bytes were read past, and are counted
@@ -77,22 +56,4 @@ Advances passed_old old passed_new new = (bytes : List ℕ) × Consumes old new 
 
 -- a read failed, or the input, of which so many bytes are passed and these are left, is over its limit
 abbrev pub FailsReading : ℕ → ℕ → ℕ → Option (List ℕ) → Type 0
-FailsReading failures_old failures_new passed_old old = (failures_new ≡ failures_old + 1) ⊎ IfSome old (λ bytes. input_limit < passed_old + length bytes)
-
--- the input, of which so many bytes are passed and these are left, isn't over its limit
-abbrev pub IsLimited : ℕ → Option (List ℕ) → Type 0
-IsLimited passed_old old = IfSome old (λ bytes. passed_old + length bytes ≤ input_limit)
-
--- The kept line gained the bytes ahead up to their first line feed, or all where there is none, so
--- many as there is room for.
-abbrev pub TakesLine : Bool → LineReader → LineReader → Type 0
-TakesLine true old new =
-    (front : List ℕ) × (ahead old ≡ front ++ 10 ∷ ahead new) × IsWithoutFeed front × (held new ≡ take kept_limit (held old ++ front)) × (passed new ≡ passed old + length front + 1)
-TakesLine false old new =
-    IsWithoutFeed (ahead old) × (ahead new ≡ []) × (held new ≡ take kept_limit (held old ++ ahead old)) × (passed new ≡ passed old + length (ahead old))
-
--- the bytes ahead and how many lie before them stay as they were
-pub record SameAhead (old new : LineReader) : Type 0 where
-  pub ahead_same : ahead new ≡ ahead old
-  pub passed_same : passed new ≡ passed old
-  pub total_same : new.total ≡ old.total
+FailsReading failures_old failures_new passed_old old = (failures_new ≡ failures_old + 1) ⊎ IfSome old (λ bytes. INPUT_LIMIT < passed_old + length bytes)

@@ -1,8 +1,7 @@
 //! The bytes of one line, gathered from pieces of the input.
 ghost use Rattle.std.specs.Prelude.{◌≡◌, ◌==◌, ◌+◌, ◌<◌, ◌≤◌, ◌++◌, position, take, length, nat_lt, if◌then◌else◌, vec_len, vec_capacity};
-ghost use Rattle.std.specs.Io.BufRead.{ends_with_byte};
-ghost use Rattle.mds_replay.specs.Input.{line_limit};
-ghost use Rattle.mds_replay.specs.LineReading.{Gathers, Closes, ClosesLast};
+ghost use Rattle.std.specs.Io.BufRead.{ends_with_byte, strip_last};
+ghost use Rattle.mds_replay.specs.LineReading.{Gathers};
 
 use crate::lines::Found;
 
@@ -60,7 +59,8 @@ fn append(line: &mut Vec<u8>, bytes: &[u8])
 pub fn close(line: &mut Vec<u8>) -> Found
     requires short { vec_len line.old ≤ KEPT_LIMIT }
     requires reserved { KEPT_LIMIT ≤ vec_capacity line.old }
-    ensures closes { Closes line.old.items result line.new.items }
+    ensures line { line.new.items ≡ strip_last 13 line.old.items }
+    ensures found { result ≡ (if nat_lt LINE_LIMIT (length line.new.items) then Found.TooLong else Found.Line) }
     ensures short { vec_len line.new ≤ KEPT_LIMIT }
     ensures reserved { KEPT_LIMIT ≤ vec_capacity line.new }
 {
@@ -83,7 +83,7 @@ fn ends_with_return(line: &[u8]) -> bool
 /// Ends the last line, which no line feed ends.
 pub fn close_last(line: &mut Vec<u8>) -> Found
     requires { vec_len line.old ≤ KEPT_LIMIT }
-    ensures closes { ClosesLast line.old.items result line.new.items }
+    ensures found { result ≡ (if length line.old.items == 0 then Found.End else (if nat_lt LINE_LIMIT (length line.old.items) then Found.TooLong else Found.Line)) }
     ensures same { line.new ≡ line.old }
 {
     if line.is_empty() {
@@ -95,7 +95,7 @@ pub fn close_last(line: &mut Vec<u8>) -> Found
 
 /// A line, or one over the limit.
 fn found(line: &[u8]) -> Found
-    ensures { result ≡ (if nat_lt line_limit (length line.now) then Found.TooLong else Found.Line) }
+    ensures { result ≡ (if nat_lt LINE_LIMIT (length line.now) then Found.TooLong else Found.Line) }
 {
     if line.len() > LINE_LIMIT {
         Found::TooLong

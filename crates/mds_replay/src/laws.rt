@@ -3,8 +3,9 @@
 ghost use Rattle.mds_replay.specs.Laws.{AnswersByViews, GivesHistories, IsolatesOperators};
 
 use crate::machine::Machine;
+use mds_machine::laws;
 use mds_verdict::Plain;
-use mds_world::{World, laws};
+use mds_world::World;
 
 /// What a replay writes is a reply to each line that isn't empty, in order, `bad_line` to one that is
 /// no request, and those to requests are a history from the new machine of the configuration that the

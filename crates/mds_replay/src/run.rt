@@ -1,7 +1,7 @@
 //! A replay from a reader of the standard library to a writer.
 ghost use Rattle.std.specs.Prelude.{◌≡◌, ◌≤◌, length, IfOk, IfSome, IsErrOf, OnOk};
 ghost use Rattle.mds_replay.specs.Answering.{Answered, IsUnconfigured};
-ghost use Rattle.mds_replay.specs.Input.{input_limit};
+ghost use Rattle.mds_replay.specs.declared.lines.TheConstants.{INPUT_LIMIT};
 
 use crate::ends::{FromReader, ToWriter};
 use crate::fault::ReplayFault;
@@ -18,7 +18,7 @@ pub fn run<M: Machine, R: Read + Drop, W: Write + Drop>(
     writer: W,
 ) -> Result<W, ReplayFault>
     ensures answered { IfOk result (λ written. Answered M.begins M.step (R.remaining reader) (W.contents writer) (W.contents written)) }
-    ensures limited { OnOk result (IfSome (R.remaining reader) (λ input. length input ≤ input_limit)) }
+    ensures limited { OnOk result (IfSome (R.remaining reader) (λ input. length input ≤ INPUT_LIMIT)) }
     ensures bad_config { IsErrOf result ReplayFault.BadConfig → IfSome (R.remaining reader) IsUnconfigured }
 {
     let mut source = FromReader::new(reader);

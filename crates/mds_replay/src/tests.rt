@@ -28,9 +28,9 @@ const CAP_ANSWERS: &[u8] = br#"200 {"result":"new"}
 200 {"result":"new"}
 200 {"published_date":1000,"revision":1}
 200 {"result":"new"}
-200 {"at":2000,"policies":[{"policy_id":"00000000-0000-4000-8000-000000000201","rules":[{"measure":1,"rule_id":"00000000-0000-4000-8000-000000000301","status":"ok"}]}],"revision":1,"version":1}
+200 {"at":2000,"policies":[{"policy_id":"00000000-0000-4000-8000-000000000201","rules":[{"measure":1,"rule_id":"00000000-0000-4000-8000-000000000301","status":"ok"}]}],"revision":1,"version":2}
 200 {"result":"new"}
-200 {"at":2001,"policies":[{"policy_id":"00000000-0000-4000-8000-000000000201","rules":[{"measure":2,"rule_id":"00000000-0000-4000-8000-000000000301","status":"violated"}]}],"revision":1,"version":1}
+200 {"at":2001,"policies":[{"policy_id":"00000000-0000-4000-8000-000000000201","rules":[{"devices":["00000000-0000-4000-8000-000000000401","00000000-0000-4000-8000-000000000402"],"measure":2,"rule_id":"00000000-0000-4000-8000-000000000301","status":"violated"}]}],"revision":1,"version":2}
 "#;
 
 /// Bytes that come few at a time, and one read that fails.

@@ -8,8 +8,8 @@ use std::alloc::{AllocError, Global};
 /// The machine of the server, which judges vehicles one after another.
 impl Machine for World<Plain> {
     ghost use Rattle.std.specs.Prelude.{◌≡◌};
-    ghost use Rattle.mds_replay.specs.Total.{some_reply};
-    ghost use Rattle.mds_world.specs.Step.{Step, new_state};
+    ghost use Rattle.mds_machine.proofs.Replies.{some_reply};
+    ghost use Rattle.mds_machine.specs.Step.{Step, new_state};
     ghost use Rattle.mds_world.specs.World.{state_of};
 
     ghost begins = { λ configuration world. state_of world ≡ new_state configuration };
