@@ -9,7 +9,8 @@ use Rattle.mds_request.specs.Configuration.{Configuration, read_configuration}
 use Rattle.mds_request.specs.Request.{Request}
 use Rattle.mds_request.specs.Reply.{Reply, is_line, refused}
 use Rattle.mds_request.specs.declared.code.Code.TheVariants.{BadLine}
-use Rattle.mds_machine.specs.Isolation.{BeginsKeyed, IsIsolatedThroughout, IsMeantFromNew, StandsAfter, replies_to}
+use Rattle.mds_machine.specs.Isolation.{IsIsolatedThroughout, IsMeantFromNew, StandsAfter, replies_to}
+use Rattle.mds_machine.specs.Laws.{BeginsKeyed}
 use Rattle.mds_machine.specs.Step.{State, Exchange, Step, Run as History, new_state}
 use Rattle.mds_machine.specs.Views.{is_of}
 use Rattle.mds_world.specs.World.{state_of}
