@@ -14,7 +14,9 @@ demo:
 		$(PROGRAM) < $(SCRIPT); \
 	else \
 		echo "mds_replay isn't built (make build): this runs its sources before their proof" >&2; \
-		cd crates/mds_replay && rt try < ../../$(SCRIPT) 2> /dev/null | grep '^[1-5][0-9][0-9] '; \
+		said=$$(mktemp); cd crates/mds_replay; \
+		rt try < ../../$(SCRIPT) 2> $$said | grep '^[1-5][0-9][0-9] ' || { cat $$said >&2; rm -f $$said; exit 1; }; \
+		rm -f $$said; \
 	fi
 
 build:

@@ -189,20 +189,17 @@ MADE = [
 ]
 
 
-def kept():
-    """The scripts in files: each name with its input, its output and its status."""
-    folder = f"{HERE}/replays"
-    for name in sorted(it[:-3] for it in os.listdir(folder) if it.endswith(".in")):
-        with open(f"{folder}/{name}.in", "rb") as given, open(f"{folder}/{name}.out", "rb") as wanted:
-            with open(f"{folder}/{name}.status") as status:
-                yield name, given.read(), wanted.read(), int(status.read())
+def kept(name):
+    """A script in files: its input, its output and its status."""
+    path = f"{HERE}/replays/{name}"
+    with open(f"{path}.in", "rb") as given, open(f"{path}.out", "rb") as wanted, open(f"{path}.status") as status:
+        return given.read(), wanted.read(), int(status.read())
 
 
-def made():
-    """The scripts that are made here."""
-    for make in MADE:
-        lines, answers = make()
-        yield make.__name__, "".join(f"{it}\n" for it in lines).encode(), "".join(f"{it}\n" for it in answers).encode(), 0
+def made(make):
+    """A script that is made here."""
+    lines, answers = make()
+    return "".join(f"{it}\n" for it in lines).encode(), "".join(f"{it}\n" for it in answers).encode(), 0
 
 
 def first_difference(got, wanted):
@@ -218,8 +215,9 @@ def run(program, given, sink=subprocess.PIPE):
     return subprocess.run([program], input=given, stdout=sink, stderr=subprocess.PIPE, timeout=SECONDS)
 
 
-def faults(program, name, given, wanted, status):
-    """What is wrong with a run, each thing in a line."""
+def faults(program, name, script):
+    """What is wrong with a run of a script, each thing in a line."""
+    given, wanted, status = script()
     ran = run(program, given)
     if ran.returncode != status:
         yield f"{name}: status {ran.returncode}, not {status}"
@@ -239,14 +237,25 @@ def faults_of_a_full_device(program):
         yield f"a_full_device: status {ran.returncode}, standard error {ran.stderr[:160]!r}"
 
 
+def told(name, found):
+    """The faults, or why they can't be told."""
+    try:
+        return list(found)
+    except (OSError, ValueError, KeyError, subprocess.SubprocessError) as fault:
+        return [f"{name}: {fault!r}"]
+
+
 def main(program):
-    passed = failed = 0
-    tried = [list(faults(program, *it)) for it in (*kept(), *made())] + [list(faults_of_a_full_device(program))]
-    for found in tried:
-        passed, failed = passed + (not found), failed + bool(found)
-        for line in found:
-            print(line)
-    print(f"{passed} passed, {failed} failed")
+    names = sorted({it.rsplit(".", 1)[0] for it in os.listdir(f"{HERE}/replays")})
+    tried = [told(name, faults(program, name, lambda: kept(name))) for name in names]
+    tried += [told(it.__name__, faults(program, it.__name__, lambda: made(it))) for it in MADE]
+    tried.append(told("a_full_device", faults_of_a_full_device(program)))
+    if not names:
+        tried.append(["tests/replays: no script"])
+    for line in (line for found in tried for line in found):
+        print(line)
+    failed = sum(bool(found) for found in tried)
+    print(f"{len(tried) - failed} passed, {failed} failed")
     return 1 if failed else 0
 
 
