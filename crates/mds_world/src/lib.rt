@@ -8,6 +8,8 @@ mod compliance;
 mod denied;
 mod operator;
 mod published;
+#[cfg(test)]
+mod tests;
 mod world;
 
 pub use author::{AuthorAct, author_step};
