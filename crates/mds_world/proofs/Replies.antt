@@ -1,5 +1,5 @@
 -- The replies to questions and to publish requests, put together.
-use Rattle.std.proofs.Common.{◌≡◌, ℕ, ◌+◌, List, [], ◌∷◌, ◌++◌, map, length, codes, true, cond, Option, Some, Result, Ok, Err, ap, sym, ◌∙◌}
+use Rattle.std.proofs.Common.{◌≡◌, ℕ, ◌+◌, List, [], ◌∷◌, ◌++◌, map, length, codes, true, cond, Some, Result, Ok, Err, ap, sym, ◌∙◌}
 use Rattle.std.specs.declared.alloc.AllocError.{AllocError}
 use Rattle.std.specs.FinMap.{values}
 use Rattle.mds_text.specs.Tree.{Json}

@@ -1,8 +1,5 @@
 -- From what the parts of a call give to what the call, the state and the machine's step are to be.
-use Rattle.std.proofs.Common.{◌≡◌, ◌≢◌, ℕ, List, ◌++◌, ◌∷◌, [], set, Result, Ok, Err, inl, inr, refl, sym, ap, subst, ◌∙◌}
-use Rattle.mds_catalog.specs.Publication.{Publication}
-use Rattle.mds_drafts.specs.Drafts.{Drafts}
-use Rattle.mds_fleet.specs.Books.{Rows}
+use Rattle.std.proofs.Common.{◌≡◌, ◌≢◌, Result, Ok, Err, inl, inr, sym, ap, ◌∙◌}
 use Rattle.mds_request.specs.Reply.{Reply, refused}
 use Rattle.mds_request.specs.Request.{Request}
 use Rattle.mds_request.specs.declared.code.Code.{Code}
@@ -10,7 +7,7 @@ use Rattle.mds_request.specs.declared.code.Code.TheVariants.{TooLarge, Token}
 use Rattle.mds_machine.specs.Answer.{settled, Gives, ◌>>=◌}
 use Rattle.mds_request.specs.Call.{call_of}
 use Rattle.mds_request.specs.declared.call.Call.{Call}
-use Rattle.mds_machine.specs.Step.{State, Step, does, call_does, with_rows}
+use Rattle.mds_machine.specs.Step.{State, Step, does, call_does}
 use Rattle.mds_world.specs.Denied.{denial, Denies, code_of}
 use Rattle.mds_world.specs.declared.denied.Denied.{Denied}
 use Rattle.mds_world.specs.declared.denied.Denied.TheVariants.{Refused, Exhausted}

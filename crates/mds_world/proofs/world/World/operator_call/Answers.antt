@@ -1,4 +1,4 @@
-use Rattle.std.proofs.Common.{arith, ◌<◌, length}
+use Rattle.std.proofs.Common.{arith}
 use Rattle.mds_catalog.specs.Catalogue.{publications_of}
 use Rattle.mds_drafts.specs.Shelf.{drafts_of}
 use Rattle.mds_request.specs.Configuration.{configuration}
