@@ -1,5 +1,5 @@
 -- What each insert of a route makes of the router.
-use Rattle.std.proofs.Common.{◌≡◌, List, ℕ, [], codes, refl, ap, sym, ◌∙◌, subst, Ok}
+use Rattle.std.proofs.Common.{◌≡◌, List, ℕ, [], codes, ap, sym, ◌∙◌, subst, Ok}
 use Rattle.matchit.proofs.OnLiterals.{matchit_on_literals}
 use Rattle.matchit.specs.Order.{placed}
 use Rattle.matchit.specs.Route.{parse_route}

@@ -1,5 +1,5 @@
 -- Who makes a call.
-use Rattle.std.proofs.Common.{◌≡◌, ◌≤◌, ℕ, Bool, true, false, cond, List, [], ◌∷◌, length, nat_lt, refl, ◌∙◌, sym, ap, Option, Some, None, option_map, Result, Ok, Err}
+use Rattle.std.proofs.Common.{◌≡◌, ◌≤◌, ℕ, Bool, true, false, cond, List, [], ◌∷◌, length, nat_lt, refl, sym, ap, Option, Some, None, option_map, Result, Ok, Err}
 use Rattle.std.proofs.lemmas.Bool.{ltb-false}
 use Rattle.mds_request.specs.Call.{Row, made, call_with, id_in, is_verb, call_among, rows_at, called_at, segments_of, call_of}
 use Rattle.mds_request.specs.Configuration.{Configuration, actor_of}

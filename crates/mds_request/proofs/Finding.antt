@@ -1,10 +1,10 @@
 -- What is found by a router whose routes lead where the table says.
-use Rattle.std.proofs.Common.{◌≡◌, ℕ, List, [], length, codes, Option, Some, None, unwrap_or, MatchOption, refl, ap, sym, ◌∙◌, subst}
+use Rattle.std.proofs.Common.{◌≡◌, ℕ, List, [], length, codes, Option, Some, None, unwrap_or, MatchOption, ap, sym, ◌∙◌, subst}
 use Rattle.std.proofs.Math.Logic.{∥∥₁_elim}
 use Rattle.std.proofs.Props.{props}
 use Rattle.std.specs.Str.{IsUtf8}
 use denote.Ref.{Bor}
-use Rattle.matchit.specs.Params.{AllText, named, walk}
+use Rattle.matchit.specs.Params.{AllText, named}
 use Rattle.matchit.specs.Router.{RouteOf}
 use Rattle.matchit.specs.Rows.{RowsOf}
 use Rattle.matchit.specs.Seek.{first}

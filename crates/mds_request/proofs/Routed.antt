@@ -1,5 +1,5 @@
 -- The router's routes lead where the table says.
-use Rattle.std.proofs.Common.{◌≡◌, ℕ, zero, suc, ◌+◌, ◌-◌, ◌<◌, ◌≤◌, Bool, true, false, not, ◌&&◌, ◌||◌, ◌==◌, cond, ltb, leb, bytes_eq, codes, List, [], ◌∷◌, ◌++◌, length, take, drop, get_or, Option, Some, None, unwrap_or, refl, ap, sym, ◌∙◌, subst, arith, length-append}
+use Rattle.std.proofs.Common.{◌≡◌, ℕ, zero, suc, ◌+◌, ◌-◌, ◌≤◌, Bool, true, false, not, ◌&&◌, ◌||◌, ◌==◌, cond, ltb, bytes_eq, codes, List, [], ◌∷◌, ◌++◌, length, Option, Some, None, unwrap_or, refl, ap, sym, ◌∙◌, subst, arith, length-append}
 use Rattle.std.specs.List.{list_all, list_any, slice_split, onto_first}
 use Rattle.std.specs.Str.{IsUtf8, IsAscii, is_utf8}
 use Rattle.std.proofs.Math.Bool.{and-false}
@@ -8,15 +8,15 @@ use Rattle.std.proofs.lemmas.Bool.{and_parts, and_from, eq-eqb, eqb-true, ltb-tr
 use Rattle.std.proofs.lemmas.List.{append-nil, take_all}
 use Rattle.std.proofs.lemmas.List.Splits.{slice_split-cons_no}
 use Rattle.std.proofs.lemmas.Str.{IsUtf8-drop, IsCharBoundary-after_ascii, is_utf8-from_IsUtf8, IsUtf8-from_is_utf8, IsUtf8-from_ascii}
-use Rattle.matchit.specs.Params.{AllText, named, walk, wild_from, wild_stop, part_of, next_at}
+use Rattle.matchit.specs.Params.{AllText, named, walk, wild_from, wild_stop, part_of}
 use Rattle.matchit.specs.Router.{RouteOf}
 use Rattle.matchit.specs.Rows.{RowsOf}
 use Rattle.matchit.specs.Seek.{first, has_slash}
-use Rattle.mds_request.specs.Call.{Part, word, id, fits, is_slash, is_empty, all_some, behind_slash, segments_in, segments_of, path_of, rows_at}
+use Rattle.mds_request.specs.Call.{Part, word, id, fits, is_slash, is_empty, behind_slash, segments_in, segments_of, path_of, rows_at}
 use Rattle.mds_request.specs.Route.{spelled, taken, Leads, AllLead}
 use Rattle.mds_request.specs.declared.routes.Route.{Route}
 use Rattle.mds_request.specs.declared.routes.Route.TheVariants.{Policies, Policy, Geographies, Geography, FleetEvents, FleetVehicles, FleetVehicle, Compliance, PolicyCompliance, PolicyDraft, GeographyDraft, Publish}
-use Rattle.mds_request.proofs.Seeking.{nil, agrees, ended, Each, AreEnded, Disagree, found, missing}
+use Rattle.mds_request.proofs.Seeking.{agrees, AreEnded, found, missing}
 
 -- segments, each behind a slash
 abbrev pub join : List (List ℕ) → List ℕ

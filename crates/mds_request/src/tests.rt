@@ -99,6 +99,8 @@ fn no_configurations(rt: HostRuntime) -> Result<(), Fail> {
     assert!(rt; matches!(fault_of(alloc, alike.as_str()), Some(ConfigFault::Alike)));
     let twice = text_with(alloc, "city", pair.as_str(), "Z")?;
     assert!(rt; matches!(fault_of(alloc, twice.as_str()), Some(ConfigFault::Alike)));
+    let told = format!(in alloc; "{}", ConfigFault::Alike)?;
+    assert_eq!(rt; told.as_str(), "alike");
     let far = text_with(alloc, "city", "", "+15:00")?;
     assert!(rt; matches!(fault_of(alloc, far.as_str()), Some(ConfigFault::BadZone)));
     let cut = fault_of(alloc, "{\"author\":\"city\"");
@@ -122,7 +124,7 @@ fn calls(rt: HostRuntime) -> Result<(), Fail> {
     let draft = format!(in alloc; "/drafts/policies/{P1}")?;
     let slashed = format!(in alloc; "/compliance/{P1}/")?;
     let id = Id::read(P1).ok_or("no identifier")?;
-    let requests: [(&str, &str, &str, &str, Result<Call, Code>); 12] = [
+    let requests: [(&str, &str, &str, &str, Result<Call, Code>); 15] = [
         ("nobody", "GET", "/nowhere", "", Err(Code::Token)),
         ("alfa", "GET", "/nowhere", "", Err(Code::NoRoute)),
         ("alfa", "POST", "/compliance", "", Err(Code::Method)),
@@ -131,6 +133,9 @@ fn calls(rt: HostRuntime) -> Result<(), Fail> {
         ("alfa", "GET", "/compliance/x", "", Err(Code::BadId)),
         ("alfa", "GET", slashed.as_str(), "", Err(Code::NoRoute)),
         ("alfa", "GET", "/compliance/", "", Err(Code::NoRoute)),
+        ("alfa", "GET", "//policies", "", Err(Code::NoRoute)),
+        ("alfa", "GET", "policies", "", Err(Code::NoRoute)),
+        ("alfa", "GET", "/policies/%2d", "", Err(Code::BadId)),
         (
             "alfa",
             "GET",
@@ -214,9 +219,9 @@ fn code_of(routes: &Routes, config: &Config, body: &[u8]) -> Result<Option<Code>
 #[test]
 fn replies(rt: HostRuntime) -> Result<(), Fail> {
     let alloc = rt.alloc();
-    let refused = Reply::from(Code::FleetFull);
+    let refused = Reply::from(Code::NotPublished);
     assert_eq!(rt; refused.status(), 409);
-    assert!(rt; refused.body() == b"{\"error\":\"fleet_full\"}".as_slice());
+    assert!(rt; refused.body() == b"{\"error\":\"not_published\"}".as_slice());
     let mut body = Vec::new(alloc);
     body.push(b'{')?;
     body.push(b'}')?;
