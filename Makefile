@@ -1,6 +1,6 @@
 # demo   the main job on real input: a policy is published, a vehicle reported, compliance asked for
 # build  proves mds_replay with all that it stands on, and builds it
-# test   the whole gate: every proof from nothing, the edits that must fail, the tests, the programs
+# test   the whole gate: every proof from nothing, the edits that must fail, the tests, the programs, the scripts
 # bench  times mds_replay on generated input, and a plain program beside it; not part of the gate (minutes)
 
 .PHONY: demo build test bench
@@ -14,14 +14,16 @@ demo:
 		$(PROGRAM) < $(SCRIPT); \
 	else \
 		echo "mds_replay isn't built (make build): this runs its sources before their proof" >&2; \
-		cd crates/mds_replay && rt try < ../../$(SCRIPT) 2> /dev/null | grep '^[1-5][0-9][0-9] '; \
+		said=$$(mktemp); cd crates/mds_replay; \
+		rt try < ../../$(SCRIPT) 2> $$said | grep '^[1-5][0-9][0-9] ' || { cat $$said >&2; rm -f $$said; exit 1; }; \
+		rm -f $$said; \
 	fi
 
 build:
 	cd crates/mds_replay && rt run < stdin > /dev/null
 
 test:
-	rt ci
+	@bash tests/gate
 
 bench: build
 	python3 -B bench/measure.py

@@ -10,11 +10,12 @@ START = 1_700_000_000_000
 CENTRE = (-861_000_000, 398_000_000)
 HALF_BOX = 2_000_000
 FLEET = 50_000
+LARGEST_FLEET = 200_000
 MOST_POSITIONS = 20_000
 OPERATOR = "00000000-0000-4000-8000-0000000000a1"
 CONFIG = (
     '{"author":"city","operators":[{"id":"%s","limit":%d,"token":"alfa"}],"zone":"Z"}'
-    % (OPERATOR, FLEET)
+    % (OPERATOR, LARGEST_FLEET)
 )
 
 
@@ -94,10 +95,10 @@ def device(random):
     return "-".join((bits[:8], bits[8:12], bits[12:16], bits[16:20], bits[20:]))
 
 
-def fleet(random):
+def fleet(random, size):
     """Devices with random identifiers at random positions of the box round the centre."""
     vehicles = []
-    for _ in range(FLEET):
+    for _ in range(size):
         name = device(random)
         lng = CENTRE[0] - HALF_BOX + random.below(2 * HALF_BOX + 1)
         lat = CENTRE[1] - HALF_BOX + random.below(2 * HALF_BOX + 1)

@@ -29,6 +29,7 @@ REFUSALS = {
     "put no json": '400 {"error":"bad_json"}',
     "put as policy": '400 {"error":"decimal"}',
 }
+LARGEST_QUESTIONS = 40
 SWEEPS = {4: 200, 100: 20, generate.MOST_POSITIONS - 1: 1}
 
 
@@ -94,8 +95,8 @@ def small_scripts(random):
     return {"small drafts": puts, "small published": puts + publications}
 
 
-def fleet_scripts(bodies, fleet):
-    """The scripts of the second part: one count policy for each polygon, reports, and questions."""
+def fleet_scripts(bodies, fleet, largest):
+    """The scripts of the second part: one count policy for each polygon, reports, and questions; and the largest fleet."""
     city = []
     for number, body in bodies.items():
         policy = generate.count_policy(number)
@@ -111,6 +112,8 @@ def fleet_scripts(bodies, fleet):
     }
     for number in bodies:
         scripts["ask %d" % number] = ascending + [generate.ask(number)] * QUESTIONS[number]
+    scripts["largest"] = city + [generate.report(vehicle) for vehicle in sorted(largest)]
+    scripts["ask largest"] = scripts["largest"] + [generate.ask(EDGES[0])] * LARGEST_QUESTIONS
     return scripts
 
 
@@ -248,9 +251,17 @@ def tell_membership(runs):
         print("%-36s %s" % ("  ratio", spread(ratios(asked, plain), 1, "times")))
 
 
+def tell_largest(runs):
+    print("\nThe largest fleet, %d vehicles" % generate.LARGEST_FLEET)
+    tell_requests("one report, ascending by device", apart(runs, "largest", "city", generate.LARGEST_FLEET), 0, "")
+    asked = apart(runs, "ask largest", "largest", LARGEST_QUESTIONS)
+    tell_requests("one question, %d edges" % EDGES[0], asked, 0, "")
+    print("%-36s %s" % ("  for each vehicle", spread(asked, 1e9 / generate.LARGEST_FLEET, "ns")))
+
+
 def tell_memory(runs):
     print("\nPeak memory of a run")
-    for name in ("start", "put", "put again", "get published", "many published", "city", "reports", "reports ascending"):
+    for name in ("start", "put", "put again", "get published", "many published", "city", "reports", "reports ascending", "largest"):
         print("%-36s %8.1f MB" % (name, statistics.median(runs[name].memory) * 1024 / 1e6))
 
 
@@ -263,8 +274,9 @@ def main():
     random = generate.Xorshift(generate.SEED)
     bodies = {n: generate.geography(n, generate.outline(random, n)) for n in EDGES}
     body = generate.geography(1, generate.outline(random, EDGES[-1]))
-    fleet = generate.fleet(random)
-    scripts = geography_scripts(body) | small_scripts(random) | fleet_scripts(bodies, fleet)
+    fleet = generate.fleet(random, generate.FLEET)
+    largest = generate.fleet(random, generate.LARGEST_FLEET)
+    scripts = geography_scripts(body) | small_scripts(random) | fleet_scripts(bodies, fleet, largest)
     with tempfile.TemporaryDirectory() as folder:
         ours = program_runs(folder, program, scripts)
         runs = side_by_side(ours, baseline_runs(folder, bodies, fleet))
@@ -277,6 +289,7 @@ def main():
         tell_geography(runs, body)
         tell_reports(runs, fleet)
         tell_membership(runs)
+        tell_largest(runs)
         tell_memory(runs)
 
 

@@ -5,7 +5,7 @@ use Rattle.std.specs.List.{flat_map}
 use Rattle.std.proofs.lemmas.List.{map-append, flat_map_more, length-map}
 use Rattle.std.proofs.lemmas.Bool.{and_parts}
 use borrow.Author.Tests.{ltb-true, leb-true}
-use Rattle.std.proofs.Common.{length-append, nat_lt, nat_le, ◌≤◌, arith}
+use Rattle.std.proofs.Common.{length-append, nat_lt, nat_le, ◌≤◌}
 use Rattle.std.specs.Option.{option_or}
 use Rattle.std.proofs.lemmas.List.Folds.{find-append}
 use Rattle.std.specs.declared.sync.Arc.{Arc}
@@ -13,9 +13,10 @@ use Rattle.std.specs.declared.alloc.Global.{Global}
 use Rattle.mds_policy.specs.Policy.{Policy, Rule, policy_document, rule_document}
 use Rattle.mds_policy.specs.declared.rule.Rule as rule
 use Rattle.mds_policy.specs.declared.policy.Policy as policy
-use Rattle.mds_geography.specs.Geography.{Geography, geography_document}
+use Rattle.mds_geography.specs.Geography.{Geography}
 use Rattle.mds_catalog.specs.declared.batch.Batch.{Batch}
-use Rattle.mds_catalog.specs.Publication.{Publication, publication_of, publications_in, dated, find_policy, find_geography, published_policies, published_geographies, named_geographies, named_predecessors, fits, is_lawful, IsWithin, most_policies, most_geographies, most_publications}
+use Rattle.mds_catalog.specs.Publication.{Publication, publication_of, publications_in, dated, find_policy, find_geography, published_policies, published_geographies, fits, is_lawful}
+use Rattle.mds_catalog.specs.declared.catalogue.TheConstants.{MOST_POLICIES, MOST_GEOGRAPHIES, MOST_PUBLICATIONS}
 
 -- what is found among documents of one moment
 pub find-dated : {A : Type 0} (test : A → Bool) (moment : ℕ) (documents : List A) → find (λ p. test p.document) (map (dated moment) documents) ≡ option_map (dated moment) (find test documents)
@@ -96,11 +97,11 @@ pub rules_at : (p : List ℕ → Bool) (rules : List rule.Rule) (i : ℕ) (r : r
 rules_at p rules i r h e = find_at (λ (rule : Rule). rule.geographies) rule_document p rules i r h e
 
 -- the geographies of the policies from a place on
-pub policies_at : (p : List ℕ → Bool) (shares : List (Arc policy.Policy Global)) (i : ℕ) (share : Arc policy.Policy Global) → i < length shares → share ≡ get_or shares i share → find p (named_geographies (map (λ s. policy_document s.value) (drop i shares))) ≡ option_or (find p (flat_map (λ rule. rule.geographies) (policy_document share.value).rules)) (find p (named_geographies (map (λ s. policy_document s.value) (drop (i + 1) shares))))
+pub policies_at : (p : List ℕ → Bool) (shares : List (Arc policy.Policy Global)) (i : ℕ) (share : Arc policy.Policy Global) → i < length shares → share ≡ get_or shares i share → find p (flat_map (λ policy. flat_map (λ rule. rule.geographies) policy.rules) (map (λ s. policy_document s.value) (drop i shares))) ≡ option_or (find p (flat_map (λ rule. rule.geographies) (policy_document share.value).rules)) (find p (flat_map (λ policy. flat_map (λ rule. rule.geographies) policy.rules) (map (λ s. policy_document s.value) (drop (i + 1) shares))))
 policies_at p shares i share h e = find_at (λ (d : Policy). flat_map (λ (rule : Rule). rule.geographies) d.rules) (λ (s : Arc policy.Policy Global). policy_document s.value) p shares i share h e
 
 -- the predecessors of the policies from a place on
-pub predecessors_at : (p : List ℕ → Bool) (shares : List (Arc policy.Policy Global)) (i : ℕ) (share : Arc policy.Policy Global) → i < length shares → share ≡ get_or shares i share → find p (named_predecessors (map (λ s. policy_document s.value) (drop i shares))) ≡ option_or (find p (policy_document share.value).previous) (find p (named_predecessors (map (λ s. policy_document s.value) (drop (i + 1) shares))))
+pub predecessors_at : (p : List ℕ → Bool) (shares : List (Arc policy.Policy Global)) (i : ℕ) (share : Arc policy.Policy Global) → i < length shares → share ≡ get_or shares i share → find p (flat_map (λ policy. policy.previous) (map (λ s. policy_document s.value) (drop i shares))) ≡ option_or (find p (policy_document share.value).previous) (find p (flat_map (λ policy. policy.previous) (map (λ s. policy_document s.value) (drop (i + 1) shares))))
 predecessors_at p shares i share h e = find_at (λ (d : Policy). d.previous) (λ (s : Arc policy.Policy Global). policy_document s.value) p shares i share h e
 
 -- a share at the end
@@ -120,35 +121,16 @@ length-published_geographies-push ps p =
     ∙ length-append (published_geographies ps) (map (dated p.moment) p.geographies) ∙ ap (λ n. length (published_geographies ps) + n) (length-map p.geographies (dated p.moment))
 
 -- what fits stays within the limits
-fits_all : (ps : List Publication) (p : Publication) → fits ps p ≡ true → (length (published_policies ps) + length p.policies ≤ most_policies) × (length (published_geographies ps) + length p.geographies ≤ most_geographies) × (length ps < most_publications)
+pub fits_all : (ps : List Publication) (p : Publication) → fits ps p ≡ true → (length (published_policies ps) + length p.policies ≤ MOST_POLICIES) × (length (published_geographies ps) + length p.geographies ≤ MOST_GEOGRAPHIES) × (length ps < MOST_PUBLICATIONS)
 fits_all ps p h =
-    let parts = and_parts _ (nat_lt (length ps) most_publications) h in
-    let front = and_parts (nat_le (length (published_policies ps) + length p.policies) most_policies) _ parts.0 in
+    let parts = and_parts _ (nat_lt (length ps) MOST_PUBLICATIONS) h in
+    let front = and_parts (nat_le (length (published_policies ps) + length p.policies) MOST_POLICIES) _ parts.0 in
     (leb-true _ _ front.0, leb-true _ _ front.1, ltb-true _ _ parts.1)
 
 -- a lawful publication fits
-lawful_fits : (ps : List Publication) (p : Publication) → is_lawful ps p ≡ true → fits ps p ≡ true
+pub lawful_fits : (ps : List Publication) (p : Publication) → is_lawful ps p ≡ true → fits ps p ≡ true
 lawful_fits ps p h = (and_parts _ (fits ps p) h).1
 
--- one lawful publication more stays within the limits
-pub within_push : (batches : List (Arc Batch Global)) (share : Arc Batch Global) (after : List (Arc Batch Global)) (policies geographies m n : ℕ) → IsWithin (publications_in batches) policies geographies → is_lawful (publications_in batches) (publication_of share.value) ≡ true → after ≡ batches ++ share ∷ [] → m ≡ length share.value.policies.items → n ≡ length share.value.geographies.items → IsWithin (publications_in after) (policies + m) (geographies + n)
-within_push batches share after policies geographies m n h lawful pushed ms ns =
-    let ps = publications_in batches in
-    let p = publication_of share.value in
-    let all : publications_in after ≡ ps ++ p ∷ [] = ap publications_in pushed ∙ publications_push batches share in
-    let m_is : m ≡ length p.policies = ms ∙ sym (length-map share.value.policies.items (λ s. policy_document s.value)) in
-    let n_is : n ≡ length p.geographies = ns ∙ sym (length-map share.value.geographies.items (λ s. geography_document s.value)) in
-    let room = fits_all ps p (lawful_fits ps p lawful) in
-    let a = h.policy_count in
-    let b = h.geography_count in
-    record {
-      policy_count = omega (arith, a, m_is, length-published_policies-push ps p, ap (λ qs. length (published_policies qs)) all);
-      geography_count = omega (arith, b, n_is, length-published_geographies-push ps p, ap (λ qs. length (published_geographies qs)) all);
-      few_policies = omega (arith, room.0, a, m_is);
-      few_geographies = omega (arith, room.1, b, n_is);
-      few_publications = omega (arith, room.2, length-append ps (p ∷ []), ap length all);
-    }
-
 -- a lawful publication finds room
-pub lawful_room : (ps : List Publication) (p : Publication) → is_lawful ps p ≡ true → length ps < most_publications
+pub lawful_room : (ps : List Publication) (p : Publication) → is_lawful ps p ≡ true → length ps < MOST_PUBLICATIONS
 lawful_room ps p lawful = (fits_all ps p (lawful_fits ps p lawful)).2

@@ -1,19 +1,30 @@
 -- Publications grow at the end, and a successor stays effective.
-use Rattle.std.proofs.Common.{◌≡◌, ℕ, ◌≤◌, nat_le, ◌&&◌, ◌||◌, Bool, true, false, cond, List, [], ◌∷◌, ◌++◌, Some, refl, sym, ap, ◌∙◌, bytes_eq, find, map, arith}
-use Rattle.std.specs.List.{list_any, flat_map}
+use Rattle.std.proofs.Common.{◌≡◌, ℕ, ◌≤◌, nat_le, ◌&&◌, ◌||◌, Bool, true, false, cond, List, [], ◌∷◌, ◌++◌, refl, sym, ap, ◌∙◌, bytes_eq, find, map, arith}
+use Rattle.std.specs.List.{list_any}
 use Rattle.std.proofs.lemmas.Bool.{and_parts}
+use Rattle.std.proofs.lemmas.List.{append_assoc, append-nil}
 use Rattle.std.proofs.lemmas.Bool.Decides.{nat_tests}
 use Rattle.std.proofs.lemmas.Grind.{flat_map-append}
 use Rattle.mds_policy.specs.Policy.{Policy}
-use Rattle.mds_catalog.specs.Publication.{Publication, Published, find_policy, find_geography, published_policies, published_geographies, dated, supersedes, is_effective, is_among, is_lawful, extended}
-use Rattle.mds_catalog.specs.Laws.{OnlyAdds, FoldGoesOn, folded_onto, StaysPublished, StaysSuperseded}
+use Rattle.mds_catalog.specs.Publication.{Publication, Published, published_policies, published_geographies, dated, supersedes, is_effective, is_among, is_lawful, extended}
+use Rattle.mds_catalog.specs.Laws.{FoldKeepsLawful, FoldGoesOn, folded_onto, StaysPublished, StaysOver}
 use Rattle.mds_catalog.proofs.Found.{find_early}
 
-pub only_adds : OnlyAdds
-only_adds publications p = (
-  λ lawful. ap (λ b. cond b (publications ++ p ∷ []) publications) lawful,
-  λ unlawful. ap (λ b. cond b (publications ++ p ∷ []) publications) unlawful,
-)
+-- publications are lawful behind those that were taken
+LawfulBehind : List Publication → List Publication → Type 0
+LawfulBehind taken ps = (before rest : List Publication) (p : Publication) → ps ≡ before ++ p ∷ rest → is_lawful (taken ++ before) p ≡ true
+
+kept_behind : (taken ps : List Publication) → LawfulBehind taken ps → folded_onto taken ps ≡ taken ++ ps
+unfolding LawfulBehind
+kept_behind taken [] h = sym (append-nil taken)
+kept_behind taken (p ∷ ps) h =
+    let now : extended taken p ≡ taken ++ p ∷ [] = ap (λ b. cond b (taken ++ p ∷ []) taken) (ap (λ all. is_lawful all p) (sym (append-nil taken)) ∙ h [] ps p refl) in
+    let next : LawfulBehind (taken ++ p ∷ []) ps = λ before rest q e. ap (λ all. is_lawful all q) (append_assoc taken (p ∷ []) before) ∙ h (p ∷ before) rest q (ap (λ all. p ∷ all) e) in
+    ap (λ all. folded_onto all ps) now ∙ kept_behind (taken ++ p ∷ []) ps next ∙ append_assoc taken (p ∷ []) ps
+
+pub fold_keeps_lawful : FoldKeepsLawful
+unfolding LawfulBehind
+fold_keeps_lawful ps h = kept_behind [] ps (λ before rest p e. h before rest p e)
 
 folded_on : (taken ps : List Publication) (p : Publication) → folded_onto taken (ps ++ p ∷ []) ≡ extended (folded_onto taken ps) p
 folded_on taken [] p = refl
@@ -58,7 +69,15 @@ any_more p q more (x ∷ xs) ys h =
       | false ↦ λ is k. or_right (q x) (list_any q (xs ++ ys)) (any_more p q more xs ys k)
     ] refl h
 
-pub stays_superseded : StaysSuperseded
-stays_superseded publications rest id t later h is =
-    ap (list_any (supersedes later id)) (flat_map-append (λ p. map (dated p.moment) p.policies) publications rest)
-    ∙ any_more (supersedes t id) (supersedes later id) (λ s. later_too t later id s h) (published_policies publications) (published_policies rest) is
+-- a publication that withdraws at a moment does so later
+withdraws_later : (t later : ℕ) (id : List ℕ) (p : Publication) → t ≤ later → (nat_le p.moment t && is_among p.withdrawn id) ≡ true → (nat_le p.moment later && is_among p.withdrawn id) ≡ true
+withdraws_later t later id p h is =
+    let parts = and_parts (nat_le p.moment t) (is_among p.withdrawn id) is in
+    both (nat_le p.moment later) (is_among p.withdrawn id) (le_later p.moment t later h parts.0) parts.1
+
+pub stays_over : StaysOver
+stays_over publications rest id t later h = (
+  λ is. ap (list_any (supersedes later id)) (flat_map-append (λ p. map (dated p.moment) p.policies) publications rest)
+      ∙ any_more (supersedes t id) (supersedes later id) (λ s. later_too t later id s h) (published_policies publications) (published_policies rest) is,
+  λ is. any_more (λ p. nat_le p.moment t && is_among p.withdrawn id) (λ p. nat_le p.moment later && is_among p.withdrawn id) (λ p. withdraws_later t later id p h) publications rest is,
+)

@@ -1,3 +1,4 @@
 pub mod Found
 mod Growing
 pub mod Lent
+mod Withdrawn

@@ -1,3 +1,4 @@
 pub mod Catalogue
+pub mod Kept
 pub mod Laws
 pub mod Publication

@@ -1,6 +1,7 @@
 -- Publications: batches of documents, each published whole at one moment, and which policies are in
--- force (MDS 2.0 Policy: publication, immutability, superseding by `prev_policies`).
-use Rattle.std.specs.Prelude.{◌≡◌, ◌≤◌, ℕ, ◌+◌, List, [], ◌∷◌, ◌++◌, map, length, find, filter, Bool, true, not, ◌&&◌, ◌||◌, ◌==◌, nat_le, nat_lt, if◌then◌else◌, Option, Some, None, is_some, is_none, bytes_eq}
+-- force (MDS 2.0 Policy: publication, immutability, superseding by `prev_policies`). That a publication may
+-- also withdraw policies is this server's own.
+use Rattle.std.specs.Prelude.{ℕ, ◌+◌, List, [], ◌∷◌, ◌++◌, map, length, find, filter, Bool, true, not, ◌&&◌, ◌||◌, ◌==◌, nat_le, nat_lt, if◌then◌else◌, Option, Some, None, is_some, is_none, bytes_eq}
 use Rattle.std.specs.List.{flat_map, list_any}
 use Rattle.std.specs.Option.{option_or, option_map_or}
 use Rattle.std.specs.declared.sync.Arc.{Arc}
@@ -9,11 +10,14 @@ use Rattle.mds_geometry.specs.declared.position.Position.{Position}
 use Rattle.mds_policy.specs.Policy.{Policy, policy_document}
 use Rattle.mds_geography.specs.Geography.{Geography, geography_document}
 use Rattle.mds_catalog.specs.declared.batch.Batch.{Batch}
+use Rattle.mds_catalog.specs.declared.catalogue.TheConstants.{MOST_POLICIES, MOST_GEOGRAPHIES, MOST_PUBLICATIONS}
 
+-- documents that are published, and identifiers of policies that are withdrawn, at one moment
 pub record Publication : Type 0 where
   pub moment : ℕ
   pub geographies : List Geography
   pub policies : List Policy
+  pub withdrawn : List (List ℕ)
 
 -- the publication that a `Batch` of the program stands for
 abbrev pub publication_of : Batch → Publication
@@ -22,7 +26,12 @@ publication_of b =
       moment = b.moment;
       geographies = map (λ share. geography_document share.value) b.geographies.items;
       policies = map (λ share. policy_document share.value) b.policies.items;
+      withdrawn = b.withdrawn.items;
     }
+
+-- the publications that shared batches stand for
+abbrev pub publications_in : List (Arc Batch Global) → List Publication
+publications_in batches = map (λ share. publication_of share.value) batches
 
 -- a document and the moment of its publication
 pub record Published (A : Type 0) : Type 0 where
@@ -75,18 +84,22 @@ is_effective t p = nat_le p.moment t && nat_le p.document.start t
 abbrev pub supersedes : ℕ → List ℕ → Published Policy → Bool
 supersedes t id successor = is_effective t successor && is_among successor.document.previous id
 
--- a moment is before an end; an open end is after every moment
-abbrev pub is_before : ℕ → Option ℕ → Bool
-is_before t None = true
-is_before t (Some end) = nat_lt t end
+-- a policy of this identifier is superseded at a moment
+abbrev pub is_superseded : List Publication → ℕ → List ℕ → Bool
+is_superseded publications t id = list_any (supersedes t id) (published_policies publications)
+
+-- a publication withdraws a policy of this identifier, from its own moment on
+abbrev pub is_withdrawn : List Publication → ℕ → List ℕ → Bool
+is_withdrawn publications t id = list_any (λ p. nat_le p.moment t && is_among p.withdrawn id) publications
 
 -- whether a published policy is in force for an operator at a moment
 abbrev pub is_in_force : List Publication → List ℕ → ℕ → Published Policy → Bool
 is_in_force publications operator t p =
     is_effective t p
-    && is_before t p.document.end
+    && option_map_or (nat_lt t) p.document.end true
     && is_meant_for operator p.document
-    && not (list_any (supersedes t p.document.id) (published_policies publications))
+    && not (is_superseded publications t p.document.id)
+    && not (is_withdrawn publications t p.document.id)
 
 -- the policies in force for an operator at a moment, in order of publication
 abbrev pub in_force : List Publication → List ℕ → ℕ → List (Published Policy)
@@ -103,9 +116,9 @@ geography_ids p = map (λ g. g.id) p.geographies
 abbrev pub policy_ids : Publication → List (List ℕ)
 policy_ids p = map (λ policy. policy.id) p.policies
 
--- a publication without a document
+-- a publication without a document that withdraws nothing
 abbrev pub is_empty : Publication → Bool
-is_empty p = (length p.geographies == 0) && (length p.policies == 0)
+is_empty p = (length p.geographies == 0) && (length p.policies == 0) && (length p.withdrawn == 0)
 
 abbrev pub is_geography_published : List Publication → List ℕ → Bool
 is_geography_published publications id = is_some (find_geography publications id)
@@ -119,67 +132,44 @@ abbrev pub first_published : List Publication → Publication → Option (List �
 first_published publications p =
     option_or (find (is_geography_published publications) (geography_ids p)) (find (is_policy_published publications) (policy_ids p))
 
--- the geographies that rules name, in the order of policies, rules and entries
-abbrev pub named_geographies : List Policy → List (List ℕ)
-named_geographies policies = flat_map (λ policy. flat_map (λ rule. rule.geographies) policy.rules) policies
-
 -- a geography is published already, or is published with the policies
 abbrev pub is_geography_there : List Publication → Publication → List ℕ → Bool
 is_geography_there publications p id = is_geography_published publications id || is_among (geography_ids p) id
 
--- the first geography that a rule names and that isn't there
+-- the first geography that a rule names and that isn't there, in the order of policies, rules and entries
 abbrev pub missing_geography : List Publication → Publication → Option (List ℕ)
-missing_geography publications p = find (λ id. not (is_geography_there publications p id)) (named_geographies p.policies)
+missing_geography publications p =
+    find (λ id. not (is_geography_there publications p id)) (flat_map (λ policy. flat_map (λ rule. rule.geographies) policy.rules) p.policies)
 
--- the policies that policies replace, in the order of policies and entries
-abbrev pub named_predecessors : List Policy → List (List ℕ)
-named_predecessors policies = flat_map (λ policy. policy.previous) policies
+-- the first of these identifiers that isn't published already as a policy
+abbrev pub first_unpublished : List Publication → List (List ℕ) → Option (List ℕ)
+first_unpublished publications ids = find (λ id. not (is_policy_published publications id)) ids
 
 -- the first predecessor that isn't published already, so no policy precedes one of its own batch
 abbrev pub missing_predecessor : List Publication → Publication → Option (List ℕ)
-missing_predecessor publications p = find (λ id. not (is_policy_published publications id)) (named_predecessors p.policies)
-
--- the most policies, geographies and publications
-abbrev pub most_policies : ℕ
-most_policies = 512
-
-abbrev pub most_geographies : ℕ
-most_geographies = 512
-
-abbrev pub most_publications : ℕ
-most_publications = 1024
+missing_predecessor publications p = first_unpublished publications (flat_map (λ policy. policy.previous) p.policies)
 
 -- a further publication stays within the limits
 abbrev pub fits : List Publication → Publication → Bool
 fits publications p =
-    nat_le (length (published_policies publications) + length p.policies) most_policies
-    && nat_le (length (published_geographies publications) + length p.geographies) most_geographies
-    && nat_lt (length publications) most_publications
+    nat_le (length (published_policies publications) + length p.policies) MOST_POLICIES
+    && nat_le (length (published_geographies publications) + length p.geographies) MOST_GEOGRAPHIES
+    && nat_lt (length publications) MOST_PUBLICATIONS
 
--- whether a publication may follow: it holds a document, its identifiers are distinct and new, what
--- it refers to is there, and it fits
+-- whether a publication may follow: it holds a document or withdraws a policy, no identifier stands
+-- twice in a list, its documents are new, what it refers to and withdraws is there, and it fits
 abbrev pub is_lawful : List Publication → Publication → Bool
 is_lawful publications p =
     not (is_empty p)
     && are_distinct (geography_ids p)
     && are_distinct (policy_ids p)
+    && are_distinct p.withdrawn
     && is_none (first_published publications p)
     && is_none (missing_geography publications p)
     && is_none (missing_predecessor publications p)
+    && is_none (first_unpublished publications p.withdrawn)
     && fits publications p
 
 -- the publications after a batch was taken: a lawful one stands last, any other changes nothing
 abbrev pub extended : List Publication → Publication → List Publication
 extended publications p = if is_lawful publications p then publications ++ p ∷ [] else publications
-
--- how far publications go at most
-pub record IsWithin (publications : List Publication) (policies geographies : ℕ) : Type 0 where
-  pub policy_count : policies ≡ length (published_policies publications)
-  pub geography_count : geographies ≡ length (published_geographies publications)
-  pub few_policies : policies ≤ most_policies
-  pub few_geographies : geographies ≤ most_geographies
-  pub few_publications : length publications ≤ most_publications
-
--- the publications that shared batches stand for
-abbrev pub publications_in : List (Arc Batch Global) → List Publication
-publications_in batches = map (λ share. publication_of share.value) batches

@@ -7,22 +7,28 @@ use mds_policy::Policy;
 use mds_text::{Id, Moment};
 use std::sync::Arc;
 
-/// Documents that are published whole at one moment, each list in the order of the request.
+/// Documents that are published whole at one moment, and the published policies that are withdrawn
+/// from then on, each list in the order of the request.
 #[derive(Drop)]
 pub struct Batch {
+    /// When it is published, in milliseconds since the Unix epoch.
     pub moment: Moment,
+    /// The geographies that are published.
     pub geographies: Vec<Arc<Geography>>,
+    /// The policies that are published.
     pub policies: Vec<Arc<Policy>>,
+    /// The identifiers of the published policies that are withdrawn.
+    pub withdrawn: Vec<Id>,
 }
 
 impl Batch {
-    ghost use Rattle.mds_catalog.specs.Publication.{publication_of, is_empty, are_distinct, policy_ids, geography_ids, is_among};
+    ghost use Rattle.mds_catalog.specs.Publication.{publication_of, is_empty, policy_ids, geography_ids};
 
-    /// Whether it holds no document.
+    /// Whether it holds no document and withdraws no policy.
     pub(crate) fn is_empty(&self) -> bool
         ensures { result ≡ is_empty (publication_of self.now) }
     {
-        self.geographies.is_empty() && self.policies.is_empty()
+        self.geographies.is_empty() && self.policies.is_empty() && self.withdrawn.is_empty()
     }
 
     /// The first policy of this identifier.
@@ -83,7 +89,7 @@ impl Batch {
     }
 }
 
-ghost use Rattle.mds_catalog.specs.Publication.{is_among};
+ghost use Rattle.mds_catalog.specs.Publication.{is_among, are_distinct};
 
 /// Whether a policy of this identifier is in the list.
 fn stands_in_policies(policies: &[Arc<Policy>], id: Id) -> bool
@@ -109,4 +115,16 @@ fn stands_in_geographies(geographies: &[Arc<Geography>], id: Id) -> bool
         }
     }
     false
+}
+
+/// Whether no identifier stands twice in the list.
+pub fn are_distinct(ids: &[Id]) -> bool
+    ensures { result ≡ are_distinct ids.now }
+{
+    for (i, id) in ids.iter().enumerate() {
+        if ids[i + 1..].contains(id) {
+            return false;
+        }
+    }
+    true
 }

@@ -1,10 +1,13 @@
 ghost use Rattle.std.specs.Prelude.{◌≤◌, vec_capacity};
-ghost use Rattle.mds_catalog.specs.Publication.{publications_in, IsWithin, most_publications};
+ghost use Rattle.mds_catalog.specs.Publication.{publications_in};
+ghost use Rattle.mds_catalog.specs.Kept.{IsKept};
+ghost use Rattle.mds_catalog.specs.declared.catalogue.TheConstants.{MOST_POLICIES, MOST_PUBLICATIONS};
 
-use crate::batch::Batch;
-use crate::force::is_in_force;
-use crate::lists::{in_force, lend_geographies, lend_policies, meant_for};
+use crate::batch::{Batch, are_distinct};
+use crate::force::{is_meant_for, is_running, is_superseded};
+use crate::lists::{lend_geographies, lend_policies};
 use crate::published::Published;
+use crate::withdrawals::{Entry, is_withdrawn, list_policies, withdraw};
 use mds_geography::Geography;
 use mds_policy::{Policy, Rule};
 use mds_text::{Id, Moment};
@@ -12,29 +15,31 @@ use std::alloc::{AllocError, Global};
 use std::sync::Arc;
 
 /// The most publications.
-const MOST_PUBLICATIONS: usize = 1024;
+pub const MOST_PUBLICATIONS: usize = 1024;
 
 /// The most published policies.
-const MOST_POLICIES: usize = 512;
+pub const MOST_POLICIES: usize = 512;
 
 /// The most published geographies.
-const MOST_GEOGRAPHIES: usize = 512;
+pub const MOST_GEOGRAPHIES: usize = 512;
 
-/// All published batches in their order. Contracts see the list of the publications.
+/// All published batches in their order, and from which moment on their policies are withdrawn.
+/// Contracts see the list of the publications.
 #[derive(Drop)]
 pub struct Catalogue {
     batches: Vec<Arc<Batch>>,
-    policy_count: usize,
+    entries: Vec<Entry>,
     geography_count: usize,
-    ghost roomy: { most_publications ≤ vec_capacity batches },
-    ghost within: { IsWithin (publications_in batches.items) policy_count geography_count },
+    ghost batch_room: { MOST_PUBLICATIONS ≤ vec_capacity batches },
+    ghost entry_room: { MOST_POLICIES ≤ vec_capacity entries },
+    ghost kept: { IsKept (publications_in batches.items) entries.items geography_count },
 }
 
 impl Catalogue {
     ghost use Rattle.std.specs.Prelude.{◌≡◌, ◌++◌, ◌∷◌, [], length, IfOk, OnOk, OnErr, option_map, IsTrue, find, map, not};
     ghost use Rattle.std.specs.List.{flat_map};
-    ghost use Rattle.mds_policy.specs.Policy.{rule_document, policy_document};
-    ghost use Rattle.mds_catalog.specs.Publication.{find_policy, find_geography, is_policy_published, is_geography_published, policy_ids, geography_ids, first_published, is_geography_there, missing_geography, missing_predecessor, fits, is_lawful, extended, publication_of, is_in_force, dated, policies_for, published_geographies, in_force};
+    ghost use Rattle.mds_policy.specs.Policy.{rule_document};
+    ghost use Rattle.mds_catalog.specs.Publication.{find_policy, find_geography, is_policy_published, is_geography_published, policy_ids, geography_ids, first_published, is_geography_there, missing_geography, missing_predecessor, first_unpublished, fits, is_lawful, extended, publication_of, is_in_force, policies_for, published_geographies, in_force};
     ghost use Rattle.mds_catalog.specs.Catalogue.{publications_of, lent_policy, lent_geography};
 
     /// An empty catalogue with room for all publications.
@@ -47,7 +52,7 @@ impl Catalogue {
     {
         Ok(Catalogue {
             batches: Vec::with_capacity(alloc, MOST_PUBLICATIONS)?,
-            policy_count: 0,
+            entries: Vec::with_capacity(alloc, MOST_POLICIES)?,
             geography_count: 0,
         })
     }
@@ -55,25 +60,22 @@ impl Catalogue {
     /// The number of batches published.
     pub fn revision(&self) -> u64
         ensures count { result ≡ length (publications_of self.now) }
-        ensures few { result ≤ most_publications }
+        ensures few { result ≤ MOST_PUBLICATIONS }
     {
         self.batches.len() as u64
     }
 
-    /// The batches in the order of their publication.
-    pub fn batches(&self) -> &[Arc<Batch>]
-        ensures { publications_in result.now ≡ publications_of self.now }
+    /// Whether a published policy is in force for an operator at a moment: it is published and started,
+    /// hasn't ended, is meant for the operator, no published policy that is effective then replaces it
+    /// (MDS 2.0 Policy, `prev_policies`), and no batch of that moment or an earlier one withdraws it.
+    pub fn is_in_force(&self, operator: Id, at: Moment, policy: &Published<'_, Policy>) -> bool
+        ensures { result ≡ is_in_force (publications_of self.now) operator at (lent_policy policy.now) }
     {
-        self.batches.as_slice()
-    }
-
-    /// Whether a policy that was published at this moment is in force for an operator at another: it
-    /// is published and started, hasn't ended, is meant for the operator, and no published policy that
-    /// is effective then replaces it (MDS 2.0 Policy, `prev_policies`).
-    pub fn is_in_force(&self, operator: Id, at: Moment, policy: &Policy, published: Moment) -> bool
-        ensures { result ≡ is_in_force (publications_of self.now) operator at (dated published (policy_document policy.now)) }
-    {
-        is_in_force(&self.batches, operator, at, policy, published)
+        let document = policy.document;
+        is_running(policy, at)
+            && is_meant_for(document, operator)
+            && !is_superseded(&self.batches, at, document.id())
+            && !is_withdrawn(&self.entries, at, document.id())
     }
 
     /// The published policies in the order of their publication: all, or those that are meant for an
@@ -82,14 +84,18 @@ impl Catalogue {
     /// # Errors
     ///
     /// Memory ran out.
-    pub fn policies(&self, operator: Option<Id>) -> Result<Vec<Published<'_, Policy>>, AllocError>
+    pub fn policies(
+        &self,
+        alloc: Global,
+        operator: Option<Id>,
+    ) -> Result<Vec<Published<'_, Policy>>, AllocError>
         ensures { IfOk result (λ v. map lent_policy v.items ≡ policies_for (publications_of self.now) operator) }
     {
-        let all = lend_policies(*self.batches.allocator(), &self.batches)?;
-        match operator {
-            Some(operator) => Ok(meant_for(all, operator)),
-            None => Ok(all),
+        let mut policies = lend_policies(alloc, &self.batches)?;
+        if let Some(operator) = operator {
+            policies.retain(|policy| is_meant_for(policy.document, operator));
         }
+        Ok(policies)
     }
 
     /// The published geographies in the order of their publication.
@@ -97,10 +103,10 @@ impl Catalogue {
     /// # Errors
     ///
     /// Memory ran out.
-    pub fn geographies(&self) -> Result<Vec<Published<'_, Geography>>, AllocError>
+    pub fn geographies(&self, alloc: Global) -> Result<Vec<Published<'_, Geography>>, AllocError>
         ensures { IfOk result (λ v. map lent_geography v.items ≡ published_geographies (publications_of self.now)) }
     {
-        lend_geographies(*self.batches.allocator(), &self.batches)
+        lend_geographies(alloc, &self.batches)
     }
 
     /// The policies in force for an operator at a moment, in the order of their publication.
@@ -110,13 +116,15 @@ impl Catalogue {
     /// Memory ran out.
     pub fn in_force(
         &self,
+        alloc: Global,
         operator: Id,
         at: Moment,
     ) -> Result<Vec<Published<'_, Policy>>, AllocError>
         ensures { IfOk result (λ v. map lent_policy v.items ≡ in_force (publications_of self.now) operator at) }
     {
-        let all = lend_policies(*self.batches.allocator(), &self.batches)?;
-        Ok(in_force(&self.batches, all, operator, at))
+        let mut policies = lend_policies(alloc, &self.batches)?;
+        policies.retain(|policy| self.is_in_force(operator, at, policy));
+        Ok(policies)
     }
 
     /// The published policy of this identifier.
@@ -248,10 +256,10 @@ impl Catalogue {
     }
 
     /// The first of these policies that isn't published.
-    fn unpublished(&self, entries: &[Id]) -> Option<Id>
-        ensures { result ≡ find (λ id. not (is_policy_published (publications_of self.now) id)) entries.now }
+    pub fn first_unpublished(&self, ids: &[Id]) -> Option<Id>
+        ensures { result ≡ first_unpublished (publications_of self.now) ids.now }
     {
-        for id in entries {
+        for id in ids {
             if !self.has_policy(*id) {
                 return Some(*id);
             }
@@ -265,7 +273,7 @@ impl Catalogue {
         ensures { result ≡ missing_predecessor (publications_of self.now) (publication_of batch.now) }
     {
         for policy in &batch.policies {
-            if let Some(id) = self.unpublished(policy.previous()) {
+            if let Some(id) = self.first_unpublished(policy.previous()) {
                 return Some(id);
             }
         }
@@ -277,23 +285,25 @@ impl Catalogue {
     pub fn fits(&self, batch: &Batch) -> bool
         ensures { result ≡ fits (publications_of self.now) (publication_of batch.now) }
     {
-        batch.policies.len() <= MOST_POLICIES - self.policy_count
+        batch.policies.len() <= MOST_POLICIES - self.entries.len()
             && batch.geographies.len() <= MOST_GEOGRAPHIES - self.geography_count
             && self.batches.len() < MOST_PUBLICATIONS
     }
 
-    /// Whether the batch may be published: it holds a document, its identifiers are distinct and new,
-    /// the geographies of its rules are published or in it, the policies that it replaces are
-    /// published, and it fits.
+    /// Whether the batch may be published: it holds a document or withdraws a policy, no identifier
+    /// stands twice in a list, its documents are new, the geographies of its rules are published or in
+    /// it, the policies that it replaces and withdraws are published, and it fits.
     pub fn lawful(&self, batch: &Batch) -> bool
         ensures { result ≡ is_lawful (publications_of self.now) (publication_of batch.now) }
     {
         !batch.is_empty()
             && batch.geographies_differ()
             && batch.policies_differ()
+            && are_distinct(&batch.withdrawn)
             && self.first_published(batch).is_none()
             && self.missing_geography(batch).is_none()
             && self.missing_predecessor(batch).is_none()
+            && self.first_unpublished(&batch.withdrawn).is_none()
             && self.fits(batch)
     }
 
@@ -303,10 +313,10 @@ impl Catalogue {
         requires { IsTrue (is_lawful (publications_of self.old) (publication_of batch.value)) }
         ensures { publications_of self.new ≡ publications_of self.old ++ publication_of batch.value ∷ [] }
     {
-        let policy_count = self.policy_count + batch.policies.len();
         let geography_count = self.geography_count + batch.geographies.len();
+        list_policies(&mut self.entries, &batch.policies);
+        withdraw(&mut self.entries, batch.moment, &batch.withdrawn);
         self.batches.push_reserved(batch);
-        self.policy_count = policy_count;
         self.geography_count = geography_count;
     }
 
@@ -320,7 +330,8 @@ impl Catalogue {
         }
     }
 
-    /// Adds a share of the batch at the end where it is lawful, and changes nothing for any other.
+    /// Adds a share of the batch at the end where it is lawful, and changes nothing for any other: for a
+    /// catalogue that follows another's list of batches. `adopt` is handed a share of its own.
     ///
     /// # Errors
     ///

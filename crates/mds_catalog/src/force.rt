@@ -1,33 +1,24 @@
 //! Which policies are in force (MDS 2.0 Policy, publication and `prev_policies`).
-ghost use Rattle.std.specs.Prelude.{◌≡◌, map};
+ghost use Rattle.std.specs.Prelude.{◌≡◌, map, ◌&&◌, nat_lt, true};
 ghost use Rattle.std.specs.List.{list_any};
+ghost use Rattle.std.specs.Option.{option_map_or};
 ghost use Rattle.mds_policy.specs.Policy.{policy_document};
-ghost use Rattle.mds_catalog.specs.Publication.{publication_of, publications_in, published_policies, dated, supersedes, is_before, is_meant_for, is_in_force, is_among};
+ghost use Rattle.mds_catalog.specs.Catalogue.{lent_policy};
+ghost use Rattle.mds_catalog.specs.Publication.{publication_of, publications_in, dated, supersedes, is_superseded, is_meant_for, is_effective};
 
 use crate::batch::Batch;
+use crate::published::Published;
 use mds_policy::Policy;
 use mds_text::{Id, Moment};
 use std::sync::Arc;
 
-/// Whether the identifier stands in the list.
-fn stands_among(ids: &[Id], id: Id) -> bool
-    ensures { result ≡ is_among ids.now id }
-{
-    for known in ids {
-        if *known == id {
-            return true;
-        }
-    }
-    false
-}
-
 /// Whether a policy of the batch has taken the place of the one with this identifier.
-fn batch_supersedes(batch: &Batch, id: Id, at: Moment) -> bool
+fn batch_supersedes(batch: &Batch, at: Moment, id: Id) -> bool
     ensures { result ≡ list_any (supersedes at id) (map (dated batch.now.moment) (publication_of batch.now).policies) }
 {
     for share in &batch.policies {
         let policy: &Policy = share;
-        if batch.moment <= at && policy.start() <= at && stands_among(policy.previous(), id) {
+        if batch.moment <= at && policy.start() <= at && policy.previous().contains(&id) {
             return true;
         }
     }
@@ -35,46 +26,33 @@ fn batch_supersedes(batch: &Batch, id: Id, at: Moment) -> bool
 }
 
 /// Whether a published policy has taken the place of the one with this identifier.
-fn is_superseded(batches: &[Arc<Batch>], id: Id, at: Moment) -> bool
-    ensures { result ≡ list_any (supersedes at id) (published_policies (publications_in batches.now)) }
+pub(crate) fn is_superseded(batches: &[Arc<Batch>], at: Moment, id: Id) -> bool
+    ensures { result ≡ is_superseded (publications_in batches.now) at id }
 {
     for share in batches {
-        if batch_supersedes(share, id, at) {
+        if batch_supersedes(share, at, id) {
             return true;
         }
     }
     false
 }
 
-/// Whether the policy is meant for the operator: it names the operator, or nobody.
-pub(crate) fn is_meant_for(operator: Id, policy: &Policy) -> bool
+/// Whether the policy is meant for the operator: it names the operator, or nobody (MDS 2.0 Policy,
+/// `provider_ids`).
+pub fn is_meant_for(policy: &Policy, operator: Id) -> bool
     ensures { result ≡ is_meant_for operator (policy_document policy.now) }
 {
-    policy.providers().is_empty() || stands_among(policy.providers(), operator)
+    policy.providers().is_empty() || policy.providers().contains(&operator)
 }
 
-fn is_before(at: Moment, end: Option<Moment>) -> bool
-    ensures { result ≡ is_before at end }
+/// Whether a policy that was published at this moment has begun and hasn't ended at another.
+pub(crate) fn is_running(policy: &Published<'_, Policy>, at: Moment) -> bool
+    ensures { result ≡ (is_effective at (lent_policy policy.now) && option_map_or (nat_lt at) (lent_policy policy.now).document.end true) }
 {
-    match end {
-        Some(end) => at < end,
-        None => true,
-    }
-}
-
-/// Whether a published policy is in force for the operator at a moment.
-pub(crate) fn is_in_force(
-    batches: &[Arc<Batch>],
-    operator: Id,
-    at: Moment,
-    policy: &Policy,
-    moment: Moment,
-) -> bool
-    ensures { result ≡ is_in_force (publications_in batches.now) operator at (dated moment (policy_document policy.now)) }
-{
-    moment <= at
-        && policy.start() <= at
-        && is_before(at, policy.end())
-        && is_meant_for(operator, policy)
-        && !is_superseded(batches, policy.id(), at)
+    let document = policy.document;
+    let ended = match document.end() {
+        Some(end) => end <= at,
+        None => false,
+    };
+    policy.moment <= at && document.start() <= at && !ended
 }

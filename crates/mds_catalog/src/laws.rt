@@ -1,9 +1,9 @@
 //! Laws of publications. Each function's contract is the law; the functions themselves do nothing.
-ghost use Rattle.mds_catalog.specs.Laws.{OnlyAdds, FoldGoesOn, StaysPublished, StaysSuperseded};
+ghost use Rattle.mds_catalog.specs.Laws.{FoldKeepsLawful, FoldGoesOn, StaysPublished, StaysOver};
 
-/// A batch that is lawful stands behind those that were there, and any other changes nothing.
-pub fn only_adds()
-    ensures { OnlyAdds }
+/// A list of publications, each lawful on those before it, is what its fold comes to.
+pub fn fold_keeps_lawful()
+    ensures { FoldKeepsLawful }
 {}
 
 /// The fold of a list of publications that is continued by one more is what `Catalogue::absorb` at Ok
@@ -17,7 +17,8 @@ pub fn stays_published()
     ensures { StaysPublished }
 {}
 
-/// A policy that is superseded at a moment is so at every later one, whatever is published after.
-pub fn stays_superseded()
-    ensures { StaysSuperseded }
+/// A policy that is superseded or withdrawn at a moment is so at every later one, whatever is published
+/// after.
+pub fn stays_over()
+    ensures { StaysOver }
 {}

@@ -1,5 +1,5 @@
-//! The published policies and geographies, and which policies are in force (MDS 2.0 Policy,
-//! publication and immutability).
+//! The published policies and geographies, which policies are withdrawn, and which are in force (MDS 2.0
+//! Policy, publication and immutability).
 #![tactic(auto)]
 
 mod batch;
@@ -9,9 +9,11 @@ pub mod laws;
 mod lists;
 mod published;
 mod shown;
+mod withdrawals;
 
-pub use batch::Batch;
-pub use catalogue::Catalogue;
+pub use batch::{Batch, are_distinct};
+pub use catalogue::{Catalogue, MOST_GEOGRAPHIES, MOST_POLICIES, MOST_PUBLICATIONS};
+pub use force::is_meant_for;
 pub use published::Published;
 
 #[cfg(test)]

@@ -1,14 +1,12 @@
 //! The published documents, lent in the order of their publication.
-ghost use Rattle.std.specs.Prelude.{◌≡◌, filter, map, IfOk};
-ghost use Rattle.mds_catalog.specs.Publication.{publications_in, published_policies, published_geographies, is_in_force, is_meant_for};
+ghost use Rattle.std.specs.Prelude.{◌≡◌, map, IfOk};
+ghost use Rattle.mds_catalog.specs.Publication.{publications_in, published_policies, published_geographies};
 ghost use Rattle.mds_catalog.specs.Catalogue.{lent_policy, lent_geography};
 
 use crate::batch::Batch;
-use crate::force::{is_in_force, is_meant_for};
 use crate::published::Published;
 use mds_geography::Geography;
 use mds_policy::Policy;
-use mds_text::{Id, Moment};
 use std::alloc::{AllocError, Global};
 use std::sync::Arc;
 
@@ -54,28 +52,4 @@ pub(crate) fn lend_geographies(
         }
     }
     Ok(lent)
-}
-
-/// Those of the policies that are meant for the operator.
-pub(crate) fn meant_for(
-    mut lent: Vec<Published<'_, Policy>>,
-    operator: Id,
-) -> Vec<Published<'_, Policy>>
-    ensures { map lent_policy result.items ≡ filter (λ p. is_meant_for operator p.document) (map lent_policy lent.entry.items) }
-{
-    lent.retain(|policy| is_meant_for(operator, policy.document));
-    lent
-}
-
-/// Those of the policies that are in force for the operator at a moment.
-pub(crate) fn in_force<'a>(
-    batches: &[Arc<Batch>],
-    mut lent: Vec<Published<'a, Policy>>,
-    operator: Id,
-    at: Moment,
-) -> Vec<Published<'a, Policy>>
-    ensures { map lent_policy result.items ≡ filter (is_in_force (publications_in batches.now) operator at) (map lent_policy lent.entry.items) }
-{
-    lent.retain(|policy| is_in_force(batches, operator, at, policy.document, policy.moment));
-    lent
 }

@@ -1,5 +1,6 @@
-use crate::batch::Batch;
+use crate::batch::{Batch, are_distinct};
 use crate::catalogue::Catalogue;
+use crate::force::is_meant_for;
 use mds_geography::Geography;
 use mds_geometry::Position;
 use mds_match::Places;
@@ -60,6 +61,7 @@ fn whole(alloc: Global, texts: &[&[u8]]) -> Result<Batch, Fail> {
         moment: moment(1000)?,
         geographies: square(alloc)?,
         policies: policies(alloc, texts)?,
+        withdrawn: Vec::new(alloc),
     })
 }
 
@@ -69,6 +71,19 @@ fn alone(alloc: Global, texts: &[&[u8]]) -> Result<Batch, Fail> {
         moment: moment(2000)?,
         geographies: Vec::new(alloc),
         policies: policies(alloc, texts)?,
+        withdrawn: Vec::new(alloc),
+    })
+}
+
+/// The withdrawal of the policy of this identifier at a moment.
+fn withdrawal(alloc: Global, text: &str, at: i64) -> Result<Batch, Fail> {
+    let mut withdrawn = Vec::new(alloc);
+    withdrawn.push(id(text)?)?;
+    Ok(Batch {
+        moment: moment(at)?,
+        geographies: Vec::new(alloc),
+        policies: Vec::new(alloc),
+        withdrawn,
     })
 }
 
@@ -96,7 +111,7 @@ fn takes_its_place_at_its_start(rt: HostRuntime) -> Result<(), Fail> {
         (OB, 86_401_000, None),
     ];
     for (operator, at, wanted) in cases {
-        let lent = catalogue.in_force(id(operator)?, moment(at)?)?;
+        let lent = catalogue.in_force(rt.alloc(), id(operator)?, moment(at)?)?;
         assert!(rt; lent.len() <= 1, "at {at}");
         let found = lent.first().map(|policy| policy.document.id());
         assert!(rt; found == wanted.and_then(Id::read), "at {at}");
@@ -107,22 +122,70 @@ fn takes_its_place_at_its_start(rt: HostRuntime) -> Result<(), Fail> {
 #[test]
 fn lends_the_published(rt: HostRuntime) -> Result<(), Fail> {
     let catalogue = published(rt.alloc(), &rt)?;
-    let policies = catalogue.policies(None)?;
+    let alloc = rt.alloc();
+    let policies = catalogue.policies(alloc, None)?;
     let [cap, next] = policies.as_slice() else {
         panic!(rt; "two policies")
     };
     assert!(rt; cap.document.id() == id(P1)? && cap.moment == moment(1000)?);
     assert!(rt; next.document.id() == id(P2)? && next.moment == moment(2000)?);
-    assert_eq!(rt; catalogue.policies(Some(id(OA)?))?.len(), 2);
-    assert_eq!(rt; catalogue.policies(Some(id(OB)?))?.len(), 1);
-    let geographies = catalogue.geographies()?;
+    assert_eq!(rt; catalogue.policies(alloc, Some(id(OA)?))?.len(), 2);
+    assert_eq!(rt; catalogue.policies(alloc, Some(id(OB)?))?.len(), 1);
+    let geographies = catalogue.geographies(alloc)?;
     let [square] = geographies.as_slice() else {
         panic!(rt; "one geography")
     };
     assert!(rt; square.document.id() == id(G1)? && square.moment == moment(1000)?);
     assert!(rt; catalogue.policy(id(P2)?).is_some() && catalogue.policy(id(G1)?).is_none());
     assert!(rt; catalogue.geography(id(G1)?).is_some() && catalogue.geography(id(P1)?).is_none());
-    assert_eq!(rt; catalogue.batches().len(), 2);
+    assert!(rt; is_meant_for(next.document, id(OA)?) && !is_meant_for(next.document, id(OB)?));
+    Ok(())
+}
+
+/// Whether the first policy is in force for an operator at a moment.
+fn cap_in_force(catalogue: &Catalogue, at: i64) -> Result<bool, Fail> {
+    match catalogue.policy(id(P1)?) {
+        Some(cap) => Ok(catalogue.is_in_force(id(OA)?, moment(at)?, &cap)),
+        None => Ok(false),
+    }
+}
+
+#[test]
+fn withdraws_from_the_least_moment_on(rt: HostRuntime) -> Result<(), Fail> {
+    let alloc = rt.alloc();
+    let mut catalogue = Catalogue::with_room(alloc)?;
+    catalogue.adopt(Arc::new(alloc, whole(alloc, &[CAP])?)?);
+    catalogue.adopt(Arc::new(alloc, withdrawal(alloc, P1, 3000)?)?);
+    assert_eq!(rt; catalogue.revision(), 2);
+    assert!(rt; cap_in_force(&catalogue, 2999)? && !cap_in_force(&catalogue, 3000)?);
+    catalogue.adopt(Arc::new(alloc, withdrawal(alloc, P1, 2500)?)?);
+    assert_eq!(rt; catalogue.revision(), 3);
+    assert!(rt; cap_in_force(&catalogue, 2499)? && !cap_in_force(&catalogue, 2500)?);
+    catalogue.adopt(Arc::new(alloc, withdrawal(alloc, P1, 2800)?)?);
+    assert!(rt; cap_in_force(&catalogue, 2499)? && !cap_in_force(&catalogue, 2500)?);
+    assert_eq!(rt; catalogue.policies(alloc, None)?.len(), 1);
+    let successor = alone(alloc, &[NEXT])?;
+    assert!(rt; catalogue.lawful(&successor));
+    Ok(())
+}
+
+#[test]
+fn withdraws_what_is_published_before(rt: HostRuntime) -> Result<(), Fail> {
+    let alloc = rt.alloc();
+    let mut catalogue = published(alloc, &rt)?;
+    assert!(rt; !catalogue.lawful(&withdrawal(alloc, G1, 3000)?));
+    let mut batch = withdrawal(alloc, P1, 3000)?;
+    batch.withdrawn.push(id(P2)?)?;
+    assert!(rt; catalogue.lawful(&batch));
+    batch.withdrawn.push(id(P1)?)?;
+    assert!(rt; !are_distinct(&batch.withdrawn) && !catalogue.lawful(&batch));
+    let mut own = whole(alloc, &[CAP])?;
+    own.withdrawn.push(id(P1)?)?;
+    let none = Catalogue::with_room(alloc)?;
+    assert!(rt; none.first_unpublished(&own.withdrawn) == Some(id(P1)?) && !none.lawful(&own));
+    catalogue.absorb(&Arc::new(alloc, withdrawal(alloc, P2, 86_401_000)?)?)?;
+    let lent = catalogue.in_force(alloc, id(OA)?, moment(86_401_000)?)?;
+    assert!(rt; lent.is_empty(), "a predecessor doesn't come back");
     Ok(())
 }
 

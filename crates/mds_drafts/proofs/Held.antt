@@ -20,12 +20,13 @@ use Rattle.mds_policy.specs.declared.policy.Policy as program
 use Rattle.mds_geography.specs.declared.geography.Geography as program'
 use Rattle.mds_policy.specs.Policy.{Policy, policy_document}
 use Rattle.mds_geography.specs.Geography.{Geography, geography_document}
-use Rattle.mds_drafts.specs.Drafts.{id_cmp, Drafts, Document, policy, geography, draft_at, is_of, kind_of, id_of, is_held, count_of, put_answer, most_drafts, with_draft, without_draft, without_keys}
+use Rattle.mds_drafts.specs.Drafts.{id_cmp, Drafts, Document, policy, geography, draft_at, is_of, kind_of, id_of, has_draft, count_of, put_answer, with_draft, without_draft, without_keys}
+use Rattle.mds_drafts.specs.declared.drafts.TheConstants.{MOST_DRAFTS}
 use Rattle.mds_drafts.specs.Entries.{document_of, drafts_in}
 use Rattle.mds_drafts.specs.declared.draft.Draft.{Draft}
 use Rattle.mds_drafts.specs.declared.draft.Draft.TheVariants as drafts
-use Rattle.mds_drafts.specs.declared.draft.DraftKind.{DraftKind}
-use Rattle.mds_drafts.specs.declared.draft.DraftKind.TheVariants as kinds
+use Rattle.mds_text.specs.declared.draft_kind.DraftKind.{DraftKind}
+use Rattle.mds_text.specs.declared.draft_kind.DraftKind.TheVariants as kinds
 
 -- identifiers tie where their bytes are equal
 pub id_ties : (a b : List ℕ) → eq_by_cmp id_cmp b a ≡ bytes_eq a b
@@ -310,6 +311,10 @@ len_replaced m id v h = len-insert nat_list_cmp_total m id v ∙ ap (λ b. cond 
 len_added : {X : Type 0} (m : FinMap id_cmp X) (id : List ℕ) (v : X) → is_some (get m id) ≡ false → len (insert m id v) ≡ len m + 1
 len_added m id v h = len-insert nat_list_cmp_total m id v ∙ ap (λ b. cond b (len m) (len m + 1)) h
 
+-- a draft of the document's kind and identifier is held
+abbrev pub is_held : Drafts → Document → Bool
+is_held drafts document = has_draft drafts (kind_of document) (id_of document)
+
 -- a draft that is replaced changes no count
 pub count_replaced : (ds : Drafts) (doc : Document) (k : DraftKind) → is_held ds doc ≡ true → count_of (with_draft ds doc) k ≡ count_of ds k
 count_replaced ds (policy d) kinds.Policy h = len_replaced ds.policies d.id d (sym (some_mapped policy (get ds.policies d.id)) ∙ h)
@@ -374,17 +379,17 @@ count_less ds new kind id k e held = ap (λ all. count_of all k + one_if kind k)
 
 -- how a put is answered
 pub answer_replaced : (ds : Drafts) (doc : Document) → is_held ds doc ≡ true → put_answer ds doc ≡ Ok Replaced
-answer_replaced ds doc h = ap (λ b. cond b (Ok Replaced) (cond (nat_lt (count_of ds (kind_of doc)) most_drafts) (Ok New) (Err DraftsFull))) h
+answer_replaced ds doc h = ap (λ b. cond b (Ok Replaced) (cond (nat_lt (count_of ds (kind_of doc)) MOST_DRAFTS) (Ok New) (Err DraftsFull))) h
 
-pub answer_full : (ds : Drafts) (doc : Document) → is_held ds doc ≡ false → most_drafts ≤ count_of ds (kind_of doc) → put_answer ds doc ≡ Err DraftsFull
+pub answer_full : (ds : Drafts) (doc : Document) → is_held ds doc ≡ false → MOST_DRAFTS ≤ count_of ds (kind_of doc) → put_answer ds doc ≡ Err DraftsFull
 answer_full ds doc h full =
-    ap (λ b. cond b (Ok Replaced) (cond (nat_lt (count_of ds (kind_of doc)) most_drafts) (Ok New) (Err DraftsFull))) h
-    ∙ ap (λ b. cond b (Ok New) (Err DraftsFull)) (le-ltb (count_of ds (kind_of doc)) most_drafts full)
+    ap (λ b. cond b (Ok Replaced) (cond (nat_lt (count_of ds (kind_of doc)) MOST_DRAFTS) (Ok New) (Err DraftsFull))) h
+    ∙ ap (λ b. cond b (Ok New) (Err DraftsFull)) (le-ltb (count_of ds (kind_of doc)) MOST_DRAFTS full)
 
-pub answer_new : (ds : Drafts) (doc : Document) → is_held ds doc ≡ false → count_of ds (kind_of doc) < most_drafts → put_answer ds doc ≡ Ok New
+pub answer_new : (ds : Drafts) (doc : Document) → is_held ds doc ≡ false → count_of ds (kind_of doc) < MOST_DRAFTS → put_answer ds doc ≡ Ok New
 answer_new ds doc h room =
-    ap (λ b. cond b (Ok Replaced) (cond (nat_lt (count_of ds (kind_of doc)) most_drafts) (Ok New) (Err DraftsFull))) h
-    ∙ ap (λ b. cond b (Ok New) (Err DraftsFull)) (lt-ltb (count_of ds (kind_of doc)) most_drafts room)
+    ap (λ b. cond b (Ok Replaced) (cond (nat_lt (count_of ds (kind_of doc)) MOST_DRAFTS) (Ok New) (Err DraftsFull))) h
+    ∙ ap (λ b. cond b (Ok New) (Err DraftsFull)) (lt-ltb (count_of ds (kind_of doc)) MOST_DRAFTS room)
 
 -- there is none where `is_some` says so
 pub none_where : {A : Type 0} (o : Option A) → is_some o ≡ false → o ≡ None

@@ -9,14 +9,14 @@ use Rattle.std.proofs.lemmas.List.{length-map}
 use Rattle.std.proofs.lemmas.Slice.Eq.{bytes_eq-Decides}
 use Rattle.mds_policy.specs.Policy.{Policy}
 use Rattle.mds_geography.specs.Geography.{Geography}
-use Rattle.mds_catalog.specs.Publication.{Publication, policy_ids, geography_ids, are_distinct, is_empty, first_published, missing_geography, missing_predecessor, fits, is_lawful}
+use Rattle.mds_catalog.specs.Publication.{Publication, policy_ids, geography_ids, are_distinct, is_empty, first_published, missing_geography, missing_predecessor, first_unpublished, fits, is_lawful}
 use Rattle.mds_drafts.specs.Drafts.{id_cmp, Drafts, Document, policy, geography, draft_at, has_draft, is_of}
 use Rattle.mds_drafts.specs.Entries.{document_of, drafts_in}
 use Rattle.mds_drafts.specs.Named.{Named, names_nothing}
 use Rattle.mds_drafts.specs.Publishing.{first_undrafted, first_refusal}
 use Rattle.mds_drafts.specs.declared.draft.Draft.{Draft}
-use Rattle.mds_drafts.specs.declared.draft.DraftKind.{DraftKind}
-use Rattle.mds_drafts.specs.declared.draft.DraftKind.TheVariants as kinds
+use Rattle.mds_text.specs.declared.draft_kind.DraftKind.{DraftKind}
+use Rattle.mds_text.specs.declared.draft_kind.DraftKind.TheVariants as kinds
 use Rattle.mds_drafts.specs.declared.publish.PublishFault.{PublishFault}
 use Rattle.mds_drafts.specs.declared.publish.PublishFault.TheVariants as faults
 use Rattle.mds_drafts.proofs.Held.{draft_at-cons, draft_at_none}
@@ -75,15 +75,18 @@ fits_where true h = refl
 fits_where false h = absurd (cc)
 
 -- drafts that are all there, each list without repeats, and that nothing refuses
-pub lawful_drafts : (items : List Draft) (named : Named) (publications : List Publication) (p : Publication) → are_distinct named.geographies ≡ true → are_distinct named.policies ≡ true → names_nothing named ≡ false → first_undrafted (drafts_in items) named ≡ None → first_refusal publications p ≡ None → p.geographies ≡ filter_map (get (drafts_in items).geographies) named.geographies → p.policies ≡ filter_map (get (drafts_in items).policies) named.policies → is_lawful publications p ≡ true
-lawful_drafts items named publications p geographies_differ policies_differ something drafted accepted geographies policies =
+pub lawful_drafts : (items : List Draft) (named : Named) (publications : List Publication) (p : Publication) → are_distinct named.geographies ≡ true → are_distinct named.policies ≡ true → are_distinct named.withdraw ≡ true → names_nothing named ≡ false → first_undrafted (drafts_in items) named ≡ None → first_refusal publications p ≡ None → p.geographies ≡ filter_map (get (drafts_in items).geographies) named.geographies → p.policies ≡ filter_map (get (drafts_in items).policies) named.policies → p.withdrawn ≡ named.withdraw → is_lawful publications p ≡ true
+lawful_drafts items named publications p geographies_differ policies_differ withdraw_differ something drafted accepted geographies policies withdrawn =
     let held = neither_id _ _ drafted in
     let gs : geography_ids p ≡ named.geographies = ap (map (λ (d : Geography). d.id)) geographies ∙ drafted_geography_ids items named.geographies held.0 in
     let ps : policy_ids p ≡ named.policies = ap (map (λ (d : Policy). d.id)) policies ∙ drafted_policy_ids items named.policies held.1 in
     let g_len : length p.geographies ≡ length named.geographies = sym (length-map p.geographies (λ d. d.id)) ∙ ap length gs in
     let p_len : length p.policies ≡ length named.policies = sym (length-map p.policies (λ d. d.id)) ∙ ap length ps in
-    let filled : is_empty p ≡ false = ap (λ n. (n == 0) && (length p.policies == 0)) g_len ∙ ap (λ n. (length named.geographies == 0) && (n == 0)) p_len ∙ something in
+    let filled : is_empty p ≡ false = ap (λ n. (n == 0) && (length p.policies == 0) && (length p.withdrawn == 0)) g_len ∙ ap (λ n. (length named.geographies == 0) && (n == 0) && (length p.withdrawn == 0)) p_len
+    ∙ ap (λ ids. (length named.geographies == 0) && (length named.policies == 0) && (length ids == 0)) withdrawn ∙ something in
     let first = neither faults.Published (first_published publications p) _ accepted in
     let second = neither faults.NoGeography (missing_geography publications p) _ first.1 in
     let third = neither faults.NoPredecessor (missing_predecessor publications p) _ second.1 in
-    and_from _ _ (and_from _ _ (and_from _ _ (and_from _ _ (and_from _ _ (and_from _ _ (ap not filled) (ap are_distinct gs ∙ geographies_differ)) (ap are_distinct ps ∙ policies_differ)) (ap is_none first.0)) (ap is_none second.0)) (ap is_none third.0)) (fits_where _ third.1)
+    let fourth = neither faults.NotPublished (first_unpublished publications p.withdrawn) _ third.1 in
+    let distinct = and_from _ _ (and_from _ _ (and_from _ _ (ap not filled) (ap are_distinct gs ∙ geographies_differ)) (ap are_distinct ps ∙ policies_differ)) (ap are_distinct withdrawn ∙ withdraw_differ) in
+    and_from _ _ (and_from _ _ (and_from _ _ (and_from _ _ (and_from _ _ distinct (ap is_none first.0)) (ap is_none second.0)) (ap is_none third.0)) (ap is_none fourth.0)) (fits_where _ fourth.1)

@@ -7,8 +7,9 @@ use Rattle.std.specs.FinMap.{FinMap, get, insert, remove, len}
 use Rattle.mds_policy.specs.Policy.{Policy}
 use Rattle.mds_geography.specs.Geography.{Geography}
 use Rattle.mds_catalog.specs.Publication.{Publication, policy_ids, geography_ids}
-use Rattle.mds_drafts.specs.declared.draft.DraftKind.{DraftKind}
-use Rattle.mds_drafts.specs.declared.draft.DraftKind.TheVariants as kinds
+use Rattle.mds_text.specs.declared.draft_kind.DraftKind.{DraftKind}
+use Rattle.mds_text.specs.declared.draft_kind.DraftKind.TheVariants as kinds
+use Rattle.mds_drafts.specs.declared.drafts.TheConstants.{MOST_DRAFTS}
 use Rattle.mds_drafts.specs.declared.drafts.Put.{Put}
 use Rattle.mds_drafts.specs.declared.drafts.Put.TheVariants.{New, Replaced}
 use Rattle.mds_drafts.specs.declared.drafts.PutFault.{PutFault}
@@ -30,13 +31,8 @@ pub data Document : Type 0 where
 -- a document is of a kind and under an identifier
 abbrev pub is_of : Document → DraftKind → List ℕ → Bool
 is_of (policy d) kinds.Policy id = bytes_eq d.id id
-is_of (policy d) kinds.Geography id = false
-is_of (geography d) kinds.Policy id = false
 is_of (geography d) kinds.Geography id = bytes_eq d.id id
-
--- the most drafts of a kind
-abbrev pub most_drafts : ℕ
-most_drafts = 256
+is_of document kind id = false
 
 -- the draft of a kind and an identifier
 abbrev pub draft_at : Drafts → DraftKind → List ℕ → Option Document
@@ -61,10 +57,6 @@ abbrev pub id_of : Document → List ℕ
 id_of (policy d) = d.id
 id_of (geography d) = d.id
 
--- a draft of the document's kind and identifier is held
-abbrev pub is_held : Drafts → Document → Bool
-is_held drafts document = has_draft drafts (kind_of document) (id_of document)
-
 -- the drafts with a document in the place of any of its kind and identifier
 abbrev pub with_draft : Drafts → Document → Drafts
 with_draft drafts (policy d) = record { policies = insert drafts.policies d.id d; geographies = drafts.geographies }
@@ -73,15 +65,14 @@ with_draft drafts (geography d) = record { policies = drafts.policies; geographi
 -- how a put is answered: a draft that is held is replaced, a new one needs room
 abbrev pub put_answer : Drafts → Document → Result Put PutFault
 put_answer drafts document =
-    if is_held drafts document then Ok Replaced
-    else if nat_lt (count_of drafts (kind_of document)) most_drafts then Ok New
+    if has_draft drafts (kind_of document) (id_of document) then Ok Replaced
+    else if nat_lt (count_of drafts (kind_of document)) MOST_DRAFTS then Ok New
     else Err DraftsFull
 
 -- an answer is the defined one; want of memory is answered in the place of a new draft alone
 abbrev pub AnswersPut : Result Put PutFault → Result Put PutFault → Type 0
-AnswersPut (Ok put) defined = defined ≡ Ok put
-AnswersPut (Err DraftsFull) defined = defined ≡ Err DraftsFull
 AnswersPut (Err NoMemory) defined = defined ≡ Ok New
+AnswersPut answer defined = defined ≡ answer
 
 -- the drafts without that of a kind and an identifier
 abbrev pub without_draft : Drafts → DraftKind → List ℕ → Drafts
@@ -93,7 +84,7 @@ abbrev pub without_keys : {X : Type 0} → FinMap id_cmp X → List (List ℕ) �
 without_keys m [] = m
 without_keys m (id ∷ ids) = without_keys (remove m id) ids
 
--- the drafts without those that a publication has published
+-- the drafts without those that a publication has published; a draft under a withdrawn identifier stays
 abbrev pub taken_out : Drafts → Publication → Drafts
 taken_out drafts p =
     record {

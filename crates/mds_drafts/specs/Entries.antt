@@ -1,5 +1,4 @@
--- The drafts that a list of the program's drafts makes. Of a kind and identifier that stands twice the
--- first counts.
+-- The drafts that a list of the program's drafts makes. Of those of one kind and identifier the first counts.
 use Rattle.std.specs.Prelude.{ℕ, List, Option, Some, None}
 use Rattle.std.specs.List.{filter_map}
 use Rattle.std.specs.FinMap.{from_entries}
@@ -16,11 +15,11 @@ document_of (drafts.Geography share) = geography (geography_document share.value
 
 abbrev pub policy_entry : Draft → Option (List ℕ × Policy)
 policy_entry (drafts.Policy share) = Some ((policy_document share.value).id, policy_document share.value)
-policy_entry (drafts.Geography share) = None
+policy_entry other = None
 
 abbrev pub geography_entry : Draft → Option (List ℕ × Geography)
-geography_entry (drafts.Policy share) = None
 geography_entry (drafts.Geography share) = Some ((geography_document share.value).id, geography_document share.value)
+geography_entry other = None
 
 abbrev pub drafts_in : List Draft → Drafts
 drafts_in items = record { policies = from_entries (filter_map policy_entry items); geographies = from_entries (filter_map geography_entry items) }

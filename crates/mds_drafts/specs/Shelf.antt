@@ -9,4 +9,4 @@ abbrev pub drafts_of : program.Drafts → Drafts
 drafts_of d = drafts_in d.items.items
 
 abbrev pub named_of : PublishList → Named
-named_of list = record { geographies = list.geographies.items; policies = list.policies.items }
+named_of list = record { geographies = list.geographies.items; policies = list.policies.items; withdraw = list.withdraw.items }

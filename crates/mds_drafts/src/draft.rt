@@ -1,14 +1,7 @@
 use mds_geography::Geography;
 use mds_policy::Policy;
-use mds_text::Id;
+use mds_text::{DraftKind, Id};
 use std::sync::Arc;
-
-/// The two kinds of documents.
-#[derive(Clone, Copy, Debug, PartialEq, Eq)]
-pub enum DraftKind {
-    Policy,
-    Geography,
-}
 
 /// A document that isn't published yet, shared so that a batch can have it too.
 #[derive(Drop)]
@@ -23,7 +16,7 @@ impl Draft {
     ghost use Rattle.mds_drafts.specs.Drafts.{is_of, kind_of, id_of};
 
     /// The document's kind.
-    pub fn kind(&self) -> DraftKind
+    pub(crate) fn kind(&self) -> DraftKind
         ensures { result ≡ kind_of (document_of self.now) }
     {
         match self {
@@ -43,7 +36,7 @@ impl Draft {
     }
 
     /// Whether the document is of this kind and under this identifier.
-    pub fn is_of(&self, kind: DraftKind, id: Id) -> bool
+    pub(crate) fn is_of(&self, kind: DraftKind, id: Id) -> bool
         ensures { result ≡ is_of (document_of self.now) kind id }
     {
         match (self, kind) {

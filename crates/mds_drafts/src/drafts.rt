@@ -1,18 +1,18 @@
 ghost use Rattle.std.specs.Prelude.{◌≡◌, ◌<◌, filter, not};
 ghost use Rattle.mds_drafts.specs.Entries.{drafts_in, document_of};
 ghost use Rattle.mds_drafts.specs.Drafts.{count_of, is_of};
-ghost use Rattle.mds_drafts.specs.declared.draft.DraftKind.TheVariants as kinds;
+ghost use Rattle.mds_text.specs.declared.draft_kind.DraftKind.TheVariants as kinds;
 
-use crate::draft::{Draft, DraftKind};
+use crate::draft::Draft;
 use mds_catalog::Batch;
 use mds_geography::Geography;
 use mds_policy::Policy;
-use mds_text::Id;
+use mds_text::{DraftKind, Id};
 use std::alloc::{AllocError, Global};
 use std::sync::Arc;
 
 /// The most drafts of a kind.
-const MOST_DRAFTS: usize = 256;
+pub const MOST_DRAFTS: usize = 256;
 
 /// How a draft was put.
 #[derive(Clone, Copy, Debug, PartialEq, Eq)]
@@ -26,7 +26,7 @@ pub enum Put {
 /// Why a draft isn't put.
 #[derive(Clone, Copy, Debug, PartialEq, Eq)]
 pub enum PutFault {
-    /// It is new, and 256 of its kind are held.
+    /// It is new, and as many of its kind are held as may be.
     DraftsFull,
     /// Memory ran out.
     NoMemory,
@@ -52,7 +52,7 @@ impl Drafts {
     ghost use Rattle.mds_policy.specs.Policy.{policy_document};
     ghost use Rattle.mds_geography.specs.Geography.{geography_document};
     ghost use Rattle.mds_catalog.specs.Publication.{publication_of};
-    ghost use Rattle.mds_drafts.specs.Drafts.{is_held, kind_of, id_of, most_drafts, draft_at, with_draft, without_draft, taken_out, put_answer, AnswersPut};
+    ghost use Rattle.mds_drafts.specs.Drafts.{kind_of, id_of, draft_at, with_draft, without_draft, taken_out, put_answer, AnswersPut};
     ghost use Rattle.mds_drafts.specs.Shelf.{drafts_of};
 
     /// No draft. Takes no memory.
@@ -129,7 +129,7 @@ impl Drafts {
     fn add(&mut self, draft: Draft) -> Result<(), AllocError>
         requires absent { position (λ d. is_of (document_of d) (kind_of (document_of draft)) (id_of (document_of draft)))
             self.old.items.items ≡ None }
-        requires room { count_of (drafts_of self.old) (kind_of (document_of draft)) < most_drafts }
+        requires room { count_of (drafts_of self.old) (kind_of (document_of draft)) < MOST_DRAFTS }
         ensures ok { OnOk result (drafts_of self.new ≡ with_draft (drafts_of self.old) (document_of draft)) }
         ensures err { OnErr result (drafts_of self.new ≡ drafts_of self.old) }
     {
@@ -146,7 +146,7 @@ impl Drafts {
     ///
     /// # Errors
     ///
-    /// `DraftsFull` for a new draft where 256 of its kind are held; `NoMemory` for a new draft alone.
+    /// `DraftsFull` for a new draft where `MOST_DRAFTS` of its kind are held; `NoMemory` for a new draft alone.
     /// Nothing is changed.
     pub fn put(&mut self, draft: Draft) -> Result<Put, PutFault>
         ensures answer { AnswersPut result (put_answer (drafts_of self.old) (document_of draft)) }
@@ -205,7 +205,8 @@ impl Drafts {
         Ok(())
     }
 
-    /// Takes away the drafts of all documents of the batch, which has been published. Takes no memory.
+    /// Takes away the drafts of all documents of the batch, which has been published. A draft under an
+    /// identifier that it withdraws stays. Takes no memory.
     pub fn take_out(&mut self, batch: &Batch)
         ensures { drafts_of self.new ≡ taken_out (drafts_of self.old) (publication_of batch.now) }
     {

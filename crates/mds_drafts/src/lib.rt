@@ -6,8 +6,8 @@ mod drafts;
 mod list;
 mod publish;
 
-pub use draft::{Draft, DraftKind};
-pub use drafts::{Drafts, NoDraft, Put, PutFault};
+pub use draft::Draft;
+pub use drafts::{Drafts, MOST_DRAFTS, NoDraft, Put, PutFault};
 pub use list::PublishList;
 pub use publish::PublishFault;
 

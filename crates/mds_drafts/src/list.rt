@@ -4,24 +4,28 @@ ghost use Rattle.mds_text.specs.View.{view};
 ghost use Rattle.mds_catalog.specs.Publication.{are_distinct};
 ghost use Rattle.mds_drafts.specs.Named.{distinct_ids_at};
 
+use mds_catalog::are_distinct;
 use mds_text::{Field, Id, TextFault, Tree, document_of, ids_at, read_tree};
 use std::alloc::Global;
 
-/// The identifiers that are to be published, each list in its order and without repeats.
+/// The identifiers of the drafts that are to be published and of the published policies that are to be
+/// withdrawn, each list in its order and without repeats.
 #[derive(Drop)]
 pub struct PublishList {
     pub(crate) geographies: Vec<Id>,
     pub(crate) policies: Vec<Id>,
+    pub(crate) withdraw: Vec<Id>,
     ghost geographies_differ: { are_distinct geographies.items ≡ true },
     ghost policies_differ: { are_distinct policies.items ≡ true },
+    ghost withdraw_differ: { are_distinct withdraw.items ≡ true },
 }
 
 impl PublishList {
     ghost use Rattle.mds_drafts.specs.Named.{names_nothing, publish_list_of, read_publish_list};
     ghost use Rattle.mds_drafts.specs.Shelf.{named_of};
 
-    /// Reads a publish request: `geographies`, then `policies`, each an optional list of identifiers.
-    /// Absent and null are the empty list.
+    /// Reads a publish request: `geographies`, then `policies`, then `withdraw`, each an optional list of
+    /// identifiers. Absent and null are the empty list.
     ///
     /// # Errors
     ///
@@ -39,17 +43,19 @@ impl PublishList {
         let document = document_of(tree)?;
         let geographies = distinct_ids_at(alloc, document, Field::Geographies)?;
         let policies = distinct_ids_at(alloc, document, Field::Policies)?;
+        let withdraw = distinct_ids_at(alloc, document, Field::Withdraw)?;
         Ok(PublishList {
             geographies,
             policies,
+            withdraw,
         })
     }
 
     /// Whether no identifier is named.
-    pub fn is_empty(&self) -> bool
+    pub(crate) fn is_empty(&self) -> bool
         ensures { result ≡ names_nothing (named_of self.now) }
     {
-        self.geographies.is_empty() && self.policies.is_empty()
+        self.geographies.is_empty() && self.policies.is_empty() && self.withdraw.is_empty()
     }
 }
 
@@ -62,21 +68,9 @@ fn distinct_ids_at(alloc: Global, document: &Tree, field: Field) -> Result<Vec<I
         Some(ids) => ids,
         None => Vec::new(alloc),
     };
-    if differ(&ids) {
+    if are_distinct(&ids) {
         Ok(ids)
     } else {
         Err(TextFault::BadField(field))
     }
-}
-
-/// Whether no identifier stands twice.
-fn differ(ids: &[Id]) -> bool
-    ensures { result ≡ are_distinct ids.now }
-{
-    for (i, id) in ids.iter().enumerate() {
-        if ids[i + 1..].contains(id) {
-            return false;
-        }
-    }
-    true
 }

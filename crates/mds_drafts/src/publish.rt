@@ -5,13 +5,12 @@ ghost use Rattle.mds_catalog.specs.Publication.{publication_of};
 ghost use Rattle.mds_catalog.specs.Catalogue.{publications_of};
 ghost use Rattle.mds_drafts.specs.Publishing.{first_refusal};
 
-use crate::draft::DraftKind;
 use crate::drafts::Drafts;
 use crate::list::PublishList;
 use mds_catalog::{Batch, Catalogue};
 use mds_geography::Geography;
 use mds_policy::Policy;
-use mds_text::{Id, Moment};
+use mds_text::{DraftKind, Id, Moment};
 use std::alloc::{AllocError, Global};
 use std::sync::Arc;
 
@@ -28,6 +27,8 @@ pub enum PublishFault {
     NoGeography(Id),
     /// This policy, which a policy replaces, isn't published.
     NoPredecessor(Id),
+    /// This policy, which is to be withdrawn, isn't published.
+    NotPublished(Id),
     /// The batch would pass a limit of the catalogue.
     CatalogFull,
     /// Memory ran out.
@@ -106,14 +107,14 @@ impl Drafts {
         Ok(shares)
     }
 
-    /// The batch of the drafts that are named, published at this moment. It shares the documents, and
-    /// is lawful on the catalogue.
+    /// The batch of the drafts that are named, published at this moment, and of the policies that are
+    /// withdrawn. It shares the documents, and is lawful on the catalogue.
     ///
     /// # Errors
     ///
     /// The first reason why it isn't, each tested for the whole list before the next: no identifier,
-    /// one without a draft, one that is published, a rule's geography or a predecessor that is
-    /// missing, a limit of the catalogue. `NoMemory` where the shares found none.
+    /// one without a draft, one that is published, a rule's geography, a predecessor or a policy to
+    /// withdraw that is missing, a limit of the catalogue. `NoMemory` where the shares found none.
     pub fn batch(
         &self,
         alloc: Global,
@@ -134,10 +135,12 @@ impl Drafts {
         }
         let geographies = self.shared_geographies(alloc, &list.geographies)?;
         let policies = self.shared_policies(alloc, &list.policies)?;
+        let withdrawn = Vec::from_slice(alloc, &list.withdraw)?;
         let batch = Batch {
             moment,
             geographies,
             policies,
+            withdrawn,
         };
         match refusal(catalogue, &batch) {
             Some(fault) => Err(fault),
@@ -158,6 +161,9 @@ fn refusal(catalogue: &Catalogue, batch: &Batch) -> Option<PublishFault>
     }
     if let Some(id) = catalogue.missing_predecessor(batch) {
         return Some(PublishFault::NoPredecessor(id));
+    }
+    if let Some(id) = catalogue.first_unpublished(&batch.withdrawn) {
+        return Some(PublishFault::NotPublished(id));
     }
     if catalogue.fits(batch) {
         None

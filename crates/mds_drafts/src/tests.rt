@@ -1,11 +1,11 @@
-use crate::draft::{Draft, DraftKind};
+use crate::draft::Draft;
 use crate::drafts::{Drafts, Put};
 use crate::list::PublishList;
 use crate::publish::PublishFault;
 use mds_catalog::{Batch, Catalogue};
 use mds_geography::Geography;
 use mds_policy::Policy;
-use mds_text::{Id, Moment};
+use mds_text::{DraftKind, Field, Id, Moment, TextFault};
 use std::alloc::Global;
 use std::process::Abort;
 use std::sync::Arc;
@@ -118,6 +118,47 @@ fn publishes_and_takes_out(rt: HostRuntime) -> Result<(), Fail> {
     Ok(())
 }
 
+/// A text that withdraws the policy of this identifier.
+fn withdrawing(alloc: Global, policy: &str) -> Result<String, Fail> {
+    Ok(format!(in alloc; "{{\"withdraw\":[\"{policy}\"]}}")?)
+}
+
+#[test]
+fn withdraws_and_leaves_the_draft(rt: HostRuntime) -> Result<(), Fail> {
+    let alloc = rt.alloc();
+    let mut drafts = Drafts::new(alloc);
+    let mut catalogue = Catalogue::with_room(alloc)?;
+    drafts.put(square(alloc)?)?;
+    drafts.put(policy(alloc, CAP)?)?;
+    let first = withdrawing(alloc, P1)?;
+    let unpublished = (first.as_str(), PublishFault::NotPublished(id(P1)?));
+    expect_fault(&rt, alloc, &drafts, &catalogue, unpublished)?;
+    let own = format!(in alloc;
+        "{{\"geographies\":[\"{G1}\"],\"policies\":[\"{P1}\"],\"withdraw\":[\"{P1}\"]}}"
+    )?;
+    let same_batch = (own.as_str(), PublishFault::NotPublished(id(P1)?));
+    expect_fault(&rt, alloc, &drafts, &catalogue, same_batch)?;
+    let Ok(made) = batch(alloc, &drafts, &catalogue, BOTH)? else {
+        panic!(rt; "a batch")
+    };
+    drafts.take_out(&made);
+    catalogue.adopt(Arc::new(alloc, made)?);
+    drafts.put(policy(alloc, CAP)?)?;
+    let Ok(made) = batch(alloc, &drafts, &catalogue, first.as_str())? else {
+        panic!(rt; "a withdrawal")
+    };
+    assert!(rt; made.policies.is_empty() && made.withdrawn.first() == Some(&id(P1)?));
+    drafts.take_out(&made);
+    assert!(rt; drafts.get(DraftKind::Policy, id(P1)?).is_some());
+    catalogue.adopt(Arc::new(alloc, made)?);
+    assert_eq!(rt; catalogue.revision(), 2);
+    let second = withdrawing(alloc, P2)?;
+    let missing = (second.as_str(), PublishFault::NotPublished(id(P2)?));
+    expect_fault(&rt, alloc, &drafts, &catalogue, missing)?;
+    let nothing = (r#"{"withdraw":[]}"#, PublishFault::Empty);
+    expect_fault(&rt, alloc, &drafts, &catalogue, nothing)
+}
+
 #[test]
 fn needs_a_published_predecessor(rt: HostRuntime) -> Result<(), Fail> {
     let alloc = rt.alloc();
@@ -141,9 +182,17 @@ fn needs_a_published_predecessor(rt: HostRuntime) -> Result<(), Fail> {
 #[test]
 fn reads_lists_without_repeats(rt: HostRuntime) -> Result<(), Fail> {
     let alloc = rt.alloc();
-    let none = PublishList::read(alloc, br#"{"geographies":null,"withdraw":[1]}"#)?;
+    let none = PublishList::read(alloc, br#"{"geographies":null,"withdraw":null}"#)?;
     assert!(rt; none.is_empty());
-    let twice = format!(in alloc; "{{\"policies\":[\"{P1}\",\"{P2}\",\"{P2}\"]}}")?;
-    assert!(rt; PublishList::read(alloc, twice.as_bytes()).is_err());
+    for (name, field) in [("policies", Field::Policies), ("withdraw", Field::Withdraw)] {
+        let twice = format!(in alloc; "{{\"{name}\":[\"{P1}\",\"{P2}\",\"{P2}\"]}}")?;
+        let Err(fault) = PublishList::read(alloc, twice.as_bytes()) else {
+            panic!(rt; "{name} are read")
+        };
+        let TextFault::BadField(bad) = fault else {
+            panic!(rt; "another fault of {name}")
+        };
+        assert_eq!(rt; bad, field);
+    }
     Ok(())
 }

@@ -4,14 +4,13 @@ use Rattle.std.specs.FinMap.{empty}
 use Rattle.mds_drafts.specs.Drafts.{Drafts}
 use Rattle.mds_request.specs.Reply.{Reply, success}
 use Rattle.mds_request.specs.Request.{Request}
-use Rattle.mds_request.specs.declared.verb.Verb.TheVariants.{Get, Post, Delete}
-use Rattle.mds_world.specs.Step.{Exchange}
-use Rattle.mds_world.specs.World.{State}
+use Rattle.mds_request.specs.declared.request.Verb.TheVariants.{Get, Post, Delete}
+use Rattle.mds_machine.specs.Step.{State, Exchange}
 use Rattle.mds_examples.specs.Ids.{id_text}
-use Rattle.mds_examples.specs.Machine.{error, done, compliance, after_publication, put_square, put_cap, cap_path, publish, publish_alone, report, ask}
+use Rattle.mds_examples.specs.Machine.{error, done, compliance, after_publication, put_square, put_cap, cap_path, publish, publish_alone, withdraw_cap, report, ask}
 use Rattle.mds_examples.specs.Requests.{request}
 use Rattle.mds_examples.specs.Vehicles.{in_the_square, one_row, other_row}
-use Rattle.mds_examples.specs.Verdicts.{report_text}
+use Rattle.mds_examples.specs.Verdicts.{kept_text}
 
 abbrev pub no_drafts : Drafts
 no_drafts = record { policies = empty; geographies = empty }
@@ -32,6 +31,9 @@ square_put = granted put_square (codes "new")
 
 abbrev pub cap_put : Exchange
 cap_put = granted put_cap (codes "new")
+
+abbrev pub both_published : Exchange
+both_published = exchange publish (success (codes "{\"published_date\":1000,\"revision\":1}"))
 
 abbrev pub drop_cap : Request
 drop_cap = request 1000 (codes "city") Delete cap_path []
@@ -58,7 +60,7 @@ before_question =
     ∷ exchange ask_for_cap (error 404 (codes "not_found"))
     ∷ exchange (ask 2000 (codes "nobody")) (error 401 (codes "token"))
     ∷ exchange publish_alone (error 409 (codes "no_geography"))
-    ∷ exchange publish (success (codes "{\"published_date\":1000,\"revision\":1}"))
+    ∷ both_published
     ∷ granted other_report (codes "new")
     ∷ []
 
@@ -67,7 +69,7 @@ abbrev pub question : Request
 question = ask 2000 (codes "alfa")
 
 abbrev pub answer : Reply
-answer = compliance (codes "2000") (report_text (codes "1") (codes "ok")) (codes "1")
+answer = compliance (codes "2000") (kept_text (codes "1")) (codes "1")
 
 abbrev pub history : List Exchange
 history = before_question ++ exchange question answer ∷ []
@@ -75,3 +77,13 @@ history = before_question ++ exchange question answer ∷ []
 -- the state after it: each operator has one vehicle
 abbrev pub after_history : State
 after_history = record after_publication { fleets = one_row ∷ other_row ∷ [] }
+
+-- another history: the policy is published, put again, and withdrawn
+abbrev pub withdrawn_again_drafted : List Exchange
+withdrawn_again_drafted =
+    square_put
+    ∷ cap_put
+    ∷ both_published
+    ∷ cap_put
+    ∷ exchange (withdraw_cap 3000) (success (codes "{\"published_date\":3000,\"revision\":2}"))
+    ∷ []

@@ -5,13 +5,12 @@ use Rattle.std.specs.FinMap.{empty, insert}
 use Rattle.mds_drafts.specs.Drafts.{Drafts}
 use Rattle.mds_request.specs.Reply.{Reply, success}
 use Rattle.mds_request.specs.Request.{Request}
-use Rattle.mds_request.specs.declared.verb.Verb.TheVariants.{Get, Put, Post, Delete}
-use Rattle.mds_world.specs.Step.{new_state}
-use Rattle.mds_world.specs.World.{State}
+use Rattle.mds_request.specs.declared.request.Verb.TheVariants.{Get, Put, Post, Delete}
+use Rattle.mds_machine.specs.Step.{State, new_state}
 use Rattle.mds_examples.specs.Geographies.{square_text, square_document}
 use Rattle.mds_examples.specs.Ids.{id_text, square_id, cap_id}
 use Rattle.mds_examples.specs.Policies.{cap, cap_text}
-use Rattle.mds_examples.specs.Publications.{first_publication}
+use Rattle.mds_examples.specs.Publications.{first_publication, then_withdrawn}
 use Rattle.mds_examples.specs.Requests.{configuration, request}
 use Rattle.mds_examples.specs.Vehicles.{in_the_square, one_row, two_rows}
 
@@ -26,7 +25,7 @@ error status code = record { status = status; body = codes "{\"error\":\"" ++ co
 -- the reply of compliance at a moment after so many publications, with these reports
 abbrev pub compliance : List ℕ → List ℕ → List ℕ → Reply
 compliance at reports revision =
-    success (codes "{\"at\":" ++ at ++ codes ",\"policies\":[" ++ reports ++ codes "],\"revision\":" ++ revision ++ codes ",\"version\":1}")
+    success (codes "{\"at\":" ++ at ++ codes ",\"policies\":[" ++ reports ++ codes "],\"revision\":" ++ revision ++ codes ",\"version\":2}")
 
 abbrev pub start : State
 start = new_state configuration
@@ -62,6 +61,16 @@ publish =
 
 abbrev pub after_publication : State
 after_publication = record start { publications = first_publication ∷ [] }
+
+-- the policy as a draft again after its publication, and then withdrawn
+abbrev pub again_drafted : State
+again_drafted = record after_publication { drafts = record { policies = insert empty cap_id cap; geographies = empty } }
+
+abbrev pub withdraw_cap : ℕ → Request
+withdraw_cap at = request at (codes "city") Post (codes "/publish") (codes "{\"withdraw\":[\"" ++ id_text (codes "201") ++ codes "\"]}")
+
+abbrev pub after_withdrawal : State
+after_withdrawal = record again_drafted { publications = then_withdrawn }
 
 -- a vehicle in the square, with the end of its identifier
 abbrev pub report : ℕ → List ℕ → Request

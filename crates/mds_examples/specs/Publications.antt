@@ -1,6 +1,6 @@
--- Publications: of a policy, and of one that takes its place.
+-- Publications: of a policy, of one that takes its place, and of its withdrawal.
 use Rattle.std.specs.Prelude.{ℕ, List, [], ◌∷◌, map, Option}
-use Rattle.mds_catalog.specs.Publication.{Publication, in_force}
+use Rattle.mds_catalog.specs.Publication.{Publication, Published, in_force}
 use Rattle.mds_policy.specs.Policy.{Policy}
 use Rattle.mds_examples.specs.Geographies.{square_document}
 use Rattle.mds_examples.specs.Ids.{id, cap_id, next_id}
@@ -19,13 +19,21 @@ next_policy start end providers =
 
 -- the policies of one publication
 abbrev pub publication : ℕ → List Policy → Publication
-publication moment policies = record { moment = moment; geographies = []; policies = policies }
+publication moment policies = record { moment = moment; geographies = []; policies = policies; withdrawn = [] }
 
 -- the square and the cap at 1000
 abbrev pub first_publication : Publication
-first_publication = record { moment = 1000; geographies = square_document ∷ []; policies = cap ∷ [] }
+first_publication = record { moment = 1000; geographies = square_document ∷ []; policies = cap ∷ []; withdrawn = [] }
 
--- that one, and the policy in its place at 2000
+-- a publication that withdraws a policy alone
+abbrev pub withdrawal : ℕ → List ℕ → Publication
+withdrawal moment id = record { moment = moment; geographies = []; policies = []; withdrawn = id ∷ [] }
+
+-- the square and the cap at 1000, and a withdrawal of the cap at 3000
+abbrev pub then_withdrawn : List Publication
+then_withdrawn = first_publication ∷ withdrawal 3000 cap_id ∷ []
+
+-- the square and the cap, and the policy in its place at 2000
 abbrev pub then_next : Policy → List Publication
 then_next policy = first_publication ∷ publication 2000 (policy ∷ []) ∷ []
 
@@ -33,6 +41,10 @@ then_next policy = first_publication ∷ publication 2000 (policy ∷ []) ∷ []
 abbrev pub alone : Policy → List Publication
 alone policy = publication 1000 (policy ∷ []) ∷ []
 
--- the policies in force, by their identifiers
+-- published policies by their identifiers
+abbrev pub ids_of : List (Published Policy) → List (List ℕ)
+ids_of policies = map (λ p. p.document.id) policies
+
+-- those in force
 abbrev pub ids_in_force : List Publication → List ℕ → ℕ → List (List ℕ)
-ids_in_force publications operator t = map (λ p. p.document.id) (in_force publications operator t)
+ids_in_force publications operator t = ids_of (in_force publications operator t)

@@ -3,7 +3,7 @@ use Rattle.std.specs.Prelude.{ℕ, pos, List, [], ◌∷◌, ◌++◌, codes}
 use Rattle.mds_match.specs.Zone.{fixed}
 use Rattle.mds_request.specs.Configuration.{Configuration, Operator}
 use Rattle.mds_request.specs.Request.{Request}
-use Rattle.mds_request.specs.declared.verb.Verb.{Verb}
+use Rattle.mds_request.specs.declared.request.Verb.{Verb}
 use Rattle.mds_examples.specs.Ids.{id_text}
 use Rattle.mds_examples.specs.Publications.{first_operator, second_operator}
 

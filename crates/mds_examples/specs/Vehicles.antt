@@ -68,6 +68,10 @@ second_inside = row_from (second_report 2000) 2000
 abbrev pub far_vehicle : Row
 far_vehicle = row_from (report_of third_device (east 25 5) 2000) 2000
 
+-- a second vehicle in the square that came three days later
+abbrev pub late_vehicle : Row
+late_vehicle = row_from (second_report 259000000) 259000000
+
 -- an operator's rows after a report of one vehicle at 2000, and after reports of two
 abbrev pub one_row : Rows
 one_row = insert empty first_device first_vehicle

@@ -17,7 +17,6 @@ pub fn accepted()
     ensures same { outcome one_row 2 (first_report 2000) 2500 ≡ Ok Same }
     ensures same_leaves_rows { rows_after one_row (first_report 2000) (outcome one_row 2 (first_report 2000) 2500) ≡ one_row }
     ensures later { outcome one_row 2 (first_report 5000) 5000 ≡ Ok Changed }
-    ensures different { outcome one_row 2 (busy_report 2000) 2500 ≡ Ok Changed }
     ensures elsewhere { outcome one_row 2 (report_of first_device (east 5 6) 2000) 2500 ≡ Ok Changed }
     ensures repeated_event { outcome one_row 2 (record (first_report 2000) { events = codes "trip_end" ∷ codes "trip_end" ∷ [] }) 2500 ≡ Ok Changed }
     ensures in_a_full_fleet { outcome two_rows 2 (first_report 2001) 2001 ≡ Ok Changed }

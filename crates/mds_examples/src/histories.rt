@@ -4,16 +4,16 @@
 
 ghost use Rattle.std.specs.Prelude.{◌≡◌, [], ◌∷◌, Some, None, codes};
 ghost use Rattle.mds_drafts.specs.Drafts.{policy};
-ghost use Rattle.mds_drafts.specs.declared.draft.DraftKind.TheVariants.{Policy};
-ghost use Rattle.mds_world.specs.History.{draft_after, publications_after};
-ghost use Rattle.mds_world.specs.Meaning.{IsAnswer};
-ghost use Rattle.mds_world.specs.Step.{Run};
-ghost use Rattle.mds_world.specs.Views.{view, asked, published, woven};
-ghost use Rattle.mds_examples.specs.Histories.{no_drafts, denied, square_put, cap_put, drop_cap, cap_dropped, ask_for_cap, other_report, before_question, question, answer, history, after_history};
+ghost use Rattle.mds_text.specs.declared.draft_kind.DraftKind.TheVariants.{Policy};
+ghost use Rattle.mds_machine.specs.History.{draft_after, publications_after};
+ghost use Rattle.mds_machine.specs.Meaning.{IsAnswer};
+ghost use Rattle.mds_machine.specs.Step.{Run};
+ghost use Rattle.mds_machine.specs.Views.{view, asked, published};
+ghost use Rattle.mds_examples.specs.Histories.{no_drafts, denied, square_put, cap_put, drop_cap, cap_dropped, ask_for_cap, other_report, before_question, question, answer, history, after_history, withdrawn_again_drafted};
 ghost use Rattle.mds_examples.specs.Ids.{cap_id};
-ghost use Rattle.mds_examples.specs.Machine.{start, publish, report, ask};
+ghost use Rattle.mds_examples.specs.Machine.{start, publish, report};
 ghost use Rattle.mds_examples.specs.Policies.{cap};
-ghost use Rattle.mds_examples.specs.Publications.{next_policy, publication, first_publication, then_next};
+ghost use Rattle.mds_examples.specs.Publications.{first_publication, then_withdrawn};
 ghost use Rattle.mds_examples.specs.Requests.{alfa, configuration};
 
 /// A new machine gives the replies of the history.
@@ -38,10 +38,11 @@ pub fn views()
     ensures of_the_second { view configuration no_drafts history 1 ≡ published first_publication ∷ asked other_report ∷ [] }
 {}
 
-/// A view is woven on by each request in turn, after the publications that its front has and the view
-/// hasn't.
-pub fn weaving()
-    ensures same_front_first { woven (published first_publication ∷ []) ((question, first_publication ∷ []) ∷ (ask 3000 (codes "alfa"), then_next (next_policy 3000 None [])) ∷ []) ≡ published first_publication ∷ asked question ∷ published (publication 2000 (next_policy 3000 None [] ∷ [])) ∷ asked (ask 3000 (codes "alfa")) ∷ [] }
+/// A publish request that withdraws a policy makes a publication too, and leaves the draft under that
+/// identifier.
+pub fn withdrawal()
+    ensures publications { publications_after configuration no_drafts withdrawn_again_drafted ≡ then_withdrawn }
+    ensures draft { draft_after configuration no_drafts withdrawn_again_drafted Policy cap_id ≡ Some (policy cap) }
 {}
 
 /// The first operator's question has the answer that its view before defines.

@@ -6,6 +6,7 @@
 pub mod books;
 pub mod documents;
 pub mod histories;
+pub mod limits;
 pub mod machine;
 pub mod matching;
 pub mod numbers;

@@ -3,14 +3,14 @@
 
 ghost use Rattle.std.specs.Prelude.{◌≡◌, ◌++◌, [], codes};
 ghost use Rattle.mds_request.specs.Reply.{success};
-ghost use Rattle.mds_request.specs.declared.verb.Verb.TheVariants.{Post};
-ghost use Rattle.mds_world.specs.Step.{answered};
-ghost use Rattle.mds_examples.specs.Machine.{done, compliance, start, ask, put_square, after_square, put_cap, after_cap, publish, after_publication, report, after_first_vehicle, after_second_vehicle, error, get, cap_path, first_vehicle_text, put_elsewhere, publish_alone, remove_first};
+ghost use Rattle.mds_request.specs.declared.request.Verb.TheVariants.{Post};
+ghost use Rattle.mds_machine.specs.Step.{answered};
+ghost use Rattle.mds_examples.specs.Machine.{done, compliance, start, ask, put_square, after_square, put_cap, after_cap, publish, after_publication, report, after_first_vehicle, after_second_vehicle, error, get, cap_path, first_vehicle_text, put_elsewhere, publish_alone, remove_first, again_drafted, withdraw_cap, after_withdrawal};
 ghost use Rattle.mds_examples.specs.Geographies.{served_text};
 ghost use Rattle.mds_examples.specs.Ids.{id_text};
 ghost use Rattle.mds_examples.specs.Policies.{cap_served};
 ghost use Rattle.mds_examples.specs.Requests.{request};
-ghost use Rattle.mds_examples.specs.Verdicts.{report_text};
+ghost use Rattle.mds_examples.specs.Verdicts.{kept_text, violated_text};
 
 /// A new machine tells of no policy and no publication.
 pub fn nothing_published()
@@ -28,13 +28,21 @@ pub fn publication()
 /// An operator reports two vehicles, of which the policy allows one. Another operator sees none of
 /// them.
 pub fn compliance_of_two()
-    ensures none { (answered after_publication (ask 2000 (codes "alfa"))).0 ≡ compliance (codes "2000") (report_text (codes "0") (codes "ok")) (codes "1") }
+    ensures none { (answered after_publication (ask 2000 (codes "alfa"))).0 ≡ compliance (codes "2000") (kept_text (codes "0")) (codes "1") }
     ensures first { answered after_publication (report 2000 (codes "401")) ≡ (done (codes "new"), after_first_vehicle) }
-    ensures kept { (answered after_first_vehicle (ask 2000 (codes "alfa"))).0 ≡ compliance (codes "2000") (report_text (codes "1") (codes "ok")) (codes "1") }
+    ensures kept { (answered after_first_vehicle (ask 2000 (codes "alfa"))).0 ≡ compliance (codes "2000") (kept_text (codes "1")) (codes "1") }
     ensures second { answered after_first_vehicle (report 2001 (codes "402")) ≡ (done (codes "new"), after_second_vehicle) }
-    ensures violated { (answered after_second_vehicle (ask 2001 (codes "alfa"))).0 ≡ compliance (codes "2001") (report_text (codes "2") (codes "violated")) (codes "1") }
-    ensures of_the_other { (answered after_second_vehicle (ask 2001 (codes "bravo"))).0 ≡ compliance (codes "2001") (report_text (codes "0") (codes "ok")) (codes "1") }
+    ensures violated { (answered after_second_vehicle (ask 2001 (codes "alfa"))).0 ≡ compliance (codes "2001") violated_text (codes "1") }
+    ensures of_the_other { (answered after_second_vehicle (ask 2001 (codes "bravo"))).0 ≡ compliance (codes "2001") (kept_text (codes "0")) (codes "1") }
     ensures before_publication { (answered after_second_vehicle (ask 999 (codes "alfa"))).0 ≡ compliance (codes "999") (codes "") (codes "1") }
+{}
+
+/// A policy that is withdrawn isn't reported on from that moment on; a draft under its identifier
+/// stays a draft.
+pub fn withdrawal()
+    ensures withdrawn { answered again_drafted (withdraw_cap 3000) ≡ (success (codes "{\"published_date\":3000,\"revision\":2}"), after_withdrawal) }
+    ensures compliance { (answered after_withdrawal (ask 3000 (codes "alfa"))).0 ≡ compliance (codes "3000") (codes "") (codes "2") }
+    ensures not_published { answered after_cap (withdraw_cap 3000) ≡ (error 409 (codes "not_published"), after_cap) }
 {}
 
 /// What was published is served to operators with its moment, a draft to the author without one, and

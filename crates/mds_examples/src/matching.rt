@@ -12,7 +12,6 @@ ghost use Rattle.mds_examples.specs.Vehicles.{first_vehicle, second_vehicle, far
 /// A vehicle that meets two rules is caught by the first alone; one that doesn't meet the first is
 /// caught by the second.
 pub fn first_rule_alone()
-    ensures meets_first { IsTrue (meets downtown areas first_vehicle (at 4 0 0 2)) }
     ensures meets_second { IsTrue (meets citywide areas first_vehicle (at 4 0 0 2)) }
     ensures caught_by_first { first two_rules areas first_vehicle (at 4 0 0 2) ≡ Some 0 }
     ensures caught_by_second { first two_rules areas second_vehicle (at 4 0 0 2) ≡ Some 1 }

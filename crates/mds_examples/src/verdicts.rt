@@ -1,33 +1,34 @@
 //! Verdicts on the rules of a policy.
 #![tactic(auto, unfolding(crate::specs::Computed::documents, crate::specs::Computed::places))]
 
-ghost use Rattle.std.specs.Prelude.{◌≡◌, [], ◌∷◌, codes};
+ghost use Rattle.std.specs.Prelude.{◌≡◌, [], ◌∷◌, ◌++◌, replicate, codes};
 ghost use Rattle.mds_match.specs.Examples.{at};
 ghost use Rattle.mds_policy.specs.declared.rule.Kind.TheVariants.{Count, Time, Other};
 ghost use Rattle.mds_policy.specs.declared.rule.TimeUnit.TheVariants.{Hours};
 ghost use Rattle.mds_text.specs.Printed.{printed};
-ghost use Rattle.mds_verdict.specs.Verdict.{verdicts, reported, dwell};
+ghost use Rattle.mds_verdict.specs.Verdict.{verdicts, reported, dwell, listed};
 ghost use Rattle.mds_verdict.specs.declared.verdict.Status.TheVariants.{NotEvaluated, Inactive, Ok, Violated};
 ghost use Rattle.mds_examples.specs.Geographies.{areas};
 ghost use Rattle.mds_examples.specs.Ids.{square_id, first_rule_id, second_rule_id};
 ghost use Rattle.mds_examples.specs.Policies.{cap, two_rules, with_rules, rule, at_most, at_least, below, more_than, unbounded, citywide, on_sundays};
-ghost use Rattle.mds_examples.specs.Vehicles.{first_vehicle, second_vehicle, second_inside};
-ghost use Rattle.mds_examples.specs.Verdicts.{verdict, report_text};
+ghost use Rattle.mds_examples.specs.Vehicles.{first_device, second_device, first_vehicle, second_vehicle, second_inside, late_vehicle};
+ghost use Rattle.mds_examples.specs.Verdicts.{verdict, violated, entry_text, report_text};
 
 /// A vehicle counts for the rule that catches it, and for no other.
 pub fn counts()
-    ensures first_alone { verdicts two_rules areas (first_vehicle ∷ []) (at 4 0 0 2) 2000 ≡ verdict first_rule_id Ok 1 ∷ verdict second_rule_id Ok 0 ∷ [] }
     ensures both { verdicts two_rules areas (first_vehicle ∷ second_vehicle ∷ []) (at 4 0 0 2) 2000 ≡ verdict first_rule_id Ok 1 ∷ verdict second_rule_id Ok 1 ∷ [] }
 {}
 
 /// A count at its maximum is kept, above it violated, and at a bound that isn't included violated;
-/// none are fewer than a minimum of one.
+/// none are fewer than a minimum of one. The devices of a rule that is violated are those that it
+/// counts, in their order.
 pub fn bounds()
     ensures maximum { verdicts cap areas (first_vehicle ∷ []) (at 4 0 0 2) 2000 ≡ verdict first_rule_id Ok 1 ∷ [] }
-    ensures above { verdicts cap areas (first_vehicle ∷ second_inside ∷ []) (at 4 0 0 2) 2000 ≡ verdict first_rule_id Violated 2 ∷ [] }
-    ensures excluded { verdicts (with_rules (rule first_rule_id Count square_id (below 1) ∷ [])) areas (first_vehicle ∷ []) (at 4 0 0 2) 2000 ≡ verdict first_rule_id Violated 1 ∷ [] }
-    ensures too_few { verdicts (with_rules (rule first_rule_id Count square_id (at_least 1) ∷ [])) areas (second_vehicle ∷ []) (at 4 0 0 2) 2000 ≡ verdict first_rule_id Violated 0 ∷ [] }
-    ensures excluded_minimum { verdicts (with_rules (rule first_rule_id Count square_id (more_than 1) ∷ [])) areas (first_vehicle ∷ []) (at 4 0 0 2) 2000 ≡ verdict first_rule_id Violated 1 ∷ [] }
+    ensures above { verdicts cap areas (first_vehicle ∷ second_inside ∷ []) (at 4 0 0 2) 2000 ≡ violated first_rule_id 2 (first_device ∷ second_device ∷ []) ∷ [] }
+    ensures excluded { verdicts (with_rules (rule first_rule_id Count square_id (below 1) ∷ [])) areas (first_vehicle ∷ []) (at 4 0 0 2) 2000 ≡ violated first_rule_id 1 (first_device ∷ []) ∷ [] }
+    ensures too_few { verdicts (with_rules (rule first_rule_id Count square_id (at_least 1) ∷ [])) areas (second_vehicle ∷ []) (at 4 0 0 2) 2000 ≡ violated first_rule_id 0 [] ∷ [] }
+    ensures excluded_minimum { verdicts (with_rules (rule first_rule_id Count square_id (more_than 1) ∷ [])) areas (first_vehicle ∷ []) (at 4 0 0 2) 2000 ≡ violated first_rule_id 1 (first_device ∷ []) ∷ [] }
+    ensures most_devices { listed Violated (replicate 100 first_vehicle ++ second_inside ∷ []) ≡ replicate 100 first_device }
 {}
 
 /// A rule of another type isn't evaluated, open or not, and catches nobody, so the rule behind it does.
@@ -44,16 +45,16 @@ pub fn closed()
 {}
 
 /// Three days are within a maximum of 72 hours, and a millisecond more isn't. The measure is the
-/// number of vehicles for which the time is outside the bounds.
+/// number of vehicles for which the time is outside the bounds, and these are the devices.
 pub fn hours()
     ensures three_days { verdicts (with_rules (rule first_rule_id (Time Hours) square_id (at_most 72) ∷ [])) areas (first_vehicle ∷ []) (at 0 0 0 2) 259202000 ≡ verdict first_rule_id Ok 0 ∷ [] }
-    ensures longer { verdicts (with_rules (rule first_rule_id (Time Hours) square_id (at_most 72) ∷ [])) areas (first_vehicle ∷ []) (at 0 0 0 2) 259202001 ≡ verdict first_rule_id Violated 1 ∷ [] }
-    ensures one_of_two { verdicts (with_rules (rule first_rule_id (Time Hours) square_id (at_least 72) ∷ citywide ∷ [])) areas (first_vehicle ∷ second_vehicle ∷ []) (at 0 0 0 2) 259201999 ≡ verdict first_rule_id Violated 1 ∷ verdict second_rule_id Ok 1 ∷ [] }
+    ensures longer { verdicts (with_rules (rule first_rule_id (Time Hours) square_id (at_most 72) ∷ [])) areas (first_vehicle ∷ late_vehicle ∷ []) (at 0 0 0 2) 259202001 ≡ violated first_rule_id 1 (first_device ∷ []) ∷ [] }
+    ensures one_of_two { verdicts (with_rules (rule first_rule_id (Time Hours) square_id (at_least 72) ∷ citywide ∷ [])) areas (first_vehicle ∷ second_vehicle ∷ []) (at 0 0 0 2) 259201999 ≡ violated first_rule_id 1 (first_device ∷ []) ∷ verdict second_rule_id Ok 1 ∷ [] }
     ensures without_bounds { verdicts (with_rules (rule first_rule_id (Time Hours) square_id unbounded ∷ [])) areas (first_vehicle ∷ []) (at 0 0 0 2) 4102444799999 ≡ verdict first_rule_id Ok 0 ∷ [] }
     ensures before { dwell first_vehicle 1999 ≡ 0 }
 {}
 
-/// The report on a policy.
+/// The report on a policy names the devices of a violated rule, also where there are none.
 pub fn report()
-    ensures text { printed (reported cap (verdicts cap areas (first_vehicle ∷ second_inside ∷ []) (at 4 0 0 2) 2000)) ≡ report_text (codes "2") (codes "violated") }
+    ensures text { printed (reported cap (verdict first_rule_id NotEvaluated 0 ∷ verdict second_rule_id Inactive 0 ∷ violated first_rule_id 0 [] ∷ [])) ≡ report_text (entry_text [] (codes "0") (codes "301") (codes "not_evaluated") ++ codes "," ++ entry_text [] (codes "0") (codes "302") (codes "inactive") ++ codes "," ++ entry_text (codes "\"devices\":[],") (codes "0") (codes "301") (codes "violated")) }
 {}

@@ -18,9 +18,10 @@ use Rattle.mds_fleet.specs.declared.book.Taken.{Taken}
 use Rattle.mds_fleet.specs.declared.book.Taken.TheVariants.{New, Changed, Same}
 use Rattle.mds_fleet.specs.declared.book.BookFault.{BookFault}
 use Rattle.mds_fleet.specs.declared.book.BookFault.TheVariants.{Future, Stale, FleetFull, NoMemory}
-use Rattle.mds_fleet.specs.Books.{Report, Rows, Take, device_cmp, reported, row_from, run_start, is_same, outcome, outcome_at, rows_after}
+use Rattle.mds_fleet.specs.Books.{Report, Rows, device_cmp, reported, row_from, run_start, is_same, outcome, outcome_at, rows_after}
 use Rattle.mds_fleet.specs.History.{Event, arrival, removal, is_held, is_accepted, reported_devices, held_count, accepted_reports, run_from, row_by}
 use Rattle.mds_fleet.specs.Laws.{Follows, Leads}
+use Rattle.mds_fleet.proofs.Cases.{Case}
 use Rattle.mds_fleet.proofs.Determined.{can_be, less, not_less}
 use Rattle.mds_fleet.proofs.Kept.{is_true}
 use Rattle.mds_fleet.proofs.Rows.{device_total, device_exact, rising_keys}
@@ -184,7 +185,7 @@ module _ (limit : ℕ) (before : List Event) (old : Rows) (agrees : Agrees limit
       by true e = ap (get old) ((bytes_eq-Decides q report.device).0 e) ∙ held
       by false e = refl
 
-  pub after_report : (result : Result Taken BookFault) (rows : Rows) → result ≢ Err NoMemory → Take old limit report moment result rows → Agrees limit (arrival report moment ∷ before) rows
+  after_report : (result : Result Taken BookFault) (rows : Rows) → result ≢ Err NoMemory → Case old limit report moment result rows → Agrees limit (arrival report moment ∷ before) rows
   after_report (Err Future) rows real h = refused (future limit report moment count h.0 past_reports) rows h.1
   after_report (Err Stale) rows real h =
       refused (by_row limit report moment count h.0 h.1.0 past_reports (held_by h.1.0 h.1.1) ∙ not_le _ _ h.1.2) rows h.2
@@ -214,30 +215,7 @@ after_removal limit before old agrees removed rows is q =
     by true = refl
     by false = refl
 
--- ---- all of them
-
-next_agrees : (limit : ℕ) (event : Event) (before : List Event) (old rows : Rows) → Agrees limit before old → Follows limit event old rows → Agrees limit (event ∷ before) rows
-next_agrees limit (arrival report moment) before old rows agrees h = after_report limit before old agrees report moment h.0 rows h.1 h.2
-next_agrees limit (removal removed) before old rows agrees h = after_removal limit before old agrees removed rows h
-
-agrees_all : (limit : ℕ) (events : List Event) (rows : Rows) → Leads limit events rows → Agrees limit events rows
-agrees_all limit [] rows h = λ q. ap (λ m. get m q) h ∙ get-empty device_cmp q
-agrees_all limit (event ∷ before) rows h = next_agrees limit event before h.0 rows (agrees_all limit before h.0 h.1) h.2
-
-pub follows_history : (limit : ℕ) (events : List Event) (rows : Rows) (device : List ℕ) → Leads limit events rows → get rows device ≡ row_by (accepted_reports limit events device)
-follows_history limit events rows device h = agrees_all limit events rows h device
-
--- a list leads to one thing
-one_end : (limit : ℕ) (events : List Event) (rows others : Rows) → Leads limit events rows → Leads limit events others → rows ≡ others
-one_end limit events rows others h k = same_map device_total device_exact rows others (λ q. agrees_all limit events rows h q ∙ sym (agrees_all limit events others k q))
-
-pub leads_on : (limit : ℕ) (before : List Event) (event : Event) (rows after : Rows) → Leads limit before rows → (Leads limit (event ∷ before) after ↔ Follows limit event rows after)
-leads_on limit before event rows after h = (
-  λ on. subst (λ earlier. Follows limit event earlier after) (one_end limit before on.0 rows on.1 h) on.2,
-  λ follows. (rows, h, follows),
-)
-
--- ---- there are such rows
+-- ---- an outcome isn't want of memory
 
 abbrev is_memory : Result Taken BookFault → Bool
 is_memory (Ok result) = false
@@ -262,9 +240,36 @@ real : (rows : Rows) (limit : ℕ) (report : Report) (moment : ℕ) → outcome 
 real rows limit report moment e =
     false≢true (sym (either (nat_lt moment report.timestamp) (Err Future) _ refl (real_at (get rows report.device) (len rows) limit report)) ∙ ap is_memory e)
 
+-- ---- all of them
+
+next_agrees : (limit : ℕ) (event : Event) (before : List Event) (old rows : Rows) → Agrees limit before old → Follows limit event old rows → Agrees limit (event ∷ before) rows
+next_agrees limit (arrival report moment) before old rows agrees h =
+    after_report limit before old agrees report moment (outcome old limit report moment) rows (real old limit report moment)
+    (subst (Case old limit report moment (outcome old limit report moment)) (sym h) (can_be old limit report moment))
+next_agrees limit (removal removed) before old rows agrees h = after_removal limit before old agrees removed rows h
+
+agrees_all : (limit : ℕ) (events : List Event) (rows : Rows) → Leads limit events rows → Agrees limit events rows
+agrees_all limit [] rows h = λ q. ap (λ m. get m q) h ∙ get-empty device_cmp q
+agrees_all limit (event ∷ before) rows h = next_agrees limit event before h.0 rows (agrees_all limit before h.0 h.1) h.2
+
+pub follows_history : (limit : ℕ) (events : List Event) (rows : Rows) (device : List ℕ) → Leads limit events rows → get rows device ≡ row_by (accepted_reports limit events device)
+follows_history limit events rows device h = agrees_all limit events rows h device
+
+-- a list leads to one thing
+one_end : (limit : ℕ) (events : List Event) (rows others : Rows) → Leads limit events rows → Leads limit events others → rows ≡ others
+one_end limit events rows others h k = same_map device_total device_exact rows others (λ q. agrees_all limit events rows h q ∙ sym (agrees_all limit events others k q))
+
+pub leads_on : (limit : ℕ) (before : List Event) (event : Event) (rows after : Rows) → Leads limit before rows → (Leads limit (event ∷ before) after ↔ Follows limit event rows after)
+leads_on limit before event rows after h = (
+  λ on. subst (λ earlier. Follows limit event earlier after) (one_end limit before on.0 rows on.1 h) on.2,
+  λ follows. (rows, h, follows),
+)
+
+-- ---- there are such rows
+
 -- what a report makes of the rows, by its outcome
 pub follows_report : (limit : ℕ) (report : Report) (moment : ℕ) (rows : Rows) → Follows limit (arrival report moment) rows (rows_after rows report (outcome rows limit report moment))
-follows_report limit report moment rows = (outcome rows limit report moment, real rows limit report moment, can_be rows limit report moment)
+follows_report limit report moment rows = refl
 
 -- the removal of a device that isn't held leaves the rows
 pub follows_absent : (limit : ℕ) (device : List ℕ) (rows : Rows) → get rows device ≡ None → Follows limit (removal device) rows rows

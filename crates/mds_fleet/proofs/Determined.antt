@@ -1,4 +1,4 @@
--- `Take` is what the functions of the outcome and of the rows after it say.
+-- What the functions of the outcome and of the rows after it say, case by case.
 use Rattle.std.proofs.Common.{◌≡◌, ◌≢◌, ℕ, ◌<◌, ◌≤◌, nat_lt, cond, ◌&&◌, List, Bool, true, false, Option, Some, None, Result, Ok, Err, inl, inr, refl, sym, ap, subst, ◌∙◌, arith}
 use Rattle.std.specs.Bool.{Decides}
 use Rattle.std.specs.Prelude.{bytes_eq}
@@ -13,6 +13,7 @@ use Rattle.mds_fleet.specs.declared.book.Taken.TheVariants.{New, Changed, Same}
 use Rattle.mds_fleet.specs.declared.book.BookFault.{BookFault}
 use Rattle.mds_fleet.specs.declared.book.BookFault.TheVariants.{Future, Stale, FleetFull, NoMemory}
 use Rattle.mds_fleet.specs.Books.{Report, Rows, Take, is_same, outcome, outcome_at, row_after, rows_after, row_from, run_start, reported}
+use Rattle.mds_fleet.proofs.Cases.{Case}
 
 both : {P Q : Type 0} (a b : Bool) → Decides a P → Decides b Q → Decides (a && b) (P × Q)
 both true b p q = (λ h. (p.0 refl, q.0 h), λ h. q.1 h.1)
@@ -47,37 +48,45 @@ not_same : (a b : Report) → a ≢ b → is_same a b ≡ false
 not_same a b apart = elim (is_same a b) as (λ t. is_same a b ≡ t → t ≡ false) [ true ↦ λ e. absurd (apart ((same_decides a b).0 e)) | false ↦ λ e. refl ] refl
 
 module _ (rows : Rows) (limit : ℕ) (report : Report) (moment : ℕ) where
-  future : moment < report.timestamp → Err Future ≡ outcome rows limit report moment
+  pub future : moment < report.timestamp → Err Future ≡ outcome rows limit report moment
   future h = rw (less moment report.timestamp h) refl
 
-  past : report.timestamp ≤ moment → (held : Option Row) → get rows report.device ≡ held → outcome rows limit report moment ≡ outcome_at held (len rows) limit report
+  pub past : report.timestamp ≤ moment → (held : Option Row) → get rows report.device ≡ held → outcome rows limit report moment ≡ outcome_at held (len rows) limit report
   past h held is = ap (λ b. cond b (Err Future) (outcome_at (get rows report.device) (len rows) limit report)) (not_less moment report.timestamp h) ∙ ap (λ o. outcome_at o (len rows) limit report) is
 
   left_by : (row : Row) → get rows report.device ≡ Some row → insert rows report.device (row_from report (run_start row report)) ≡ insert rows report.device (row_after (get rows report.device) report)
   left_by row is = ap (λ o. insert rows report.device (row_after o report)) (sym is)
 
-  pub determined : (result : Result Taken BookFault) (after : Rows) → Take rows limit report moment result after → result ≢ Err NoMemory → (result ≡ outcome rows limit report moment) × (after ≡ rows_after rows report result)
-  determined (Err Future) after h real = (future h.0, h.1)
-  determined (Err Stale) after h real =
+  case_determined : (result : Result Taken BookFault) (after : Rows) → Case rows limit report moment result after → result ≢ Err NoMemory → (result ≡ outcome rows limit report moment) × (after ≡ rows_after rows report result)
+  case_determined (Err Future) after h real = (future h.0, h.1)
+  case_determined (Err Stale) after h real =
       (sym (past h.0 _ h.1.1 ∙ ap (λ b. cond b (Err Stale) (cond (is_same (reported h.1.0) report) (Ok Same) (Ok Changed))) (less _ _ h.1.2)), h.2)
-  determined (Err FleetFull) after h real = (sym (past h.0 None h.1 ∙ ap (λ b. cond b (Ok New) (Err FleetFull)) (not_less _ _ h.2)), h.3)
-  determined (Err NoMemory) after h real = absurd (real refl)
-  determined (Ok New) after h real = (
+  case_determined (Err FleetFull) after h real = (sym (past h.0 None h.1 ∙ ap (λ b. cond b (Ok New) (Err FleetFull)) (not_less _ _ h.2)), h.3)
+  case_determined (Err NoMemory) after h real = absurd (real refl)
+  case_determined (Ok New) after h real = (
     sym (past h.0.past None h.0.absent ∙ ap (λ b. cond b (Ok New) (Err FleetFull)) (less _ _ h.0.room)),
     h.1 ∙ ap (λ o. insert rows report.device (row_after o report)) (sym h.0.absent),
   )
-  determined (Ok Changed) after h real = (
+  case_determined (Ok Changed) after h real = (
     sym (past h.1.past _ h.1.held ∙ ap (λ b. cond b (Err Stale) (cond (is_same (reported h.0) report) (Ok Same) (Ok Changed))) (not_less _ _ h.1.in_order) ∙ ap (λ b. cond b (Ok Same) (Ok Changed)) (not_same _ _ h.2)),
     h.3 ∙ left_by h.0 h.1.held,
   )
-  determined (Ok Same) after h real = (
+  case_determined (Ok Same) after h real = (
     sym (past h.1.past _ h.1.held ∙ ap (λ b. cond b (Err Stale) (cond (is_same (reported h.0) report) (Ok Same) (Ok Changed))) (not_less _ _ h.1.in_order) ∙ ap (λ b. cond b (Ok Same) (Ok Changed)) ((same_decides _ _).1 h.2)),
     h.3,
   )
 
+  -- a case that isn't want of memory is what taking the report comes to
+  pub take_of_case : (result : Result Taken BookFault) (after : Rows) → Case rows limit report moment result after → result ≢ Err NoMemory → Take rows limit report moment result after
+  take_of_case result after h real = let d = case_determined result after h real in (inl d.0, d.1)
+
+  -- where memory doesn't run out, taking a report comes to what the functions say
+  pub determined : (result : Result Taken BookFault) (after : Rows) → Take rows limit report moment result after → result ≢ Err NoMemory → (result ≡ outcome rows limit report moment) × (after ≡ rows_after rows report result)
+  determined result after h real = (elim h.0 [ inl is ↦ is | inr none ↦ absurd (real none.0) ], h.1)
+
   -- an outcome that is the function's can be
   abbrev Can : Result Taken BookFault → Type 0
-  Can result = Take rows limit report moment result (rows_after rows report result)
+  Can result = Case rows limit report moment result (rows_after rows report result)
 
   can_new : report.timestamp ≤ moment → get rows report.device ≡ None → Can (outcome_at None (len rows) limit report)
   can_new is_past absent = elim (cases_lt (len rows) limit) [
@@ -101,8 +110,22 @@ module _ (rows : Rows) (limit : ℕ) (report : Report) (moment : ℕ) where
   by_held is_past None is = subst Can (sym (past is_past None is)) (can_new is_past is)
   by_held is_past (Some row) is = subst Can (sym (past is_past (Some row) is)) (can_held is_past row is)
 
-  pub can_be : Take rows limit report moment (outcome rows limit report moment) (rows_after rows report (outcome rows limit report moment))
+  pub can_be : Case rows limit report moment (outcome rows limit report moment) (rows_after rows report (outcome rows limit report moment))
   can_be = elim (cases_lt moment report.timestamp) [
     | inl h ↦ subst Can (future h) (h, refl)
     | inr is_past ↦ by_held is_past (get rows report.device) refl
   ]
+
+-- the outcome of a report of a device that is held so
+module _ (row : Row) (held limit : ℕ) (report : Report) where
+  abbrev unless_stale : Bool → Result Taken BookFault
+  unless_stale b = cond b (Err Stale) (cond (is_same (reported row) report) (Ok Same) (Ok Changed))
+
+  pub at_stale : report.timestamp < row.timestamp → Err Stale ≡ outcome_at (Some row) held limit report
+  at_stale older = ap unless_stale (sym (less _ _ older))
+
+  pub at_same : row.timestamp ≤ report.timestamp → reported row ≡ report → Ok Same ≡ outcome_at (Some row) held limit report
+  at_same in_order same = ap (λ b. cond b (Ok Same) (Ok Changed)) (sym ((same_decides _ _).1 same)) ∙ ap unless_stale (sym (not_less _ _ in_order))
+
+  pub at_changed : row.timestamp ≤ report.timestamp → reported row ≢ report → Ok Changed ≡ outcome_at (Some row) held limit report
+  at_changed in_order apart = ap (λ b. cond b (Ok Same) (Ok Changed)) (sym (not_same _ _ apart)) ∙ ap unless_stale (sym (not_less _ _ in_order))

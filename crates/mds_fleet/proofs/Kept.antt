@@ -8,7 +8,7 @@ use Rattle.std.specs.List.{insert, remove}
 use Rattle.std.specs.FinMap as finite
 use Rattle.std.specs.FinMap.{IsAntisymmetric, find, put, is_sorted, from_sorted, entries, entries-from_sorted, entries-insert, same_entries_map, same_map, get-from_sorted, get-remove}
 use Rattle.std.specs.FinMap.Entries.{is_sorted-put, is_sorted-where_key, find-where_key}
-use Rattle.mds_fleet.specs.Place.{IsAt, IsGap}
+use Rattle.mds_fleet.specs.Fleet.{IsAt, IsGap}
 use Rattle.mds_fleet.proofs.Placed.{find_at, put_at, where_at, find_gap_none, put_in_gap}
 
 holds : (b : Bool) → b ≡ true → T b

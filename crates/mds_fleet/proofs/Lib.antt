@@ -1,4 +1,5 @@
 pub mod ByHistory
+pub mod Cases
 pub mod Determined
 pub mod Kept
 pub mod Placed

@@ -1,11 +1,12 @@
 -- Vehicles that ascend by device id, as rows.
-use Rattle.std.proofs.Common.{◌≡◌, ℕ, zero, suc, ◌<◌, ◌≤◌, true, List, [], ◌∷◌, ◌++◌, length, get_or, set, take, drop, map, Some, None, Result, Ok, Err, refl, sym, ap, subst, ◌∙◌, arith}
+use Rattle.std.proofs.Common.{◌≡◌, ◌≢◌, ℕ, zero, suc, ◌<◌, ◌≤◌, Bool, true, false, cond, nat_lt, inl, List, [], ◌∷◌, ◌++◌, length, get_or, set, take, drop, map, Some, None, Result, Ok, Err, refl, sym, ap, subst, ◌∙◌, arith}
 use Rattle.std.specs.Cmp.{IsTotalOrder}
 use Rattle.std.specs.Cmp.Lexicographic.{nat_list_cmp_total}
 use Rattle.std.specs.List.{insert, remove}
 use Rattle.std.specs.FinMap as finite
 use Rattle.std.specs.FinMap.{IsAntisymmetric, slice_cmp-IsAntisymmetric, nat_cmp-IsAntisymmetric, is_sorted, len-entries}
 use Rattle.std.proofs.lemmas.List.{map-append, take-map, map-set, length-map, length-set}
+use Rattle.std.proofs.lemmas.Bool.{false≢true}
 use Rattle.std.proofs.lemmas.List.Edits.{length-insert, length-remove}
 use Rattle.std.proofs.Math.ListN.{get_or-map}
 use Rattle.std.proofs.Math.Seq.{map-set_same}
@@ -15,9 +16,10 @@ use Rattle.mds_fleet.specs.declared.book.Taken.{Taken}
 use Rattle.mds_fleet.specs.declared.book.Taken.TheVariants.{New, Changed, Same}
 use Rattle.mds_fleet.specs.declared.book.BookFault.{BookFault}
 use Rattle.mds_fleet.specs.declared.book.BookFault.TheVariants.{Future, Stale, FleetFull, NoMemory}
-use Rattle.mds_fleet.specs.Books.{Report, device_cmp, IsNew, Take, Updates, row_from}
-use Rattle.mds_fleet.specs.Fleet.{entry, rows_of, IsKept}
-use Rattle.mds_fleet.specs.Place.{IsAt, IsGap}
+use Rattle.mds_fleet.specs.Books.{Report, device_cmp, is_same, outcome, outcome_at, reported, row_after, row_from, rows_after, Take}
+use Rattle.mds_fleet.proofs.Cases.{Case, IsNew}
+use Rattle.mds_fleet.proofs.Determined.{past, take_of_case, less}
+use Rattle.mds_fleet.specs.Fleet.{entry, rows_of, IsKept, IsAt, IsGap}
 use Rattle.std.specs.declared.cmp.Ordering.TheVariants.{Less}
 use Rattle.std.specs.List.{AllByRecursion}
 use Rattle.std.specs.List.Sorted.{IsStrictlySortedBy}
@@ -90,15 +92,18 @@ module _ (vs : List Vehicle) (sorted : is_sorted device_cmp (map entry vs) ≡ t
         within = omega (arith, length-set vs at v);
       }
 
--- what an update leaves is of the same device
-updated_device : (row : Row) (report : Report) (r : Result Taken BookFault) (after : Row) → row.device ≡ report.device → Updates row report r after → after.device ≡ report.device
-updated_device row report (Err Future) after same h = absurd h
-updated_device row report (Err Stale) after same h = ap (λ (a : Row). a.device) h.1 ∙ same
-updated_device row report (Err FleetFull) after same h = absurd h
-updated_device row report (Err NoMemory) after same h = absurd h
-updated_device row report (Ok New) after same h = absurd h
-updated_device row report (Ok Changed) after same h = ap (λ (a : Row). a.device) h.2
-updated_device row report (Ok Same) after same h = ap (λ (a : Row). a.device) h.2 ∙ same
+-- a report of a device that is held is no new one
+abbrev is_new_one : Result Taken BookFault → Bool
+is_new_one (Ok New) = true
+is_new_one other = false
+
+either : (b : Bool) (x y : Result Taken BookFault) → is_new_one x ≡ false → is_new_one y ≡ false → is_new_one (cond b x y) ≡ false
+either true x y p q = p
+either false x y p q = q
+
+held_not_new : (row : Row) (held limit : ℕ) (report : Report) → is_new_one (outcome_at (Some row) held limit report) ≡ false
+held_not_new row held limit report =
+    either (nat_lt report.timestamp row.timestamp) (Err Stale) _ refl (either (is_same (reported row) report) (Ok Same) (Ok Changed) refl refl)
 
 module _ (vs : List Vehicle) (sorted : is_sorted device_cmp (map entry vs) ≡ true) (report : Report) (at : ℕ) (place : IsAt (map entry vs) report.device at) (d v : Vehicle) where
   pub held_device : (row_of (get_or vs at d)).device ≡ report.device
@@ -110,25 +115,33 @@ module _ (vs : List Vehicle) (sorted : is_sorted device_cmp (map entry vs) ≡ t
   unchanged : row_of v ≡ row_of (get_or vs at d) → rows_of (set vs at v) ≡ rows_of vs
   unchanged same = ap (finite.from_sorted {R = device_cmp}) (map-set_same entry vs at v d (ap (λ (row : Row). (row.device, row)) same))
 
-  -- an update of the row of a held device is a report's taking
-  pub take_held : (limit moment : ℕ) → report.timestamp ≤ moment → (r : Result Taken BookFault) → Updates (row_of (get_or vs at d)) report r (row_of v) → Take (rows_of vs) limit report moment r (rows_of (set vs at v))
-  take_held limit moment past (Err Future) h = absurd h
-  take_held limit moment past (Err Stale) h = (past, (row_of (get_or vs at d), get_at vs sorted _ at d place, h.0), unchanged h.1)
-  take_held limit moment past (Err FleetFull) h = absurd h
-  take_held limit moment past (Err NoMemory) h = absurd h
-  take_held limit moment past (Ok New) h = absurd h
-  take_held limit moment past (Ok Changed) h =
-      let same_device : v.device ≡ report.device = ap (λ (row : Row). row.device) h.2 in (
-        row_of (get_or vs at d),
-        record { past = past; held = get_at vs sorted _ at d place; in_order = h.0 },
-        h.1,
-        set_map vs sorted v at (placed (row_of v) same_device) ∙ ap (λ (row : Row). finite.insert (rows_of vs) row.device row) h.2,
-      )
-  take_held limit moment past (Ok Same) h =
-      (row_of (get_or vs at d), record { past = past; held = get_at vs sorted _ at d place; in_order = h.0 }, h.1, unchanged h.2)
+  module _ (r : Result Taken BookFault) (changed : r ≡ Ok Changed → row_of v ≡ row_after (Some (row_of (get_or vs at d))) report) (others : r ≢ Ok Changed → row_of v ≡ row_of (get_or vs at d)) where
+    new_device : v.device ≡ report.device
+    new_device = by r changed others
+      where
+        by : (r : Result Taken BookFault) → (r ≡ Ok Changed → row_of v ≡ row_after (Some (row_of (get_or vs at d))) report) → (r ≢ Ok Changed → row_of v ≡ row_of (get_or vs at d)) → v.device ≡ report.device
+        by (Ok Changed) changed others = ap (λ (row : Row). row.device) (changed refl)
+        by (Ok New) changed others = ap (λ (row : Row). row.device) (others (λ e. absurd (cc))) ∙ held_device
+        by (Ok Same) changed others = ap (λ (row : Row). row.device) (others (λ e. absurd (cc))) ∙ held_device
+        by (Err fault) changed others = ap (λ (row : Row). row.device) (others (λ e. absurd (cc))) ∙ held_device
 
-  pub held_kept : (limit : ℕ) → length vs ≤ limit → (r : Result Taken BookFault) → Updates (row_of (get_or vs at d)) report r (row_of v) → IsKept limit (set vs at v)
-  held_kept limit within r h = set_kept vs sorted limit v at within (placed (row_of v) (updated_device _ report r _ held_device h))
+    -- an update of the row of a held device is a report's taking
+    pub take_held : (limit moment : ℕ) → report.timestamp ≤ moment → r ≡ outcome_at (Some (row_of (get_or vs at d))) (finite.len (rows_of vs)) limit report → Take (rows_of vs) limit report moment r (rows_of (set vs at v))
+    take_held limit moment is_past is =
+        (inl (is ∙ sym (past (rows_of vs) limit report moment is_past _ (get_at vs sorted _ at d place))), by r is changed others)
+      where
+        by : (r : Result Taken BookFault) → r ≡ outcome_at (Some (row_of (get_or vs at d))) (finite.len (rows_of vs)) limit report
+            → (r ≡ Ok Changed → row_of v ≡ row_after (Some (row_of (get_or vs at d))) report) → (r ≢ Ok Changed → row_of v ≡ row_of (get_or vs at d))
+            → rows_of (set vs at v) ≡ rows_after (rows_of vs) report r
+        by (Ok Changed) is changed others =
+            set_map vs sorted v at (placed (row_of v) new_device) ∙ ap (λ (row : Row). finite.insert (rows_of vs) row.device row) (changed refl)
+            ∙ ap (λ o. finite.insert (rows_of vs) report.device (row_after o report)) (sym (get_at vs sorted _ at d place))
+        by (Ok New) is changed others = absurd (false≢true (sym (ap is_new_one is ∙ held_not_new (row_of (get_or vs at d)) (finite.len (rows_of vs)) limit report)))
+        by (Ok Same) is changed others = unchanged (others (λ e. absurd (cc)))
+        by (Err fault) is changed others = unchanged (others (λ e. absurd (cc)))
+
+    pub held_kept : (limit : ℕ) → length vs ≤ limit → IsKept limit (set vs at v)
+    held_kept limit within = set_kept vs sorted limit v at within (placed (row_of v) new_device)
 
 -- a vehicle of a further device is a report's taking
 module _ (vs : List Vehicle) (sorted : is_sorted device_cmp (map entry vs) ≡ true) (report : Report) (at : ℕ) (gap : IsGap device_cmp (map entry vs) report.device at) where
@@ -138,20 +151,22 @@ module _ (vs : List Vehicle) (sorted : is_sorted device_cmp (map entry vs) ≡ t
   moved : (row : Row) → row.device ≡ report.device → IsGap device_cmp (map entry vs) row.device at
   moved row same = subst (λ k. IsGap device_cmp (map entry vs) k at) (sym same) gap
 
-  pub is_new : (limit moment : ℕ) → report.timestamp ≤ moment → length vs < limit → IsNew (rows_of vs) limit report moment
-  is_new limit moment past room = record { past = past; absent = get_gap vs sorted _ at gap; room = rw rows_len room }
+  -- a further device comes to a new row, with room for it
+  pub is_new : (limit moment : ℕ) → report.timestamp ≤ moment → length vs < limit → outcome (rows_of vs) limit report moment ≡ Ok New
+  is_new limit moment is_past room =
+      past (rows_of vs) limit report moment is_past None (get_gap vs sorted _ at gap) ∙ ap (λ b. cond b (Ok New) (Err FleetFull)) (less _ _ (rw rows_len room))
 
   pub take_new : (limit moment : ℕ) → report.timestamp ≤ moment → length vs < limit → (v : Vehicle) → row_of v ≡ row_from report report.timestamp → Take (rows_of vs) limit report moment (Ok New) (rows_of (insert vs at v))
-  take_new limit moment past room v is = (
-    record { past = past; absent = get_gap vs sorted _ at gap; room = rw rows_len room },
+  take_new limit moment is_past room v is = take_of_case (rows_of vs) limit report moment (Ok New) (rows_of (insert vs at v)) (
+    record { past = is_past; absent = get_gap vs sorted _ at gap; room = rw rows_len room },
     inserted_map vs sorted v at (moved (row_of v) (ap (λ (row : Row). row.device) is)) ∙ ap (λ (row : Row). finite.insert (rows_of vs) row.device row) is,
-  )
+  ) (λ e. absurd (cc))
 
   pub new_kept : (limit : ℕ) → length vs < limit → (v : Vehicle) → row_of v ≡ row_from report report.timestamp → IsKept limit (insert vs at v)
   new_kept limit room v is = inserted_kept vs sorted limit v at room (moved (row_of v) (ap (λ (row : Row). row.device) is))
 
   pub take_full : (limit moment : ℕ) → report.timestamp ≤ moment → limit ≤ length vs → Take (rows_of vs) limit report moment (Err FleetFull) (rows_of vs)
-  take_full limit moment past full = (past, get_gap vs sorted _ at gap, rw rows_len full, refl)
+  take_full limit moment is_past full = take_of_case (rows_of vs) limit report moment (Err FleetFull) (rows_of vs) (is_past, get_gap vs sorted _ at gap, rw rows_len full, refl) (λ e. absurd (cc))
 
 -- sorted entries have strictly rising keys
 pub rising_keys : (es : List (List ℕ × Row)) → is_sorted device_cmp es ≡ true → IsStrictlySortedBy device_cmp (map (λ e. e.0) es)

@@ -1,5 +1,5 @@
 -- An operator's rows, and what a report does to them.
-use Rattle.std.specs.Prelude.{◌≡◌, ◌≢◌, ℕ, ◌<◌, ◌≤◌, nat_lt, nat_eq, List, Bool, ◌&&◌, bytes_eq, if◌then◌else◌, Option, Some, None, Result, Ok, Err}
+use Rattle.std.specs.Prelude.{◌≡◌, ◌⊎◌, ℕ, nat_lt, nat_eq, List, Bool, ◌&&◌, bytes_eq, if◌then◌else◌, Option, Some, None, Result, Ok, Err}
 use Rattle.std.specs.declared.cmp.Ordering.{Ordering}
 use Rattle.std.specs.Ordering.{nat_cmp, int_eq}
 use Rattle.std.specs.Cmp.Lexicographic.{slice_cmp, pointwise}
@@ -74,45 +74,6 @@ row_from r since =
 abbrev pub run_start : Row → Report → ℕ
 run_start row report = if bytes_eq row.state report.state then row.since else report.timestamp
 
--- a report of a device that isn't held, with room for it
-pub record IsNew (rows : Rows) (limit : ℕ) (report : Report) (moment : ℕ) : Type 0 where
-  pub past : report.timestamp ≤ moment
-  pub absent : get rows report.device ≡ None
-  pub room : len rows < limit
-
--- a report of a device that is held, and that isn't older than what is held
-pub record IsHeld (rows : Rows) (report : Report) (moment : ℕ) (row : Row) : Type 0 where
-  pub past : report.timestamp ≤ moment
-  pub held : get rows report.device ≡ Some row
-  pub in_order : row.timestamp ≤ report.timestamp
-
--- What a report does to the rows of an operator with this limit. A report from the future is refused first, then a
--- stale one, which is older than what is held, then one of a further device in a full fleet.
-abbrev pub Take : Rows → ℕ → Report → ℕ → Result Taken BookFault → Rows → Type 0
-Take rows limit report moment (Err Future) after =
-    (moment < report.timestamp) × (after ≡ rows)
-Take rows limit report moment (Err Stale) after =
-    (report.timestamp ≤ moment) × ((row : Row) × (get rows report.device ≡ Some row) × (report.timestamp < row.timestamp)) × (after ≡ rows)
-Take rows limit report moment (Err FleetFull) after =
-    (report.timestamp ≤ moment) × (get rows report.device ≡ None) × (limit ≤ len rows) × (after ≡ rows)
-Take rows limit report moment (Err NoMemory) after = after ≡ rows
-Take rows limit report moment (Ok New) after =
-    IsNew rows limit report moment × (after ≡ insert rows report.device (row_from report report.timestamp))
-Take rows limit report moment (Ok Changed) after =
-    (row : Row) × IsHeld rows report moment row × (reported row ≢ report) × (after ≡ insert rows report.device (row_from report (run_start row report)))
-Take rows limit report moment (Ok Same) after =
-    (row : Row) × IsHeld rows report moment row × (reported row ≡ report) × (after ≡ rows)
-
--- what a report does to the row of its device, where that is held and the report isn't from the future
-abbrev pub Updates : Row → Report → Result Taken BookFault → Row → Type 0
-Updates row report (Err Future) after = ⊥
-Updates row report (Err Stale) after = (report.timestamp < row.timestamp) × (after ≡ row)
-Updates row report (Err FleetFull) after = ⊥
-Updates row report (Err NoMemory) after = ⊥
-Updates row report (Ok New) after = ⊥
-Updates row report (Ok Changed) after = (row.timestamp ≤ report.timestamp) × (reported row ≢ report) × (after ≡ row_from report (run_start row report))
-Updates row report (Ok Same) after = (row.timestamp ≤ report.timestamp) × (reported row ≡ report) × (after ≡ row)
-
 -- whether two reports are equal in every member
 abbrev pub is_same : Report → Report → Bool
 is_same a b =
@@ -128,7 +89,8 @@ outcome_at (Some row) held limit report =
     else if is_same (reported row) report then Ok Same
     else Ok Changed
 
--- `Take` as a function: the outcome, unless memory runs out
+-- The outcome of a report to an operator with this limit, unless memory runs out: refused are first one from the future,
+-- then a stale one, which is older than what is held, then one of a further device in a full fleet.
 abbrev pub outcome : Rows → ℕ → Report → ℕ → Result Taken BookFault
 outcome rows limit report moment =
     if nat_lt moment report.timestamp then Err Future else outcome_at (get rows report.device) (len rows) limit report
@@ -142,5 +104,10 @@ row_after (Some row) report = row_from report (run_start row report)
 abbrev pub rows_after : Rows → Report → Result Taken BookFault → Rows
 rows_after rows report (Ok New) = insert rows report.device (row_after (get rows report.device) report)
 rows_after rows report (Ok Changed) = insert rows report.device (row_after (get rows report.device) report)
-rows_after rows report (Ok Same) = rows
-rows_after rows report (Err fault) = rows
+rows_after rows report other = rows
+
+-- what taking a report comes to: its outcome, or want of memory for a further device
+abbrev pub Take : Rows → ℕ → Report → ℕ → Result Taken BookFault → Rows → Type 0
+Take rows limit report moment result after =
+    ((result ≡ outcome rows limit report moment) ⊎ ((result ≡ Err NoMemory) × (outcome rows limit report moment ≡ Ok New)))
+    × (after ≡ rows_after rows report result)

@@ -1,5 +1,7 @@
 -- What a book holds: an operator's rows, and how many there may be.
-use Rattle.std.specs.Prelude.{ℕ, ℤ, ◌≤◌, List, map, length, IsTrue, refl}
+use Rattle.std.specs.Prelude.{◌≡◌, ℕ, ℤ, ◌<◌, ◌≤◌, List, map, length, slice_index_or, IsTrue, refl}
+use Rattle.std.specs.declared.cmp.Ordering.{Ordering}
+use Rattle.std.specs.declared.cmp.Ordering.TheVariants.{Less, Greater}
 use Rattle.std.specs.Coded.{Coded, code_by, coded×, coded_ℕ, coded_ℤ, coded_list}
 use Rattle.std.specs.FinMap as finite
 use Rattle.std.specs.FinMap.{from_sorted, is_sorted}
@@ -24,6 +26,17 @@ rows_of vehicles = from_sorted (map entry vehicles)
 pub record IsKept (limit : ℕ) (vehicles : List Vehicle) : Type 0 where
   pub ascending : IsTrue (is_sorted device_cmp (map entry vehicles))
   pub within : length vehicles ≤ limit
+
+-- the entry at this place has the key
+pub record IsAt {K X : Type 0} (entries : List (K × X)) (key : K) (at : ℕ) : Type 0 where
+  pub within : at < length entries
+  pub here : (d : K × X) → (slice_index_or entries at d).0 ≡ key
+
+-- the keys before this place are less, and those from it on are greater
+pub record IsGap {K X : Type 0} (cmp : K → K → Ordering) (entries : List (K × X)) (key : K) (at : ℕ) : Type 0 where
+  pub within : at ≤ length entries
+  pub before : (j : ℕ) (d : K × X) → j < at → cmp (slice_index_or entries j d).0 key ≡ Less
+  pub after : (j : ℕ) (d : K × X) → at ≤ j → j < length entries → cmp (slice_index_or entries j d).0 key ≡ Greater
 
 -- rows and a fleet are stored as the tuples of their fields
 abbrev pub coded_word : Coded (List ℕ)

@@ -2,5 +2,4 @@ pub mod Books
 pub mod Fleet
 pub mod History
 pub mod Laws
-pub mod Place
 pub mod Reading

@@ -1,8 +1,8 @@
 -- What a text of a vehicle report reads as: the report, or the first line of its table that isn't met.
-use Rattle.std.specs.Prelude.{ℕ, ℤ, List, Result, Ok, Err}
-use Rattle.mds_text.specs.Tree.{Json, null, boolean, int, text, degrees, list, object}
-use Rattle.mds_text.specs.Fault.{Fault, bad_field, ◌>>=◌}
-use Rattle.mds_text.specs.Fields.{optional_at, required_at, required_member, id_of, token_of, moment_of, list_each, or_empty, document_of}
+use Rattle.std.specs.Prelude.{ℕ, ℤ, List, Result, Ok}
+use Rattle.mds_text.specs.Tree.{Json}
+use Rattle.mds_text.specs.Fault.{Fault, ◌>>=◌}
+use Rattle.mds_text.specs.Fields.{optional_at, required_at, required_member, id_of, token_of, moment_of, list_each, or_empty, object_of, document_of}
 use Rattle.mds_text.specs.Reading.{read_text}
 use Rattle.mds_text.specs.declared.field.Field.{Field}
 use Rattle.mds_text.specs.declared.field.Field.TheVariants.{DeviceId, VehicleType, PropulsionTypes, VehicleState, EventTypes, Timestamp, Location, Lat, Lng}
@@ -14,16 +14,7 @@ use Rattle.mds_fleet.specs.Books.{Report}
 abbrev pub tokens_at : Json → Field → Result (List (List ℕ)) Fault
 tokens_at document field = optional_at (list_each token_of) document field >>= λ found. Ok (or_empty found)
 
--- an object
-abbrev pub object_of : Field → Json → Result Json Fault
-object_of field (object ms) = Ok (object ms)
-object_of field null = Err (bad_field field)
-object_of field (boolean b) = Err (bad_field field)
-object_of field (int z) = Err (bad_field field)
-object_of field (text s) = Err (bad_field field)
-object_of field (degrees z) = Err (bad_field field)
-object_of field (list ts) = Err (bad_field field)
-
+-- where the vehicle is: an object
 abbrev pub location_of : Json → Result Json Fault
 location_of document = required_member document Location >>= object_of Location
 

@@ -1,9 +1,10 @@
-ghost use Rattle.std.specs.Prelude.{◌≡◌, ◌≤◌, ◌↔◌, Err, option_map, IsTrue, IfOk, OnOk, OnErr, map};
+ghost use Rattle.std.specs.Prelude.{◌≡◌, ◌≢◌, ℕ, ◌≤◌, ◌↔◌, Ok, Some, option_map, IsTrue, IfOk, OnOk, OnErr, map};
 ghost use Rattle.std.specs.Result.{result_ok};
 ghost use Rattle.std.specs.FinMap as finite;
 ghost use Rattle.std.specs.List.Sorted.{IsStrictlySortedBy};
 ghost use Rattle.mds_match.specs.Row.{row_of};
-ghost use Rattle.mds_fleet.specs.Books.{device_cmp, IsNew, Take, Updates, report_document, reported, row_from, run_start};
+ghost use Rattle.mds_match.specs.declared.vehicle.TheConstants.{MOST_VEHICLES};
+ghost use Rattle.mds_fleet.specs.Books.{device_cmp, Take, outcome_at, report_document, reported, row_after, row_from, run_start};
 ghost use Rattle.mds_fleet.specs.Fleet.{rows_of, IsKept};
 
 use crate::place::place_of;
@@ -74,10 +75,10 @@ impl From<AllocFailed<Vehicle>> for BookFault {
 }
 
 impl Book {
-    /// An empty book with this limit. Takes no memory.
+    /// An empty book with this limit, at most `MOST_VEHICLES`. Takes no memory.
     pub fn new(alloc: Global, limit: u32) -> Book
         requires least { 1 ≤ limit }
-        requires most { limit ≤ 50000 }
+        requires most { limit ≤ MOST_VEHICLES }
         ensures rows { result.rows ≡ finite.empty }
         ensures limit { result.limit ≡ limit }
     {
@@ -97,7 +98,6 @@ impl Book {
     /// nothing.
     pub fn report(&mut self, report: Report, moment: Moment) -> Result<Taken, BookFault>
         ensures taken { Take self.old.rows self.old.limit (report_document report) moment result self.new.rows }
-        ensures no_memory { result ≡ Err BookFault.NoMemory → IsNew self.old.rows self.old.limit (report_document report) moment }
         ensures limit { self.new.limit ≡ self.old.limit }
     {
         take(&mut self.vehicles, self.limit, report, moment)
@@ -120,7 +120,7 @@ impl Book {
         }
     }
 
-    /// What is held of a device. Takes no memory.
+    /// What is held of a device, for who asks for one alone. Takes no memory.
     pub fn get(&self, device: Id) -> Option<&Vehicle>
         ensures { option_map (λ v. row_of v.now) result ≡ finite.get self.now.rows device }
     {
@@ -130,19 +130,12 @@ impl Book {
         }
     }
 
-    /// How many devices are held. Takes no memory.
+    /// How many devices are held, for who asks for no more. Takes no memory.
     pub fn len(&self) -> usize
         ensures count { result ≡ finite.len self.now.rows }
         ensures within { result ≤ self.now.limit }
     {
         self.vehicles.len()
-    }
-
-    /// The most devices that may be held.
-    pub fn limit(&self) -> u32
-        ensures { result ≡ self.now.limit }
-    {
-        self.limit
     }
 
     /// All that is held, ascending by device id.
@@ -175,7 +168,6 @@ fn take(
 ) -> Result<Taken, BookFault>
     requires { IsKept limit vehicles.old.items }
     ensures taken { Take (rows_of vehicles.old.items) limit (report_document report) moment result (rows_of vehicles.new.items) }
-    ensures no_memory { result ≡ Err BookFault.NoMemory → IsNew (rows_of vehicles.old.items) limit (report_document report) moment }
     ensures kept { IsKept limit vehicles.new.items }
 {
     if report.timestamp > moment {
@@ -195,7 +187,9 @@ fn take(
 // Takes a report of a device that is held.
 fn update(vehicle: &mut Vehicle, report: Report) -> Result<Taken, BookFault>
     requires { vehicle.old.device ≡ report.device }
-    ensures { Updates (row_of vehicle.old) (report_document report) result (row_of vehicle.new) }
+    ensures outcome { (held limit : ℕ) → result ≡ outcome_at (Some (row_of vehicle.old)) held limit (report_document report) }
+    ensures changed { result ≡ Ok Taken.Changed → row_of vehicle.new ≡ row_after (Some (row_of vehicle.old)) (report_document report) }
+    ensures others { result ≢ Ok Taken.Changed → row_of vehicle.new ≡ row_of vehicle.old }
 {
     if vehicle.timestamp > report.timestamp {
         return Err(BookFault::Stale);

@@ -8,7 +8,7 @@ ghost use Rattle.mds_fleet.specs.Reading.{report_of, location_of, position_of, c
 use crate::report::Report;
 use mds_geometry::{Position, coordinate_of};
 use mds_text::{
-    Field, TextFault, Token, Tree, Units7, document_of, required_id, required_member,
+    Field, TextFault, Token, Tree, Units7, document_of, object_of, required_id, required_member,
     required_moment, required_token, tokens_at as optional_tokens,
 };
 use std::alloc::Global;
@@ -51,11 +51,7 @@ fn tokens_at(alloc: Global, document: &Tree, field: Field) -> Result<Vec<Token>,
 fn location_of(document: &Tree) -> Result<&Tree, TextFault>
     ensures { Gives text_cause (λ t. view t.now) result (location_of (view document.now)) }
 {
-    let location = required_member(document, Field::Location)?;
-    match location {
-        Tree::Object(_) => Ok(location),
-        _ => Err(TextFault::BadField(Field::Location)),
-    }
+    object_of(required_member(document, Field::Location)?, Field::Location)
 }
 
 /// The latitude, then the longitude.

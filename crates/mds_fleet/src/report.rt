@@ -7,13 +7,19 @@ use std::alloc::Global;
 /// repeats.
 #[derive(Drop)]
 pub struct Report {
+    /// The device's identifier.
     pub device: Id,
+    /// The vehicle's type.
     pub vehicle_type: Token,
+    /// Its types of propulsion.
     pub propulsion: Vec<Token>,
+    /// The state that it is in.
     pub state: Token,
+    /// The types of the events that led to it.
     pub events: Vec<Token>,
     /// When it was so, in milliseconds since the Unix epoch.
     pub timestamp: Moment,
+    /// Where it is.
     pub position: Position,
 }
 

@@ -60,7 +60,6 @@ fn new_changed_and_full(rt: HostRuntime) -> Result<(), Fail> {
     assert_eq!(rt; take(alloc, &mut alfa, V1, 2001, 2001)?, Ok(Taken::Changed));
     assert_eq!(rt; take(alloc, &mut bravo, V1, 2000, 2001)?, Ok(Taken::New));
     assert_eq!(rt; alfa.len(), 2);
-    assert_eq!(rt; alfa.limit(), 2);
     let rows = alfa.rows()?;
     let devices: [&str; 2] = [V1, V2];
     assert_eq!(rt; rows.len(), 2);

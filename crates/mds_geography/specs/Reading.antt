@@ -6,7 +6,7 @@ use Rattle.mds_text.specs.Tree.{Json}
 use Rattle.mds_text.specs.Fault.{Fault, bad_field, too_many_points, ring_short, ring_open, ◌>>=◌}
 use Rattle.mds_text.specs.Fields.{member_at, optional_at, required_at, required_member, id_of, text_of, list_of, document_of}
 use Rattle.mds_text.specs.Reading.{read_text}
-use Rattle.mds_geometry.specs.Coordinate.{coordinate_of}
+use Rattle.mds_geometry.specs.Coordinate.{coordinate_of, most_latitude, most_longitude}
 use Rattle.mds_text.specs.declared.field.Field.{Field}
 use Rattle.mds_text.specs.declared.field.Field.TheVariants.{GeographyId, Name, Description, GeographyJson, Kind, Features, Geometry, Coordinates}
 use Rattle.mds_geometry.specs.declared.position.Position.{Position}
@@ -20,6 +20,10 @@ most_positions = 20000
 abbrev pub Counted : Type 0 → Type 0
 Counted A = A × ℕ
 
+-- polygons, each the list of its rings
+abbrev pub Polygons : Type 0
+Polygons = List (List (List Position))
+
 -- what was read, without how many positions it has
 abbrev pub uncounted : {A : Type 0} → Result (Counted A) Fault → Result A Fault
 uncounted (Ok x) = Ok x.0
@@ -31,12 +35,11 @@ room_after read = if nat_lt read most_positions then Ok (read + 1) else Err too_
 
 -- longitude, then latitude; further entries aren't looked at (RFC 7946, section 3.1.1)
 abbrev pub position_of : List Json → Result Position Fault
-position_of [] = Err (bad_field Coordinates)
-position_of (lng ∷ []) = Err (bad_field Coordinates)
 position_of (lng ∷ lat ∷ more) = do
-  x ← coordinate_of 180 Coordinates lng
-  y ← coordinate_of 90 Coordinates lat
+  x ← coordinate_of most_longitude Coordinates lng
+  y ← coordinate_of most_latitude Coordinates lat
   Ok (record { lng = x; lat = y })
+position_of entries = Err (bad_field Coordinates)
 
 -- the positions of a ring, each counted before it is read
 abbrev pub positions_of : ℕ → List Json → Result (Counted (List Position)) Fault
@@ -50,9 +53,8 @@ positions_of read (t ∷ ts) = do
 
 -- the ends of a ring agree
 abbrev pub ends_meet : Option Position → Option Position → Bool
-ends_meet None last = false
-ends_meet (Some p) None = false
 ends_meet (Some p) (Some q) = int_eq p.lng q.lng && int_eq p.lat q.lat
+ends_meet first last = false
 
 -- a linear ring has four or more positions, and its first is its last (RFC 7946, section 3.1.6)
 abbrev pub ring_from : List Position → Result (List Position) Fault
@@ -77,26 +79,22 @@ rings_of read (t ∷ ts) = do
 
 -- a polygon's coordinates: a list of rings (RFC 7946, section 3.1.6)
 abbrev pub polygon_of : ℕ → Json → Result (Counted (List (List Position))) Fault
-polygon_of read value = do
-  entries ← list_of Coordinates value
-  rings_of read entries
+polygon_of read value = list_of Coordinates value >>= rings_of read
 
 -- a multipolygon's coordinates: a list of those of polygons (RFC 7946, section 3.1.7)
-abbrev pub polygons_of : ℕ → List Json → Result (Counted (List (List (List Position)))) Fault
+abbrev pub polygons_of : ℕ → List Json → Result (Counted Polygons) Fault
 polygons_of read [] = Ok ([], read)
 polygons_of read (t ∷ ts) = do
   polygon ← polygon_of read t
   rest ← polygons_of polygon.1 ts
   Ok (polygon.0 ∷ rest.0, rest.1)
 
-abbrev pub multipolygon_of : ℕ → Json → Result (Counted (List (List (List Position)))) Fault
-multipolygon_of read value = do
-  entries ← list_of Coordinates value
-  polygons_of read entries
+abbrev pub multipolygon_of : ℕ → Json → Result (Counted Polygons) Fault
+multipolygon_of read value = list_of Coordinates value >>= polygons_of read
 
 -- The polygons of a geometry of this type; a type other than Polygon and MultiPolygon adds none, and its members
 -- aren't read (RFC 7946, section 3.1).
-abbrev pub geometry_of : ℕ → List ℕ → Json → Result (Counted (List (List (List Position)))) Fault
+abbrev pub geometry_of : ℕ → List ℕ → Json → Result (Counted Polygons) Fault
 geometry_of read kind geometry =
     if bytes_eq kind (codes "Polygon")
     then (required_member geometry Coordinates >>= λ coordinates. polygon_of read coordinates >>= λ polygon. Ok (polygon.0 ∷ [], polygon.1))
@@ -114,21 +112,21 @@ abbrev pub kind_of : Field → Json → Result (List ℕ) Fault
 kind_of field value = renamed field (required_at text_of value Kind)
 
 -- a feature's geometry, where it has one
-abbrev pub feature_geometry : ℕ → Option Json → Result (Counted (List (List (List Position)))) Fault
+abbrev pub feature_geometry : ℕ → Option Json → Result (Counted Polygons) Fault
 feature_geometry read None = Ok ([], read)
 feature_geometry read (Some geometry) = do
   kind ← kind_of Geometry geometry
   geometry_of read kind geometry
 
 -- a feature's geometry: absent and null add no polygon (RFC 7946, section 3.2)
-abbrev pub feature_of : ℕ → Json → Result (Counted (List (List (List Position)))) Fault
+abbrev pub feature_of : ℕ → Json → Result (Counted Polygons) Fault
 feature_of read feature = member_at feature Geometry >>= feature_geometry read
 
 -- the features of a collection, each an object whose type is Feature (RFC 7946, section 3.3)
 abbrev pub is_feature : List ℕ → Result (List ℕ) Fault
 is_feature kind = if bytes_eq kind (codes "Feature") then Ok kind else Err (bad_field Features)
 
-abbrev pub features_of : ℕ → List Json → Result (Counted (List (List (List Position)))) Fault
+abbrev pub features_of : ℕ → List Json → Result (Counted Polygons) Fault
 features_of read [] = Ok ([], read)
 features_of read (t ∷ ts) = do
   kind ← kind_of Features t
@@ -138,7 +136,7 @@ features_of read (t ∷ ts) = do
   Ok (polygons.0 ++ rest.0, rest.1)
 
 -- the polygons of a GeoJSON object of this type; a type other than these two is a geometry's
-abbrev pub geojson_of : List ℕ → Json → Result (Counted (List (List (List Position)))) Fault
+abbrev pub geojson_of : List ℕ → Json → Result (Counted Polygons) Fault
 geojson_of kind value =
     if bytes_eq kind (codes "FeatureCollection")
     then (required_at list_of value Features >>= features_of 0)

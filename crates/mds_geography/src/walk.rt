@@ -4,10 +4,10 @@ ghost use Rattle.std.specs.Prelude.{◌≡◌, ◌≤◌, map, IfOk, Ok};
 ghost use Rattle.mds_text.specs.Fault.{Gives, text_cause};
 ghost use Rattle.mds_text.specs.View.{view};
 ghost use Rattle.mds_geography.specs.Fault.{geo_cause};
-ghost use Rattle.mds_geography.specs.Reading.{position_of, positions_of, ring_of, rings_of, polygon_of, polygons_of, multipolygon_of, geometry_of, kind_of, feature_of, feature_geometry, features_of, geojson_of, uncounted};
+ghost use Rattle.mds_geography.specs.Reading.{position_of, positions_of, ring_of, rings_of, polygon_of, polygons_of, multipolygon_of, geometry_of, kind_of, feature_of, feature_geometry, features_of, geojson_of, most_positions, uncounted};
 
 use crate::fault::GeoFault;
-use mds_geometry::{Polygon, Position, Ring, coordinate_of};
+use mds_geometry::{MOST_LATITUDE, MOST_LONGITUDE, Polygon, Position, Ring, coordinate_of};
 use mds_text::{
     Field, TextFault, Tree, list_of, member_at, required_list, required_member, required_text,
 };
@@ -23,8 +23,8 @@ fn position_of(entries: &[Tree]) -> Result<Position, GeoFault>
     let [lng, lat, ..] = entries else {
         return Err(GeoFault::Text(TextFault::BadField(Field::Coordinates)));
     };
-    let lng = coordinate_of(lng, Field::Coordinates, 180)?;
-    let lat = coordinate_of(lat, Field::Coordinates, 90)?;
+    let lng = coordinate_of(lng, Field::Coordinates, MOST_LONGITUDE)?;
+    let lat = coordinate_of(lat, Field::Coordinates, MOST_LATITUDE)?;
     Ok(Position { lng, lat })
 }
 
@@ -34,9 +34,9 @@ fn positions_of(
     mut read: usize,
     entries: &[Tree],
 ) -> Result<(Vec<Position>, usize), GeoFault>
-    requires { read ≤ 20000 }
+    requires { read ≤ most_positions }
     ensures value { Gives geo_cause (λ x. (x.0.items, x.1)) result (positions_of read (map view entries.now)) }
-    ensures few { IfOk result (λ x. x.1 ≤ 20000) }
+    ensures few { IfOk result (λ x. x.1 ≤ most_positions) }
 {
     let mut positions = Vec::new(alloc);
     for entry in entries {
@@ -52,9 +52,9 @@ fn positions_of(
 
 /// A ring and its end: too few positions come before ends that differ (RFC 7946, section 3.1.6).
 fn ring_of(alloc: Global, read: usize, value: &Tree) -> Result<(Ring, usize), GeoFault>
-    requires { read ≤ 20000 }
+    requires { read ≤ most_positions }
     ensures value { Gives geo_cause (λ x. (x.0, x.1)) result (ring_of read (view value.now)) }
-    ensures few { IfOk result (λ x. x.1 ≤ 20000) }
+    ensures few { IfOk result (λ x. x.1 ≤ most_positions) }
 {
     let entries = list_of(value, Field::Coordinates)?;
     let (positions, read) = positions_of(alloc, read, entries)?;
@@ -64,9 +64,9 @@ fn ring_of(alloc: Global, read: usize, value: &Tree) -> Result<(Ring, usize), Ge
 
 /// The rings of a polygon (RFC 7946, section 3.1.6).
 fn polygon_of(alloc: Global, mut read: usize, value: &Tree) -> Result<(Polygon, usize), GeoFault>
-    requires { read ≤ 20000 }
+    requires { read ≤ most_positions }
     ensures value { Gives geo_cause (λ x. (x.0, x.1)) result (polygon_of read (view value.now)) }
-    ensures few { IfOk result (λ x. x.1 ≤ 20000) }
+    ensures few { IfOk result (λ x. x.1 ≤ most_positions) }
 {
     let mut rings = Vec::new(alloc);
     for entry in list_of(value, Field::Coordinates)? {
@@ -83,9 +83,9 @@ fn multipolygon_of(
     mut read: usize,
     value: &Tree,
 ) -> Result<(Vec<Polygon>, usize), GeoFault>
-    requires { read ≤ 20000 }
+    requires { read ≤ most_positions }
     ensures value { Gives geo_cause (λ x. (x.0.items, x.1)) result (multipolygon_of read (view value.now)) }
-    ensures few { IfOk result (λ x. x.1 ≤ 20000) }
+    ensures few { IfOk result (λ x. x.1 ≤ most_positions) }
 {
     let mut polygons = Vec::new(alloc);
     for entry in list_of(value, Field::Coordinates)? {
@@ -115,9 +115,9 @@ fn geometry_of(
     kind: &str,
     geometry: &Tree,
 ) -> Result<(Vec<Polygon>, usize), GeoFault>
-    requires { read ≤ 20000 }
+    requires { read ≤ most_positions }
     ensures value { Gives geo_cause (λ x. (x.0.items, x.1)) result (geometry_of read kind.now (view geometry.now)) }
-    ensures few { IfOk result (λ x. x.1 ≤ 20000) }
+    ensures few { IfOk result (λ x. x.1 ≤ most_positions) }
 {
     if kind == "Polygon" {
         let coordinates = required_member(geometry, Field::Coordinates)?;
@@ -133,9 +133,9 @@ fn geometry_of(
 
 /// The polygons of a feature: absent and null geometries add none (RFC 7946, section 3.2).
 fn feature_of(alloc: Global, read: usize, feature: &Tree) -> Result<(Vec<Polygon>, usize), GeoFault>
-    requires { read ≤ 20000 }
+    requires { read ≤ most_positions }
     ensures value { Gives geo_cause (λ x. (x.0.items, x.1)) result (feature_of read (view feature.now)) }
-    ensures few { IfOk result (λ x. x.1 ≤ 20000) }
+    ensures few { IfOk result (λ x. x.1 ≤ most_positions) }
 {
     let Some(geometry) = member_at(feature, Field::Geometry)? else {
         return Ok((Vec::new(alloc), read));

@@ -1,6 +1,6 @@
 -- A coordinate of a document: degrees, kept in units of 10^-7 degree (RFC 7946, section 3.1.1).
 use Rattle.std.specs.Prelude.{ℕ, ℤ, pos, neg_ℤ, ◌*◌, ◌*ℤ◌, ◌&&◌, int_le, if◌then◌else◌, Result, Ok, Err}
-use Rattle.mds_text.specs.Tree.{Json, null, boolean, int, text, degrees, list, object}
+use Rattle.mds_text.specs.Tree.{Json, int, text}
 use Rattle.mds_text.specs.Fault.{Fault, bad_field, out_of_range, ◌>>=◌}
 use Rattle.mds_text.specs.Numbers.{units_of}
 use Rattle.mds_text.specs.declared.field.Field.{Field}
@@ -8,6 +8,13 @@ use Rattle.mds_text.specs.declared.field.Field.{Field}
 -- units in a degree
 abbrev pub units_of_degree : ℕ
 units_of_degree = 10000000
+
+-- the most degrees of a longitude and of a latitude
+abbrev pub most_longitude : ℕ
+most_longitude = 180
+
+abbrev pub most_latitude : ℕ
+most_latitude = 90
 
 -- within so many degrees of zero, in either direction
 abbrev pub within : ℕ → ℤ → Result ℤ Fault
@@ -18,11 +25,7 @@ within most units =
 abbrev pub units_at : Field → Json → Result ℤ Fault
 units_at field (int whole) = Ok (whole *ℤ pos units_of_degree)
 units_at field (text s) = units_of s
-units_at field null = Err (bad_field field)
-units_at field (boolean b) = Err (bad_field field)
-units_at field (degrees z) = Err (bad_field field)
-units_at field (list ts) = Err (bad_field field)
-units_at field (object ms) = Err (bad_field field)
+units_at field value = Err (bad_field field)
 
 -- a coordinate at most so many degrees from zero, once it is rounded to units
 abbrev pub coordinate_of : ℕ → Field → Json → Result ℤ Fault

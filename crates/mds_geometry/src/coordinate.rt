@@ -1,10 +1,16 @@
 //! Coordinates of a document.
 ghost use Rattle.std.specs.Prelude.{◌≡◌, ◌≤◌, ◌*ℤ◌, pos};
-ghost use Rattle.mds_geometry.specs.Coordinate.{coordinate_of, units_of_degree, within};
+ghost use Rattle.mds_geometry.specs.Coordinate.{coordinate_of, most_longitude, units_of_degree, within};
 ghost use Rattle.mds_text.specs.Fault.{Gives, IsCaused, text_cause};
 ghost use Rattle.mds_text.specs.View.{view};
 
 use mds_text::{Field, TextFault, Tree, Units7, units_of};
+
+/// The most degrees of a longitude (RFC 7946, section 4).
+pub const MOST_LONGITUDE: u8 = 180;
+
+/// The most degrees of a latitude (RFC 7946, section 4).
+pub const MOST_LATITUDE: u8 = 90;
 
 /// Units of 10^-7 degree in a degree.
 const DEGREE: i64 = 10_000_000;
@@ -17,7 +23,7 @@ const DEGREE: i64 = 10_000_000;
 /// `BadField` of the field for another kind of value, `BadNumber` for a text that is no number of at
 /// most 64 bytes with an exponent of at most three digits, and `OutOfRange` beyond `most` degrees.
 pub fn coordinate_of(value: &Tree, field: Field, most: u8) -> Result<Units7, TextFault>
-    requires { most ≤ 180 }
+    requires { most ≤ most_longitude }
     ensures value { Gives text_cause (λ u. u) result (coordinate_of most field (view value.now)) }
     ensures memory { IsCaused result }
 {
@@ -30,7 +36,7 @@ pub fn coordinate_of(value: &Tree, field: Field, most: u8) -> Result<Units7, Tex
 
 /// The coordinate of a whole number of degrees.
 fn whole_degrees(degrees: i64, most: u8) -> Result<Units7, TextFault>
-    requires { most ≤ 180 }
+    requires { most ≤ most_longitude }
     ensures value { Gives text_cause (λ u. u) result (within most (degrees *ℤ pos units_of_degree)) }
     ensures memory { IsCaused result }
 {

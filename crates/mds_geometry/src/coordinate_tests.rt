@@ -1,16 +1,12 @@
-ghost use Rattle.std.specs.Prelude.{◌≤◌};
-
-use super::coordinate_of;
+use super::{MOST_LATITUDE, coordinate_of};
 use mds_text::{Field, TextFault, read_tree};
 use std::alloc::Global;
 use std::test::Fail;
 
-/// The units of a text's coordinate, or the words of its fault.
-fn units(alloc: Global, text: &str, most: u8) -> Result<Result<i64, TextFault>, Fail>
-    requires { most ≤ 180 }
-{
+/// The units of a text's latitude, or its fault.
+fn units(alloc: Global, text: &str) -> Result<Result<i64, TextFault>, Fail> {
     let tree = read_tree(alloc, text.as_bytes())?;
-    match coordinate_of(&tree, Field::Lat, most) {
+    match coordinate_of(&tree, Field::Lat, MOST_LATITUDE) {
         Ok(units) => Ok(Ok(units.get())),
         Err(fault) => Ok(Err(fault)),
     }
@@ -27,7 +23,7 @@ fn coordinates(rt: HostRuntime) -> Result<(), Fail> {
         ("-90", -900_000_000),
         ("90.00000004", 900_000_000),
     ] {
-        let found = units(rt.alloc(), text, 90)?;
+        let found = units(rt.alloc(), text)?;
         assert!(rt; matches!(found, Ok(units) if units == want), "{text}");
     }
     Ok(())
@@ -43,15 +39,15 @@ fn coordinate_faults(rt: HostRuntime) -> Result<(), Fail> {
         "200.5",
         "1e3",
     ] {
-        let found = units(rt.alloc(), text, 90)?;
+        let found = units(rt.alloc(), text)?;
         assert!(rt; matches!(found, Err(TextFault::OutOfRange)), "{text}");
     }
     for text in ["\"\"", "\"5 \"", "\"01\"", "\"+5\"", "1e1000"] {
-        let found = units(rt.alloc(), text, 90)?;
+        let found = units(rt.alloc(), text)?;
         assert!(rt; matches!(found, Err(TextFault::BadNumber)), "{text}");
     }
     for text in ["null", "true", "[5]", "{}"] {
-        let found = units(rt.alloc(), text, 90)?;
+        let found = units(rt.alloc(), text)?;
         assert!(rt;
             matches!(found, Err(TextFault::BadField(Field::Lat))),
             "{text}"

@@ -11,7 +11,7 @@ mod ring;
 mod sight;
 
 pub use area::area_holds;
-pub use coordinate::coordinate_of;
+pub use coordinate::{MOST_LATITUDE, MOST_LONGITUDE, coordinate_of};
 pub use polygon::Polygon;
 pub use position::Position;
 pub use ring::{Ring, RingFault};

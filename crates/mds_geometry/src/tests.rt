@@ -1,5 +1,5 @@
-use super::{Polygon, Position, Ring, RingFault, area_holds, coordinate_of};
-use mds_text::{Field, TextFault, Units7, bool_tree, int_tree};
+use super::{Polygon, Position, Ring, RingFault, area_holds};
+use mds_text::Units7;
 use std::alloc::Global;
 use std::process::Abort;
 use std::test::Fail;
@@ -117,22 +117,5 @@ fn area_of_two_polygons(rt: HostRuntime) -> Result<(), Fail> {
         assert_eq!(rt; held, want, "at ({}, {})", at.0, at.1);
     }
     assert!(rt; !area_holds(&[], tenths(&rt, &(1025, 25))));
-    Ok(())
-}
-
-#[test]
-fn coordinates(rt: HostRuntime) -> Result<(), Fail> {
-    for (degrees, most, want) in [
-        (-180, 180, Some(-1_800_000_000)),
-        (90, 90, Some(900_000_000)),
-        (91, 90, None),
-        (-181, 180, None),
-    ] {
-        let read = coordinate_of(&int_tree(degrees), Field::Coordinates, most);
-        let units = read.ok().map(|units| units.get());
-        assert!(rt; units == want, "{degrees} of {most}");
-    }
-    let read = coordinate_of(&bool_tree(true), Field::Lat, 90);
-    assert!(rt; matches!(read, Err(TextFault::BadField(Field::Lat))));
     Ok(())
 }

@@ -33,8 +33,5 @@ rule_offset-is rule n = by_dst rule.std_offset rule.dst n
 -- of a zone that is a rule, the offset at a moment
 pub offset_in-is : (any : AnyZone) (moment : ℕ) → IsRule any → offset_at any (instant_of moment) ≡ offset_in (rule_kind any) moment
 unfolding offset_at offset_in
-offset_in-is (zone.UTC) moment never = refl
-offset_in-is (zone.Unknown) moment never = refl
-offset_in-is (zone.Fixed offset) moment never = refl
 offset_in-is (zone.Posix rule) moment is = rw (rule_offset-is rule (instant_of moment)) refl
-offset_in-is (zone.Tzif table) moment never = absurd never
+offset_in-is other moment never = absurd never

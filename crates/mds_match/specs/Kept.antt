@@ -3,26 +3,20 @@ use Rattle.std.specs.Prelude.{pos, negsuc, ◌≤ℤ◌}
 use Rattle.jiff.specs.Words.{plain_zone}
 use Rattle.jiff_tz.specs.PosixText.{tz_view}
 use Rattle.jiff_tz.specs.declared.timezone.TimeZone.{TimeZone}
-use Rattle.jiff_tz.specs.declared.timezone.TimeZone.TheVariants.{UTC, Unknown, Fixed as Offset, Posix, Tzif}
+use Rattle.jiff_tz.specs.declared.timezone.TimeZone.TheVariants.{Posix}
 use Rattle.mds_match.specs.Zone.{ZoneKind, fixed, ruled}
 use Rattle.mds_match.specs.declared.zone.Kind.{Kind}
 use Rattle.mds_match.specs.declared.zone.Kind.TheVariants.{Fixed, Rule}
 
 -- a zone of `jiff` that is a POSIX rule
 abbrev pub IsRule : TimeZone → Type 0
-IsRule UTC = ⊥
-IsRule Unknown = ⊥
-IsRule (Offset offset) = ⊥
 IsRule (Posix rule) = Unit {0}
-IsRule (Tzif table) = ⊥
+IsRule zone = ⊥
 
 -- the same as a zone; only a POSIX rule is kept
 abbrev pub rule_kind : TimeZone → ZoneKind
-rule_kind UTC = fixed (pos 0)
-rule_kind Unknown = fixed (pos 0)
-rule_kind (Offset offset) = fixed offset.seconds
 rule_kind (Posix rule) = ruled (tz_view rule)
-rule_kind (Tzif table) = fixed (pos 0)
+rule_kind zone = fixed (pos 0)
 
 -- the zone that is kept
 abbrev pub zone_kind : Kind → ZoneKind

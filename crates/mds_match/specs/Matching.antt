@@ -5,7 +5,7 @@ use Rattle.std.specs.List.{list_any}
 use Rattle.mds_geometry.specs.declared.position.Position.{Position}
 use Rattle.mds_policy.specs.Policy.{States, Rule, Policy}
 use Rattle.mds_policy.specs.declared.rule.Kind.{Kind}
-use Rattle.mds_policy.specs.declared.rule.Kind.TheVariants.{Count, Time, Other}
+use Rattle.mds_policy.specs.declared.rule.Kind.TheVariants.{Other}
 use Rattle.mds_policy.specs.declared.rule.Window.{Window}
 use Rattle.mds_match.specs.declared.local.Local.{Local}
 use Rattle.mds_geometry.specs.Area.{area_holds}
@@ -13,9 +13,8 @@ use Rattle.mds_match.specs.Row.{Row}
 
 -- a count rule, and a rule on time in one of the four units, is evaluated; no other is
 abbrev pub is_evaluated : Kind → Bool
-is_evaluated Count = true
-is_evaluated (Time unit) = true
 is_evaluated Other = false
+is_evaluated kind = true
 
 abbrev pub is_true : Option Bool → Bool
 is_true None = false

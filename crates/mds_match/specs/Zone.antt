@@ -1,8 +1,7 @@
 -- Time zones, and the local time in them. A zone is a fixed offset from UTC or a rule of POSIX's TZ variable. Which
 -- texts are rules, and what a rule says, is `jiff`'s: its `read_whole`, and its words for a rule's moments.
-use Rattle.std.specs.Prelude.{ℕ, ◌+◌, ◌-◌, ◌*◌, ℤ, pos, neg_ℤ, ◌+ℤ◌, ◌-ℤ◌, ◌*ℤ◌, int_lt, List, nat_le, ◌==◌, ◌&&◌, ◌||◌, if◌then◌else◌, length, slice_index, unsigned_abs, Option, Some, None, option_and_then, bytes_eq, codes, Result, Ok, Err}
+use Rattle.std.specs.Prelude.{ℕ, ◌+◌, ◌*◌, ℤ, pos, neg_ℤ, ◌+ℤ◌, ◌-ℤ◌, ◌*ℤ◌, int_lt, List, ◌==◌, ◌&&◌, ◌||◌, if◌then◌else◌, length, slice_index, unsigned_abs, Option, Some, None, option_and_then, bytes_eq, codes, Result, Ok, Err}
 use Rattle.std.specs.Int.{int_div_euclid, int_rem_euclid}
-use Rattle.std.specs.Char.{is_ascii_digit}
 use Rattle.jiff_core.specs.Date.{epoch_day}
 use Rattle.jiff_core.specs.Time.{time_seconds}
 use Rattle.jiff_core.specs.Timestamp.{nanos_of_seconds}
@@ -13,18 +12,13 @@ use Rattle.jiff_tz.specs.PosixText.{TzText, DstText}
 use Rattle.jiff_tz.specs.Year.{year_of_nanos}
 use Rattle.jiff_tz.specs.declared.posix.Day.{Day}
 use Rattle.mds_text.specs.Fault.{Fault, bad_zone}
+use Rattle.mds_text.specs.Numbers.{two_digits}
 use Rattle.mds_match.specs.declared.local.Local.{Local}
 
 -- a fixed offset in seconds, positive east of Greenwich, or the rule that a text says
 pub data ZoneKind : Type 0 where
   fixed : (offset : ℤ) → ZoneKind
   ruled : (rule : TzText) → ZoneKind
-
--- the number of two decimal digits, where it isn't more than it may be
-abbrev pub number_up_to : ℕ → ℕ → ℕ → Option ℕ
-number_up_to most tens ones =
-    if is_ascii_digit tens && is_ascii_digit ones && nat_le ((tens - 48) * 10 + (ones - 48)) most
-    then Some ((tens - 48) * 10 + (ones - 48)) else None
 
 -- an offset with the sign before it: `+` is east of Greenwich, `-` west of it
 abbrev pub with_sign : ℕ → ℕ → Option ℤ
@@ -34,7 +28,7 @@ with_sign sign size = if sign == 43 then Some (pos size) else if sign == 45 then
 abbrev pub offset_of : List ℕ → Option ℤ
 offset_of text =
     if (length text == 6) && (slice_index text 3 == 58)
-    then option_and_then (λ hours. option_and_then (λ minutes. with_sign (slice_index text 0) (hours * 3600 + minutes * 60)) (number_up_to 59 (slice_index text 4) (slice_index text 5))) (number_up_to 14 (slice_index text 1) (slice_index text 2))
+    then option_and_then (λ hours. option_and_then (λ minutes. with_sign (slice_index text 0) (hours * 3600 + minutes * 60)) (two_digits 59 (slice_index text 4) (slice_index text 5))) (two_digits 14 (slice_index text 1) (slice_index text 2))
     else None
 
 -- a rule, where the text is one

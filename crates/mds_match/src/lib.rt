@@ -13,7 +13,7 @@ mod zone;
 pub use local::Local;
 pub use matching::{first, meets};
 pub use places::Places;
-pub use vehicle::Vehicle;
+pub use vehicle::{MOST_VEHICLES, Vehicle};
 pub use window::open_at;
 pub use zone::{Zone, ZoneFault};
 

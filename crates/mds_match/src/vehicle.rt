@@ -1,6 +1,9 @@
 use mds_geometry::Position;
 use mds_text::{Id, Moment, Token};
 
+/// The most vehicles that an operator may hold.
+pub const MOST_VEHICLES: u32 = 200_000;
+
 /// A device as its last accepted report says, with the beginning of the run of its state.
 #[derive(Drop)]
 pub struct Vehicle {

@@ -1,12 +1,12 @@
-ghost use Rattle.std.specs.Prelude.{◌≡◌, ◌≤◌, ◌≤ℤ◌, pos, negsuc, unsigned_abs, IfSome};
+ghost use Rattle.std.specs.Prelude.{◌≡◌, ◌≤ℤ◌, pos, negsuc, unsigned_abs, IfSome};
 ghost use Rattle.jiff.specs.Words.{plain_zone, offset_at, IsOffsetSeconds};
 ghost use Rattle.mds_text.specs.Fault.{Gives};
-ghost use Rattle.mds_match.specs.Zone.{number_up_to, with_sign, offset_of, instant_of, local_at};
+ghost use Rattle.mds_match.specs.Zone.{with_sign, offset_of, instant_of, local_at};
 
 use crate::local::Local;
 use jiff::Timestamp;
 use jiff::tz::TimeZone;
-use mds_text::Moment;
+use mds_text::{Moment, two_digits};
 use std::alloc::AllocError;
 use std::marker::Model;
 
@@ -144,8 +144,8 @@ fn offset_of(text: &[u8]) -> Option<i64>
     let [sign, hour, hours, b':', minute, minutes] = text else {
         return None;
     };
-    let hours = number(*hour, *hours, MOST_HOURS)?;
-    let minutes = number(*minute, *minutes, MOST_MINUTES)?;
+    let hours = two_digits(*hour, *hours, MOST_HOURS)?;
+    let minutes = two_digits(*minute, *minutes, MOST_MINUTES)?;
     signed(*sign, u32::from(hours) * 3600 + u32::from(minutes) * 60)
 }
 
@@ -159,16 +159,4 @@ fn signed(sign: u8, size: u32) -> Option<i64>
         b'-' => Some(-i64::from(size)),
         _ => None,
     }
-}
-
-/// The number of two decimal digits, up to the most that it may be.
-fn number(tens: u8, ones: u8, most: u8) -> Option<u8>
-    ensures value { result ≡ number_up_to most tens ones }
-    ensures most { IfSome result (λ n. n ≤ most) }
-{
-    if !tens.is_ascii_digit() || !ones.is_ascii_digit() {
-        return None;
-    }
-    let number = (tens - b'0') * 10 + (ones - b'0');
-    if number <= most { Some(number) } else { None }
 }

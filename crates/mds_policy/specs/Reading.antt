@@ -1,14 +1,14 @@
 -- What a text of a policy reads as: the document, or the first line of the tables that isn't met
 -- (MDS 2.0 Policy, policies and rules).
-use Rattle.std.specs.Prelude.{ℕ, ◌+◌, ◌*◌, ◌-◌, List, [], ◌∷◌, Bool, true, ◌&&◌, ◌==◌, nat_le, nat_lt, slice_index, if◌then◌else◌, Option, Some, None, Result, Ok, Err, length, map, replicate, bytes_eq, codes, unwrap_or}
-use Rattle.std.specs.Char.{is_ascii_digit}
+use Rattle.std.specs.Prelude.{ℕ, ◌+◌, ◌*◌, List, [], ◌∷◌, Bool, true, ◌&&◌, ◌==◌, nat_le, slice_index, if◌then◌else◌, Option, Some, None, Result, Ok, Err, length, map, replicate, bytes_eq, codes, unwrap_or}
 use Rattle.std.specs.List.{list_any}
-use Rattle.mds_text.specs.Tree.{Json, null, boolean, int, text, degrees, list, object, Members, no_members, member, entries}
+use Rattle.mds_text.specs.Tree.{Json, null, list, object, Members, no_members, member, entries}
 use Rattle.mds_text.specs.Fault.{Fault, bad_field, decimal, too_many_rules, ◌>>=◌}
+use Rattle.mds_text.specs.Numbers.{two_digits}
 use Rattle.mds_text.specs.Quoting.{quoted_count}
 use Rattle.mds_text.specs.Reading.{read_text}
 use Rattle.mds_text.specs.Vocabulary.{as_token}
-use Rattle.mds_text.specs.Fields.{optional_at, required_at, id_of, text_of, token_of, moment_of, bound_of, bool_of, list_of, each, list_each, or_empty, or_bad, document_of}
+use Rattle.mds_text.specs.Fields.{optional_at, required_at, id_of, text_of, token_of, moment_of, bound_of, bool_of, list_of, each, list_each, object_of, or_empty, or_bad, document_of}
 use Rattle.mds_text.specs.declared.field.Field.{Field}
 use Rattle.mds_text.specs.declared.field.Field.TheVariants.{Rules, RuleId, RuleType, Name, Description, Geographies, States as StatesField, VehicleTypes, PropulsionTypes, Minimum, Maximum, InclusiveMinimum, InclusiveMaximum, RuleUnits, StartTime, EndTime, Days, PolicyId, StartDate, EndDate, ProviderIds, PrevPolicies}
 use Rattle.mds_policy.specs.Policy.{States, Rule, Policy}
@@ -42,12 +42,8 @@ kind_of rule_type units =
 -- the event types of a state: null counts as none
 abbrev pub events_of : Json → Result (List (List ℕ)) Fault
 events_of null = Ok []
-events_of (boolean b) = Err (bad_field StatesField)
-events_of (int z) = Err (bad_field StatesField)
-events_of (text s) = Err (bad_field StatesField)
-events_of (degrees z) = Err (bad_field StatesField)
 events_of (list ts) = each (token_of StatesField) (entries ts)
-events_of (object ms) = Err (bad_field StatesField)
+events_of value = Err (bad_field StatesField)
 
 -- a state with its event types
 abbrev pub state_of : List ℕ → Json → Result States Fault
@@ -66,33 +62,22 @@ states_of (member name value rest) = do
 
 abbrev pub states_member : Field → Json → Result (List States) Fault
 states_member field (object ms) = states_of ms
-states_member field null = Err (bad_field field)
-states_member field (boolean b) = Err (bad_field field)
-states_member field (int z) = Err (bad_field field)
-states_member field (text s) = Err (bad_field field)
-states_member field (degrees z) = Err (bad_field field)
-states_member field (list ts) = Err (bad_field field)
+states_member field value = Err (bad_field field)
 
--- two decimal digits, as a number below a limit
-abbrev pub two_digits : ℕ → ℕ → ℕ → Option ℕ
-two_digits limit tens ones =
-    if is_ascii_digit tens && is_ascii_digit ones && nat_lt (10 * (tens - 48) + (ones - 48)) limit then Some (10 * (tens - 48) + (ones - 48)) else None
-
+-- the second of the day of an hour, a minute and a second, where each is there
 abbrev pub second_of_day : Option ℕ → Option ℕ → Option ℕ → Option ℕ
 second_of_day (Some h) (Some m) (Some s) = Some (3600 * h + 60 * m + s)
-second_of_day None m s = None
-second_of_day (Some h) None s = None
-second_of_day (Some h) (Some m) None = None
+second_of_day hour minute second = None
 
--- two digits of a text, from this place on
+-- two digits of a text, from this place on, as a number up to a limit
 abbrev pub digits_at : ℕ → List ℕ → ℕ → Option ℕ
-digits_at limit s place = two_digits limit (slice_index s place) (slice_index s (place + 1))
+digits_at most s place = two_digits most (slice_index s place) (slice_index s (place + 1))
 
 -- `hh:mm` for `hh:mm:00`, or `hh:mm:ss`, as a second of the day
 abbrev pub time_of_day : List ℕ → Option ℕ
 time_of_day s =
-    if (length s == 5) && (slice_index s 2 == 58) then second_of_day (digits_at 24 s 0) (digits_at 60 s 3) (Some 0)
-    else if (length s == 8) && (slice_index s 2 == 58) && (slice_index s 5 == 58) then second_of_day (digits_at 24 s 0) (digits_at 60 s 3) (digits_at 60 s 6)
+    if (length s == 5) && (slice_index s 2 == 58) then second_of_day (digits_at 23 s 0) (digits_at 59 s 3) (Some 0)
+    else if (length s == 8) && (slice_index s 2 == 58) && (slice_index s 5 == 58) then second_of_day (digits_at 23 s 0) (digits_at 59 s 3) (digits_at 59 s 6)
     else None
 
 abbrev pub time_of : Field → Json → Result ℕ Fault
@@ -124,16 +109,6 @@ most_rules = 64
 
 abbrev pub few_rules : List Json → Result (List Json) Fault
 few_rules entries = if nat_le (length entries) most_rules then Ok entries else Err too_many_rules
-
--- an entry of a list of objects
-abbrev pub object_of : Field → Json → Result Json Fault
-object_of field (object ms) = Ok (object ms)
-object_of field null = Err (bad_field field)
-object_of field (boolean b) = Err (bad_field field)
-object_of field (int z) = Err (bad_field field)
-object_of field (text s) = Err (bad_field field)
-object_of field (degrees z) = Err (bad_field field)
-object_of field (list ts) = Err (bad_field field)
 
 -- the last second of a day
 abbrev pub last_second : ℕ

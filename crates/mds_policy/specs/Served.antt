@@ -2,7 +2,7 @@
 use Rattle.std.specs.Prelude.{ℕ, pos, List, codes, Option, Some, None}
 use Rattle.std.specs.Cmp.Lexicographic.{slice_cmp}
 use Rattle.std.specs.Ordering.{nat_cmp, match_ordering}
-use Rattle.mds_text.specs.Tree.{Json, null, boolean, int, text, degrees, list, object, Members, no_members, member}
+use Rattle.mds_text.specs.Tree.{Json, int, object, Members, no_members, member}
 use Rattle.mds_policy.specs.Policy.{Policy}
 
 -- a member among members that ascend by name: instead of the one of its name, or at its own place
@@ -14,12 +14,7 @@ with_member name value (member key old rest) =
 -- a document with the moment of its publication
 abbrev pub dated : ℕ → Json → Json
 dated moment (object ms) = object (with_member (codes "published_date") (int (pos moment)) ms)
-dated moment null = null
-dated moment (boolean b) = boolean b
-dated moment (int z) = int z
-dated moment (text s) = text s
-dated moment (degrees z) = degrees z
-dated moment (list ts) = list ts
+dated moment value = value
 
 abbrev pub served : Policy → Option ℕ → Json
 served policy None = policy.tree

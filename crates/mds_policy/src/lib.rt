@@ -2,7 +2,6 @@
 #![tactic(auto)]
 
 mod bounds;
-mod copy;
 #[cfg(test)]
 mod decimal_tests;
 mod fault;

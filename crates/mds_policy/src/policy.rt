@@ -1,9 +1,8 @@
-use crate::copy::copy;
 use crate::fault::PolicyFault;
 use crate::reading::policy_of;
 use crate::rule::Rule;
 use crate::served::dated;
-use mds_text::{Id, Moment, Tree, read_counted};
+use mds_text::{Id, Moment, Tree, copy_tree, read_counted};
 use std::alloc::{AllocError, Global};
 
 /// A policy (MDS 2.0 Policy, policies): the author's whole document, and beside it what the server
@@ -100,7 +99,7 @@ impl Policy {
     {
         match published {
             Some(moment) => dated(alloc, &self.tree, moment),
-            None => copy(alloc, &self.tree),
+            None => copy_tree(alloc, &self.tree),
         }
     }
 }

@@ -5,7 +5,7 @@ ghost use Rattle.mds_text.specs.Fields.{each};
 ghost use Rattle.mds_text.specs.View.{view};
 ghost use Rattle.mds_policy.specs.Fault.{policy_cause};
 ghost use Rattle.mds_policy.specs.Policy.{rule_document, policy_document};
-ghost use Rattle.mds_policy.specs.Reading.{few_rules, object_of, rule_of, policy_of};
+ghost use Rattle.mds_policy.specs.Reading.{few_rules, rule_of, policy_of};
 
 use crate::bounds::bounds_of;
 use crate::fault::PolicyFault;
@@ -16,8 +16,8 @@ use crate::rule::Rule;
 use crate::states::states_at;
 use crate::window::window_of;
 use mds_text::{
-    Field, TextFault, Tree, document_of, moment_at, required_id, required_ids, required_list,
-    required_moment, required_text, required_token, text_at, token_at,
+    Field, TextFault, Tree, document_of, moment_at, object_of, required_id, required_ids,
+    required_list, required_moment, required_text, required_token, text_at, token_at,
 };
 use std::alloc::Global;
 
@@ -66,7 +66,7 @@ fn rules_of(alloc: Global, entries: &[Tree]) -> Result<Vec<Rule>, TextFault>
 fn rule_of(alloc: Global, entry: &Tree) -> Result<Rule, TextFault>
     ensures { Gives text_cause rule_document result (rule_of (view entry.now)) }
 {
-    let rule = object_of(entry)?;
+    let rule = object_of(entry, Field::Rules)?;
     let id = required_id(rule, Field::RuleId)?;
     required_text(rule, Field::Name)?;
     let rule_type = required_token(rule, Field::RuleType)?;
@@ -87,14 +87,4 @@ fn rule_of(alloc: Global, entry: &Tree) -> Result<Rule, TextFault>
         bounds,
         window,
     })
-}
-
-/// An entry of the list of rules: an object. Anything else is the bad field `rules`.
-fn object_of(entry: &Tree) -> Result<&Tree, TextFault>
-    ensures { Gives text_cause (λ t. view t.now) result (object_of Field.Rules (view entry.now)) }
-{
-    match entry {
-        Tree::Object(_) => Ok(entry),
-        _ => Err(TextFault::BadField(Field::Rules)),
-    }
 }

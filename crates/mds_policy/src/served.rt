@@ -4,8 +4,7 @@ ghost use Rattle.mds_text.specs.Tree.{Json, int, members_of};
 ghost use Rattle.mds_text.specs.View.{view, member_view};
 ghost use Rattle.mds_policy.specs.Served.{dated, with_member};
 
-use crate::copy::{append, copy};
-use mds_text::{Member, Moment, Tree};
+use mds_text::{Member, Moment, Tree, add_member, copy_members, copy_tree, int_tree};
 use std::alloc::{AllocError, Global};
 use std::cmp::Ordering;
 
@@ -18,7 +17,7 @@ pub(crate) fn dated(alloc: Global, document: &Tree, moment: Moment) -> Result<Tr
 {
     match document {
         Tree::Object(members) => Ok(Tree::Object(dated_members(alloc, members, moment)?)),
-        _ => copy(alloc, document),
+        _ => copy_tree(alloc, document),
     }
 }
 
@@ -30,12 +29,10 @@ fn dated_members(
     ensures { IfOk result (λ v. members_of (map member_view v.items) ≡ with_member (codes "published_date") (int (pos moment)) (members_of (map member_view members.now))) }
 {
     let (before, after) = around(members, PUBLISHED_DATE);
-    let mut dated = Vec::new(alloc);
-    append(alloc, &mut dated, before)?;
-    let name = String::from_str(alloc, PUBLISHED_DATE)?;
-    let value = Tree::Int(moment.get());
-    dated.push(Member { name, value })?;
-    append(alloc, &mut dated, after)?;
+    let mut dated = copy_members(alloc, before)?;
+    add_member(&mut dated, PUBLISHED_DATE, int_tree(moment.get()))?;
+    let mut rest = copy_members(alloc, after)?;
+    dated.append(&mut rest)?;
     Ok(dated)
 }
 

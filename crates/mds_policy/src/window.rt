@@ -1,12 +1,12 @@
 //! The hours and days of a rule (MDS 2.0 Policy, rules: start_time, end_time and days).
-ghost use Rattle.std.specs.Prelude.{◌≡◌, ◌+◌, ◌<◌, length, map, Ok, IfSome, option_map};
+ghost use Rattle.std.specs.Prelude.{◌≡◌, ◌+◌, ◌<◌, length, map, Ok, option_map};
 ghost use Rattle.mds_text.specs.Fault.{Gives, text_cause};
 ghost use Rattle.mds_text.specs.Fields.{each, optional_at, list_each};
 ghost use Rattle.mds_text.specs.View.{view};
 ghost use Rattle.mds_policy.specs.Reading.{digits_at, second_of_day, time_of_day, time_of, weekday_of, day_of, days_listed, optional_list, window_of};
 
 use crate::rule::Window;
-use mds_text::{Field, TextFault, Tree, list_at, member_at, text_of};
+use mds_text::{Field, TextFault, Tree, list_at, member_at, text_of, two_digits};
 use std::alloc::Global;
 
 /// The last second of a day.
@@ -47,39 +47,30 @@ fn time_of_day(text: &[u8]) -> Option<u32>
     ensures { result ≡ time_of_day text.now }
 {
     if text.len() == 5 && text[2] == b':' {
-        second_of_day(digits_at(text, 24, 0), digits_at(text, 60, 3), Some(0))
+        second_of_day(digits_at(text, 23, 0), digits_at(text, 59, 3), Some(0))
     } else if text.len() == 8 && text[2] == b':' && text[5] == b':' {
         second_of_day(
-            digits_at(text, 24, 0),
-            digits_at(text, 60, 3),
-            digits_at(text, 60, 6),
+            digits_at(text, 23, 0),
+            digits_at(text, 59, 3),
+            digits_at(text, 59, 6),
         )
     } else {
         None
     }
 }
 
-fn second_of_day(hour: Option<u32>, minute: Option<u32>, second: Option<u32>) -> Option<u32>
-    requires hours { IfSome hour (λ h. h < 24) }
-    requires minutes { IfSome minute (λ m. m < 60) }
-    requires seconds { IfSome second (λ s. s < 60) }
+fn second_of_day(hour: Option<u8>, minute: Option<u8>, second: Option<u8>) -> Option<u32>
     ensures { result ≡ second_of_day hour minute second }
 {
-    Some(3600 * hour? + 60 * minute? + second?)
+    Some(3600 * u32::from(hour?) + 60 * u32::from(minute?) + u32::from(second?))
 }
 
-/// The number of two decimal digits at this place, if it is below the limit.
-fn digits_at(text: &[u8], limit: u32, place: usize) -> Option<u32>
+/// The number of two decimal digits at this place, if it is at most `most`.
+fn digits_at(text: &[u8], most: u8, place: usize) -> Option<u8>
     requires { place + 1 < length text.now }
-    ensures value { result ≡ digits_at limit text.now place }
-    ensures below { IfSome result (λ n. n < limit) }
+    ensures { result ≡ digits_at most text.now place }
 {
-    let (tens, ones) = (text[place], text[place + 1]);
-    if !tens.is_ascii_digit() || !ones.is_ascii_digit() {
-        return None;
-    }
-    let number = 10 * u32::from(tens - b'0') + u32::from(ones - b'0');
-    if number < limit { Some(number) } else { None }
+    two_digits(text[place], text[place + 1], most)
 }
 
 fn days_at(alloc: Global, rule: &Tree) -> Result<Vec<u8>, TextFault>

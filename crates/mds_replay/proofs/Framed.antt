@@ -1,14 +1,35 @@
 -- Laws of the lines of an input.
-use Rattle.std.proofs.Common.{◌≡◌, ℕ, ◌+◌, ◌≤◌, Bool, true, false, ◌&&◌, cond, eqb, List, [], ◌∷◌, ◌++◌, length, refl, ap, ◌∙◌, arith}
-use Rattle.std.specs.List.{list_any}
+use Rattle.std.proofs.Common.{◌≡◌, ℕ, ◌+◌, ◌≤◌, ◌<◌, Bool, true, false, ◌&&◌, cond, eqb, List, [], ◌∷◌, ◌++◌, length, refl, ap, ◌∙◌, arith}
+use Rattle.std.specs.List.{list_any, onto_first}
 use Rattle.std.proofs.lemmas.Bool.{or_parts, and_right}
-use Rattle.mds_replay.specs.Framing.{lines, onto_first, feeds}
-use Rattle.mds_replay.specs.Gathering.{is_feed, IsWithoutFeed, without_return}
+use Rattle.mds_replay.specs.Input.{is_feed, lines, feeds}
+use Rattle.mds_replay.specs.LineReading.{IsWithoutFeed}
+use Rattle.mds_replay.specs.declared.gather.TheConstants.{LINE_LIMIT}
+use Rattle.mds_replay.specs.declared.lines.Found.{Found}
+use Rattle.mds_replay.specs.declared.lines.Found.TheVariants.{Line, TooLong, End}
 
-no_feed_here : (byte : ℕ) (bytes : List ℕ) → IsWithoutFeed (byte ∷ bytes) → eqb byte 10 ≡ false
+-- the bytes without a carriage return at their end
+abbrev pub without_return : List ℕ → List ℕ
+without_return [] = []
+without_return (byte ∷ []) = cond (eqb byte 13) [] (byte ∷ [])
+without_return (byte ∷ next ∷ bytes) = byte ∷ without_return (next ∷ bytes)
+
+-- the line that a kept line and its line feed end, or that it is over the limit
+abbrev pub Closes : List ℕ → Found → List ℕ → Type 0
+Closes old Line new = (new ≡ without_return old) × (length new ≤ LINE_LIMIT)
+Closes old TooLong new = LINE_LIMIT < length (without_return old)
+Closes old End new = ⊥
+
+-- the last line, which no line feed ended, or that there is none
+abbrev pub ClosesLast : List ℕ → Found → List ℕ → Type 0
+ClosesLast old Line new = (new ≡ old) × (0 < length old) × (length old ≤ LINE_LIMIT)
+ClosesLast old TooLong new = LINE_LIMIT < length old
+ClosesLast old End new = (old ≡ []) × (new ≡ [])
+
+pub no_feed_here : (byte : ℕ) (bytes : List ℕ) → IsWithoutFeed (byte ∷ bytes) → eqb byte 10 ≡ false
 no_feed_here byte bytes h = (or_parts (eqb byte 10) (list_any is_feed bytes) h).0
 
-no_feed_later : (byte : ℕ) (bytes : List ℕ) → IsWithoutFeed (byte ∷ bytes) → IsWithoutFeed bytes
+pub no_feed_later : (byte : ℕ) (bytes : List ℕ) → IsWithoutFeed (byte ∷ bytes) → IsWithoutFeed bytes
 no_feed_later byte bytes h = (or_parts (eqb byte 10) (list_any is_feed bytes) h).1
 
 -- a byte that is no line feed, and isn't right before one, belongs to the first line

@@ -4,14 +4,16 @@ use Rattle.std.specs.List.{list_any}
 use Rattle.std.specs.Io.BufRead.{ends_with_byte, strip_last}
 use Rattle.std.proofs.Math.Nat.{min_comm}
 use Rattle.std.proofs.Math.Seq.{take-append-add}
-use Rattle.std.proofs.lemmas.Bool.{eqb-true, ltb-true, ltb-false, lt-ltb, cond-true, cond-false}
+use Rattle.std.proofs.lemmas.Bool.{eqb-true, ne_eqb, ltb-true, ltb-false, lt-ltb, cond-true, cond-false}
 use Rattle.std.proofs.lemmas.List.{take-append-drop, take_min, drop_more, length-take-le}
 use Rattle.std.proofs.lemmas.List.Quantifiers.{position-Some}
 use Rattle.mds_replay.specs.declared.lines.Found.{Found}
-use Rattle.mds_replay.specs.declared.lines.Found.TheVariants.{Line, TooLong}
-use Rattle.mds_replay.specs.Framing.{line_limit}
-use Rattle.mds_replay.specs.Gathering.{is_feed, IsWithoutFeed, without_return, Closes}
-use Rattle.mds_replay.proofs.Places.{word_found, word_missing, none_before}
+use Rattle.mds_replay.specs.declared.lines.Found.TheVariants.{Line, TooLong, End}
+use Rattle.mds_replay.specs.Input.{is_feed}
+use Rattle.mds_replay.specs.LineReading.{IsWithoutFeed}
+use Rattle.mds_replay.proofs.Framed.{without_return, Closes, ClosesLast}
+use Rattle.mds_replay.proofs.Positions.{word_found, word_missing, none_before}
+use Rattle.mds_replay.specs.declared.gather.TheConstants.{LINE_LIMIT}
 
 -- what is added where there is room for so many bytes
 pub keeps_front : (limit : ℕ) (line bytes : List ℕ) → length line ≤ limit → line ++ take (min (length bytes) (limit - length line)) bytes ≡ take limit (line ++ bytes)
@@ -65,16 +67,29 @@ strip_is (byte ∷ next ∷ bytes) =
     ∙ ap (λ xs. byte ∷ xs) (strip_is (next ∷ bytes))
 
 -- what is left of a line by the test of its last byte
-pub return_dropped : (old new : List ℕ) → ends_with_byte 13 old ≡ true → new ≡ take (length old - 1) old → new ≡ without_return old
-return_dropped old new e h = h ∙ (sym (cond-true (ends_with_byte 13 old) (take (length old - 1) old) old e) ∙ strip_is old)
+pub return_dropped : (old new : List ℕ) → ends_with_byte 13 old ≡ true → new ≡ take (length old - 1) old → new ≡ strip_last 13 old
+return_dropped old new e h = h ∙ sym (cond-true (ends_with_byte 13 old) (take (length old - 1) old) old e)
 
-pub no_return : (old : List ℕ) → ends_with_byte 13 old ≡ false → old ≡ without_return old
-no_return old e = sym (cond-false (ends_with_byte 13 old) (take (length old - 1) old) old e) ∙ strip_is old
+pub no_return : (old : List ℕ) → ends_with_byte 13 old ≡ false → old ≡ strip_last 13 old
+no_return old e = sym (cond-false (ends_with_byte 13 old) (take (length old - 1) old) old e)
 
 -- what the test of the length says of a line that its line feed ended
-closes_at : (old new : List ℕ) (b : Bool) → ltb line_limit (length new) ≡ b → new ≡ without_return old → Closes old (cond b TooLong Line) new
-closes_at old new true e h = omega (arith, ltb-true line_limit (length new) e, ap length h)
-closes_at old new false e h = (h, ltb-false line_limit (length new) e)
+closes_at : (old new : List ℕ) (b : Bool) → ltb LINE_LIMIT (length new) ≡ b → new ≡ without_return old → Closes old (cond b TooLong Line) new
+closes_at old new true e h = omega (arith, ltb-true LINE_LIMIT (length new) e, ap length h)
+closes_at old new false e h = (h, ltb-false LINE_LIMIT (length new) e)
 
-pub closes : (old new : List ℕ) (found : Found) → found ≡ cond (ltb line_limit (length new)) TooLong Line → new ≡ without_return old → Closes old found new
-closes old new found e h = subst (λ r. Closes old r new) (sym e) (closes_at old new (ltb line_limit (length new)) refl h)
+pub closes : (old new : List ℕ) (found : Found) → found ≡ cond (ltb LINE_LIMIT (length new)) TooLong Line → new ≡ strip_last 13 old → Closes old found new
+closes old new found e h =
+    subst (λ r. Closes old r new) (sym e) (closes_at old new (ltb LINE_LIMIT (length new)) refl (h ∙ strip_is old))
+
+-- and of the last one
+last_at : (byte : ℕ) (old new : List ℕ) (b : Bool) → ltb LINE_LIMIT (length (byte ∷ old)) ≡ b → new ≡ byte ∷ old → ClosesLast (byte ∷ old) (cond b TooLong Line) new
+last_at byte old new true e same = ltb-true LINE_LIMIT (length (byte ∷ old)) e
+last_at byte old new false e same = (same, omega arith, ltb-false LINE_LIMIT (length (byte ∷ old)) e)
+
+pub closes_last : (old new : List ℕ) (found : Found) → found ≡ cond (eqb (length old) 0) End (cond (ltb LINE_LIMIT (length old)) TooLong Line) → new ≡ old → ClosesLast old found new
+closes_last [] new found e same = subst (λ r. ClosesLast [] r new) (sym e) (refl, same)
+closes_last (byte ∷ old) new found e same =
+    let some : eqb (length (byte ∷ old)) 0 ≡ false = ne_eqb (length (byte ∷ old)) 0 (λ none. omega (arith, none)) in
+    let rest = cond-false (eqb (length (byte ∷ old)) 0) End (cond (ltb LINE_LIMIT (length (byte ∷ old))) TooLong Line) some in
+    subst (λ r. ClosesLast (byte ∷ old) r new) (sym (e ∙ rest)) (last_at byte old new (ltb LINE_LIMIT (length (byte ∷ old))) refl same)

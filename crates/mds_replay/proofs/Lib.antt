@@ -1,7 +1,7 @@
 pub mod Framed
 pub mod Gathered
 pub mod Histories
-pub mod Places
+pub mod Positions
 pub mod Progress
 pub mod Reading
 pub mod Steps

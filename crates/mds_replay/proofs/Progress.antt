@@ -12,13 +12,13 @@ use Rattle.mds_request.specs.Reply.{Reply, is_line, refused}
 use Rattle.mds_replay.specs.declared.fault.ReplayFault.{ReplayFault}
 use Rattle.mds_replay.specs.declared.fault.ReplayFault.TheVariants.{Read, Write, BadConfig, NoMemory}
 use Rattle.mds_replay.specs.declared.lines.Found.TheVariants.{TooLong}
-use Rattle.mds_replay.specs.Framing.{lines, line_limit, is_filled}
-use Rattle.mds_replay.specs.Cutting.{request_on}
-use Rattle.mds_replay.specs.Writing.{Writes}
-use Rattle.mds_replay.specs.Reader.{BeginsWithLine, Finds}
+use Rattle.mds_replay.specs.Input.{lines, is_filled, request_on}
+use Rattle.mds_replay.specs.Ends.{Writes}
+use Rattle.mds_replay.specs.LineReading.{BeginsWithLine, Finds}
 use Rattle.mds_replay.specs.Answering.{Answers, Run, Outputs, AreLines, answer_line, request_in}
-use Rattle.mds_replay.specs.Turning.{Replies, Turned, Turns, AnswersAll, AnswersSome, written_of, filled_lines}
+use Rattle.mds_replay.specs.Turning.{Replies, Turned, Turns, written_of, filled_lines}
 use Rattle.mds_replay.proofs.Written.{appends_more}
+use Rattle.mds_replay.specs.declared.gather.TheConstants.{LINE_LIMIT}
 
 -- which lines were answered between these two places
 abbrev pub LinesBetween : Option (List ℕ) → Option (List ℕ) → List (List ℕ) → Type 0
@@ -51,10 +51,20 @@ lines_both before after one other =
     ∙ and_from (list_all (λ reply. is_line reply.body) before) (list_all (λ reply. is_line reply.body) after) one other
 
 module _ {M : Type 0} (step : M → Request → Reply → M → Type 0) where
+  -- the answers to all lines that were left were written
+  abbrev pub AnswersAll : M → Option (List ℕ) → Option (List ℕ) → Option (List ℕ) → Type 0
+  AnswersAll machine left written_old written_new =
+      (output : List ℕ) × Appends written_old written_new output × IfSome left (λ bytes. Outputs step machine (filled_lines bytes) output)
+
+  -- the front of them was
+  abbrev pub AnswersSome : M → Option (List ℕ) → Option (List ℕ) → Option (List ℕ) → Type 0
+  AnswersSome machine left written_old written_new =
+      (front : List ℕ) × (rest : List ℕ) × Appends written_old written_new front × IfSome left (λ bytes. Outputs step machine (filled_lines bytes) (front ++ rest))
+
   pub turns_from : (result : Result Bool ReplayFault) (reply : Option Reply) (old now : Option (List ℕ)) (machine_old machine_new : M) (written_old written_new : Option (List ℕ)) → Turned step old now machine_old machine_new reply → Writes written_old written_new result (written_of reply) → IfOk result (λ more. more ≡ true) → IfErr result (λ fault. fault ≡ Write) → Turns step result old now machine_old machine_new written_old written_new
   turns_from (Ok true) reply old now machine_old machine_new written_old written_new t w more fault = (reply, t, w)
   turns_from (Ok false) reply old now machine_old machine_new written_old written_new t w more fault = cc
-  turns_from (Err Write) reply old now machine_old machine_new written_old written_new t w more fault = (reply, t, w.0, w.1, w.2, w.3)
+  turns_from (Err Write) reply old now machine_old machine_new written_old written_new t w more fault = (reply, t, w)
   turns_from (Err Read) reply old now machine_old machine_new written_old written_new t w more fault = cc
   turns_from (Err BadConfig) reply old now machine_old machine_new written_old written_new t w more fault = cc
   turns_from (Err NoMemory) reply old now machine_old machine_new written_old written_new t w more fault = cc
@@ -67,7 +77,7 @@ module _ {M : Type 0} (step : M → Request → Reply → M → Type 0) where
     replied = (
       lt-ltb 0 (length f.0) (omega (arith, f.1)),
       subst (λ request. MatchOption request ((refused BadLine ≡ refused BadLine) × (machine ≡ machine)) (λ r. step machine r (refused BadLine) machine))
-          (sym (cond-true (ltb line_limit (length f.0)) None (request_on f.0) (lt-ltb line_limit (length f.0) f.1)))
+          (sym (cond-true (ltb LINE_LIMIT (length f.0)) None (request_on f.0) (lt-ltb LINE_LIMIT (length f.0) f.1)))
           (refl, refl),
     );
     one_line = one;
@@ -143,7 +153,7 @@ module _ {M : Type 0} (step : M → Request → Reply → M → Type 0) where
         output_is = r.output_is;
       }
 
-  pub answers_all : (old now : Option (List ℕ)) (first last : M) (written_old written_now written_new : Option (List ℕ)) (output : List ℕ) → Ran old now first last output → Appends written_old written_now output → IsAtEnd now → Appends written_now written_new [] → AnswersAll step first old written_old written_new
+  pub answers_all : (old now : Option (List ℕ)) (first last : M) (written_old written_now written_new : Option (List ℕ)) (output : List ℕ) → Ran old now first last output → Appends written_old written_now output → IsAtEnd now → Appends written_now written_new [] → AnswersAll first old written_old written_new
   answers_all old now first last written_old written_now written_new output r a over none =
       (output, subst (Appends written_old written_new) (append-nil output) (appends_more written_old written_now written_new output [] a none), ran_all old now first last output r over)
 
@@ -176,17 +186,17 @@ module _ {M : Type 0} (step : M → Request → Reply → M → Type 0) where
           },
         )
 
-    pub answers_some : (fault : ReplayFault) (old mid now : Option (List ℕ)) (first between last : M) (written_old written_now written_new : Option (List ℕ)) (output : List ℕ) → Ran old mid first between output → Appends written_old written_now output → Turns step (Err fault) mid now between last written_now written_new → AnswersSome step first old written_old written_new
+    pub answers_some : (fault : ReplayFault) (old mid now : Option (List ℕ)) (first between last : M) (written_old written_now written_new : Option (List ℕ)) (output : List ℕ) → Ran old mid first between output → Appends written_old written_now output → Turns step (Err fault) mid now between last written_now written_new → AnswersSome first old written_old written_new
     answers_some Read old mid now first between last written_old written_now written_new output r a t =
         let more = ran_rest old mid first between output r in
         (output, more.0, subst (Appends written_old written_new) (append-nil output) (appends_more written_old written_now written_new output [] a t), more.1)
     answers_some Write old mid now first between last written_old written_now written_new output r a t =
         let more = ran_rest old now first last (output ++ written_of t.0) (ran_turn old mid now first between last output t.0 r t.1) in
-        let regrouped : (output ++ written_of t.0) ++ more.0 ≡ (output ++ t.2) ++ (t.3 ++ more.0) =
-        ap (λ xs. (output ++ xs) ++ more.0) t.4 ∙ (ap (λ xs. xs ++ more.0) (sym (append_assoc output t.2 t.3)) ∙ append_assoc (output ++ t.2) t.3 more.0) in (
-          output ++ t.2,
-          t.3 ++ more.0,
-          appends_more written_old written_now written_new output t.2 a t.5,
+        let regrouped : (output ++ written_of t.0) ++ more.0 ≡ (output ++ t.2.0) ++ (t.2.1 ++ more.0) =
+        ap (λ xs. (output ++ xs) ++ more.0) t.2.2 ∙ (ap (λ xs. xs ++ more.0) (sym (append_assoc output t.2.0 t.2.1)) ∙ append_assoc (output ++ t.2.0) t.2.1 more.0) in (
+          output ++ t.2.0,
+          t.2.1 ++ more.0,
+          appends_more written_old written_now written_new output t.2.0 a t.2.3,
           subst (λ xs. IfSome old (λ bytes. Outputs step first (filled_lines bytes) xs)) regrouped more.1,
         )
     answers_some BadConfig old mid now first between last written_old written_now written_new output r a t = absurd t

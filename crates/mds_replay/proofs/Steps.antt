@@ -1,12 +1,26 @@
 -- What each step of the line reader leaves gathered.
-use Rattle.std.proofs.Common.{◌≡◌, ℕ, ◌<◌, ◌⊎◌, true, false, List, [], Option, Some, None, sym, ap, subst, ◌∙◌}
+use Rattle.std.proofs.Common.{◌≡◌, ℕ, ◌<◌, ◌⊎◌, ◌+◌, Bool, true, false, take, length, ◌∷◌, ◌++◌, List, [], Option, Some, None, sym, ap, subst, ◌∙◌}
 use Rattle.std.specs.Io.KnownBytes.{Keeps, IsAtEnd, prepend_known}
 use Rattle.mds_replay.specs.declared.lines.LineReader.{LineReader}
 use Rattle.mds_replay.specs.declared.lines.Found.{Found}
 use Rattle.mds_replay.specs.declared.lines.Found.TheVariants.{End}
-use Rattle.mds_replay.specs.Gathering.{Closes, ClosesLast}
-use Rattle.mds_replay.specs.Reader.{ahead, held, passed, left, Finds, Advances, TakesLine, SameAhead}
+use Rattle.mds_replay.specs.LineReading.{ahead, held, passed, left, Finds, Advances, IsWithoutFeed}
+use Rattle.mds_replay.specs.declared.gather.TheConstants.{KEPT_LIMIT}
+use Rattle.mds_replay.proofs.Framed.{Closes, ClosesLast}
 use Rattle.mds_replay.proofs.Reading.{Gathered, gathered_piece, gathered_kept, gathered_advances, feed_advances, found_at_feed, found_at_end, nearer_at_end}
+
+-- The kept line gained the bytes ahead up to their first line feed, or all where there is none, so
+-- many as there is room for.
+abbrev pub TakesLine : Bool → LineReader → LineReader → Type 0
+TakesLine true old new =
+    (front : List ℕ) × (ahead old ≡ front ++ 10 ∷ ahead new) × IsWithoutFeed front × (held new ≡ take KEPT_LIMIT (held old ++ front)) × (passed new ≡ passed old + length front + 1)
+TakesLine false old new =
+    IsWithoutFeed (ahead old) × (ahead new ≡ []) × (held new ≡ take KEPT_LIMIT (held old ++ ahead old)) × (passed new ≡ passed old + length (ahead old))
+
+-- the bytes ahead and how many lie before them stay as they were
+pub record SameAhead (old new : LineReader) : Type 0 where
+  pub ahead_same : ahead new ≡ ahead old
+  pub passed_same : passed new ≡ passed old
 
 same_left : (old new : LineReader) (remaining : Option (List ℕ)) → SameAhead old new → left new remaining ≡ left old remaining
 same_left old new remaining s = ap (λ xs. prepend_known xs remaining) s.ahead_same

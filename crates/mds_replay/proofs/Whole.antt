@@ -1,15 +1,17 @@
 -- A whole replay: the answers to an input, and how many lines they are.
 use Rattle.std.proofs.Common.{◌≡◌, ℕ, ◌+◌, ◌%◌, ◌/◌, Bool, true, false, not, cond, eqb, List, [], ◌∷◌, ◌++◌, length, filter, suc, Option, Some, None, inr, refl, ap, subst, ◌∙◌, arith}
-use Rattle.std.specs.List.{count_by, list_all, flat_map}
+use Rattle.std.specs.List.{count_by, list_all, list_any, flat_map}
 use Rattle.std.specs.Io.KnownBytes.{prepend_known}
-use Rattle.std.proofs.lemmas.Bool.{ne_eqb, and_parts, not-true}
+use Rattle.std.proofs.lemmas.Bool.{ne_eqb, and_parts, or_from, not-true}
 use Rattle.std.proofs.lemmas.List.Sums.{sum_by-append, sum_by-cons}
+use Rattle.mds_request.specs.Configuration.{Configuration}
 use Rattle.mds_request.specs.Request.{Request}
 use Rattle.mds_request.specs.Reply.{Reply, is_line}
-use Rattle.mds_replay.specs.Framing.{lines, is_filled, asked_of}
-use Rattle.mds_replay.specs.Gathering.{is_feed}
-use Rattle.mds_replay.specs.Answering.{Run, Outputs, AreLines, answer_line, Answered, Started}
-use Rattle.mds_replay.specs.Turning.{Begins, AnswersAll, AnswersSome}
+use Rattle.mds_replay.specs.Input.{is_feed, lines, is_filled, asked_of}
+use Rattle.mds_replay.specs.LineReading.{IsWithoutFeed}
+use Rattle.mds_replay.specs.Answering.{Run, Outputs, AreLines, answer_line, answer_text, Answered, Started}
+use Rattle.mds_replay.specs.Turning.{Begins}
+use Rattle.mds_replay.proofs.Progress.{AnswersAll, AnswersSome}
 
 pub nothing_ahead : (remaining : Option (List ℕ)) → prepend_known [] remaining ≡ remaining
 nothing_ahead None = refl
@@ -36,6 +38,20 @@ line_feeds (byte ∷ body) h =
 
 digit_is_other : (n : ℕ) → eqb (48 + n) 10 ≡ false
 digit_is_other n = ne_eqb (48 + n) 10 (λ e. omega (arith, e))
+
+plain_body : (body : List ℕ) → is_line body ≡ true → IsWithoutFeed body
+plain_body [] h = refl
+plain_body (byte ∷ body) h =
+    let parts = and_parts (not (eqb byte 10)) (is_line body) h in
+    or_from (eqb byte 10) (list_any is_feed body) (not-true (eqb byte 10) parts.0) (plain_body body parts.1)
+
+-- the text of an answer is one line
+pub answer_plain : (reply : Reply) → is_line reply.body ≡ true → IsWithoutFeed (answer_text reply)
+answer_plain reply one =
+    let status = reply.status in
+    or_from (eqb (48 + status / 100 % 10) 10) (list_any is_feed ((48 + status / 10 % 10) ∷ (48 + status % 10) ∷ 32 ∷ reply.body)) (digit_is_other (status / 100 % 10))
+    (or_from (eqb (48 + status / 10 % 10) 10) (list_any is_feed ((48 + status % 10) ∷ 32 ∷ reply.body)) (digit_is_other (status / 10 % 10))
+    (or_from (eqb (48 + status % 10) 10) (list_any is_feed (32 ∷ reply.body)) (digit_is_other (status % 10)) (plain_body reply.body one)))
 
 -- an answer line has one line feed
 answer_feeds : (reply : Reply) → is_line reply.body ≡ true → feeds_in (answer_line reply) ≡ 1
@@ -67,7 +83,7 @@ module _ {M : Type 0} (step : M → Request → Reply → M → Type 0) where
   outputs_lines first lines output o =
       ap feeds_in o.output_is ∙ (answers_feeds o.replies o.one_line ∙ run_length lines o.replies first o.last o.run)
 
-  module _ (begins : List ℕ → M → Type 0) where
+  module _ (begins : Configuration → M → Type 0) where
     pub answered_whole : (remaining mid : Option (List ℕ)) (machine : M) (old new : Option (List ℕ)) → Begins begins remaining mid machine → AnswersAll step machine mid old new → Answered begins step remaining old new
     answered_whole None mid machine old new b a = (a.0, a.1, tt)
     answered_whole (Some input) None machine old new b a = absurd b

@@ -1,12 +1,7 @@
 pub mod Answering
-pub mod Begins
-pub mod Cutting
 pub mod Ends
 pub mod Exit
-pub mod Framing
-pub mod Gathering
+pub mod Input
 pub mod Laws
-pub mod Reader
-pub mod Total
+pub mod LineReading
 pub mod Turning
-pub mod Writing

@@ -1,13 +1,15 @@
 -- One turn of a replay: a line is found, and answered.
-use Rattle.std.specs.Prelude.{◌≡◌, ℕ, Bool, true, false, List, [], ◌++◌, filter, drop, Option, Some, None, Result, Ok, Err, IfSome, ⊤}
+use Rattle.std.specs.Prelude.{◌≡◌, ℕ, Bool, true, false, List, [], filter, drop, Option, Some, None, Result, Ok, Err, IfSome, ⊤}
 use Rattle.std.specs.Io.KnownBytes.{Appends, IsAtEnd}
+use Rattle.mds_request.specs.Configuration.{Configuration}
 use Rattle.mds_request.specs.Request.{Request}
 use Rattle.mds_request.specs.Reply.{Reply, is_line}
 use Rattle.mds_replay.specs.declared.fault.ReplayFault.{ReplayFault}
-use Rattle.mds_replay.specs.declared.fault.ReplayFault.TheVariants.{Read, Write, BadConfig, NoMemory}
-use Rattle.mds_replay.specs.Framing.{lines, is_filled, configuration_of}
-use Rattle.mds_replay.specs.Answering.{Answers, Configures, Outputs, answer_line}
-use Rattle.mds_replay.specs.Reader.{BeginsWithLine}
+use Rattle.mds_replay.specs.declared.fault.ReplayFault.TheVariants.{Read, BadConfig, NoMemory}
+use Rattle.mds_replay.specs.Input.{lines, is_filled, configuration_of}
+use Rattle.mds_replay.specs.Answering.{Answers, Configures, answer_line}
+use Rattle.mds_replay.specs.Ends.{Writes}
+use Rattle.mds_replay.specs.LineReading.{BeginsWithLine}
 
 -- what is written for a line that has a reply, or none
 abbrev pub written_of : Option Reply → List ℕ
@@ -18,7 +20,7 @@ written_of (Some reply) = answer_line reply
 abbrev pub filled_lines : List ℕ → List (List ℕ)
 filled_lines bytes = filter is_filled (lines bytes)
 
-module _ {M : Type 0} (begins : List ℕ → M → Type 0) where
+module _ {M : Type 0} (begins : Configuration → M → Type 0) where
   -- the machine is one of the configuration in front, and the other lines are left
   abbrev pub Begins : Option (List ℕ) → Option (List ℕ) → M → Type 0
   Begins None new machine = ⊤
@@ -40,28 +42,14 @@ module _ {M : Type 0} (step : M → Request → Reply → M → Type 0) where
 
   -- what a turn did to what is left, the machine and the bytes written
   abbrev pub Turns : Result Bool ReplayFault → Option (List ℕ) → Option (List ℕ) → M → M → Option (List ℕ) → Option (List ℕ) → Type 0
-  -- a line was answered
-  Turns (Ok true) old now machine_old machine_new written_old written_new =
-      (reply : Option Reply) × Turned old now machine_old machine_new reply × Appends written_old written_new (written_of reply)
   -- there is no further line
   Turns (Ok false) old now machine_old machine_new written_old written_new =
       IsAtEnd old × (machine_new ≡ machine_old) × Appends written_old written_new []
-  -- a line was answered, and a part of the answer written
-  Turns (Err Write) old now machine_old machine_new written_old written_new =
-      (reply : Option Reply) × Turned old now machine_old machine_new reply
-      × (front : List ℕ) × (rest : List ℕ) × (written_of reply ≡ front ++ rest) × Appends written_old written_new front
   -- no line was found
   Turns (Err Read) old now machine_old machine_new written_old written_new = Appends written_old written_new []
-  -- these don't come
+  -- no other fault comes but that of writing
   Turns (Err BadConfig) old now machine_old machine_new written_old written_new = ⊥
   Turns (Err NoMemory) old now machine_old machine_new written_old written_new = ⊥
-
-  -- the answers to all lines that were left were written
-  abbrev pub AnswersAll : M → Option (List ℕ) → Option (List ℕ) → Option (List ℕ) → Type 0
-  AnswersAll machine left written_old written_new =
-      (output : List ℕ) × Appends written_old written_new output × IfSome left (λ bytes. Outputs step machine (filled_lines bytes) output)
-
-  -- the front of them was
-  abbrev pub AnswersSome : M → Option (List ℕ) → Option (List ℕ) → Option (List ℕ) → Type 0
-  AnswersSome machine left written_old written_new =
-      (front : List ℕ) × (rest : List ℕ) × Appends written_old written_new front × IfSome left (λ bytes. Outputs step machine (filled_lines bytes) (front ++ rest))
+  -- a line was answered, or a part of the answer written
+  Turns result old now machine_old machine_new written_old written_new =
+      (reply : Option Reply) × Turned old now machine_old machine_new reply × Writes written_old written_new result (written_of reply)

@@ -1,9 +1,9 @@
 //! A line of the script, cut into the parts of a request.
 ghost use Rattle.std.specs.Prelude.{◌≡◌, ◌^◌, ◌<◌, ◌≤◌, length, Some, None, IfSome, option_map, if◌then◌else◌};
-ghost use Rattle.mds_replay.specs.Cutting.{word_of, behind_word, are_digits, decimal, is_moment, request_from, request_on};
+ghost use Rattle.mds_replay.specs.Input.{word_of, behind_word, are_digits, decimal, is_moment, request_from, request_on};
 ghost use Rattle.mds_request.specs.Request.{request_of};
 
-use crate::place::first_place;
+use crate::gather::position_of;
 use mds_request::{Request, Verb};
 use mds_text::Moment;
 
@@ -21,7 +21,7 @@ pub fn cut(line: &[u8]) -> Option<Request<'_>>
 }
 
 /// The request of these words, unless one of the first four is empty or the first is no moment.
-#[tactic(auto, unfolding(crate::specs::Cutting::request_from))]
+#[tactic(auto, unfolding(crate::specs::Input::request_from))]
 fn checked<'a>(
     at: &[u8],
     token: &'a [u8],
@@ -51,8 +51,8 @@ fn split_word(bytes: &[u8]) -> (&[u8], &[u8])
     ensures word { result.0.now ≡ word_of bytes.now }
     ensures behind { result.1.now ≡ behind_word bytes.now }
 {
-    match first_place(bytes, b' ') {
-        Some(place) => (&bytes[..place], &bytes[place + 1..]),
+    match position_of(bytes, b' ') {
+        Some(at) => (&bytes[..at], &bytes[at + 1..]),
         None => bytes.split_at(bytes.len()),
     }
 }

@@ -1,10 +1,11 @@
 //! The two ends of a replay: where its bytes come from, and where they go.
-ghost use Rattle.std.specs.Prelude.{◌≡◌, ℕ, ◌+◌, ◌-◌, ◌^◌, ◌<◌, ◌≤◌, List, [], Option, None, Some, length, IfOk};
+ghost use Rattle.std.specs.Prelude.{◌≡◌, ℕ, ◌+◌, ◌-◌, ◌^◌, ◌<◌, ◌≤◌, List, Option, length, IfOk};
+ghost use Rattle.std.specs.Io.Buffered.{writer_contents};
 ghost use Rattle.std.specs.Io.KnownBytes.{Keeps, ReadConsumes, WriteAppends};
 ghost use Rattle.mds_replay.specs.Ends.{read_failures, write_failures};
 
-use std::alloc::Global;
-use std::io::{Read, Write};
+use std::alloc::{AllocError, Global};
+use std::io::{BufWriter, Read, Write};
 
 /// A read or a write that failed.
 #[derive(Clone, Copy, Debug, PartialEq, Eq)]
@@ -79,39 +80,44 @@ impl<R: Read> Source for FromReader<R> {
     }
 }
 
-/// Any writer of the standard library as a sink.
+/// Any writer of the standard library as a sink, which keeps a few kilobytes before it sends them on.
 #[derive(Drop)]
-pub struct ToWriter<W> {
-    writer: W,
+pub struct ToWriter<W: Write + Drop> {
+    writer: BufWriter<W>,
     failures: u64,
 }
 
-impl<W: Write> ToWriter<W> {
-    /// The sink whose bytes go to this writer.
-    pub fn new(writer: W) -> Self
-        ensures bytes { ⟦<ToWriter<W> as Sink>⟧.contents result ≡ W.contents writer }
-        ensures fresh { ⟦<ToWriter<W> as Sink>⟧.failures result ≡ 0 }
+impl<W: Write + Drop> ToWriter<W> {
+    /// The sink whose bytes go to this writer. The only error is want of memory.
+    pub fn new(alloc: Global, writer: W) -> Result<Self, AllocError>
+        ensures bytes { IfOk result (λ s. Keeps (W.contents writer) (⟦<ToWriter<W> as Sink>⟧.contents s)) }
+        ensures fresh { IfOk result (λ s. ⟦<ToWriter<W> as Sink>⟧.failures s ≡ 0) }
     {
-        ToWriter {
-            writer,
-            failures: 0,
+        match BufWriter::new(alloc, writer) {
+            Ok(writer) => Ok(ToWriter {
+                writer,
+                failures: 0,
+            }),
+            Err(_) => Err(AllocError),
         }
     }
 
-    /// Sends on what the writer keeps. The error is a write that failed.
-    pub fn flush(&mut self) -> Result<(), Failed>
-        ensures bytes { Keeps (⟦<ToWriter<W> as Sink>⟧.contents self.old) (⟦<ToWriter<W> as Sink>⟧.contents self.new) }
-        ensures uncounted { ⟦<ToWriter<W> as Sink>⟧.failures self.new ≡ ⟦<ToWriter<W> as Sink>⟧.failures self.old }
+    /// Sends on what is kept, and gives the writer back. The error is a write that failed.
+    pub fn finish(mut self) -> Result<W, Failed>
+        ensures { IfOk result (λ writer. Keeps (⟦<ToWriter<W> as Sink>⟧.contents self) (W.contents writer)) }
     {
-        match self.writer.flush() {
-            Ok(()) => Ok(()),
+        if self.writer.flush().is_err() {
+            return Err(Failed);
+        }
+        match self.writer.into_inner() {
+            Ok(writer) => Ok(writer),
             Err(_) => Err(Failed),
         }
     }
 }
 
-impl<W: Write> Sink for ToWriter<W> {
-    ghost contents = { λ s. W.contents s.writer };
+impl<W: Write + Drop> Sink for ToWriter<W> {
+    ghost contents = { λ s. writer_contents W.contents s.writer };
 
     ghost failures = { λ s. s.failures };
 
@@ -123,83 +129,6 @@ impl<W: Write> Sink for ToWriter<W> {
                 }
                 Ok(n)
             }
-            Err(_) => {
-                self.failures += 1;
-                Err(Failed)
-            }
-        }
-    }
-}
-
-/// Bytes in memory as a source.
-#[derive(Drop)]
-pub struct FromBytes<'a> {
-    rest: &'a [u8],
-}
-
-impl<'a> FromBytes<'a> {
-    /// The source of these bytes.
-    pub fn new(bytes: &'a [u8]) -> Self
-        ensures bytes { ⟦<FromBytes<'a> as Source>⟧.remaining result ≡ Some bytes.now }
-        ensures fresh { ⟦<FromBytes<'a> as Source>⟧.failures result ≡ 0 }
-    {
-        FromBytes { rest: bytes }
-    }
-}
-
-impl Source for FromBytes<'_> {
-    ghost remaining = { λ s. Some s.rest.now };
-
-    ghost failures = { λ _. 0 };
-
-    fn read(&mut self, buffer: &mut [u8]) -> Result<usize, Failed> {
-        let count = self.rest.len().min(buffer.len());
-        let (front, rest) = self.rest.split_at(count);
-        buffer[..count].copy_from_slice(front);
-        self.rest = rest;
-        Ok(count)
-    }
-}
-
-/// A vector that grows by what is written.
-#[derive(Drop)]
-pub struct ToBytes {
-    written: Vec<u8>,
-    failures: u64,
-}
-
-impl ToBytes {
-    /// A sink that nothing was written to.
-    pub fn new(alloc: Global) -> Self
-        ensures bytes { ⟦<ToBytes as Sink>⟧.contents result ≡ Some [] }
-        ensures fresh { ⟦<ToBytes as Sink>⟧.failures result ≡ 0 }
-    {
-        ToBytes {
-            written: Vec::new(alloc),
-            failures: 0,
-        }
-    }
-
-    /// What was written.
-    pub fn bytes(&self) -> &[u8]
-        ensures { ⟦<ToBytes as Sink>⟧.contents self.now ≡ Some result.now }
-    {
-        self.written.as_slice()
-    }
-}
-
-impl Sink for ToBytes {
-    ghost contents = { λ s. Some s.written.items };
-
-    ghost failures = { λ s. s.failures };
-
-    fn write(&mut self, bytes: &[u8]) -> Result<usize, Failed> {
-        if bytes.is_empty() {
-            self.failures += 1;
-            return Ok(0);
-        }
-        match self.written.extend_from_slice(bytes) {
-            Ok(()) => Ok(bytes.len()),
             Err(_) => {
                 self.failures += 1;
                 Err(Failed)

@@ -2,6 +2,10 @@
 ghost use Rattle.std.specs.Prelude.{◌≡◌};
 ghost use Rattle.mds_replay.specs.Exit.{message_of, exit_status};
 
+use mds_request::ConfigFault;
+use mds_text::TextFault;
+use std::alloc::AllocError;
+
 /// Why a replay ends before its input does.
 #[derive(Clone, Copy, Debug, PartialEq, Eq)]
 pub enum ReplayFault {
@@ -11,8 +15,8 @@ pub enum ReplayFault {
     Write,
     /// The first line is no configuration, or over the limit of a line. Nothing was written.
     BadConfig,
-    /// What is made first, the line buffer, the configuration and the machine, found no memory.
-    /// Nothing was written.
+    /// What is made first, the buffers, the configuration and the machine, found no memory. Nothing
+    /// was written.
     NoMemory,
 }
 
@@ -38,5 +42,30 @@ impl ReplayFault {
             ReplayFault::BadConfig => 2,
             ReplayFault::NoMemory => 3,
         }
+    }
+}
+
+impl From<ConfigFault> for ReplayFault {
+    ghost use Rattle.std.specs.Prelude.{◌≡◌};
+    ghost use Rattle.mds_replay.specs.Exit.{fault_of};
+
+    ghost from_gives = { λ fault e. e ≡ fault_of fault };
+
+    fn from(fault: ConfigFault) -> ReplayFault {
+        match fault {
+            ConfigFault::NoMemory | ConfigFault::Text(TextFault::NoMemory) => ReplayFault::NoMemory,
+            _ => ReplayFault::BadConfig,
+        }
+    }
+}
+
+impl From<AllocError> for ReplayFault {
+    ghost use Rattle.std.specs.Prelude.{◌≡◌};
+    ghost use Rattle.mds_replay.specs.declared.fault.ReplayFault.TheVariants.{NoMemory};
+
+    ghost from_gives = { λ _ e. e ≡ NoMemory };
+
+    fn from(_refused: AllocError) -> ReplayFault {
+        ReplayFault::NoMemory
     }
 }

@@ -1,14 +1,12 @@
 //! The bytes of one line, gathered from pieces of the input.
-ghost use Rattle.std.specs.Prelude.{◌≡◌, ◌+◌, ◌<◌, ◌≤◌, ◌++◌, take, length, nat_lt, if◌then◌else◌, vec_len, vec_capacity};
-ghost use Rattle.std.specs.Io.BufRead.{ends_with_byte};
-ghost use Rattle.mds_replay.specs.Framing.{line_limit};
-ghost use Rattle.mds_replay.specs.Gathering.{Gathers, Closes, ClosesLast};
+ghost use Rattle.std.specs.Prelude.{◌≡◌, ◌==◌, ◌+◌, ◌<◌, ◌≤◌, ◌++◌, position, take, length, nat_lt, if◌then◌else◌, vec_len, vec_capacity};
+ghost use Rattle.std.specs.Io.BufRead.{ends_with_byte, strip_last};
+ghost use Rattle.mds_replay.specs.LineReading.{Gathers};
 
 use crate::lines::Found;
-use crate::place::first_place;
 
 /// The most bytes of a line, its end not counted.
-const LINE_LIMIT: usize = 2_097_152;
+pub const LINE_LIMIT: usize = 2_097_152;
 
 /// How many bytes of a line are kept: one that is cut off there is over the limit, even if its last
 /// byte is a carriage return that is dropped.
@@ -17,16 +15,16 @@ pub const KEPT_LIMIT: usize = LINE_LIMIT + 2;
 /// Adds the bytes before the first line feed to the line, and gives how many bytes they and the
 /// line feed are. Without a line feed all bytes are added, and the answer is `None`.
 pub fn gather(line: &mut Vec<u8>, bytes: &[u8]) -> Option<usize>
-    requires short { vec_len line.old ≤ 2097154 }
-    requires reserved { 2097154 ≤ vec_capacity line.old }
+    requires short { vec_len line.old ≤ KEPT_LIMIT }
+    requires reserved { KEPT_LIMIT ≤ vec_capacity line.old }
     ensures gathers { Gathers line.old.items bytes.now result line.new.items }
-    ensures short { vec_len line.new ≤ 2097154 }
-    ensures reserved { 2097154 ≤ vec_capacity line.new }
+    ensures short { vec_len line.new ≤ KEPT_LIMIT }
+    ensures reserved { KEPT_LIMIT ≤ vec_capacity line.new }
 {
-    match first_place(bytes, b'\n') {
-        Some(place) => {
-            keep(line, &bytes[..place]);
-            Some(place + 1)
+    match position_of(bytes, b'\n') {
+        Some(at) => {
+            keep(line, &bytes[..at]);
+            Some(at + 1)
         }
         None => {
             keep(line, bytes);
@@ -37,11 +35,11 @@ pub fn gather(line: &mut Vec<u8>, bytes: &[u8]) -> Option<usize>
 
 /// Adds as many of the bytes as there is room for.
 fn keep(line: &mut Vec<u8>, bytes: &[u8])
-    requires short { vec_len line.old ≤ 2097154 }
-    requires reserved { 2097154 ≤ vec_capacity line.old }
-    ensures items { line.new.items ≡ take 2097154 (line.old.items ++ bytes.now) }
-    ensures short { vec_len line.new ≤ 2097154 }
-    ensures reserved { 2097154 ≤ vec_capacity line.new }
+    requires short { vec_len line.old ≤ KEPT_LIMIT }
+    requires reserved { KEPT_LIMIT ≤ vec_capacity line.old }
+    ensures items { line.new.items ≡ take KEPT_LIMIT (line.old.items ++ bytes.now) }
+    ensures short { vec_len line.new ≤ KEPT_LIMIT }
+    ensures reserved { KEPT_LIMIT ≤ vec_capacity line.new }
 {
     let room = KEPT_LIMIT - line.len();
     let count = bytes.len().min(room);
@@ -59,11 +57,12 @@ fn append(line: &mut Vec<u8>, bytes: &[u8])
 
 /// Ends a line at a line feed: drops a carriage return at its end, and looks at its length.
 pub fn close(line: &mut Vec<u8>) -> Found
-    requires short { vec_len line.old ≤ 2097154 }
-    requires reserved { 2097154 ≤ vec_capacity line.old }
-    ensures closes { Closes line.old.items result line.new.items }
-    ensures short { vec_len line.new ≤ 2097154 }
-    ensures reserved { 2097154 ≤ vec_capacity line.new }
+    requires short { vec_len line.old ≤ KEPT_LIMIT }
+    requires reserved { KEPT_LIMIT ≤ vec_capacity line.old }
+    ensures line { line.new.items ≡ strip_last 13 line.old.items }
+    ensures found { result ≡ (if nat_lt LINE_LIMIT (length line.new.items) then Found.TooLong else Found.Line) }
+    ensures short { vec_len line.new ≤ KEPT_LIMIT }
+    ensures reserved { KEPT_LIMIT ≤ vec_capacity line.new }
 {
     if ends_with_return(line) {
         line.pop();
@@ -83,8 +82,8 @@ fn ends_with_return(line: &[u8]) -> bool
 
 /// Ends the last line, which no line feed ends.
 pub fn close_last(line: &mut Vec<u8>) -> Found
-    requires { vec_len line.old ≤ 2097154 }
-    ensures closes { ClosesLast line.old.items result line.new.items }
+    requires { vec_len line.old ≤ KEPT_LIMIT }
+    ensures found { result ≡ (if length line.old.items == 0 then Found.End else (if nat_lt LINE_LIMIT (length line.old.items) then Found.TooLong else Found.Line)) }
     ensures same { line.new ≡ line.old }
 {
     if line.is_empty() {
@@ -96,11 +95,18 @@ pub fn close_last(line: &mut Vec<u8>) -> Found
 
 /// A line, or one over the limit.
 fn found(line: &[u8]) -> Found
-    ensures { result ≡ (if nat_lt line_limit (length line.now) then Found.TooLong else Found.Line) }
+    ensures { result ≡ (if nat_lt LINE_LIMIT (length line.now) then Found.TooLong else Found.Line) }
 {
     if line.len() > LINE_LIMIT {
         Found::TooLong
     } else {
         Found::Line
     }
+}
+
+/// Where the first such byte stands.
+pub fn position_of(bytes: &[u8], wanted: u8) -> Option<usize>
+    ensures { result ≡ position (λ byte. byte == wanted) bytes.now }
+{
+    bytes.iter().position(|byte| *byte == wanted)
 }

@@ -1,12 +1,14 @@
 //! The lines of an input, one after another, in memory that is made first.
 ghost use Rattle.std.specs.Prelude.{◌≡◌, ℕ, ◌+◌, ◌-◌, ◌<◌, ◌≤◌, vec_len, vec_capacity};
+ghost use Rattle.mds_replay.specs.declared.gather.TheConstants.{KEPT_LIMIT, LINE_LIMIT};
+ghost use Rattle.mds_replay.specs.declared.lines.TheConstants.{INPUT_LIMIT};
 
 use crate::ends::{Failed, Source};
 use crate::gather::{KEPT_LIMIT, close, close_last, gather};
 use std::alloc::{AllocError, Global};
 
 /// The most bytes of a whole input.
-const INPUT_LIMIT: usize = 1_073_741_824;
+pub const INPUT_LIMIT: usize = 1_073_741_824;
 
 /// How many bytes are asked of the source at once.
 const CHUNK: usize = 65_536;
@@ -36,16 +38,16 @@ pub struct LineReader {
     ghost within: { end ≤ vec_len chunk },
     ghost roomy: { 0 < vec_len chunk },
     ghost counted: { end - start ≤ total },
-    ghost limited: { total ≤ 1073741824 },
-    ghost short: { vec_len line ≤ 2097154 },
-    ghost reserved: { 2097154 ≤ vec_capacity line },
+    ghost limited: { total ≤ INPUT_LIMIT },
+    ghost short: { vec_len line ≤ KEPT_LIMIT },
+    ghost reserved: { KEPT_LIMIT ≤ vec_capacity line },
 }
 
 impl LineReader {
-    ghost use Rattle.std.specs.Prelude.{List, [], ◌++◌, ◌^◌, Bool, true, false, length, IfOk, OnOk, OnErr, IsTrue, IfSome, Some, ◌⊎◌, drop, MatchResult, MatchBool};
+    ghost use Rattle.std.specs.Prelude.{List, [], ◌∷◌, ◌++◌, take, ◌^◌, Bool, true, false, length, IfOk, OnOk, OnErr, IsTrue, IfSome, Some, ◌⊎◌, drop, MatchBool, ◌==◌, nat_lt, if◌then◌else◌};
     ghost use Rattle.std.specs.Io.KnownBytes.{Keeps, IsAtEnd};
-    ghost use Rattle.mds_replay.specs.Reader.{ahead, held, passed, left, Advances, FailsReading, Finds, SameAhead, TakesLine};
-    ghost use Rattle.mds_replay.specs.Gathering.{Closes, ClosesLast};
+    ghost use Rattle.mds_replay.specs.LineReading.{ahead, held, passed, left, Advances, FailsReading, Finds, IsWithoutFeed};
+    ghost use Rattle.std.specs.Io.BufRead.{strip_last};
 
     /// A reader that has read nothing. The only error is want of memory.
     pub fn new(alloc: Global) -> Result<LineReader, AllocError>
@@ -93,31 +95,40 @@ impl LineReader {
     /// Begins a line without a byte.
     fn begin_line(&mut self)
         ensures held { held self.new ≡ [] }
-        ensures others { SameAhead self.old self.new }
+        ensures ahead { ahead self.new ≡ ahead self.old }
+        ensures passed { passed self.new ≡ passed self.old }
     {
         self.line.clear();
     }
 
     /// Ends the line at a line feed.
     fn end_line(&mut self) -> Found
-        ensures closes { Closes (held self.old) result (held self.new) }
-        ensures others { SameAhead self.old self.new }
+        ensures line { held self.new ≡ strip_last 13 (held self.old) }
+        ensures found { result ≡ (if nat_lt LINE_LIMIT (length (held self.new)) then Found.TooLong else Found.Line) }
+        ensures ahead { ahead self.new ≡ ahead self.old }
+        ensures passed { passed self.new ≡ passed self.old }
     {
         close(&mut self.line)
     }
 
     /// Ends the last line, which no line feed ends.
     fn end_input(&mut self) -> Found
-        ensures closes { ClosesLast (held self.old) result (held self.new) }
-        ensures others { SameAhead self.old self.new }
+        ensures held { held self.new ≡ held self.old }
+        ensures found { result ≡ (if length (held self.old) == 0 then Found.End else (if nat_lt LINE_LIMIT (length (held self.old)) then Found.TooLong else Found.Line)) }
+        ensures ahead { ahead self.new ≡ ahead self.old }
+        ensures passed { passed self.new ≡ passed self.old }
     {
         close_last(&mut self.line)
     }
 
-    /// Takes the bytes ahead up to their first line feed to the line, and tells whether there is
-    /// one. Without one all of them are taken.
+    /// Takes the bytes ahead up to their first line feed to the line, as many as there is room for,
+    /// and tells whether there is one. Without one all of them are taken.
     fn take_line(&mut self) -> bool
-        ensures takes { TakesLine result self.old self.new }
+        ensures takes { MatchBool result
+            ((front : List ℕ) × (ahead self.old ≡ front ++ 10 ∷ ahead self.new) × IsWithoutFeed front
+            × (held self.new ≡ take KEPT_LIMIT (held self.old ++ front)) × (passed self.new ≡ passed self.old + length front + 1))
+            (IsWithoutFeed (ahead self.old) × (ahead self.new ≡ [])
+            × (held self.new ≡ take KEPT_LIMIT (held self.old ++ ahead self.old)) × (passed self.new ≡ passed self.old + length (ahead self.old))) }
         ensures total { self.new.total ≡ self.old.total }
     {
         let window = &self.chunk[self.start..self.end];

@@ -1,34 +1,25 @@
 //! What answers the requests of a replay.
-use mds_request::{Reply, Request};
-use std::alloc::Global;
-
-/// Why there is no machine for a text.
-#[derive(Clone, Copy, Debug, PartialEq, Eq)]
-pub enum Refused {
-    /// The text is no configuration.
-    BadConfig,
-    /// A growth was refused.
-    NoMemory,
-}
+use mds_request::{Config, Reply, Request};
+use std::alloc::{AllocError, Global};
 
 /// What is made of a configuration, and answers requests one after another.
 pub trait Machine: Drop {
-    ghost use Rattle.std.specs.Prelude.{◌≡◌, ℕ, List, IfOk, IsErrOf, IsTrue};
+    ghost use Rattle.std.specs.Prelude.{IfOk, IsTrue};
+    ghost use Rattle.mds_request.specs.Configuration.{Configuration, configuration};
     ghost use Rattle.mds_request.specs.Request.{Request as Asked, request_of};
     ghost use Rattle.mds_request.specs.Reply.{Reply as Answer, is_line};
 
-    /// The machine is a new one of the configuration that this text is.
-    ghost begins: { List ℕ → Self → Type 0 };
+    /// The machine is a new one of the configuration.
+    ghost begins: { Configuration → Self → Type 0 };
 
     /// The machine may answer the request so, and go on to the last one.
     ghost step: { Self → Asked → Answer → Self → Type 0 };
 
-    /// A new machine of the configuration that the text is.
-    fn configure(alloc: Global, text: &[u8]) -> Result<Self, Refused>
+    /// A new machine of the configuration. The only error is want of memory.
+    fn begin(alloc: Global, config: Config) -> Result<Self, AllocError>
     where
         Self: Sized,
-        ensures new { IfOk result (begins text.now) }
-        ensures refused { IsErrOf result Refused.BadConfig → (machine : Self) → begins text.now machine → ⊥ };
+        ensures { IfOk result (begins (configuration config)) };
 
     /// The answer to a request.
     fn answer(&mut self, request: &Request<'_>) -> Reply

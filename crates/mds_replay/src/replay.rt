@@ -1,21 +1,24 @@
 //! A replay: its configuration, and then line after line.
-ghost use Rattle.std.specs.Prelude.{◌≡◌, ◌+◌, ◌*◌, ◌-◌, ◌^◌, ◌<◌, ◌≤◌, ◌⊎◌, ℕ, List, [], length, true, false, is_ok, if◌then◌else◌, IfOk, IfErr, OnOk, OnErr, IfSome, IsTrue, IsErrOf, ◌≢◌};
+ghost use Rattle.std.specs.Prelude.{◌≡◌, ◌+◌, ◌*◌, ◌-◌, ◌^◌, ◌<◌, ◌≤◌, ◌⊎◌, ℕ, List, [], ◌++◌, length, true, false, is_ok, if◌then◌else◌, IfOk, IfErr, OnOk, OnErr, IfSome, IsTrue, IsErrOf, ◌≢◌};
 ghost use Rattle.std.specs.Io.KnownBytes.{Appends, IsAtEnd};
+ghost use Rattle.mds_request.specs.Configuration.{read_configuration};
 ghost use Rattle.mds_request.specs.Reply.{is_line, refused};
 ghost use Rattle.mds_request.specs.declared.code.Code.TheVariants.{BadLine};
-ghost use Rattle.mds_replay.specs.Framing.{input_limit, line_limit};
-ghost use Rattle.mds_replay.specs.Writing.{Writes};
-ghost use Rattle.mds_replay.specs.Reader.{left, passed, Advances, FailsReading, IsLimited};
-ghost use Rattle.mds_replay.specs.Turning.{Replies, Turns, AnswersAll, AnswersSome, Begins, written_of};
-ghost use Rattle.mds_replay.specs.Answering.{IsUnconfigured, IsShort, Answered, Started};
+ghost use Rattle.mds_replay.specs.Ends.{Writes};
+ghost use Rattle.mds_replay.specs.LineReading.{left, passed, Advances, FailsReading};
+ghost use Rattle.mds_replay.specs.Turning.{Replies, Turns, Begins, filled_lines, written_of};
+ghost use Rattle.mds_replay.specs.Answering.{Configures, IsUnconfigured, Outputs, Answered, Started};
+ghost use Rattle.mds_replay.specs.declared.gather.TheConstants.{LINE_LIMIT};
+ghost use Rattle.mds_replay.specs.Input.{configuration_of};
+ghost use Rattle.mds_replay.specs.declared.lines.TheConstants.{INPUT_LIMIT};
 
 use crate::cut::cut;
 use crate::ends::{Sink, Source};
 use crate::fault::ReplayFault;
 use crate::lines::{Found, LineReader};
-use crate::machine::{Machine, Refused};
+use crate::machine::Machine;
 use crate::write::write_answer;
-use mds_request::{Code, Refusal, Reply};
+use mds_request::{Code, Config, Reply};
 use std::alloc::Global;
 
 /// Reads a configuration line and request lines, and writes one answer line for each of the latter.
@@ -40,7 +43,7 @@ pub fn replay<M: Machine, S: Source, W: Sink>(
 
     // No read and no write failed, and the input wasn't over its limit.
     ensures sound { OnOk result ((S.failures source.new ≡ S.failures source.old) × (W.failures sink.new ≡ W.failures sink.old)) }
-    ensures limited { OnOk result (IfSome (S.remaining source.old) (λ input. length input ≤ input_limit)) }
+    ensures limited { OnOk result (IfSome (S.remaining source.old) (λ input. length input ≤ INPUT_LIMIT)) }
 
     // After a fault it is their front, or nothing.
     ensures started { OnErr result (Started M.begins M.step (S.remaining source.old)
@@ -48,25 +51,19 @@ pub fn replay<M: Machine, S: Source, W: Sink>(
 
     // When each fault comes.
     ensures read { IsErrOf result ReplayFault.Read → (S.failures source.new ≡ S.failures source.old + 1)
-        ⊎ IfSome (S.remaining source.old) (λ input. input_limit < length input) }
+        ⊎ IfSome (S.remaining source.old) (λ input. INPUT_LIMIT < length input) }
     ensures write { IsErrOf result ReplayFault.Write → W.failures sink.new ≡ W.failures sink.old + 1 }
-    ensures bad_config { IsErrOf result ReplayFault.BadConfig → IfSome (S.remaining source.old) (IsUnconfigured M.begins) }
+    ensures bad_config { IsErrOf result ReplayFault.BadConfig → IfSome (S.remaining source.old) IsUnconfigured }
     // Want of memory hides no failed read, and no first line that is over the limit, once something was read.
     ensures memory { IsErrOf result ReplayFault.NoMemory → (source.new ≡ source.old)
-        ⊎ ((S.failures source.new ≡ S.failures source.old) × IfSome (S.remaining source.old) IsShort) }
+        ⊎ ((S.failures source.new ≡ S.failures source.old) × IfSome (S.remaining source.old) (λ input. length (configuration_of input) ≤ LINE_LIMIT)) }
 
     // Before the first answer nothing is written.
     ensures unwritten_config { IsErrOf result ReplayFault.BadConfig → sink.new ≡ sink.old }
     ensures unwritten_memory { IsErrOf result ReplayFault.NoMemory → sink.new ≡ sink.old }
 {
-    let mut reader = match LineReader::new(alloc) {
-        Ok(reader) => reader,
-        Err(_) => return Err(ReplayFault::NoMemory),
-    };
-    let mut machine = match begin::<M, S>(alloc, &mut reader, source) {
-        Ok(machine) => machine,
-        Err(fault) => return Err(fault),
-    };
+    let mut reader = LineReader::new(alloc)?;
+    let mut machine = begin::<M, S>(alloc, &mut reader, source)?;
     answer_all(&mut reader, &mut machine, source, sink)
 }
 
@@ -83,9 +80,9 @@ fn begin<M: Machine, S: Source>(
     ensures read_on { OnOk result (S.failures source.new ≡ S.failures source.old) }
     ensures read { IsErrOf result ReplayFault.Read → FailsReading (S.failures source.old) (S.failures source.new)
         (passed reader.old) (left reader.old (S.remaining source.old)) }
-    ensures bad_config { IsErrOf result ReplayFault.BadConfig → IfSome (left reader.old (S.remaining source.old)) (IsUnconfigured M.begins) }
+    ensures bad_config { IsErrOf result ReplayFault.BadConfig → IfSome (left reader.old (S.remaining source.old)) IsUnconfigured }
     ensures memory { IsErrOf result ReplayFault.NoMemory → (S.failures source.new ≡ S.failures source.old)
-        × IfSome (left reader.old (S.remaining source.old)) IsShort }
+        × IfSome (left reader.old (S.remaining source.old)) (λ input. length (configuration_of input) ≤ LINE_LIMIT) }
     ensures unwritten { IfErr result (λ fault. fault ≢ ReplayFault.Write) }
 {
     match reader.next(source) {
@@ -98,15 +95,12 @@ fn begin<M: Machine, S: Source>(
 
 /// The machine of the configuration that the text is.
 fn configured<M: Machine>(alloc: Global, text: &[u8]) -> Result<M, ReplayFault>
-    ensures begins { IfOk result (M.begins text.now) }
-    ensures bad_config { IsErrOf result ReplayFault.BadConfig → (machine : M) → M.begins text.now machine → ⊥ }
+    ensures begins { IfOk result (λ machine. length text.now ≤ LINE_LIMIT → Configures M.begins text.now machine) }
+    ensures bad_config { IsErrOf result ReplayFault.BadConfig → is_ok (read_configuration text.now) ≡ false }
     ensures fault { IfErr result (λ fault. (fault ≡ ReplayFault.BadConfig) ⊎ (fault ≡ ReplayFault.NoMemory)) }
 {
-    match M::configure(alloc, text) {
-        Ok(machine) => Ok(machine),
-        Err(Refused::BadConfig) => Err(ReplayFault::BadConfig),
-        Err(Refused::NoMemory) => Err(ReplayFault::NoMemory),
-    }
+    let config = Config::read(alloc, text)?;
+    Ok(M::begin(alloc, config)?)
 }
 
 /// Answers all lines that are left.
@@ -118,13 +112,14 @@ fn answer_all<M: Machine, S: Source, W: Sink>(
 ) -> Result<(), ReplayFault>
     requires readable { S.failures source.old < 2 ^ 64 - 1 }
     requires writable { W.failures sink.old < 2 ^ 64 - 1 }
-    ensures all { OnOk result (AnswersAll M.step machine.old (left reader.old (S.remaining source.old))
-        (W.contents sink.old) (W.contents sink.new)) }
+    // All answers were written, or, after a fault, a front of them.
+    ensures all { OnOk result ((output : List ℕ) × Appends (W.contents sink.old) (W.contents sink.new) output
+        × IfSome (left reader.old (S.remaining source.old)) (λ bytes. Outputs M.step machine.old (filled_lines bytes) output)) }
     ensures ended { OnOk result (IsAtEnd (S.remaining source.new)) }
     ensures sound { OnOk result ((S.failures source.new ≡ S.failures source.old) × (W.failures sink.new ≡ W.failures sink.old)) }
-    ensures limited { OnOk result (IsLimited (passed reader.old) (left reader.old (S.remaining source.old))) }
-    ensures some { OnErr result (AnswersSome M.step machine.old (left reader.old (S.remaining source.old))
-        (W.contents sink.old) (W.contents sink.new)) }
+    ensures limited { OnOk result (IfSome (left reader.old (S.remaining source.old)) (λ bytes. passed reader.old + length bytes ≤ INPUT_LIMIT)) }
+    ensures some { OnErr result ((front : List ℕ) × (rest : List ℕ) × Appends (W.contents sink.old) (W.contents sink.new) front
+        × IfSome (left reader.old (S.remaining source.old)) (λ bytes. Outputs M.step machine.old (filled_lines bytes) (front ++ rest))) }
     ensures read { IsErrOf result ReplayFault.Read → FailsReading (S.failures source.old) (S.failures source.new)
         (passed reader.old) (left reader.old (S.remaining source.old)) }
     ensures write { IsErrOf result ReplayFault.Write → W.failures sink.new ≡ W.failures sink.old + 1 }
@@ -188,7 +183,7 @@ fn answer<W: Sink>(sink: &mut W, reply: Option<Reply>) -> Result<bool, ReplayFau
 
 /// The reply to a line that isn't over the limit; none to an empty one.
 fn reply_to<M: Machine>(machine: &mut M, line: &[u8]) -> Option<Reply>
-    requires { length line.now ≤ line_limit }
+    requires { length line.now ≤ LINE_LIMIT }
     ensures { Replies M.step machine.old line.now result machine.new }
 {
     if line.is_empty() {
@@ -204,5 +199,5 @@ fn reply_to<M: Machine>(machine: &mut M, line: &[u8]) -> Option<Reply>
 fn refusal() -> Reply
     ensures { result ≡ refused BadLine }
 {
-    Reply::from(Refusal::new(Code::BadLine))
+    Reply::from(Code::BadLine)
 }

@@ -1,30 +1,23 @@
 //! The server's machine as a replay's.
-use crate::machine::{Machine, Refused};
-use mds_request::{Config, ConfigFault, Reply, Request};
+use crate::machine::Machine;
+use mds_request::{Config, Reply, Request};
 use mds_verdict::Plain;
 use mds_world::World;
-use std::alloc::Global;
+use std::alloc::{AllocError, Global};
 
 /// The machine of the server, which judges vehicles one after another.
 impl Machine for World<Plain> {
-    ghost use Rattle.mds_replay.specs.Begins.{IsNew};
-    ghost use Rattle.mds_replay.specs.Total.{some_reply};
-    ghost use Rattle.mds_world.specs.Step.{Step};
+    ghost use Rattle.std.specs.Prelude.{◌≡◌};
+    ghost use Rattle.mds_machine.proofs.Replies.{some_reply};
+    ghost use Rattle.mds_machine.specs.Step.{Step, new_state};
     ghost use Rattle.mds_world.specs.World.{state_of};
 
-    ghost begins = { λ text world. IsNew text world };
+    ghost begins = { λ configuration world. state_of world ≡ new_state configuration };
 
     ghost step = { λ old request reply new. Step (state_of old) request reply (state_of new) };
 
-    fn configure(alloc: Global, text: &[u8]) -> Result<World<Plain>, Refused> {
-        match Config::read(alloc, text) {
-            Ok(config) => match World::new(alloc, config, Plain) {
-                Ok(world) => Ok(world),
-                Err(_) => Err(Refused::NoMemory),
-            },
-            Err(ConfigFault::NoMemory) => Err(Refused::NoMemory),
-            Err(_) => Err(Refused::BadConfig),
-        }
+    fn begin(alloc: Global, config: Config) -> Result<World<Plain>, AllocError> {
+        World::new(alloc, config, Plain)
     }
 
     fn answer(&mut self, request: &Request<'_>) -> Reply {

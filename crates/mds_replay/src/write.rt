@@ -1,7 +1,7 @@
 //! Answer lines, written to a sink.
 ghost use Rattle.std.specs.Prelude.{◌≡◌, ◌+◌, ◌-◌, ◌^◌, ◌<◌, ◌∷◌, ◌++◌, [], IsTrue, is_ok, if◌then◌else◌};
 ghost use Rattle.mds_request.specs.Reply.{is_line};
-ghost use Rattle.mds_replay.specs.Writing.{Writes};
+ghost use Rattle.mds_replay.specs.Ends.{Writes};
 ghost use Rattle.mds_replay.specs.Answering.{answer_line, status_text};
 
 use crate::ends::{Failed, Sink};

@@ -1,7 +1,7 @@
 -- Whose access token it is.
 use Rattle.std.proofs.Common.{◌≡◌, ℕ, false, cond, bytes_eq, string_bytes, List, map, ap, ◌∙◌, sym, Option, position}
-use Rattle.mds_request.specs.declared.operator.Operator.{Operator as Named}
-use Rattle.mds_request.specs.declared.actor.Actor.TheVariants.{Author}
+use Rattle.mds_request.specs.declared.config.Operator.{Operator as Named}
+use Rattle.mds_request.specs.declared.config.Actor.TheVariants.{Author}
 use Rattle.mds_request.specs.declared.config.Config.{Config}
 use Rattle.mds_request.specs.Configuration.{configuration, operator, has_token, operator_at, actor_of}
 use Rattle.mds_request.proofs.Lists.{position-map}

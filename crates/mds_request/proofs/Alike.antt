@@ -1,7 +1,7 @@
 -- Things that stand twice among operators.
 use Rattle.std.proofs.Common.{◌≡◌, ℕ, Bool, true, false, ◌||◌, bytes_eq, string_bytes, List, ◌∷◌, map, ap, ◌∙◌, sym}
 use Rattle.std.specs.List.{list_any}
-use Rattle.mds_request.specs.declared.operator.Operator.{Operator as Named}
+use Rattle.mds_request.specs.declared.config.Operator.{Operator as Named}
 use Rattle.mds_request.specs.Configuration.{Operator, operator, repeats, ids, tokens}
 use Rattle.mds_request.proofs.Lists.{list_any-map}
 

@@ -1,35 +1,8 @@
--- Where a target and a path are cut.
-use Rattle.std.proofs.Common.{◌≡◌, ℕ, suc, ◌+◌, Bool, true, false, not, cond, List, [], ◌∷◌, length, take, nat_lt, Option, Some, None, position, refl, ap, sym, ◌∙◌, arith, MatchOption, lit<}
-use Rattle.std.specs.List.{slice_split, onto_first, position_or_len, before_first, after_first}
-use Rattle.std.specs.Str.{IsUtf8, is_utf8}
+-- Where a target is cut.
+use Rattle.std.proofs.Common.{◌≡◌, ℕ, Bool, true, false, cond, List, length, take, nat_lt, Some, None, position, refl, ap, sym}
+use Rattle.std.specs.List.{position_or_len, before_first}
 use Rattle.std.proofs.lemmas.Bool.{ltb-false}
 use Rattle.std.proofs.lemmas.List.{take_all}
-use Rattle.std.proofs.lemmas.List.Splits.{slice_split_first, slice_split-cons_no}
-use Rattle.std.proofs.lemmas.Str.{IsUtf8-from_is_utf8, is_utf8-from_IsUtf8}
-use Rattle.std.proofs.lemmas.Str.Pattern.{IsSplitOnceResult, split_once_first}
-use denote.Ref.{Bor}
-use Rattle.mds_request.specs.Route.{Place, is_slash, route_of, route_of_pieces, place_of}
-
--- one more than there are passes is no place
-none_step : (n m : ℕ) (b : Bool) → cond (not b) (1 + n) 0 ≡ suc m → (b ≡ false) × (n ≡ m)
-none_step n m true e = absurd (omega (arith, e))
-none_step n m false e = (refl, omega (arith, e))
-
--- where nothing passes, the list is one piece
-whole : {X : Type 0} (p : X → Bool) (xs : List X) → position_or_len p xs ≡ length xs → slice_split p xs ≡ xs ∷ []
-whole p [] e = refl
-whole p (x ∷ xs) e =
-    let step = none_step (position_or_len p xs) (length xs) (p x) e in
-    slice_split-cons_no p x xs step.0 ∙ ap (onto_first x) (whole p xs step.1)
-
-pub cut_is : (text : List ℕ) (r : Option (Bor (List ℕ) × Bor (List ℕ))) → IsSplitOnceResult 47 text r
-    → MatchOption r (slice_split is_slash text ≡ text ∷ []) (λ x. slice_split is_slash text ≡ x.0.now ∷ slice_split is_slash x.1.now)
-cut_is text None h = whole is_slash text (split_once_first 47 text None h (lit< tt))
-cut_is text (Some x) h =
-    let found = split_once_first 47 text (Some x) h (lit< tt) in
-    slice_split_first is_slash text 0 found.0
-    ∙ ap (λ front. front ∷ slice_split is_slash (after_first is_slash text)) (sym found.1)
-    ∙ ap (λ behind. x.0.now ∷ slice_split is_slash behind) (sym found.2)
 
 found_place : (n k : ℕ) (b : Bool) → Some n ≡ cond b (Some k) None → n ≡ k
 found_place n k true e = cc
@@ -48,35 +21,3 @@ before_found p xs n e =
 pub before_none : (p : ℕ → Bool) (xs : List ℕ) → None ≡ position p xs → xs ≡ before_first p xs
 before_none p xs e =
     sym (take_all (position_or_len p xs) xs (ltb-false _ _ (found_none (position_or_len p xs) (nat_lt (position_or_len p xs) (length xs)) e)))
-
-more_pieces : (a b c : List ℕ) (pieces : List (List ℕ)) (first : ℕ) → route_of (a ∷ b ∷ c ∷ onto_first first pieces) ≡ None
-more_pieces a b c [] first = refl
-more_pieces a b c (piece ∷ pieces) first = refl
-
-some_piece : (a b c : List ℕ) (x : ℕ) (pieces : List (List ℕ)) (slash : Bool) → route_of (a ∷ b ∷ c ∷ cond slash ([] ∷ pieces) (onto_first x pieces)) ≡ None
-some_piece a b c x pieces true = refl
-some_piece a b c x pieces false = more_pieces a b c pieces x
-
--- no route has more than three segments
-too_many : (a b c text : List ℕ) → route_of (a ∷ b ∷ c ∷ slice_split is_slash text) ≡ None
-too_many a b c [] = refl
-too_many a b c (x ∷ text) = some_piece a b c x (slice_split is_slash text) (is_slash x)
-
-pub route_of-four : (path rest third last a b c : List ℕ) → slice_split is_slash path ≡ a ∷ slice_split is_slash rest → slice_split is_slash rest ≡ b ∷ slice_split is_slash third → slice_split is_slash third ≡ c ∷ slice_split is_slash last
-    → None ≡ route_of (slice_split is_slash path)
-route_of-four path rest third last a b c e f g =
-    sym (ap route_of (e ∙ ap (λ pieces. a ∷ pieces) (f ∙ ap (λ pieces. b ∷ pieces) g)) ∙ too_many a b c last)
-
-pub place_of-utf8 : (path text : List ℕ) (found : Option Place) → IsUtf8 path → text ≡ path → found ≡ route_of_pieces (slice_split is_slash text) → found ≡ place_of path
-place_of-utf8 path text found utf8 same e =
-    e
-    ∙ ap (λ t. route_of_pieces (slice_split is_slash t)) same
-    ∙ ap (λ b. cond b (route_of_pieces (slice_split is_slash path)) None) (sym (is_utf8-from_IsUtf8 path utf8))
-
-refuted : (b : Bool) (rest : Option Place) → (b ≡ true → ⊥) → None ≡ cond b rest None
-refuted true rest broken = absurd (broken refl)
-refuted false rest broken = refl
-
-pub place_of-broken : (path : List ℕ) → (IsUtf8 path → ⊥) → None ≡ place_of path
-place_of-broken path broken =
-    refuted (is_utf8 path) (route_of_pieces (slice_split is_slash path)) (λ t. broken (IsUtf8-from_is_utf8 path t))

@@ -1,124 +1,147 @@
 -- What a request calls for, or the first refusal.
-use Rattle.std.specs.Prelude.{ℕ, List, Bool, true, false, nat_lt, length, if◌then◌else◌, Option, Some, None, Result, Ok, Err}
+use Prim.Native.String.{String}
+use Rattle.std.specs.Prelude.{ℕ, List, [], ◌∷◌, Bool, true, false, ◌&&◌, ◌==◌, nat_lt, bytes_eq, codes, length, filter, if◌then◌else◌, Option, Some, None, option_map, Result, Ok, Err}
+use Rattle.std.specs.List.{list_any, before_first, slice_split}
+use Rattle.std.specs.Str.{is_utf8}
 use Rattle.uuid.specs.Text.{parsed}
+use Rattle.mds_text.specs.declared.draft_kind.DraftKind.TheVariants.{Policy, Geography}
 use Rattle.mds_request.specs.Configuration.{Configuration, actor_of}
 use Rattle.mds_request.specs.Request.{Request}
-use Rattle.mds_request.specs.Route.{Place, place_at}
-use Rattle.mds_request.specs.declared.actor.Actor.{Actor}
-use Rattle.mds_request.specs.declared.actor.Actor.TheVariants.{Author, Operator, Nobody}
+use Rattle.mds_request.specs.declared.call.AuthorCall.{AuthorCall}
+use Rattle.mds_request.specs.declared.call.AuthorCall.TheVariants as author
+use Rattle.mds_request.specs.declared.call.OperatorCall.{OperatorCall}
+use Rattle.mds_request.specs.declared.call.OperatorCall.TheVariants as operator
+use Rattle.mds_request.specs.declared.call.Call.{Call}
+use Rattle.mds_request.specs.declared.call.Call.TheVariants as call
+use Rattle.mds_request.specs.declared.call.TheConstants.{MOST_BODY}
 use Rattle.mds_request.specs.declared.code.Code.{Code}
 use Rattle.mds_request.specs.declared.code.Code.TheVariants.{TooLarge, Token, NoRoute, Method, Role, BadId}
-use Rattle.mds_request.specs.declared.refusal.Refusal.{Refusal}
-use Rattle.mds_request.specs.declared.verb.Verb.{Verb}
-use Rattle.mds_request.specs.declared.verb.Verb.TheVariants.{Get, Put, Post, Delete, Other}
-use Rattle.mds_request.specs.declared.route.Route.{Route}
-use Rattle.mds_request.specs.declared.route.Route.TheVariants.{Policies, Policy, Geographies, Geography, FleetEvents, FleetVehicles, FleetVehicle, Compliance, PolicyCompliance, PolicyDraft, GeographyDraft, Publish}
-use Rattle.mds_request.specs.declared.route.Call.{Call}
+use Rattle.mds_request.specs.declared.config.Actor.{Actor}
+use Rattle.mds_request.specs.declared.config.Actor.TheVariants.{Author, Operator, Nobody}
+use Rattle.mds_request.specs.declared.request.Verb.{Verb}
+use Rattle.mds_request.specs.declared.request.Verb.TheVariants.{Get, Put, Post, Delete}
 
-abbrev pub is_get : Verb → Bool
-is_get Get = true
-is_get Put = false
-is_get Post = false
-is_get Delete = false
-is_get Other = false
+-- a segment of a row's path: a word, or `{id}`, which is any segment
+pub data Part : Type 0 where
+  word : (text : String) → Part
+  id : Part
 
-abbrev pub is_post : Verb → Bool
-is_post Get = false
-is_post Put = false
-is_post Post = true
-is_post Delete = false
-is_post Other = false
+-- one row of the table: a method and a path, and what each of the two calls for there, by the identifier in the path
+pub record Row : Type 0 where
+  pub verb : Verb
+  pub path : List Part
+  pub author : Option (List ℕ → AuthorCall)
+  pub operator : Option (List ℕ → OperatorCall)
 
-abbrev pub is_delete : Verb → Bool
-is_delete Get = false
-is_delete Put = false
-is_delete Post = false
-is_delete Delete = true
-is_delete Other = false
+abbrev pub row : Verb → List Part → Option (List ℕ → AuthorCall) → Option (List ℕ → OperatorCall) → Row
+row verb path author operator = record { verb = verb; path = path; author = author; operator = operator }
 
--- a draft is put, asked for and dropped
-abbrev pub is_of_draft : Verb → Bool
-is_of_draft Get = true
-is_of_draft Put = true
-is_of_draft Post = false
-is_of_draft Delete = true
-is_of_draft Other = false
+-- a call without an identifier
+abbrev pub plain : {X : Type 0} → X → Option (List ℕ → X)
+plain x = Some (λ _. x)
 
--- the methods of each route
-abbrev pub has_method : Route → Verb → Bool
-has_method Policies verb = is_get verb
-has_method Policy verb = is_get verb
-has_method Geographies verb = is_get verb
-has_method Geography verb = is_get verb
-has_method FleetEvents verb = is_post verb
-has_method FleetVehicles verb = is_get verb
-has_method FleetVehicle verb = is_delete verb
-has_method Compliance verb = is_get verb
-has_method PolicyCompliance verb = is_get verb
-has_method PolicyDraft verb = is_of_draft verb
-has_method GeographyDraft verb = is_of_draft verb
-has_method Publish verb = is_post verb
+-- the table of calls
+abbrev pub table : List Row
+table =
+    row Get (word "policies" ∷ []) (plain author.Policies) (plain operator.Policies)
+    ∷ row Get (word "policies" ∷ id ∷ []) (Some author.Policy) (Some operator.Policy)
+    ∷ row Get (word "geographies" ∷ []) (plain author.Geographies) (plain operator.Geographies)
+    ∷ row Get (word "geographies" ∷ id ∷ []) (Some author.Geography) (Some operator.Geography)
+    ∷ row Post (word "fleet" ∷ word "events" ∷ []) None (plain operator.Report)
+    ∷ row Get (word "fleet" ∷ word "vehicles" ∷ []) None (plain operator.Vehicles)
+    ∷ row Delete (word "fleet" ∷ word "vehicles" ∷ id ∷ []) None (Some operator.RemoveVehicle)
+    ∷ row Get (word "compliance" ∷ []) None (plain operator.Compliance)
+    ∷ row Get (word "compliance" ∷ id ∷ []) None (Some operator.PolicyCompliance)
+    ∷ row Put (word "drafts" ∷ word "policies" ∷ id ∷ []) (Some (author.PutDraft Policy)) None
+    ∷ row Get (word "drafts" ∷ word "policies" ∷ id ∷ []) (Some (author.Draft Policy)) None
+    ∷ row Delete (word "drafts" ∷ word "policies" ∷ id ∷ []) (Some (author.DropDraft Policy)) None
+    ∷ row Put (word "drafts" ∷ word "geographies" ∷ id ∷ []) (Some (author.PutDraft Geography)) None
+    ∷ row Get (word "drafts" ∷ word "geographies" ∷ id ∷ []) (Some (author.Draft Geography)) None
+    ∷ row Delete (word "drafts" ∷ word "geographies" ∷ id ∷ []) (Some (author.DropDraft Geography)) None
+    ∷ row Post (word "publish" ∷ []) (plain author.Publish) None
+    ∷ []
 
-abbrev pub is_author : Actor → Bool
-is_author Author = true
-is_author (Operator place) = false
-is_author Nobody = false
+abbrev pub is_query_mark : ℕ → Bool
+is_query_mark b = b == 63
 
-abbrev pub is_operator : Actor → Bool
-is_operator Author = false
-is_operator (Operator place) = true
-is_operator Nobody = false
+-- The path is what stands before the first `?` of the target (RFC 3986, section 3.4).
+abbrev pub path_of : List ℕ → List ℕ
+path_of target = before_first is_query_mark target
 
-abbrev pub is_known : Actor → Bool
-is_known Author = true
-is_known (Operator place) = true
-is_known Nobody = false
+abbrev pub is_slash : ℕ → Bool
+is_slash b = b == 47
 
--- whose each route is: what is published is for all, a fleet and its compliance for an operator, and drafts and
--- publication for the author
-abbrev pub is_for : Route → Actor → Bool
-is_for Policies actor = is_known actor
-is_for Policy actor = is_known actor
-is_for Geographies actor = is_known actor
-is_for Geography actor = is_known actor
-is_for FleetEvents actor = is_operator actor
-is_for FleetVehicles actor = is_operator actor
-is_for FleetVehicle actor = is_operator actor
-is_for Compliance actor = is_operator actor
-is_for PolicyCompliance actor = is_operator actor
-is_for PolicyDraft actor = is_author actor
-is_for GeographyDraft actor = is_author actor
-is_for Publish actor = is_author actor
+-- no byte
+abbrev pub is_empty : List ℕ → Bool
+is_empty [] = true
+is_empty (b ∷ bs) = false
 
-abbrev pub refuse : Code → Result Call Refusal
-refuse code = Err (record { code = code })
+-- the segments, if none of them is empty
+abbrev pub all_some : List (List ℕ) → List (List ℕ)
+all_some segments = if list_any is_empty segments then [] else segments
 
-abbrev pub call_with : Route → Verb → Option (List ℕ) → Result Call Refusal
-call_with route verb None = refuse BadId
-call_with route verb (Some id) = Ok (record { route = route; verb = verb; id = Some id })
+-- the segments stand behind a path's first slash, with which it begins (RFC 3986, section 3.3); any other path has none
+abbrev pub behind_slash : List (List ℕ) → List (List ℕ)
+behind_slash ([] ∷ segments) = all_some segments
+behind_slash pieces = []
 
--- the segment in the path is an identifier (RFC 9562, section 4)
-abbrev pub identified : Route → Verb → Option (List ℕ) → Result Call Refusal
-identified route verb None = Ok (record { route = route; verb = verb; id = None })
-identified route verb (Some segment) = call_with route verb (parsed segment)
+-- the segments of a path; one that isn't UTF-8 has none
+abbrev pub segments_in : List ℕ → List (List ℕ)
+segments_in path = if is_utf8 path then behind_slash (slice_split is_slash path) else []
 
--- the route has the method, which is for this actor
-abbrev pub call_at : Actor → Verb → Option Place → Result Call Refusal
-call_at actor verb None = refuse NoRoute
-call_at actor verb (Some place) =
-    if has_method place.route verb
-    then (if is_for place.route actor then identified place.route verb place.id else refuse Role)
-    else refuse Method
+-- the segments of a target's path
+abbrev pub segments_of : List ℕ → List (List ℕ)
+segments_of target = segments_in (path_of target)
 
--- the most bytes of a body
-abbrev pub most_body : ℕ
-most_body = 1048576
+-- the segments are those of a row's path
+abbrev pub fits : List Part → List (List ℕ) → Bool
+fits [] [] = true
+fits (word w ∷ parts) (segment ∷ segments) = bytes_eq segment (codes w) && fits parts segments
+fits (id ∷ parts) (segment ∷ segments) = fits parts segments
+fits parts segments = false
 
--- The call, or the first refusal in this order: the body is too large, the token is nobody's, no route has the path,
--- the route hasn't the method, the method isn't for the one who asks, and the identifier is none.
-abbrev pub call_of : Configuration → Request → Result Call Refusal
+-- the identifier in the path (RFC 9562, section 4), where the row has one
+abbrev pub id_in : List Part → List (List ℕ) → Option (List ℕ)
+id_in (id ∷ parts) (segment ∷ segments) = parsed segment
+id_in (word w ∷ parts) (segment ∷ segments) = id_in parts segments
+id_in parts segments = Some []
+
+-- what a row makes for the one who asks
+abbrev pub made : Actor → Row → Option (List ℕ → Call)
+made Author found = option_map (λ f. λ i. call.Author (f i)) found.author
+made (Operator place) found = option_map (λ f. λ i. call.Operator place (f i)) found.operator
+made Nobody found = None
+
+abbrev pub call_with : Option (List ℕ → Call) → Option (List ℕ) → Result Call Code
+call_with None i = Err Role
+call_with (Some make) None = Err BadId
+call_with (Some make) (Some i) = Ok (make i)
+
+abbrev pub is_verb : Verb → Verb → Bool
+is_verb Get Get = true
+is_verb Put Put = true
+is_verb Post Post = true
+is_verb Delete Delete = true
+is_verb _ _ = false
+
+-- the call of the first of these rows that has the method, or this refusal where there are none
+abbrev pub call_among : Actor → Verb → List (List ℕ) → Code → List Row → Result Call Code
+call_among actor verb segments refusal [] = Err refusal
+call_among actor verb segments refusal (row ∷ rows) =
+    if is_verb verb row.verb then call_with (made actor row) (id_in row.path segments)
+    else call_among actor verb segments Method rows
+
+-- the rows of the table that have the path
+abbrev pub rows_at : List (List ℕ) → List Row
+rows_at segments = filter (λ row. fits row.path segments) table
+
+abbrev pub called_at : Actor → Verb → List (List ℕ) → Result Call Code
+called_at Nobody verb segments = Err Token
+called_at actor verb segments = call_among actor verb segments NoRoute (rows_at segments)
+
+-- The call, or the first refusal in this order: the body is too large, the token is nobody's, no row has the path, no
+-- row with the path has the method, the row makes no call for the one who asks, and the identifier is none.
+abbrev pub call_of : Configuration → Request → Result Call Code
 call_of configuration request =
-    if nat_lt most_body (length request.body) then refuse TooLarge
-    else if is_known (actor_of configuration request.token)
-    then call_at (actor_of configuration request.token) request.verb (place_at request.target)
-    else refuse Token
+    if nat_lt MOST_BODY (length request.body) then Err TooLarge
+    else called_at (actor_of configuration request.token) request.verb (segments_of request.target)

@@ -1,78 +1,47 @@
 -- The codes of refusals, with their statuses (RFC 9110, section 15) and bodies.
 use Rattle.std.specs.Prelude.{ℕ, List, ◌++◌, codes}
 use Rattle.mds_request.specs.declared.code.Code.{Code}
-use Rattle.mds_request.specs.declared.code.Code.TheVariants.{BadLine, Clock, BadBody, NoSnapshot, TooLarge, Token, NoRoute, Method, Role, BadId, BadJson, Decimal, BadField, BadNumber, OutOfRange, TooManyRules, TooManyPoints, RingShort, RingOpen, IdMismatch, Future, Stale, FleetFull, DraftsFull, NoDraft, NotFound, Empty, Published, NoGeography, NoPredecessor, CatalogFull, NoMemory}
+use Rattle.mds_request.specs.declared.code.Code.TheVariants.{BadLine, Clock, BadBody, NoSnapshot, TooLarge, Token, NoRoute, Method, Role, BadId, BadJson, Decimal, BadField, BadNumber, OutOfRange, TooManyRules, TooManyPoints, RingShort, RingOpen, IdMismatch, Future, Stale, FleetFull, DraftsFull, NoDraft, NotFound, Empty, Published, NoGeography, NoPredecessor, NotPublished, CatalogFull, NoMemory}
 
--- the status of a refusal
+-- the status and the name of each refusal
+abbrev pub told : Code → ℕ × List ℕ
+told BadLine = (400, codes "bad_line")
+told Clock = (503, codes "clock")
+told BadBody = (400, codes "bad_body")
+told NoSnapshot = (503, codes "no_snapshot")
+told TooLarge = (413, codes "too_large")
+told Token = (401, codes "token")
+told NoRoute = (404, codes "no_route")
+told Method = (405, codes "method")
+told Role = (403, codes "role")
+told BadId = (400, codes "bad_id")
+told BadJson = (400, codes "bad_json")
+told Decimal = (400, codes "decimal")
+told BadField = (400, codes "bad_field")
+told BadNumber = (400, codes "bad_number")
+told OutOfRange = (400, codes "out_of_range")
+told TooManyRules = (400, codes "too_many_rules")
+told TooManyPoints = (400, codes "too_many_points")
+told RingShort = (400, codes "ring_short")
+told RingOpen = (400, codes "ring_open")
+told IdMismatch = (400, codes "id_mismatch")
+told Future = (409, codes "future")
+told Stale = (409, codes "stale")
+told FleetFull = (409, codes "fleet_full")
+told DraftsFull = (409, codes "drafts_full")
+told NoDraft = (404, codes "no_draft")
+told NotFound = (404, codes "not_found")
+told Empty = (400, codes "empty")
+told Published = (409, codes "published")
+told NoGeography = (409, codes "no_geography")
+told NoPredecessor = (409, codes "no_predecessor")
+told NotPublished = (409, codes "not_published")
+told CatalogFull = (409, codes "catalog_full")
+told NoMemory = (503, codes "no_memory")
+
 abbrev pub status_of : Code → ℕ
-status_of BadLine = 400
-status_of Clock = 503
-status_of BadBody = 400
-status_of NoSnapshot = 503
-status_of TooLarge = 413
-status_of Token = 401
-status_of NoRoute = 404
-status_of Method = 405
-status_of Role = 403
-status_of BadId = 400
-status_of BadJson = 400
-status_of Decimal = 400
-status_of BadField = 400
-status_of BadNumber = 400
-status_of OutOfRange = 400
-status_of TooManyRules = 400
-status_of TooManyPoints = 400
-status_of RingShort = 400
-status_of RingOpen = 400
-status_of IdMismatch = 400
-status_of Future = 409
-status_of Stale = 409
-status_of FleetFull = 409
-status_of DraftsFull = 409
-status_of NoDraft = 404
-status_of NotFound = 404
-status_of Empty = 400
-status_of Published = 409
-status_of NoGeography = 409
-status_of NoPredecessor = 409
-status_of CatalogFull = 409
-status_of NoMemory = 503
-
--- a code's name
-abbrev pub name_of : Code → List ℕ
-name_of BadLine = codes "bad_line"
-name_of Clock = codes "clock"
-name_of BadBody = codes "bad_body"
-name_of NoSnapshot = codes "no_snapshot"
-name_of TooLarge = codes "too_large"
-name_of Token = codes "token"
-name_of NoRoute = codes "no_route"
-name_of Method = codes "method"
-name_of Role = codes "role"
-name_of BadId = codes "bad_id"
-name_of BadJson = codes "bad_json"
-name_of Decimal = codes "decimal"
-name_of BadField = codes "bad_field"
-name_of BadNumber = codes "bad_number"
-name_of OutOfRange = codes "out_of_range"
-name_of TooManyRules = codes "too_many_rules"
-name_of TooManyPoints = codes "too_many_points"
-name_of RingShort = codes "ring_short"
-name_of RingOpen = codes "ring_open"
-name_of IdMismatch = codes "id_mismatch"
-name_of Future = codes "future"
-name_of Stale = codes "stale"
-name_of FleetFull = codes "fleet_full"
-name_of DraftsFull = codes "drafts_full"
-name_of NoDraft = codes "no_draft"
-name_of NotFound = codes "not_found"
-name_of Empty = codes "empty"
-name_of Published = codes "published"
-name_of NoGeography = codes "no_geography"
-name_of NoPredecessor = codes "no_predecessor"
-name_of CatalogFull = codes "catalog_full"
-name_of NoMemory = codes "no_memory"
+status_of code = (told code).0
 
 -- the body of a refusal
 abbrev pub body_of : Code → List ℕ
-body_of code = codes "{\"error\":\"" ++ name_of code ++ codes "\"}"
+body_of code = codes "{\"error\":\"" ++ (told code).1 ++ codes "\"}"

@@ -1,19 +1,20 @@
 -- Who may ask, and how much each operator may hold.
-use Rattle.std.specs.Prelude.{ℕ, ℤ, pos, negsuc, List, [], ◌∷◌, Bool, false, ◌||◌, ◌&&◌, nat_le, length, map, bytes_eq, if◌then◌else◌, Option, Some, None, Result, Ok, Err, position, string_bytes}
-use Rattle.std.specs.List.{list_any}
+use Rattle.std.specs.Prelude.{ℕ, ℤ, pos, negsuc, List, [], ◌∷◌, Bool, false, ◌||◌, ◌&&◌, nat_le, ◌==◌, length, map, bytes_eq, if◌then◌else◌, Option, Some, None, Result, Ok, Err, position, string_bytes}
+use Rattle.std.specs.List.{list_all, list_any}
 use Rattle.mds_text.specs.Fault.{Fault, bad_field, out_of_range, too_many_operators, alike, ◌>>=◌}
-use Rattle.mds_text.specs.Fields.{document_of, required_at, required_member, id_of, int_of, text_of, list_of, each}
+use Rattle.mds_text.specs.Fields.{object_of, document_of, required_at, required_member, id_of, int_of, text_of, list_of, each}
 use Rattle.mds_text.specs.Reading.{read_text}
-use Rattle.mds_text.specs.Tree.{Json, null, boolean, int, text, degrees, list, object}
+use Rattle.mds_text.specs.Tree.{Json}
 use Rattle.mds_text.specs.declared.field.Field.{Field}
 use Rattle.mds_text.specs.declared.field.Field.TheVariants.{Author as AuthorName, Operators, Id, Limit, Token, Zone as ZoneName}
-use Rattle.mds_request.specs.Access.{is_access_token}
 use Rattle.mds_match.specs.Zone.{zone_of}
+use Rattle.mds_match.specs.declared.vehicle.TheConstants.{MOST_VEHICLES}
 use Rattle.mds_match.specs.declared.zone.Zone.{Zone}
-use Rattle.mds_request.specs.declared.operator.Operator.{Operator as Named}
+use Rattle.mds_request.specs.declared.config.Operator.{Operator as Named}
 use Rattle.mds_request.specs.declared.config.Config.{Config}
-use Rattle.mds_request.specs.declared.actor.Actor.{Actor}
-use Rattle.mds_request.specs.declared.actor.Actor.TheVariants.{Author, Operator as OperatorAt, Nobody}
+use Rattle.mds_request.specs.declared.config.TheConstants.{MOST_OPERATORS, MOST_TOKEN}
+use Rattle.mds_request.specs.declared.config.Actor.{Actor}
+use Rattle.mds_request.specs.declared.config.Actor.TheVariants.{Author, Operator as OperatorAt, Nobody}
 
 -- an operator's identifier, the most vehicles that it may hold, and its access token
 pub record Operator : Type 0 where
@@ -64,6 +65,14 @@ actor_of configuration token =
     if bytes_eq configuration.author token then Author
     else operator_at (position (has_token token) configuration.operators)
 
+-- a letter, a digit, `-` or `_`
+abbrev pub is_access_byte : ℕ → Bool
+is_access_byte b = (nat_le 65 b && nat_le b 90) || (nat_le 97 b && nat_le b 122) || (nat_le 48 b && nat_le b 57) || (b == 45) || (b == 95)
+
+-- 1 to 64 of these
+abbrev pub is_access_token : List ℕ → Bool
+is_access_token s = nat_le 1 (length s) && nat_le (length s) MOST_TOKEN && list_all is_access_byte s
+
 -- an access token
 abbrev pub access_of : Field → Json → Result (List ℕ) Fault
 access_of field value = text_of field value >>= λ s. if is_access_token s then Ok s else Err (bad_field field)
@@ -71,36 +80,26 @@ access_of field value = text_of field value >>= λ s. if is_access_token s then 
 abbrev pub access_at : Json → Field → Result (List ℕ) Fault
 access_at document field = required_member document field >>= access_of field
 
--- the most vehicles that an operator may hold: 1 to 50,000
+-- the most vehicles that an operator may hold: 1 to 200,000
 abbrev pub in_limits : ℤ → Result ℕ Fault
-in_limits (pos n) = if nat_le 1 n && nat_le n 50000 then Ok n else Err out_of_range
+in_limits (pos n) = if nat_le 1 n && nat_le n MOST_VEHICLES then Ok n else Err out_of_range
 in_limits (negsuc n) = Err out_of_range
 
-abbrev pub limit_of : Field → Json → Result ℕ Fault
-limit_of field value = int_of field value >>= in_limits
-
--- an entry of the list of operators is an object
-abbrev pub entry_of : Json → Result Json Fault
-entry_of (object ms) = Ok (object ms)
-entry_of null = Err (bad_field Operators)
-entry_of (boolean b) = Err (bad_field Operators)
-entry_of (int z) = Err (bad_field Operators)
-entry_of (text s) = Err (bad_field Operators)
-entry_of (degrees z) = Err (bad_field Operators)
-entry_of (list ts) = Err (bad_field Operators)
+abbrev pub limit_at : Json → Result ℕ Fault
+limit_at entry = required_at int_of entry Limit >>= in_limits
 
 -- an operator's identifier, limit and access token, in this order
 abbrev pub operator_of : Json → Result Operator Fault
 operator_of value = do
-  entry ← entry_of value
+  entry ← object_of Operators value
   id ← required_at id_of entry Id
-  limit ← required_member entry Limit >>= limit_of Limit
+  limit ← limit_at entry
   token ← access_at entry Token
   Ok (record { id = id; limit = limit; token = token })
 
 -- the operators, in their order; more than 64 are too many, whatever they are
 abbrev pub operators_of : List Json → Result (List Operator) Fault
-operators_of values = if nat_le (length values) 64 then each operator_of values else Err too_many_operators
+operators_of values = if nat_le (length values) MOST_OPERATORS then each operator_of values else Err too_many_operators
 
 abbrev pub operators_at : Json → Result (List Operator) Fault
 operators_at document = required_at list_of document Operators >>= operators_of

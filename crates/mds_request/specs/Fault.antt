@@ -1,7 +1,7 @@
 -- The reason for a refusal that each error names.
 use Rattle.std.specs.Prelude.{ℕ, List, Option, Some, None, codes}
 use Rattle.mds_text.specs.Fault.{Fault, bad_zone, too_many_operators, alike, text_cause, text_wording}
-use Rattle.mds_text.specs.declared.fault.TextFault.TheVariants.{NoMemory as Exhausted, BadJson, BadField, BadNumber, OutOfRange}
+use Rattle.mds_text.specs.declared.fault.TextFault.TheVariants.{NoMemory as Exhausted}
 use Rattle.mds_request.specs.declared.fault.ConfigFault.{ConfigFault}
 use Rattle.mds_request.specs.declared.fault.ConfigFault.TheVariants.{Text, TooManyOperators, BadZone, Alike, NoMemory}
 
@@ -24,11 +24,4 @@ config_wording NoMemory = codes "no memory"
 -- want of memory is told by itself, and not as a fault of the text
 abbrev pub IsApart : ConfigFault → Type 0
 IsApart (Text Exhausted) = ⊥
-IsApart (Text BadJson) = Unit {0}
-IsApart (Text (BadField field)) = Unit {0}
-IsApart (Text BadNumber) = Unit {0}
-IsApart (Text OutOfRange) = Unit {0}
-IsApart TooManyOperators = Unit {0}
-IsApart BadZone = Unit {0}
-IsApart Alike = Unit {0}
-IsApart NoMemory = Unit {0}
+IsApart fault = Unit {0}

@@ -1,10 +1,7 @@
-pub mod Access
 pub mod Call
 pub mod Code
 pub mod Configuration
-pub mod Content
 pub mod Fault
 pub mod Reply
 pub mod Request
 pub mod Route
-pub mod Verb

@@ -1,7 +1,9 @@
 -- The answer to a request: a status and one line.
-use Rattle.std.specs.Prelude.{ℕ, List, Bool, not, ◌==◌}
+use Rattle.std.specs.Prelude.{ℕ, List, Bool, IsTrue, not, ◌==◌}
 use Rattle.std.specs.List.{list_all}
 use Rattle.mds_request.specs.declared.code.Code.{Code}
+use Rattle.mds_request.specs.declared.reply.Content.{Content}
+use Rattle.mds_request.specs.declared.reply.Content.TheVariants.{Success, Refused}
 use Rattle.mds_request.specs.Code.{status_of, body_of}
 
 pub record Reply : Type 0 where
@@ -19,3 +21,11 @@ success body = record { status = 200; body = body }
 -- the reply of a refusal
 abbrev pub refused : Code → Reply
 refused code = record { status = status_of code; body = body_of code }
+
+-- the answer that a `Reply` stands for
+abbrev pub answer_of : Content → Reply
+answer_of (Success body) = success body.items
+answer_of (Refused code) = refused code
+
+abbrev pub IsOneLine : Content → Type 0
+IsOneLine content = IsTrue (is_line (answer_of content).body)

@@ -1,85 +1,47 @@
--- What a path names.
-use Rattle.std.specs.Prelude.{ℕ, List, [], ◌∷◌, Bool, ◌==◌, ◌&&◌, bytes_eq, codes, if◌then◌else◌, Option, Some, None, option_copied}
-use Rattle.std.specs.List.{before_first, slice_split}
-use Rattle.std.specs.Str.{is_utf8}
-use Rattle.mds_request.specs.declared.place.Place.{Place as Found}
-use Rattle.mds_request.specs.declared.route.Route.{Route}
-use Rattle.mds_request.specs.declared.route.Route.TheVariants.{Policies, Policy, Geographies, Geography, FleetEvents, FleetVehicles, FleetVehicle, Compliance, PolicyCompliance, PolicyDraft, GeographyDraft, Publish}
+-- Where the program's routes lead.
+use Rattle.std.specs.Prelude.{◌≡◌, ℕ, List, [], ◌∷◌, length, codes, Option, Some, None, unwrap_or, Result, Ok, Err}
+use denote.Ref.{Bor}
+use Rattle.std.specs.Str.{IsUtf8}
+use Rattle.matchit.specs.Params.{AllText, named, walk}
+use Rattle.matchit.specs.Router.{RouteOf}
+use Rattle.matchit.specs.Rows.{RowsOf}
+use Rattle.matchit.specs.Seek.{first}
+use Rattle.mds_request.specs.Call.{rows_at, segments_in}
+use Rattle.mds_request.specs.declared.code.Code.{Code}
+use Rattle.mds_request.specs.declared.code.Code.TheVariants.{NoRoute}
+use Rattle.mds_request.specs.declared.routes.Route.{Route}
+use Rattle.mds_request.specs.declared.routes.Route.TheVariants.{Policies, Policy, Geographies, Geography, FleetEvents, FleetVehicles, FleetVehicle, Compliance, PolicyCompliance, PolicyDraft, GeographyDraft, Publish}
 
--- a question mark
-abbrev pub is_query_mark : ℕ → Bool
-is_query_mark b = b == 63
+-- the segments of a route's path with this identifier
+abbrev pub spelled : Route → List ℕ → List (List ℕ)
+spelled Policies id = codes "policies" ∷ []
+spelled Policy id = codes "policies" ∷ id ∷ []
+spelled Geographies id = codes "geographies" ∷ []
+spelled Geography id = codes "geographies" ∷ id ∷ []
+spelled FleetEvents id = codes "fleet" ∷ codes "events" ∷ []
+spelled FleetVehicles id = codes "fleet" ∷ codes "vehicles" ∷ []
+spelled FleetVehicle id = codes "fleet" ∷ codes "vehicles" ∷ id ∷ []
+spelled Compliance id = codes "compliance" ∷ []
+spelled PolicyCompliance id = codes "compliance" ∷ id ∷ []
+spelled PolicyDraft id = codes "drafts" ∷ codes "policies" ∷ id ∷ []
+spelled GeographyDraft id = codes "drafts" ∷ codes "geographies" ∷ id ∷ []
+spelled Publish id = codes "publish" ∷ []
 
--- The path is what stands before the first `?` of the target (RFC 3986, section 3.4).
-abbrev pub path_of : List ℕ → List ℕ
-path_of target = before_first is_query_mark target
+-- what the parameters of a route take of a path
+abbrev pub taken : RouteOf Route → List ℕ → List (List ℕ × List ℕ)
+taken route path = walk route.pattern route.text path route.names 0 0
 
--- a slash
-abbrev pub is_slash : ℕ → Bool
-is_slash b = b == 47
+-- A path leads to a route, with its identifier, exactly where the table has a row.
+abbrev pub Leads : List ℕ → Option (RouteOf Route) → Type 0
+Leads path None = rows_at (segments_in path) ≡ []
+Leads path (Some route) =
+    AllText (taken route path)
+    × (spelled route.value (unwrap_or (named (codes "id") (taken route path)) []) ≡ segments_in path)
 
--- a route, and the segment that stands for the identifier, where there is one
-pub record Place : Type 0 where
-  pub route : Route
-  pub id : Option (List ℕ)
+abbrev pub AllLead : RowsOf (RouteOf Route) → Type 0
+AllLead routes = (path : List ℕ) → IsUtf8 path → Leads path (first routes path)
 
--- the place that a `Place` stands for
-abbrev pub place : Found → Place
-place p = record { route = p.route; id = option_copied p.id }
-
--- a route without an identifier
-abbrev pub without_id : Route → Option Place
-without_id route = Some (record { route = route; id = None })
-
--- a route with one: a segment that isn't empty
-abbrev pub with_id : Route → List ℕ → Option Place
-with_id route [] = None
-with_id route (b ∷ segment) = Some (record { route = route; id = Some (b ∷ segment) })
-
--- the routes of one segment
-abbrev pub route_of_one : List ℕ → Option Place
-route_of_one a =
-    if bytes_eq a (codes "policies") then without_id Policies
-    else if bytes_eq a (codes "geographies") then without_id Geographies
-    else if bytes_eq a (codes "compliance") then without_id Compliance
-    else if bytes_eq a (codes "publish") then without_id Publish
-    else None
-
--- the routes of two
-abbrev pub route_of_two : List ℕ → List ℕ → Option Place
-route_of_two a b =
-    if bytes_eq a (codes "policies") then with_id Policy b
-    else if bytes_eq a (codes "geographies") then with_id Geography b
-    else if bytes_eq a (codes "compliance") then with_id PolicyCompliance b
-    else if bytes_eq a (codes "fleet") && bytes_eq b (codes "events") then without_id FleetEvents
-    else if bytes_eq a (codes "fleet") && bytes_eq b (codes "vehicles") then without_id FleetVehicles
-    else None
-
--- the routes of three
-abbrev pub route_of_three : List ℕ → List ℕ → List ℕ → Option Place
-route_of_three a b c =
-    if bytes_eq a (codes "fleet") && bytes_eq b (codes "vehicles") then with_id FleetVehicle c
-    else if bytes_eq a (codes "drafts") && bytes_eq b (codes "policies") then with_id PolicyDraft c
-    else if bytes_eq a (codes "drafts") && bytes_eq b (codes "geographies") then with_id GeographyDraft c
-    else None
-
-abbrev pub route_of : List (List ℕ) → Option Place
-route_of [] = None
-route_of (a ∷ []) = route_of_one a
-route_of (a ∷ b ∷ []) = route_of_two a b
-route_of (a ∷ b ∷ c ∷ []) = route_of_three a b c
-route_of (a ∷ b ∷ c ∷ d ∷ rest) = None
-
--- The segments stand behind a path's first slash, with which it begins (RFC 3986, section 3.3).
-abbrev pub route_of_pieces : List (List ℕ) → Option Place
-route_of_pieces [] = None
-route_of_pieces ([] ∷ segments) = route_of segments
-route_of_pieces ((b ∷ before) ∷ segments) = None
-
--- what a path names; one that isn't UTF-8 names nothing
-abbrev pub place_of : List ℕ → Option Place
-place_of path = if is_utf8 path then route_of_pieces (slice_split is_slash path) else None
-
--- what a target names
-abbrev pub place_at : List ℕ → Option Place
-place_at target = place_of (path_of target)
+-- the same of what is answered
+abbrev pub Finds : List (List ℕ) → Result (Route × Bor (List ℕ)) Code → Type 0
+Finds segments (Ok found) = spelled found.0 found.1.now ≡ segments
+Finds segments (Err code) = (code ≡ NoRoute) × (length (rows_at segments) ≡ 0)

@@ -1,113 +1,225 @@
 //! From a request to its call.
-ghost use Rattle.std.specs.Prelude.{◌≡◌, option_copied};
-ghost use Rattle.mds_request.specs.Call.{has_method, is_for, is_known, call_of, identified};
+ghost use Rattle.std.specs.Prelude.{◌≡◌, Some, None, IfOk, IfErr};
+ghost use Rattle.uuid.specs.Text.{parsed};
+ghost use Rattle.mds_request.specs.Call.{call_of, called_at};
 ghost use Rattle.mds_request.specs.Configuration.{configuration};
 ghost use Rattle.mds_request.specs.Request.{request_of};
+ghost use Rattle.mds_request.specs.Route.{spelled};
+ghost use Rattle.mds_request.specs.declared.config.Actor.TheVariants.{Author as the_author, Operator as the_operator};
+ghost use Rattle.mds_request.specs.declared.code.Code.TheVariants.{BadId};
+ghost use Rattle.mds_request.specs.declared.request.Verb.TheVariants.{Get, Put, Delete};
 
-use crate::actor::Actor;
 use crate::code::Code;
-use crate::config::Config;
-use crate::refusal::Refusal;
-use crate::request::Request;
-use crate::route::{Call, Route};
-use crate::routes::Routes;
-use crate::verb::Verb;
-use mds_text::Id;
+use crate::config::{Actor, Config};
+use crate::request::{Request, Verb};
+use crate::routes::{Route, Routes};
+use mds_text::{DraftKind, Id};
 
-/// The most bytes of a body.
-const MOST_BODY: usize = 1_048_576;
+/// The most bytes of a request's body.
+pub const MOST_BODY: usize = 1_048_576;
+
+/// What the author calls for.
+#[derive(Clone, Copy, PartialEq, Eq)]
+pub enum AuthorCall {
+    /// All published policies.
+    Policies,
+    /// A published policy.
+    Policy(Id),
+    /// All published geographies.
+    Geographies,
+    /// A published geography.
+    Geography(Id),
+    /// To keep the body as a draft, in place of one under this identifier.
+    PutDraft(DraftKind, Id),
+    /// A draft.
+    Draft(DraftKind, Id),
+    /// To drop a draft.
+    DropDraft(DraftKind, Id),
+    /// To publish the drafts that the body names, and to withdraw the published policies that it names.
+    Publish,
+}
+
+/// What an operator calls for.
+#[derive(Clone, Copy, PartialEq, Eq)]
+pub enum OperatorCall {
+    /// The published policies that are meant for it.
+    Policies,
+    /// A published policy that is meant for it.
+    Policy(Id),
+    /// All published geographies.
+    Geographies,
+    /// A published geography.
+    Geography(Id),
+    /// To take the body as a report of a vehicle.
+    Report,
+    /// Its vehicles.
+    Vehicles,
+    /// To forget one of its vehicles.
+    RemoveVehicle(Id),
+    /// How its vehicles stand to all policies in force for it.
+    Compliance,
+    /// How they stand to one of these.
+    PolicyCompliance(Id),
+}
+
+/// What a request calls for, by who asks.
+#[derive(Clone, Copy, PartialEq, Eq)]
+pub enum Call {
+    Author(AuthorCall),
+    /// By the operator at this place of the configuration.
+    Operator(usize, OperatorCall),
+}
 
 /// What a request calls for.
 ///
 /// # Errors
 ///
-/// The first of these refusals: the body is over 1,048,576 bytes (`TooLarge`), the access token is
-/// nobody's (`Token`), no route has the path (`NoRoute`), the route hasn't the method (`Method`), the
-/// method isn't for the one who asks (`Role`), the identifier in the path is none (`BadId`).
-pub fn read_call(routes: &Routes, config: &Config, request: &Request) -> Result<Call, Refusal>
+/// The first of these refusals: the body is over its limit (`TooLarge`), the access token is
+/// nobody's (`Token`), no call has the path (`NoRoute`), none there has the method (`Method`), the
+/// call isn't for the one who asks (`Role`), the identifier in the path is none (`BadId`).
+pub fn read_call(routes: &Routes, config: &Config, request: &Request) -> Result<Call, Code>
     ensures { result ≡ call_of (configuration config.now) (request_of request.now) }
 {
     if request.body.len() > MOST_BODY {
-        return Err(Refusal::new(Code::TooLarge));
+        return Err(Code::TooLarge);
     }
-    let actor = config.actor(request.token);
-    if !is_known(actor) {
-        return Err(Refusal::new(Code::Token));
+    match config.actor(request.token) {
+        Actor::Author => {
+            let (route, id) = routes.find(request.target)?;
+            author_call(route, id, request.verb)
+        }
+        Actor::Operator(place) => {
+            let (route, id) = routes.find(request.target)?;
+            operator_call(place, route, id, request.verb)
+        }
+        Actor::Nobody => Err(Code::Token),
     }
-    let Some(place) = routes.place_at(request.target) else {
-        return Err(Refusal::new(Code::NoRoute));
-    };
-    if !has_method(place.route, request.verb) {
-        return Err(Refusal::new(Code::Method));
-    }
-    if !is_for(place.route, actor) {
-        return Err(Refusal::new(Code::Role));
-    }
-    identified(place.route, request.verb, place.id)
 }
 
-fn identified(route: Route, verb: Verb, segment: Option<&str>) -> Result<Call, Refusal>
-    ensures { result ≡ identified route verb (option_copied segment.entry) }
+fn author_call(route: Route, id: &str, verb: Verb) -> Result<Call, Code>
+    ensures { result ≡ called_at the_author verb (spelled route id.now) }
 {
-    let Some(segment) = segment else {
-        return Ok(Call {
-            route,
-            verb,
-            id: None,
-        });
-    };
-    match Id::read(segment) {
-        Some(id) => Ok(Call {
-            route,
-            verb,
-            id: Some(id),
-        }),
-        None => Err(Refusal::new(Code::BadId)),
+    match verb {
+        Verb::Get => author_get(route, id),
+        Verb::Put => author_put(route, id),
+        Verb::Post => match route {
+            Route::Publish => Ok(Call::Author(AuthorCall::Publish)),
+            Route::FleetEvents => Err(Code::Role),
+            _ => Err(Code::Method),
+        },
+        Verb::Delete => author_delete(route, id),
+        Verb::Other => Err(Code::Method),
     }
 }
 
-fn is_known(actor: Actor) -> bool
-    ensures { result ≡ is_known actor }
+fn author_get(route: Route, id: &str) -> Result<Call, Code>
+    ensures { result ≡ called_at the_author Get (spelled route id.now) }
 {
-    match actor {
-        Actor::Author | Actor::Operator(_) => true,
-        Actor::Nobody => false,
-    }
+    let call = match route {
+        Route::Policies => AuthorCall::Policies,
+        Route::Policy => AuthorCall::Policy(read_id(id)?),
+        Route::Geographies => AuthorCall::Geographies,
+        Route::Geography => AuthorCall::Geography(read_id(id)?),
+        Route::PolicyDraft => AuthorCall::Draft(DraftKind::Policy, read_id(id)?),
+        Route::GeographyDraft => AuthorCall::Draft(DraftKind::Geography, read_id(id)?),
+        Route::FleetVehicles | Route::Compliance | Route::PolicyCompliance => {
+            return Err(Code::Role);
+        }
+        Route::FleetEvents | Route::FleetVehicle | Route::Publish => {
+            return Err(Code::Method);
+        }
+    };
+    Ok(Call::Author(call))
 }
 
-/// Whether the route has the method.
-fn has_method(route: Route, verb: Verb) -> bool
-    ensures { result ≡ has_method route verb }
+fn author_put(route: Route, id: &str) -> Result<Call, Code>
+    ensures { result ≡ called_at the_author Put (spelled route id.now) }
 {
     match route {
-        Route::FleetEvents | Route::Publish => matches!(verb, Verb::Post),
-        Route::FleetVehicle => matches!(verb, Verb::Delete),
-        Route::PolicyDraft | Route::GeographyDraft => {
-            matches!(verb, Verb::Get | Verb::Put | Verb::Delete)
+        Route::PolicyDraft => {
+            let id = read_id(id)?;
+            Ok(Call::Author(AuthorCall::PutDraft(DraftKind::Policy, id)))
         }
-        Route::Policies
-        | Route::Policy
-        | Route::Geographies
-        | Route::Geography
-        | Route::FleetVehicles
-        | Route::Compliance
-        | Route::PolicyCompliance => matches!(verb, Verb::Get),
+        Route::GeographyDraft => {
+            let id = read_id(id)?;
+            Ok(Call::Author(AuthorCall::PutDraft(DraftKind::Geography, id)))
+        }
+        _ => Err(Code::Method),
     }
 }
 
-/// Whether the route is for the one who asks.
-fn is_for(route: Route, actor: Actor) -> bool
-    ensures { result ≡ is_for route actor }
+fn author_delete(route: Route, id: &str) -> Result<Call, Code>
+    ensures { result ≡ called_at the_author Delete (spelled route id.now) }
 {
     match route {
-        Route::Policies | Route::Policy | Route::Geographies | Route::Geography => is_known(actor),
-        Route::FleetEvents
-        | Route::FleetVehicles
-        | Route::FleetVehicle
-        | Route::Compliance
-        | Route::PolicyCompliance => matches!(actor, Actor::Operator(_)),
-        Route::PolicyDraft | Route::GeographyDraft | Route::Publish => {
-            matches!(actor, Actor::Author)
+        Route::PolicyDraft => {
+            let id = read_id(id)?;
+            Ok(Call::Author(AuthorCall::DropDraft(DraftKind::Policy, id)))
         }
+        Route::GeographyDraft => {
+            let id = read_id(id)?;
+            Ok(Call::Author(AuthorCall::DropDraft(DraftKind::Geography, id)))
+        }
+        Route::FleetVehicle => Err(Code::Role),
+        _ => Err(Code::Method),
     }
+}
+
+fn operator_call(place: usize, route: Route, id: &str, verb: Verb) -> Result<Call, Code>
+    ensures { result ≡ called_at (the_operator place) verb (spelled route id.now) }
+{
+    match verb {
+        Verb::Get => operator_get(place, route, id),
+        Verb::Put => match route {
+            Route::PolicyDraft | Route::GeographyDraft => Err(Code::Role),
+            _ => Err(Code::Method),
+        },
+        Verb::Post => match route {
+            Route::FleetEvents => Ok(Call::Operator(place, OperatorCall::Report)),
+            Route::Publish => Err(Code::Role),
+            _ => Err(Code::Method),
+        },
+        Verb::Delete => operator_delete(place, route, id),
+        Verb::Other => Err(Code::Method),
+    }
+}
+
+fn operator_get(place: usize, route: Route, id: &str) -> Result<Call, Code>
+    ensures { result ≡ called_at (the_operator place) Get (spelled route id.now) }
+{
+    match route {
+        Route::Policies => Ok(Call::Operator(place, OperatorCall::Policies)),
+        Route::Policy => Ok(Call::Operator(place, OperatorCall::Policy(read_id(id)?))),
+        Route::Geographies => Ok(Call::Operator(place, OperatorCall::Geographies)),
+        Route::Geography => Ok(Call::Operator(place, OperatorCall::Geography(read_id(id)?))),
+        Route::FleetVehicles => Ok(Call::Operator(place, OperatorCall::Vehicles)),
+        Route::Compliance => Ok(Call::Operator(place, OperatorCall::Compliance)),
+        Route::PolicyCompliance => Ok(Call::Operator(
+            place,
+            OperatorCall::PolicyCompliance(read_id(id)?),
+        )),
+        Route::PolicyDraft | Route::GeographyDraft => Err(Code::Role),
+        _ => Err(Code::Method),
+    }
+}
+
+fn operator_delete(place: usize, route: Route, id: &str) -> Result<Call, Code>
+    ensures { result ≡ called_at (the_operator place) Delete (spelled route id.now) }
+{
+    match route {
+        Route::FleetVehicle => {
+            let id = read_id(id)?;
+            Ok(Call::Operator(place, OperatorCall::RemoveVehicle(id)))
+        }
+        Route::PolicyDraft | Route::GeographyDraft => Err(Code::Role),
+        _ => Err(Code::Method),
+    }
+}
+
+/// The identifier in a path, a UUID (RFC 9562, section 4).
+fn read_id(segment: &str) -> Result<Id, Code>
+    ensures read { IfOk result (λ id. parsed segment.now ≡ Some id) }
+    ensures refused { IfErr result (λ code. (code ≡ BadId) × (parsed segment.now ≡ None)) }
+{
+    Id::read(segment).ok_or(Code::BadId)
 }

@@ -3,11 +3,11 @@
 pub enum Code {
     /// A line of a replay is no request.
     BadLine,
-    /// The machine's clock gives no moment.
+    /// The machine's clock gives no moment: for a server that reads one.
     Clock,
-    /// The body broke off.
+    /// The body broke off: for a server that takes it from a connection.
     BadBody,
-    /// The published catalogue can't be looked at.
+    /// The published catalogue can't be looked at: for a server that shares it.
     NoSnapshot,
     /// The body is over its limit.
     TooLarge,
@@ -53,7 +53,7 @@ pub enum Code {
     NoDraft,
     /// There is no such document, device or policy in force for the one who asks.
     NotFound,
-    /// A publish request names no document.
+    /// A publish request names nothing: no draft, and no policy to withdraw.
     Empty,
     /// A document under this identifier is published already.
     Published,
@@ -61,6 +61,8 @@ pub enum Code {
     NoGeography,
     /// A policy that is to be replaced isn't published.
     NoPredecessor,
+    /// A policy that is to be withdrawn isn't published.
+    NotPublished,
     /// The batch doesn't fit the limits of the catalogue.
     CatalogFull,
     /// Memory ran out, and nothing has changed.
@@ -87,6 +89,7 @@ impl Code {
             | Code::Published
             | Code::NoGeography
             | Code::NoPredecessor
+            | Code::NotPublished
             | Code::CatalogFull => 409,
             Code::TooLarge => 413,
             Code::Clock | Code::NoSnapshot | Code::NoMemory => 503,
@@ -142,6 +145,7 @@ impl Code {
             Code::Published => b"{\"error\":\"published\"}",
             Code::NoGeography => b"{\"error\":\"no_geography\"}",
             Code::NoPredecessor => b"{\"error\":\"no_predecessor\"}",
+            Code::NotPublished => b"{\"error\":\"not_published\"}",
             Code::CatalogFull => b"{\"error\":\"catalog_full\"}",
             Code::NoMemory => b"{\"error\":\"no_memory\"}",
         }

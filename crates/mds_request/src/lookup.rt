@@ -3,7 +3,7 @@ ghost use Rattle.std.specs.Prelude.{◌≡◌, ◌∷◌, ◌||◌, map, positio
 ghost use Rattle.std.specs.List.{list_any};
 ghost use Rattle.mds_request.specs.Configuration.{operator, has_token, ids, tokens, repeats};
 
-use crate::operator::Operator;
+use crate::config::Operator;
 use mds_text::Id;
 
 /// The place of the first operator with this access token.

@@ -4,28 +4,20 @@ ghost use Rattle.std.specs.List.{list_all};
 ghost use Rattle.mds_text.specs.Fault.{Gives, text_cause};
 ghost use Rattle.mds_text.specs.Fields.{each};
 ghost use Rattle.mds_text.specs.View.{view};
-ghost use Rattle.mds_text.specs.declared.field.Field.TheVariants.{Limit as limit_name};
-ghost use Rattle.mds_request.specs.Access.{is_access_byte, is_access_token};
-ghost use Rattle.mds_request.specs.Configuration.{configuration, operator, access_of, access_at, limit_of, entry_of, operator_of, operators_at, zone_at, configuration_of, read_configuration};
+ghost use Rattle.mds_match.specs.declared.vehicle.TheConstants.{MOST_VEHICLES};
+ghost use Rattle.mds_request.specs.declared.config.TheConstants.{MOST_OPERATORS};
+ghost use Rattle.mds_request.specs.Configuration.{configuration, operator, is_access_byte, is_access_token, access_of, access_at, limit_at, operator_of, operators_at, zone_at, configuration_of, read_configuration};
 ghost use Rattle.mds_request.specs.Fault.{config_cause};
 
-use crate::config::Config;
+use crate::config::{Config, MOST_OPERATORS, MOST_TOKEN, Operator};
 use crate::fault::ConfigFault;
 use crate::lookup::are_alike;
-use crate::operator::Operator;
-use mds_match::Zone;
+use mds_match::{MOST_VEHICLES, Zone};
 use mds_text::{
-    Field, TextFault, Tree, document_of, int_of, read_tree, required_id, required_list,
+    Field, TextFault, Tree, document_of, int_of, object_of, read_tree, required_id, required_list,
     required_member, required_text, text_of,
 };
 use std::alloc::Global;
-
-/// The most bytes of an access token.
-const MOST_BYTES: usize = 64;
-/// The most operators.
-const MOST_OPERATORS: usize = 64;
-/// The most vehicles that an operator may be allowed.
-const MOST_VEHICLES: i64 = 50_000;
 
 /// The configuration that a text is. Want of memory may be told as a fault of the text.
 pub(crate) fn config_from(alloc: Global, text: &[u8]) -> Result<Config, ConfigFault>
@@ -75,7 +67,7 @@ fn access_of<'a>(value: &'a Tree, field: Field) -> Result<&'a str, TextFault>
 fn is_access_token(text: &[u8]) -> bool
     ensures { result ≡ is_access_token text.now }
 {
-    1 <= text.len() && text.len() <= MOST_BYTES && are_access_bytes(text)
+    1 <= text.len() && text.len() <= MOST_TOKEN && are_access_bytes(text)
 }
 
 fn are_access_bytes(text: &[u8]) -> bool
@@ -93,7 +85,7 @@ fn is_access_byte(byte: u8) -> bool
 /// The operators that have to be there.
 fn operators_at(alloc: Global, document: &Tree) -> Result<Vec<Operator>, ConfigFault>
     ensures reading { Gives config_cause (λ v. map operator v.items) result (operators_at (view document.now)) }
-    ensures few { IfOk result (λ v. vec_len v ≤ 64) }
+    ensures few { IfOk result (λ v. vec_len v ≤ MOST_OPERATORS) }
 {
     let entries = required_list(document, Field::Operators)?;
     if entries.len() > MOST_OPERATORS {
@@ -118,32 +110,22 @@ fn operators_of(alloc: Global, entries: &[Tree]) -> Result<Vec<Operator>, TextFa
 fn operator_of(alloc: Global, value: &Tree) -> Result<Operator, TextFault>
     ensures { Gives text_cause operator result (operator_of (view value.now)) }
 {
-    let entry = entry_of(value)?;
+    let entry = object_of(value, Field::Operators)?;
     let id = required_id(entry, Field::Id)?;
-    let limit = limit_of(required_member(entry, Field::Limit)?)?;
+    let limit = limit_at(entry)?;
     let token = access_at(entry, Field::Token)?;
     let token = String::from_str(alloc, token)?;
     Ok(Operator { id, limit, token })
 }
 
-/// An entry of the list of operators is an object.
-fn entry_of(value: &Tree) -> Result<&Tree, TextFault>
-    ensures { Gives text_cause (λ t. view t.now) result (entry_of (view value.now)) }
-{
-    match value {
-        Tree::Object(_) => Ok(value),
-        _ => Err(TextFault::BadField(Field::Operators)),
-    }
-}
-
-/// From 1 to 50,000.
-fn limit_of(value: &Tree) -> Result<usize, TextFault>
-    ensures reading { Gives text_cause (λ n. n) result (limit_of limit_name (view value.now)) }
+/// From 1 to `MOST_VEHICLES`.
+fn limit_at(entry: &Tree) -> Result<usize, TextFault>
+    ensures reading { Gives text_cause (λ n. n) result (limit_at (view entry.now)) }
     ensures least { IfOk result (λ n. 1 ≤ n) }
-    ensures most { IfOk result (λ n. n ≤ 50000) }
+    ensures most { IfOk result (λ n. n ≤ MOST_VEHICLES) }
 {
-    let limit = int_of(value, Field::Limit)?;
-    if 1 <= limit && limit <= MOST_VEHICLES {
+    let limit = int_of(required_member(entry, Field::Limit)?, Field::Limit)?;
+    if 1 <= limit && limit <= i64::from(MOST_VEHICLES) {
         Ok(limit as usize)
     } else {
         Err(TextFault::OutOfRange)

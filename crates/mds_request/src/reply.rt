@@ -1,11 +1,11 @@
-use crate::refusal::Refusal;
+use crate::code::Code;
 use std::marker::Model;
 
 /// What a reply says.
 #[derive(Drop)]
 enum Content {
     Success(Vec<u8>),
-    Refused(Refusal),
+    Refused(Code),
 }
 
 /// The answer to a request: a status and a body, which is one line of JSON. Contracts see the two.
@@ -15,11 +15,9 @@ pub struct Reply {
 }
 
 impl Model for Reply {
-    ghost use Rattle.mds_request.specs.Reply.{Reply as Answer};
+    ghost use Rattle.mds_request.specs.Reply.{Reply as Answer, answer_of, IsOneLine};
 
     ghost Value = { Answer };
-
-    ghost use Rattle.mds_request.specs.Content.{answer_of, IsOneLine};
 
     ghost view = { λ r. answer_of r.content };
 
@@ -46,7 +44,7 @@ impl Reply {
     {
         match &self.content {
             Content::Success(_) => 200,
-            Content::Refused(refusal) => refusal.status(),
+            Content::Refused(code) => code.status(),
         }
     }
 
@@ -57,20 +55,20 @@ impl Reply {
     {
         match &self.content {
             Content::Success(body) => body.as_slice(),
-            Content::Refused(refusal) => refusal.code.body(),
+            Content::Refused(code) => code.body(),
         }
     }
 }
 
-impl From<Refusal> for Reply {
+impl From<Code> for Reply {
     ghost use Rattle.std.specs.Prelude.{◌≡◌};
     ghost use Rattle.mds_request.specs.Reply.{refused};
 
-    ghost from_gives = { λ refusal reply. reply ≡ refused refusal.code };
+    ghost from_gives = { λ code reply. reply ≡ refused code };
 
-    fn from(refusal: Refusal) -> Reply {
+    fn from(code: Code) -> Reply {
         Reply {
-            content: Content::Refused(refusal),
+            content: Content::Refused(code),
         }
     }
 }

@@ -1,10 +1,11 @@
 //! A configuration of two operators, the calls of requests to it, and local times by hand.
 
 use crate::{
-    Actor, Call, Code, Config, ConfigFault, Refusal, Reply, Request, Route, Routes, Verb, read_call,
+    Actor, AuthorCall, Call, Code, Config, ConfigFault, OperatorCall, Reply, Request, Routes, Verb,
+    read_call,
 };
 use mds_match::Local;
-use mds_text::{Field, Id, Moment, TextFault};
+use mds_text::{DraftKind, Field, Id, Moment, TextFault};
 use std::alloc::Global;
 use std::process::Abort;
 use std::test::Fail;
@@ -74,8 +75,8 @@ fn a_configuration(rt: HostRuntime) -> Result<(), Fail> {
 fn no_configurations(rt: HostRuntime) -> Result<(), Fail> {
     let alloc = rt.alloc();
     let alfa = entry(alloc, "a1", "2", "alfa")?;
-    let full = entry(alloc, "a1", "50000", "alfa")?;
-    let over = entry(alloc, "a1", "50001", "alfa")?;
+    let full = entry(alloc, "a1", "200000", "alfa")?;
+    let over = entry(alloc, "a1", "200001", "alfa")?;
     let none = entry(alloc, "a1", "0", "alfa")?;
     let pair = format!(in alloc; "{alfa},{}", entry(alloc, "a1", "2", "bravo")?)?;
     let texts: [(&str, &str, &str, bool); 6] = [
@@ -98,6 +99,8 @@ fn no_configurations(rt: HostRuntime) -> Result<(), Fail> {
     assert!(rt; matches!(fault_of(alloc, alike.as_str()), Some(ConfigFault::Alike)));
     let twice = text_with(alloc, "city", pair.as_str(), "Z")?;
     assert!(rt; matches!(fault_of(alloc, twice.as_str()), Some(ConfigFault::Alike)));
+    let told = format!(in alloc; "{}", ConfigFault::Alike)?;
+    assert_eq!(rt; told.as_str(), "alike");
     let far = text_with(alloc, "city", "", "+15:00")?;
     assert!(rt; matches!(fault_of(alloc, far.as_str()), Some(ConfigFault::BadZone)));
     let cut = fault_of(alloc, "{\"author\":\"city\"");
@@ -118,9 +121,10 @@ fn calls(rt: HostRuntime) -> Result<(), Fail> {
     let config = read(alloc, CONFIGURATION)?;
     let routes = Routes::new(alloc)?;
     let named = format!(in alloc; "/compliance/{P1}?at=now")?;
+    let draft = format!(in alloc; "/drafts/policies/{P1}")?;
     let slashed = format!(in alloc; "/compliance/{P1}/")?;
     let id = Id::read(P1).ok_or("no identifier")?;
-    let requests: [(&str, &str, &str, &str, Result<(Route, Option<Id>), Code>); 11] = [
+    let requests: [(&str, &str, &str, &str, Result<Call, Code>); 15] = [
         ("nobody", "GET", "/nowhere", "", Err(Code::Token)),
         ("alfa", "GET", "/nowhere", "", Err(Code::NoRoute)),
         ("alfa", "POST", "/compliance", "", Err(Code::Method)),
@@ -129,36 +133,47 @@ fn calls(rt: HostRuntime) -> Result<(), Fail> {
         ("alfa", "GET", "/compliance/x", "", Err(Code::BadId)),
         ("alfa", "GET", slashed.as_str(), "", Err(Code::NoRoute)),
         ("alfa", "GET", "/compliance/", "", Err(Code::NoRoute)),
+        ("alfa", "GET", "//policies", "", Err(Code::NoRoute)),
+        ("alfa", "GET", "policies", "", Err(Code::NoRoute)),
+        ("alfa", "GET", "/policies/%2d", "", Err(Code::BadId)),
         (
             "alfa",
             "GET",
             named.as_str(),
             "",
-            Ok((Route::PolicyCompliance, Some(id))),
+            Ok(Call::Operator(0, OperatorCall::PolicyCompliance(id))),
         ),
         (
             "bravo",
             "POST",
             "/fleet/events",
             "{",
-            Ok((Route::FleetEvents, None)),
+            Ok(Call::Operator(1, OperatorCall::Report)),
         ),
-        ("city", "POST", "/publish", "{", Ok((Route::Publish, None))),
+        (
+            "city",
+            "POST",
+            "/publish",
+            "{",
+            Ok(Call::Author(AuthorCall::Publish)),
+        ),
+        (
+            "city",
+            "DELETE",
+            draft.as_str(),
+            "",
+            Ok(Call::Author(AuthorCall::DropDraft(DraftKind::Policy, id))),
+        ),
     ];
     for (token, method, target, body, wanted) in requests {
-        let verb = Verb::read(method.as_bytes());
         let request = Request {
             at: moment(2000)?,
             token: token.as_bytes(),
-            verb,
+            verb: Verb::read(method.as_bytes()),
             target: target.as_bytes(),
             body: body.as_bytes(),
         };
         let found = read_call(&routes, &config, &request);
-        let wanted = match wanted {
-            Ok((route, id)) => Ok(Call { route, verb, id }),
-            Err(code) => Err(Refusal::new(code)),
-        };
         assert!(rt; found == wanted, "{token} {method} {target}");
     }
     Ok(())
@@ -197,17 +212,16 @@ fn code_of(routes: &Routes, config: &Config, body: &[u8]) -> Result<Option<Code>
     };
     match read_call(routes, config, &request) {
         Ok(_) => Ok(None),
-        Err(refusal) => Ok(Some(refusal.code)),
+        Err(code) => Ok(Some(code)),
     }
 }
 
 #[test]
 fn replies(rt: HostRuntime) -> Result<(), Fail> {
     let alloc = rt.alloc();
-    let refused = Reply::from(Refusal::new(Code::FleetFull));
+    let refused = Reply::from(Code::NotPublished);
     assert_eq!(rt; refused.status(), 409);
-    assert!(rt; refused.body() == b"{\"error\":\"fleet_full\"}".as_slice());
-    assert_eq!(rt; Refusal::new(Code::TooLarge).status(), 413);
+    assert!(rt; refused.body() == b"{\"error\":\"not_published\"}".as_slice());
     let mut body = Vec::new(alloc);
     body.push(b'{')?;
     body.push(b'}')?;

@@ -7,7 +7,7 @@ use Rattle.std.proofs.lemmas.Option.{none-some, same_Some, cond_some, option_and
 use Rattle.std.specs.Char.{digit_value, is_ascii_digit}
 use Rattle.std.specs.List.{prefix_len}
 use Rattle.std.specs.Str.Parse.{AllDigits}
-use Rattle.mds_text.specs.Leading.{HasDigits}
+use Rattle.mds_text.specs.Numbers.{HasDigits}
 use Rattle.mds_text.specs.Numbers.{Parts, begins_with, behind_digits, behind_minus, behind_sign, digits, digits_at, exponent_at, fraction_at, has_exponent, is_lowering, is_whole, number_of, whole_at}
 
 digit_below : (c : ℕ) → is_ascii_digit c ≡ true → digit_value c < 10

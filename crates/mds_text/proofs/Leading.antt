@@ -10,7 +10,7 @@ use Rattle.std.proofs.lemmas.Option.{none-some, same_Some}
 use Rattle.std.proofs.lemmas.Str.Parse.{digit_at as digit_in}
 use Rattle.std.specs.Char.{digit_value}
 use Rattle.std.specs.Str.Parse.{AllDigits, digits_value}
-use Rattle.mds_text.specs.Leading.{digit_at, leading, up_to_limit}
+use Rattle.mds_text.specs.Numbers.{digit_at, leading, up_to_limit}
 
 pub digit_value-is : (c : ℕ) → 48 ≤ c → c ≤ 57 → digit_value c ≡ c - 48
 digit_value-is c low high = grind (arith, nat_tests)

@@ -12,7 +12,7 @@ use Rattle.std.specs.Prelude.{nat_le}
 use Rattle.std.specs.Str.Parse.{AllDigits, digits_value, digits_value_after}
 use Rattle.mds_text.proofs.Decimals.{ten_pos}
 use Rattle.mds_text.proofs.Leading.{digit_at-inside, digit_at-outside, leading-suc, leading-zero}
-use Rattle.mds_text.specs.Leading.{leading, places_of, HasDigits}
+use Rattle.mds_text.specs.Numbers.{leading, places_of, HasDigits}
 use Rattle.mds_text.specs.Laws.{dividend, divisor}
 use Rattle.mds_text.specs.Numbers.{Parts, all_digits, rounded, scaled, size_of, tens_down, tens_up}
 

@@ -1,7 +1,7 @@
 -- The names of the members that the server reads (MDS 2.0 Policy and Geography, RFC 7946).
 use Rattle.std.specs.Prelude.{ℕ, List, codes}
 use Rattle.mds_text.specs.declared.field.Field.{Field}
-use Rattle.mds_text.specs.declared.field.Field.TheVariants.{Document, Kind, Features, Geometry, Coordinates, PolicyId, Name, Description, StartDate, EndDate, ProviderIds, PrevPolicies, Rules, RuleId, RuleType, Geographies, States, VehicleTypes, PropulsionTypes, Minimum, Maximum, InclusiveMinimum, InclusiveMaximum, RuleUnits, StartTime, EndTime, Days, GeographyId, GeographyJson, DeviceId, VehicleType, VehicleState, EventTypes, Timestamp, Location, Lat, Lng, Policies, Author, Operators, Id, Limit, Token, Zone}
+use Rattle.mds_text.specs.declared.field.Field.TheVariants.{Document, Kind, Features, Geometry, Coordinates, PolicyId, Name, Description, StartDate, EndDate, ProviderIds, PrevPolicies, Rules, RuleId, RuleType, Geographies, States, VehicleTypes, PropulsionTypes, Minimum, Maximum, InclusiveMinimum, InclusiveMaximum, RuleUnits, StartTime, EndTime, Days, GeographyId, GeographyJson, DeviceId, VehicleType, VehicleState, EventTypes, Timestamp, Location, Lat, Lng, Policies, Withdraw, Author, Operators, Id, Limit, Token, Zone}
 
 -- a member's name, as it stands in a document
 abbrev pub name_of : Field → List ℕ
@@ -43,6 +43,7 @@ name_of Location = codes "location"
 name_of Lat = codes "lat"
 name_of Lng = codes "lng"
 name_of Policies = codes "policies"
+name_of Withdraw = codes "withdraw"
 name_of Author = codes "author"
 name_of Operators = codes "operators"
 name_of Id = codes "id"

@@ -1,7 +1,7 @@
 -- The members of a document and their general readings (MDS 2.0, general information; RFC 8259, section 4).
 use Rattle.std.specs.Prelude.{ℕ, ℤ, pos, negsuc, List, [], ◌∷◌, Bool, nat_le, if◌then◌else◌, Option, Some, None, Result, Ok, Err, bytes_eq}
 use Rattle.uuid.specs.Text.{parsed}
-use Rattle.mds_text.specs.Tree.{Json, null, boolean, int, text, degrees, list, object, Members, no_members, member, entries}
+use Rattle.mds_text.specs.Tree.{Json, null, boolean, int, text, list, object, Members, no_members, member, entries}
 use Rattle.mds_text.specs.Fault.{Fault, bad_field, out_of_range, ◌>>=◌}
 use Rattle.mds_text.specs.Field.{name_of}
 use Rattle.mds_text.specs.declared.field.Field.{Field}
@@ -17,22 +17,12 @@ find_member name (member key value rest) = if bytes_eq name key then Some value 
 abbrev pub present : Option Json → Option Json
 present None = None
 present (Some null) = None
-present (Some (boolean b)) = Some (boolean b)
-present (Some (int z)) = Some (int z)
-present (Some (text s)) = Some (text s)
-present (Some (degrees z)) = Some (degrees z)
-present (Some (list ts)) = Some (list ts)
-present (Some (object ms)) = Some (object ms)
+present (Some value) = Some value
 
 -- the member of a document: absent and null are none, and what is no object has a bad field of that name
 abbrev pub member_at : Json → Field → Result (Option Json) Fault
 member_at (object ms) field = Ok (present (find_member (name_of field) ms))
-member_at null field = Err (bad_field field)
-member_at (boolean b) field = Err (bad_field field)
-member_at (int z) field = Err (bad_field field)
-member_at (text s) field = Err (bad_field field)
-member_at (degrees z) field = Err (bad_field field)
-member_at (list ts) field = Err (bad_field field)
+member_at value field = Err (bad_field field)
 
 -- a value that may be missing, read where it is there
 abbrev pub optional : {A : Type 0} → (Json → Result A Fault) → Option Json → Result (Option A) Fault
@@ -42,31 +32,22 @@ optional read (Some value) = read value >>= λ a. Ok (Some a)
 abbrev pub optional_at : {A : Type 0} → (Field → Json → Result A Fault) → Json → Field → Result (Option A) Fault
 optional_at read document field = member_at document field >>= optional (read field)
 
--- a member that has to be there
-abbrev pub or_missing : {A : Type 0} → Field → Option A → Result A Fault
-or_missing field None = Err (bad_field field)
-or_missing field (Some a) = Ok a
-
-abbrev pub required_at : {A : Type 0} → (Field → Json → Result A Fault) → Json → Field → Result A Fault
-required_at read document field = optional_at read document field >>= or_missing field
-
--- a member that has to be there, whatever it is
-abbrev pub required_member : Json → Field → Result Json Fault
-required_member document field = member_at document field >>= or_missing field
-
--- the value or a bad field
+-- the value, or a bad field where there is none
 abbrev pub or_bad : {A : Type 0} → Field → Option A → Result A Fault
 or_bad field None = Err (bad_field field)
 or_bad field (Some a) = Ok a
 
+-- a member that has to be there
+abbrev pub required_at : {A : Type 0} → (Field → Json → Result A Fault) → Json → Field → Result A Fault
+required_at read document field = optional_at read document field >>= or_bad field
+
+-- a member that has to be there, whatever it is
+abbrev pub required_member : Json → Field → Result Json Fault
+required_member document field = member_at document field >>= or_bad field
+
 abbrev pub text_of : Field → Json → Result (List ℕ) Fault
 text_of field (text s) = Ok s
-text_of field null = Err (bad_field field)
-text_of field (boolean b) = Err (bad_field field)
-text_of field (int z) = Err (bad_field field)
-text_of field (degrees z) = Err (bad_field field)
-text_of field (list ts) = Err (bad_field field)
-text_of field (object ms) = Err (bad_field field)
+text_of field value = Err (bad_field field)
 
 -- a UUID in any of its spellings (RFC 9562, section 4)
 abbrev pub id_of : Field → Json → Result (List ℕ) Fault
@@ -82,12 +63,7 @@ up_to most (negsuc n) = Err out_of_range
 
 abbrev pub int_of : Field → Json → Result ℤ Fault
 int_of field (int z) = Ok z
-int_of field null = Err (bad_field field)
-int_of field (boolean b) = Err (bad_field field)
-int_of field (text s) = Err (bad_field field)
-int_of field (degrees z) = Err (bad_field field)
-int_of field (list ts) = Err (bad_field field)
-int_of field (object ms) = Err (bad_field field)
+int_of field value = Err (bad_field field)
 
 -- milliseconds since the Unix epoch, up to the end of 2099
 abbrev pub last_moment : ℕ
@@ -104,21 +80,11 @@ bound_of field value = int_of field value >>= up_to most_bound
 
 abbrev pub bool_of : Field → Json → Result Bool Fault
 bool_of field (boolean b) = Ok b
-bool_of field null = Err (bad_field field)
-bool_of field (int z) = Err (bad_field field)
-bool_of field (text s) = Err (bad_field field)
-bool_of field (degrees z) = Err (bad_field field)
-bool_of field (list ts) = Err (bad_field field)
-bool_of field (object ms) = Err (bad_field field)
+bool_of field value = Err (bad_field field)
 
 abbrev pub list_of : Field → Json → Result (List Json) Fault
 list_of field (list ts) = Ok (entries ts)
-list_of field null = Err (bad_field field)
-list_of field (boolean b) = Err (bad_field field)
-list_of field (int z) = Err (bad_field field)
-list_of field (text s) = Err (bad_field field)
-list_of field (degrees z) = Err (bad_field field)
-list_of field (object ms) = Err (bad_field field)
+list_of field value = Err (bad_field field)
 
 -- each entry in its order, up to the first fault
 abbrev pub each : {A : Type 0} → (Json → Result A Fault) → List Json → Result (List A) Fault
@@ -134,12 +100,11 @@ abbrev pub or_empty : {A : Type 0} → Option (List A) → List A
 or_empty None = []
 or_empty (Some xs) = xs
 
+-- an object
+abbrev pub object_of : Field → Json → Result Json Fault
+object_of field (object ms) = Ok (object ms)
+object_of field value = Err (bad_field field)
+
 -- a document is an object
 abbrev pub document_of : Json → Result Json Fault
-document_of (object ms) = Ok (object ms)
-document_of null = Err (bad_field Document)
-document_of (boolean b) = Err (bad_field Document)
-document_of (int z) = Err (bad_field Document)
-document_of (text s) = Err (bad_field Document)
-document_of (degrees z) = Err (bad_field Document)
-document_of (list ts) = Err (bad_field Document)
+document_of value = object_of Document value

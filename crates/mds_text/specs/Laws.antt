@@ -1,13 +1,13 @@
 -- Laws of the definitions.
-use Rattle.std.specs.Prelude.{◌≡◌, ℕ, ◌+◌, ◌*◌, ◌^◌, ◌<◌, ◌≤◌, ℤ, pos, negsuc, ◌≤ℤ◌, List, Ok}
+use Rattle.std.specs.Prelude.{◌≡◌, ℕ, ◌+◌, ◌*◌, ◌^◌, ◌<◌, ◌≤◌, ℤ, pos, ◌≤ℤ◌, List, Ok}
 use Rattle.std.specs.List.{concat}
-use Rattle.mds_text.specs.Numbers.{Parts, all_digits, size_of, tens_down, tens_up, units_of}
+use Rattle.mds_text.specs.Numbers.{Parts, all_digits, least_units, most_units, size_of, tens_down, tens_up, units_of}
 use Rattle.mds_text.specs.Printed.{printed_degrees}
 use Rattle.mds_text.specs.Quoting.{pieces}
 
 -- what is printed of a coordinate is read as that coordinate
 abbrev pub PrintedIsRead : Type 0
-PrintedIsRead = (units : ℤ) → negsuc 1799999999 ≤ℤ units → units ≤ℤ pos 1800000000 → units_of (printed_degrees units) ≡ Ok units
+PrintedIsRead = (units : ℤ) → least_units ≤ℤ units → units ≤ℤ pos most_units → units_of (printed_degrees units) ≡ Ok units
 
 -- the pieces of a text, one behind the other, are the text: quotation marks are all that quoting adds
 abbrev pub PiecesAreTheText : Type 0

@@ -2,7 +2,6 @@ pub mod Fault
 pub mod Field
 pub mod Fields
 pub mod Laws
-pub mod Leading
 pub mod Numbers
 pub mod Printed
 pub mod Quoting

@@ -1,8 +1,8 @@
 -- What a number is (RFC 8259, section 6), which one it is, and how it is kept in units of 10^-7 degree.
-use Rattle.std.specs.Prelude.{ℕ, ℤ, pos, neg_ℤ, ◌+◌, ◌-◌, ◌*◌, ◌/◌, ◌^◌, ◌==◌, ◌&&◌, ◌||◌, not, nat_le, Bool, false, if◌then◌else◌, List, [], ◌∷◌, ◌++◌, length, drop, Option, Some, None, option_and_then, Result, Ok, Err}
-use Rattle.std.specs.Char.{is_ascii_digit}
+use Rattle.std.specs.Prelude.{ℕ, zero, suc, ℤ, pos, neg_ℤ, ◌+◌, ◌-◌, ◌*◌, ◌/◌, ◌^◌, ◌==◌, ◌&&◌, ◌||◌, not, nat_le, nat_lt, Bool, false, if◌then◌else◌, List, [], ◌∷◌, ◌++◌, length, drop, slice_index, Option, Some, None, option_and_then, Result, Ok, Err}
+use Rattle.std.specs.Char.{digit_value, is_ascii_digit}
 use Rattle.std.specs.List.{prefix_len, take_while}
-use Rattle.std.specs.Str.Parse.{digits_value}
+use Rattle.std.specs.Str.Parse.{AllDigits, digits_value}
 use Rattle.mds_text.specs.declared.number.Number.{Number}
 use Rattle.mds_text.specs.Fault.{Fault, bad_number, out_of_range, ◌>>=◌}
 
@@ -67,6 +67,12 @@ is_lowering s = has_exponent s && begins_with 45 (drop 1 s)
 abbrev pub if_all : {A : Type 0} → A → List ℕ → Option A
 if_all a s = if length s == 0 then Some a else None
 
+-- the number of two decimal digits, where it isn't more than it may be
+abbrev pub two_digits : ℕ → ℕ → ℕ → Option ℕ
+two_digits most tens ones =
+    if is_ascii_digit tens && is_ascii_digit ones && nat_le ((tens - 48) * 10 + (ones - 48)) most
+    then Some ((tens - 48) * 10 + (ones - 48)) else None
+
 -- number: a minus perhaps, int, frac and exp, and nothing else
 unfoldable pub number_of : List ℕ → Option Parts
 number_of s =
@@ -115,6 +121,9 @@ most_exponent_digits = 3
 abbrev pub most_units : ℕ
 most_units = 1800000000
 
+abbrev pub least_units : ℤ
+least_units = neg_ℤ (pos most_units)
+
 -- a number whose text isn't too long
 abbrev pub short_number : ℕ → Option Parts → Result Parts Fault
 short_number len None = Err bad_number
@@ -127,6 +136,29 @@ in_range negative size = if nat_le size most_units then Ok (signed negative size
 -- the units of a number's text
 unfoldable pub units_of : List ℕ → Result ℤ Fault
 units_of s = short_number (length s) (number_of s) >>= λ n. in_range n.negative (size_of n)
+
+-- the parts of a number are digits
+pub record HasDigits (n : Parts) : Type 0 where
+  pub whole : AllDigits 10 n.whole
+  pub fraction : AllDigits 10 n.fraction
+  pub exponent : AllDigits 10 n.exponent
+
+-- the digit at a place, and zero behind the last
+abbrev pub digit_at : List ℕ → ℕ → ℕ
+digit_at ds place = if nat_lt place (length ds) then digit_value (slice_index ds place) else 0
+
+-- the number that so many digits write
+unfoldable pub leading : List ℕ → ℕ → ℕ
+leading ds zero = 0
+leading ds (suc place) = leading ds place * 10 + digit_at ds place
+
+-- how many digits of a number of degrees stand in front of the hundredths of a unit
+abbrev pub places_of : Parts → ℕ
+places_of n = length n.whole + 8 + tens_up n - (if n.lowers then digits_value 10 n.exponent else 0)
+
+-- a number up to a limit
+abbrev pub up_to_limit : ℕ → ℕ → Option ℕ
+up_to_limit most n = if nat_le n most then Some n else None
 
 -- the parts that a `Number` lends
 abbrev pub parts_view : Number → Parts

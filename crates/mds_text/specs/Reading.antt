@@ -11,9 +11,8 @@ use Rattle.mds_text.specs.Tree.{Json, null, boolean, int, text, list, object, It
 -- a plain whole number has at most 18 digits
 abbrev pub plain_int : source.Num → Result ℤ Fault
 plain_int (source.unsigned n) = if nat_lt n (10 ^ 18) then Ok (pos n) else Err bad_json
-plain_int (source.negative (pos n)) = Err bad_json
 plain_int (source.negative (negsuc n)) = if nat_lt (suc n) (10 ^ 18) then Ok (negsuc n) else Err bad_json
-plain_int (source.float x) = Err bad_json
+plain_int other = Err bad_json
 
 -- what was read, with whole numbers alone
 abbrev mutual

@@ -3,12 +3,12 @@ ghost use Rattle.std.specs.Prelude.{◌≡◌, ◌+◌, ◌^◌, ◌<◌, ◌≤
 ghost use Rattle.std.specs.Char.{digit_value};
 ghost use Rattle.std.specs.Str.Parse.{AllDigits, digits_value};
 ghost use Rattle.mds_text.specs.Fault.{Gives, number_cause};
-ghost use Rattle.mds_text.specs.Leading.{digit_at, leading, places_of, up_to_limit, HasDigits};
-ghost use Rattle.mds_text.specs.Numbers.{in_range, most_units, number_of, parts_view, short_number, size_of, units_of};
+ghost use Rattle.mds_text.specs.Numbers.{digit_at, leading, places_of, up_to_limit, HasDigits};
+ghost use Rattle.mds_text.specs.Numbers.{in_range, most_bytes, most_exponent_digits, most_units, number_of, parts_view, short_number, size_of, units_of};
 
 use crate::fault::NumberFault;
 use crate::number::{Number, number_of};
-use crate::units::Units7;
+use crate::units::{MOST_UNITS, Units7};
 
 /// The most bytes of a number's text.
 const MOST_BYTES: usize = 64;
@@ -17,7 +17,7 @@ const MOST_BYTES: usize = 64;
 const MOST_EXPONENT_DIGITS: usize = 3;
 
 /// The most tenths of a unit that are rounded to 180 degrees.
-const MOST_TENTHS: u64 = 18_000_000_004;
+const MOST_TENTHS: u64 = 10 * MOST_UNITS + 4;
 
 /// The coordinate that a number's text (RFC 8259, section 6) gives in degrees, in units of 10^-7
 /// degree, rounded half away from zero. Takes no memory.
@@ -41,7 +41,7 @@ pub fn units_of(text: &str) -> Result<Units7, NumberFault>
 fn short_number(text: &[u8]) -> Result<Number<'_>, NumberFault>
     ensures value { Gives number_cause parts_view result (short_number (length text.now) (number_of text.now)) }
     ensures digits { IfOk result (λ n. HasDigits (parts_view n)) }
-    ensures short { IfOk result (λ n. (length n.whole.now ≤ 64) × (length n.exponent.now ≤ 3)) }
+    ensures short { IfOk result (λ n. (length n.whole.now ≤ most_bytes) × (length n.exponent.now ≤ most_exponent_digits)) }
 {
     let Some(number) = number_of(text) else {
         return Err(NumberFault::BadNumber);
@@ -57,7 +57,7 @@ fn short_number(text: &[u8]) -> Result<Number<'_>, NumberFault>
 fn signed(negative: bool, size: u64) -> Result<Units7, NumberFault>
     ensures { Gives number_cause (λ u. u) result (in_range negative size) }
 {
-    if size > 1_800_000_000 {
+    if size > MOST_UNITS {
         return Err(NumberFault::OutOfRange);
     }
     let size = size as i64;
@@ -68,8 +68,8 @@ fn signed(negative: bool, size: u64) -> Result<Units7, NumberFault>
 /// The size of a number of degrees in units; `None` beyond 180 degrees.
 fn size_of(number: &Number<'_>) -> Option<u64>
     requires digits { HasDigits (parts_view number.now) }
-    requires short { length number.now.whole.now ≤ 64 }
-    requires exponent { length number.now.exponent.now ≤ 3 }
+    requires short { length number.now.whole.now ≤ most_bytes }
+    requires exponent { length number.now.exponent.now ≤ most_exponent_digits }
     ensures { result ≡ up_to_limit most_units (size_of (parts_view number.now)) }
 {
     match leading(number.whole, number.fraction, places_of(number)) {
@@ -81,8 +81,8 @@ fn size_of(number: &Number<'_>) -> Option<u64>
 /// How many of a number's digits stand in front of the hundredths of a unit.
 fn places_of(number: &Number<'_>) -> usize
     requires digits { HasDigits (parts_view number.now) }
-    requires short { length number.now.whole.now ≤ 64 }
-    requires exponent { length number.now.exponent.now ≤ 3 }
+    requires short { length number.now.whole.now ≤ most_bytes }
+    requires exponent { length number.now.exponent.now ≤ most_exponent_digits }
     ensures value { result ≡ places_of (parts_view number.now) }
     ensures small { result ≤ 1071 }
 {
@@ -98,7 +98,7 @@ fn places_of(number: &Number<'_>) -> usize
 /// The number that a few digits write.
 fn value_of(digits: &[u8]) -> usize
     requires digits { AllDigits 10 digits.now }
-    requires few { length digits.now ≤ 3 }
+    requires few { length digits.now ≤ most_exponent_digits }
     ensures value { result ≡ digits_value 10 digits.now }
     ensures small { result < 1000 }
 {
@@ -113,7 +113,7 @@ fn value_of(digits: &[u8]) -> usize
 fn leading(whole: &[u8], fraction: &[u8], places: usize) -> Option<u64>
     requires whole { AllDigits 10 whole.now }
     requires fraction { AllDigits 10 fraction.now }
-    ensures { result ≡ up_to_limit 18000000004 (leading (whole.now ++ fraction.now) places) }
+    ensures { result ≡ up_to_limit MOST_TENTHS (leading (whole.now ++ fraction.now) places) }
 {
     let mut value = 0;
     for place in 0..places {

@@ -3,7 +3,7 @@
 //! is a bad field of that name.
 ghost use Rattle.std.specs.Prelude.{◌≡◌, option_map, map};
 ghost use Rattle.mds_text.specs.Fault.{Gives, IsCaused, text_cause};
-ghost use Rattle.mds_text.specs.Fields.{find_member, member_at, optional_at, required_at, required_member, document_of};
+ghost use Rattle.mds_text.specs.Fields.{find_member, member_at, optional_at, required_at, required_member, object_of, document_of};
 ghost use Rattle.mds_text.specs.Fields.{text_of, bool_of, int_of, id_of, token_of, moment_of, bound_of, list_of, list_each};
 ghost use Rattle.mds_text.specs.Tree.{members_of};
 ghost use Rattle.mds_text.specs.View.{view, member_view};
@@ -24,9 +24,17 @@ pub fn document_of(tree: &Tree) -> Result<&Tree, TextFault>
     ensures value { Gives text_cause (λ t. view t.now) result (document_of (view tree.now)) }
     ensures memory { IsCaused result }
 {
+    object_of(tree, Field::Document)
+}
+
+/// The value, which has to be an object. Anything else is a bad field of this name.
+pub fn object_of(tree: &Tree, field: Field) -> Result<&Tree, TextFault>
+    ensures value { Gives text_cause (λ t. view t.now) result (object_of field (view tree.now)) }
+    ensures memory { IsCaused result }
+{
     match tree {
         Tree::Object(_) => Ok(tree),
-        _ => Err(TextFault::BadField(Field::Document)),
+        _ => Err(TextFault::BadField(field)),
     }
 }
 
@@ -67,7 +75,7 @@ pub fn text_of<'a>(value: &'a Tree, field: Field) -> Result<&'a str, TextFault>
 }
 
 /// A truth value.
-pub fn bool_of(value: &Tree, field: Field) -> Result<bool, TextFault>
+fn bool_of(value: &Tree, field: Field) -> Result<bool, TextFault>
     ensures value { Gives text_cause (λ b. b) result (bool_of field (view value.now)) }
     ensures memory { IsCaused result }
 {
@@ -77,7 +85,7 @@ pub fn bool_of(value: &Tree, field: Field) -> Result<bool, TextFault>
     }
 }
 
-/// A plain whole number.
+/// A plain whole number. Any other value is a bad field of this name.
 pub fn int_of(value: &Tree, field: Field) -> Result<i64, TextFault>
     ensures value { Gives text_cause (λ z. z) result (int_of field (view value.now)) }
     ensures memory { IsCaused result }
@@ -140,7 +148,7 @@ pub fn bound_of(value: &Tree, field: Field) -> Result<u64, TextFault>
 }
 
 /// A list of identifiers, read in order up to the first fault.
-pub fn ids_of(alloc: Global, value: &Tree, field: Field) -> Result<Vec<Id>, TextFault>
+fn ids_of(alloc: Global, value: &Tree, field: Field) -> Result<Vec<Id>, TextFault>
     ensures { Gives text_cause (λ v. v.items) result (list_each id_of field (view value.now)) }
 {
     let entries = list_of(value, field)?;
@@ -181,17 +189,6 @@ pub fn bool_at(document: &Tree, field: Field) -> Result<Option<bool>, TextFault>
 {
     match member_at(document, field)? {
         Some(value) => Ok(Some(bool_of(value, field)?)),
-        None => Ok(None),
-    }
-}
-
-/// An optional whole number.
-pub fn int_at(document: &Tree, field: Field) -> Result<Option<i64>, TextFault>
-    ensures value { Gives text_cause (option_map (λ z. z)) result (optional_at int_of (view document.now) field) }
-    ensures memory { IsCaused result }
-{
-    match member_at(document, field)? {
-        Some(value) => Ok(Some(int_of(value, field)?)),
         None => Ok(None),
     }
 }
@@ -305,14 +302,6 @@ pub fn required_moment(document: &Tree, field: Field) -> Result<Moment, TextFaul
     ensures memory { IsCaused result }
 {
     moment_at(document, field)?.ok_or(TextFault::BadField(field))
-}
-
-/// A whole number that has to be there.
-pub fn required_int(document: &Tree, field: Field) -> Result<i64, TextFault>
-    ensures value { Gives text_cause (λ z. z) result (required_at int_of (view document.now) field) }
-    ensures memory { IsCaused result }
-{
-    int_at(document, field)?.ok_or(TextFault::BadField(field))
 }
 
 /// A list that has to be there.

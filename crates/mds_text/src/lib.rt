@@ -2,6 +2,7 @@
 #![tactic(auto)]
 
 mod degrees;
+mod draft_kind;
 mod fault;
 mod field;
 mod fields;
@@ -18,13 +19,14 @@ mod tree;
 mod units;
 
 pub use degrees::units_of;
+pub use draft_kind::DraftKind;
 pub use fault::{NumberFault, TextFault};
 pub use field::Field;
 pub use fields::{
-    bool_at, bool_of, bound_at, bound_of, document_of, id_at, id_of, ids_at, ids_of, int_at,
-    int_of, list_at, list_of, member_at, moment_at, moment_of, required_id, required_ids,
-    required_int, required_list, required_member, required_moment, required_text, required_token,
-    text_at, text_of, token_at, token_of, tokens_at, tokens_of,
+    bool_at, bound_at, bound_of, document_of, id_at, id_of, ids_at, int_of, list_at, list_of,
+    member_at, moment_at, moment_of, object_of, required_id, required_ids, required_list,
+    required_member, required_moment, required_text, required_token, text_at, text_of, token_at,
+    token_of, tokens_at, tokens_of,
 };
 pub use id::Id;
 pub use make::{
@@ -32,6 +34,7 @@ pub use make::{
     text_tree,
 };
 pub use moment::Moment;
+pub use number::two_digits;
 pub use print::{print_tree, print_units};
 pub use quote::quote_numbers;
 pub use read::{read_counted, read_tree};

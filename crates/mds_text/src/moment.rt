@@ -1,4 +1,5 @@
 ghost use Rattle.std.specs.Prelude.{◌≡◌, ◌≤ℤ◌, pos, IsSome, IfSome, ◌↔◌};
+ghost use Rattle.mds_text.specs.Fields.{last_moment};
 
 use std::marker::Model;
 
@@ -14,12 +15,13 @@ pub struct Moment {
 
 impl Model for Moment {
     ghost use Rattle.std.specs.Prelude.{ℕ, ◌≤◌};
+    ghost use Rattle.mds_text.specs.Fields.{last_moment};
 
     ghost Value = { ℕ };
 
     ghost view = { λ m. m.millis };
 
-    ghost invariant = { λ m. m.millis ≤ 4102444799999 };
+    ghost invariant = { λ m. m.millis ≤ last_moment };
 
     ghost inverse = { λ n. record { millis = n } };
 }
@@ -27,7 +29,7 @@ impl Model for Moment {
 impl Moment {
     /// The moment of this many milliseconds; `None` out of range.
     pub fn new(millis: i64) -> Option<Moment>
-        ensures range { IsSome result ↔ ((pos 0 ≤ℤ millis) × (millis ≤ℤ pos 4102444799999)) }
+        ensures range { IsSome result ↔ ((pos 0 ≤ℤ millis) × (millis ≤ℤ pos last_moment)) }
         ensures value { IfSome result (λ m. pos m ≡ millis) }
     {
         if 0 <= millis && millis <= LAST {

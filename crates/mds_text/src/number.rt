@@ -3,7 +3,7 @@ ghost use Rattle.std.specs.Prelude.{◌≡◌, ◌≤◌, ◌++◌, drop, length
 ghost use Rattle.std.specs.Char.{is_ascii_digit};
 ghost use Rattle.std.specs.List.{prefix_len};
 ghost use Rattle.std.specs.Str.Parse.{AllDigits};
-ghost use Rattle.mds_text.specs.Numbers.{begins_with, behind_digits, behind_sign, digits, digits_at, exponent_at, fraction_at, has_exponent, is_lowering, is_plain, is_whole, number_of, parts_view, whole_at};
+ghost use Rattle.mds_text.specs.Numbers.{begins_with, behind_digits, behind_sign, digits, digits_at, exponent_at, fraction_at, has_exponent, is_lowering, is_plain, is_whole, number_of, parts_view, two_digits, whole_at};
 
 /// The most digits of a plain number.
 const PLAIN_DIGITS: usize = 18;
@@ -162,4 +162,17 @@ fn is_lowering(text: &[u8]) -> bool
         Some(rest) => cut(rest, b'-').is_some(),
         None => false,
     }
+}
+
+/// The number of two decimal digits, as hours, minutes and seconds are written; `None` where a byte is
+/// no digit or the number is above `most`.
+pub fn two_digits(tens: u8, ones: u8, most: u8) -> Option<u8>
+    ensures value { result ≡ two_digits most tens ones }
+    ensures most { IfSome result (λ n. n ≤ most) }
+{
+    if !tens.is_ascii_digit() || !ones.is_ascii_digit() {
+        return None;
+    }
+    let number = (tens - b'0') * 10 + (ones - b'0');
+    if number <= most { Some(number) } else { None }
 }

@@ -94,27 +94,8 @@ fn texts_that_are_no_numbers(rt: HostRuntime) {
 }
 
 #[test]
-fn texts_of_64_bytes(rt: HostRuntime) -> Result<(), Fail> {
-    let mut text = String::from_str(rt.alloc(), "0.")?;
-    for _ in 0..62 {
-        text.push('0')?;
-    }
-    assert_eq!(rt; units(text.as_str()), Ok(0));
-    text.push('0')?;
-    assert_eq!(rt; units(text.as_str()), Err(NumberFault::BadNumber));
-    Ok(())
-}
-
-#[test]
 fn printed_units(rt: HostRuntime) -> Result<(), Fail> {
-    for (units, want) in [
-        (-1_182_437_001, "-118.2437001"),
-        (1, "0.0000001"),
-        (-5, "-0.0000005"),
-        (0, "0"),
-        (15_000_000, "1.5"),
-        (-1_800_000_000, "-180"),
-    ] {
+    for (units, want) in [(-1_182_437_001, "-118.2437001"), (20_000_000, "2")] {
         let units = Units7::new(units).expect(&rt, "a coordinate");
         assert_eq!(rt; print_units(rt.alloc(), units)?.as_str(), want);
     }

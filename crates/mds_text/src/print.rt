@@ -128,7 +128,8 @@ fn hex_digit(digit: u8) -> u8
 }
 
 /// Degrees in decimal notation: a minus where they are negative, the whole degrees, and, where that
-/// isn't all, a point and the decimals up to the last that isn't zero.
+/// isn't all, a point and the decimals up to the last that isn't zero. What `print_tree` prints of a
+/// coordinate, for who prints one alone.
 pub fn print_units(alloc: Global, units: Units7) -> Result<String, AllocError>
     ensures text { IfOk result (λ s. string_bytes s ≡ printed_degrees units) }
 {

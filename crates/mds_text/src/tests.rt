@@ -133,6 +133,15 @@ fn tokens_moments_and_units(rt: HostRuntime) {
 }
 
 #[test]
+fn two_digits_are_read(rt: HostRuntime) {
+    assert_eq!(rt; two_digits(b'0', b'0', 23), Some(0));
+    assert_eq!(rt; two_digits(b'2', b'3', 23), Some(23));
+    assert_eq!(rt; two_digits(b'2', b'4', 23), None);
+    assert_eq!(rt; two_digits(b'+', b'1', 23), None);
+    assert_eq!(rt; two_digits(b'1', b':', 23), None);
+}
+
+#[test]
 fn documents_are_read_and_printed(rt: HostRuntime) -> Result<(), Fail> {
     let alloc = rt.alloc();
     let image = read_tree(alloc, IMAGE.as_bytes())?;
@@ -180,7 +189,6 @@ fn members_are_read(rt: HostRuntime) -> Result<(), Fail> {
     assert!(rt; Some(required_id(document, Field::PolicyId)?) == Id::read(FOUR));
     assert_eq!(rt; required_moment(document, Field::StartDate)?.get(), 0);
     assert_eq!(rt; bound_at(document, Field::Minimum)?, Some(1_000_000_000));
-    assert_eq!(rt; required_int(document, Field::Limit)?, -7);
     assert_eq!(rt; bool_at(document, Field::InclusiveMinimum)?, Some(false));
     assert_eq!(rt;
         required_token(document, Field::VehicleType)?.as_str(),
@@ -188,7 +196,7 @@ fn members_are_read(rt: HostRuntime) -> Result<(), Fail> {
     );
     let rules = required_list(document, Field::Rules)?;
     assert_eq!(rt; rules.len(), 2);
-    assert_eq!(rt; int_of(&rules[1], Field::Rules)?, 2);
+    assert!(rt; matches!(&rules[1], Tree::Int(2)));
     assert_eq!(rt;
         list_of(required_member(document, Field::Rules)?, Field::Rules)?.len(),
         2

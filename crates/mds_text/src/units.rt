@@ -1,9 +1,10 @@
-ghost use Rattle.std.specs.Prelude.{◌≡◌, ◌≤ℤ◌, pos, negsuc, IsSome, IfSome, ◌↔◌};
+ghost use Rattle.std.specs.Prelude.{◌≡◌, ◌≤ℤ◌, pos, IsSome, IfSome, ◌↔◌};
+ghost use Rattle.mds_text.specs.Numbers.{least_units, most_units};
 
 use std::marker::Model;
 
 /// 180 degrees in units of 10^-7 degree.
-const MOST: i64 = 1_800_000_000;
+pub(crate) const MOST_UNITS: u64 = 1_800_000_000;
 
 /// A coordinate as a whole number of 10^-7 degree, at most 1,800,000,000 in size.
 /// Contracts see the number.
@@ -13,13 +14,14 @@ pub struct Units7 {
 }
 
 impl Model for Units7 {
-    ghost use Rattle.std.specs.Prelude.{ℤ, pos, negsuc, ◌≤ℤ◌};
+    ghost use Rattle.std.specs.Prelude.{ℤ, pos, ◌≤ℤ◌};
+    ghost use Rattle.mds_text.specs.Numbers.{least_units, most_units};
 
     ghost Value = { ℤ };
 
     ghost view = { λ u. u.units };
 
-    ghost invariant = { λ u. (negsuc 1799999999 ≤ℤ u.units) × (u.units ≤ℤ pos 1800000000) };
+    ghost invariant = { λ u. (least_units ≤ℤ u.units) × (u.units ≤ℤ pos most_units) };
 
     ghost inverse = { λ z. record { units = z } };
 }
@@ -27,10 +29,10 @@ impl Model for Units7 {
 impl Units7 {
     /// The coordinate of this many units; `None` beyond 180 degrees.
     pub fn new(units: i64) -> Option<Units7>
-        ensures range { IsSome result ↔ ((negsuc 1799999999 ≤ℤ units) × (units ≤ℤ pos 1800000000)) }
+        ensures range { IsSome result ↔ ((least_units ≤ℤ units) × (units ≤ℤ pos most_units)) }
         ensures value { IfSome result (λ u. u ≡ units) }
     {
-        if -MOST <= units && units <= MOST {
+        if units.unsigned_abs() <= MOST_UNITS {
             Some(Units7 { units })
         } else {
             None
@@ -40,8 +42,8 @@ impl Units7 {
     /// The units of 10^-7 degree.
     pub fn get(self) -> i64
         ensures value { result ≡ self }
-        ensures least { negsuc 1799999999 ≤ℤ result }
-        ensures most { result ≤ℤ pos 1800000000 }
+        ensures least { least_units ≤ℤ result }
+        ensures most { result ≤ℤ pos most_units }
     {
         let Units7 { units } = self;
         units

@@ -1,5 +1,5 @@
 -- How the rules of a policy are judged, and how that is reported (MDS 2.0 Policy, rules and order of operations).
-use Rattle.std.specs.Prelude.{ℕ, ◌*◌, ◌-◌, ◌==◌, pos, List, [], ◌∷◌, Bool, true, false, ◌&&◌, not, nat_le, nat_lt, if◌then◌else◌, Option, Some, None, length, filter, map, codes}
+use Rattle.std.specs.Prelude.{ℕ, ◌*◌, ◌-◌, ◌==◌, pos, List, [], ◌∷◌, Bool, true, false, ◌&&◌, not, nat_le, nat_lt, if◌then◌else◌, Option, Some, None, ◌++◌, length, filter, map, take, codes}
 use Rattle.std.specs.List.{enumerate_from}
 use Rattle.std.specs.List.Sorted.{IsStrictlySortedBy}
 use Rattle.std.specs.Cmp.Lexicographic.{slice_cmp}
@@ -16,6 +16,7 @@ use Rattle.mds_policy.specs.declared.rule.TimeUnit.TheVariants.{Seconds, Minutes
 use Rattle.mds_match.specs.declared.local.Local.{Local}
 use Rattle.mds_match.specs.Matching.{is_evaluated, is_open, caught}
 use Rattle.mds_match.specs.Row.{Row}
+use Rattle.mds_verdict.specs.declared.verdict.TheConstants.{MOST_DEVICES}
 use Rattle.mds_verdict.specs.declared.verdict.RuleVerdict.{RuleVerdict}
 use Rattle.mds_verdict.specs.declared.verdict.Status.{Status}
 use Rattle.mds_verdict.specs.declared.verdict.Status.TheVariants.{NotEvaluated, Inactive, Ok, Violated}
@@ -71,20 +72,37 @@ status_of Count bounds measure = if within bounds 1 measure then Ok else Violate
 status_of (Time unit) bounds measure = if measure == 0 then Ok else Violated
 status_of Other bounds measure = NotEvaluated
 
--- the verdict of a rule that would have this measure if it were open
-abbrev pub judged : Rule → Local → ℕ → RuleVerdict
-judged rule local measure =
-    if not (is_evaluated rule.kind) then (record { rule = rule.id; status = NotEvaluated; measure = 0 })
-    else if not (is_open rule.window local) then (record { rule = rule.id; status = Inactive; measure = 0 })
-    else (record { rule = rule.id; status = status_of rule.kind rule.bounds measure; measure = measure })
+-- the devices of these rows, the first 100, for a rule that is violated
+abbrev pub listed : Status → List Row → List (List ℕ)
+listed Violated rows = take MOST_DEVICES (map (λ row. row.device) rows)
+listed status rows = []
 
--- the verdict of the rule with this number in a policy
-abbrev pub verdict_of : Policy → ℕ → Rule → (List ℕ → List (List (List Position))) → List Row → Local → ℕ → RuleVerdict
-verdict_of policy n rule polygons rows local t = judged rule local (length (measured policy n rule polygons rows local t))
+-- the verdict on a rule
+pub record Verdict : Type 0 where
+  pub rule : List ℕ
+  pub status : Status
+  pub measure : ℕ
+  pub devices : List (List ℕ)
 
--- one verdict for each rule of a policy, in their order
-abbrev pub verdicts : Policy → (List ℕ → List (List (List Position))) → List Row → Local → ℕ → List RuleVerdict
-verdicts policy polygons rows local t = map (λ e. verdict_of policy e.0 e.1 polygons rows local t) (enumerate_from 0 policy.rules)
+-- the verdict that a `RuleVerdict` stands for
+abbrev pub verdict_document : RuleVerdict → Verdict
+verdict_document v = record { rule = v.rule; status = v.status; measure = v.measure; devices = v.devices.items }
+
+-- the verdict on a rule that would have this measure, of these rows, if it were open
+abbrev pub judged : Rule → Local → ℕ → List Row → Verdict
+judged rule local measure rows =
+    if not (is_evaluated rule.kind) then (record { rule = rule.id; status = NotEvaluated; measure = 0; devices = [] })
+    else if not (is_open rule.window local) then (record { rule = rule.id; status = Inactive; measure = 0; devices = [] })
+    else (record { rule = rule.id; status = status_of rule.kind rule.bounds measure; measure = measure; devices = listed (status_of rule.kind rule.bounds measure) rows })
+
+-- one verdict for each rule of a policy, in their order, by the rows that are counted and those that are listed
+abbrev pub verdicts_by : Policy → (List ℕ → List (List (List Position))) → List Row → List Row → Local → ℕ → List Verdict
+verdicts_by policy polygons counted named local t =
+    map (λ e. judged e.1 local (length (measured policy e.0 e.1 polygons counted local t)) (measured policy e.0 e.1 polygons named local t)) (enumerate_from 0 policy.rules)
+
+-- the verdicts on a policy's rules
+abbrev pub verdicts : Policy → (List ℕ → List (List (List Position))) → List Row → Local → ℕ → List Verdict
+verdicts policy polygons rows local t = verdicts_by policy polygons rows rows local t
 
 -- a status, as it stands in a report
 abbrev pub status_name : Status → List ℕ
@@ -97,11 +115,17 @@ status_name Violated = codes "violated"
 abbrev pub printed_id : List ℕ → Json
 printed_id id = text (hyphenated_text lower id)
 
-abbrev pub reported_rule : RuleVerdict → Json
-reported_rule verdict =
-    object (members_of ((codes "measure", int (pos verdict.measure)) ∷ (codes "rule_id", printed_id verdict.rule) ∷ (codes "status", text (status_name verdict.status)) ∷ []))
+-- the vehicles that a violated rule counts; other entries name none
+abbrev pub reported_devices : Status → List (List ℕ) → List (List ℕ × Json)
+reported_devices Violated devices = (codes "devices", list (items_of (map printed_id devices))) ∷ []
+reported_devices status devices = []
 
--- the report of a policy: `{"policy_id":"..","rules":[{"measure":m,"rule_id":"..","status":".."}, ..]}`
-abbrev pub reported : Policy → List RuleVerdict → Json
+abbrev pub reported_rule : Verdict → Json
+reported_rule verdict =
+    object (members_of (reported_devices verdict.status verdict.devices
+    ++ (codes "measure", int (pos verdict.measure)) ∷ (codes "rule_id", printed_id verdict.rule) ∷ (codes "status", text (status_name verdict.status)) ∷ []))
+
+-- the report on a policy: `{"policy_id":"..","rules":[{"devices":[".."],"measure":m,"rule_id":"..","status":"violated"}, ..]}`
+abbrev pub reported : Policy → List Verdict → Json
 reported policy verdicts =
     object (members_of ((codes "policy_id", printed_id policy.id) ∷ (codes "rules", list (items_of (map reported_rule verdicts))) ∷ []))

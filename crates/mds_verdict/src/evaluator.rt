@@ -11,7 +11,7 @@ pub trait Evaluator<P: Places> {
     ghost use Rattle.std.specs.Prelude.{◌≡◌, ◌^◌, ◌<◌, All, IfOk, map};
     ghost use Rattle.mds_policy.specs.Policy.{policy_document};
     ghost use Rattle.mds_match.specs.Row.{row_of};
-    ghost use Rattle.mds_verdict.specs.Verdict.{Ascends, verdicts};
+    ghost use Rattle.mds_verdict.specs.Verdict.{Ascends, verdict_document, verdicts};
 
     /// The verdict on each rule of the policy, in their order, at a local time and at the moment up
     /// to which a vehicle's time in its state counts. The vehicles ascend by device id, each once.
@@ -29,12 +29,13 @@ pub trait Evaluator<P: Places> {
         moment: Moment,
     ) -> Result<Vec<RuleVerdict>, AllocError>
         requires { Ascends (map (λ v. row_of v.now) vehicles.now) }
-        ensures exact { IfOk result (λ found. found.items
+        ensures exact { IfOk result (λ found. map verdict_document found.items
             ≡ verdicts (policy_document policy.now) (P.polygons places.now) (map (λ v. row_of v.now) vehicles.now) local moment) }
         ensures fits { IfOk result (λ found. All (λ v. v.measure < 2 ^ 63) found.items) };
 }
 
-/// Takes the vehicles one after another, in any order, and grows its result alone.
+/// Takes the vehicles one after another, first to count and then to list them, and grows its result
+/// alone.
 #[derive(Clone, Copy, Debug)]
 pub struct Plain;
 
@@ -42,7 +43,7 @@ impl<P: Places> Evaluator<P> for Plain {
     ghost use Rattle.std.specs.Prelude.{◌≡◌, ◌^◌, ◌<◌, All, IfOk, map};
     ghost use Rattle.mds_policy.specs.Policy.{policy_document};
     ghost use Rattle.mds_match.specs.Row.{row_of};
-    ghost use Rattle.mds_verdict.specs.Verdict.{verdicts};
+    ghost use Rattle.mds_verdict.specs.Verdict.{verdict_document, verdicts};
 
     fn verdicts(
         &self,
@@ -53,7 +54,7 @@ impl<P: Places> Evaluator<P> for Plain {
         local: Local,
         moment: Moment,
     ) -> Result<Vec<RuleVerdict>, AllocError>
-        ensures exact { IfOk result (λ found. found.items
+        ensures exact { IfOk result (λ found. map verdict_document found.items
             ≡ verdicts (policy_document policy.now) (P.polygons places.now) (map (λ v. row_of v.now) vehicles.now) local moment) }
         ensures fits { IfOk result (λ found. All (λ v. v.measure < 2 ^ 63) found.items) }
     {

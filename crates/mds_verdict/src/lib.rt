@@ -10,7 +10,7 @@ mod verdict;
 
 pub use evaluator::{Evaluator, Plain};
 pub use report::report_tree;
-pub use verdict::{RuleVerdict, Status};
+pub use verdict::{MOST_DEVICES, RuleVerdict, Status};
 
 #[cfg(test)]
 mod tests;

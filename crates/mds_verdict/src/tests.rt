@@ -79,15 +79,20 @@ fn two_squares(alloc: Global) -> Result<Squares, Fail> {
 
 /// A scooter that has been available since 2000.
 fn scooter(alloc: Global, device: &str, lng: i64, lat: i64) -> Result<Vehicle, Fail> {
+    parked(alloc, device, lng, lat, 2000)
+}
+
+/// A scooter that has been available since its last report.
+fn parked(alloc: Global, device: &str, lng: i64, lat: i64, since: i64) -> Result<Vehicle, Fail> {
     Ok(Vehicle {
         device: id(device)?,
         vehicle_type: word("scooter")?,
         propulsion: Vec::new(alloc),
         state: word("available")?,
         events: Vec::new(alloc),
-        timestamp: moment(2000)?,
+        timestamp: moment(since)?,
         position: position(lng, lat)?,
-        since: moment(2000)?,
+        since: moment(since)?,
     })
 }
 
@@ -193,23 +198,78 @@ fn three_days(rt: HostRuntime) -> Result<(), Fail> {
     Ok(())
 }
 
+/// Scooters with the device numbers before this one, in the smaller square.
+fn fleet_of(alloc: Global, size: u32) -> Result<Vec<Vehicle>, Fail> {
+    let mut fleet = Vec::new(alloc);
+    for number in 0..size {
+        let device = format!(in alloc; "00000000-0000-4000-8000-{number:012x}")?;
+        fleet.push(scooter(alloc, device.as_str(), 50_000_000, 50_000_000)?)?;
+    }
+    Ok(fleet)
+}
+
+/// The first devices of `fleet_of`, the first 100.
+fn expect_devices(rt: &impl Abort, found: &RuleVerdict) -> Result<(), Fail> {
+    assert_eq!(rt; found.devices.len(), 100);
+    for (number, device) in found.devices.iter().enumerate() {
+        let wanted = format!(in *found.devices.allocator();
+            "00000000-0000-4000-8000-{number:012x}"
+        )?;
+        assert!(rt; *device == id(wanted.as_str())?);
+    }
+    Ok(())
+}
+
 #[test]
-fn a_large_fleet(rt: HostRuntime) -> Result<(), Fail> {
+fn the_first_hundred(rt: HostRuntime) -> Result<(), Fail> {
     let alloc = rt.alloc();
     let policy = Policy::read(
         alloc,
-        br#"{"policy_id":"00000000-0000-4000-8000-000000000201","name":"cap","start_date":1000,"rules":[{"rule_id":"00000000-0000-4000-8000-000000000301","name":"cap","rule_type":"count","geographies":["00000000-0000-4000-8000-000000000101"],"maximum":1}]}"#,
+        br#"{"policy_id":"00000000-0000-4000-8000-000000000201","name":"cap","start_date":1000,"rules":[{"rule_id":"00000000-0000-4000-8000-000000000301","name":"cap","rule_type":"count","geographies":["00000000-0000-4000-8000-000000000101"],"maximum":100}]}"#,
     )?;
     let places = two_squares(alloc)?;
     let none = Plain.verdicts(alloc, &policy, &places, &[], NOON, moment(2000)?)?;
     expect(&rt, &none, &[(Status::Ok, 0)]);
-    let mut fleet = Vec::new(alloc);
-    for number in 0..5003u32 {
-        let device = format!(in alloc; "00000000-0000-4000-8000-{number:012x}")?;
-        fleet.push(scooter(alloc, device.as_str(), 50_000_000, 50_000_000)?)?;
+    let fleet = fleet_of(alloc, 5003)?;
+    let sizes: [usize; 2] = [101, 5003];
+    for size in sizes {
+        let vehicles = fleet.iter().take(size).collect::<Vec<&Vehicle>>(alloc)?;
+        let found = Plain.verdicts(alloc, &policy, &places, &vehicles, NOON, moment(2000)?)?;
+        expect(&rt, &found, &[(Status::Violated, size as u64)]);
+        for verdict in &found {
+            expect_devices(&rt, verdict)?;
+        }
     }
-    let vehicles = fleet.iter().collect::<Vec<&Vehicle>>(alloc)?;
-    let found = Plain.verdicts(alloc, &policy, &places, &vehicles, NOON, moment(2000)?)?;
-    expect(&rt, &found, &[(Status::Violated, 5003)]);
+    let vehicles = fleet.iter().take(100).collect::<Vec<&Vehicle>>(alloc)?;
+    let kept = Plain.verdicts(alloc, &policy, &places, &vehicles, NOON, moment(2000)?)?;
+    expect(&rt, &kept, &[(Status::Ok, 100)]);
+    assert!(&rt; kept.iter().all(|verdict| verdict.devices.is_empty()));
+    Ok(())
+}
+
+#[test]
+fn named_in_the_report(rt: HostRuntime) -> Result<(), Fail> {
+    let alloc = rt.alloc();
+    let policy = Policy::read(
+        alloc,
+        br#"{"policy_id":"00000000-0000-4000-8000-000000000201","name":"idle","start_date":1000,"rules":[{"rule_id":"00000000-0000-4000-8000-000000000301","name":"cap","rule_type":"time","rule_units":"hours","geographies":["00000000-0000-4000-8000-000000000101"],"maximum":72},{"rule_id":"00000000-0000-4000-8000-000000000302","name":"service","rule_type":"count","geographies":["00000000-0000-4000-8000-000000000102"],"minimum":1}]}"#,
+    )?;
+    let places = two_squares(alloc)?;
+    let long = scooter(alloc, first_device(), 50_000_000, 50_000_000)?;
+    let short = parked(
+        alloc,
+        "00000000-0000-4000-8000-000000000402",
+        50_000_000,
+        50_000_000,
+        259_000_000,
+    )?;
+    let at = moment(259_202_001)?;
+    let found = Plain.verdicts(alloc, &policy, &places, &[&long, &short], NOON, at)?;
+    expect(&rt, &found, &[(Status::Violated, 1), (Status::Violated, 0)]);
+    let text = print_tree(alloc, &report_tree(alloc, &policy, &found)?)?;
+    assert!(&rt;
+        text.as_slice()
+            == br#"{"policy_id":"00000000-0000-4000-8000-000000000201","rules":[{"devices":["00000000-0000-4000-8000-000000000401"],"measure":1,"rule_id":"00000000-0000-4000-8000-000000000301","status":"violated"},{"devices":[],"measure":0,"rule_id":"00000000-0000-4000-8000-000000000302","status":"violated"}]}"#.as_slice()
+    );
     Ok(())
 }

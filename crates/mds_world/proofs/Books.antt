@@ -1,9 +1,9 @@
 -- The books of a machine: one of each operator, of which a call changes one.
-use Rattle.std.proofs.Common.{◌≡◌, ℕ, ◌<◌, List, [], map, set, length, get_or, Option, Some, None, inl, inr, refl, ap, sym, subst, ◌∙◌}
-use Rattle.std.specs.Option.{option_map}
+use Rattle.std.proofs.Common.{◌≡◌, ℕ, ◌<◌, List, [], map, set, length, get_or, Option, Some, None, Result, Ok, refl, ap, sym, subst, ◌∙◌}
+use Rattle.std.specs.Option.{option_map, IfSome}
 use Rattle.std.specs.List.{slice_get}
 use Rattle.std.specs.FinMap.{FinMap, empty}
-use Rattle.std.proofs.lemmas.List.{map-set}
+use Rattle.std.proofs.lemmas.List.{map-set, length-map}
 use Rattle.std.proofs.Math.Seq.{map-set_same}
 use Rattle.std.proofs.lemmas.Option.{slice_get-map, slice_get_read}
 use Rattle.mds_policy.specs.Policy.{Policy}
@@ -15,10 +15,14 @@ use Rattle.mds_drafts.specs.Drafts.{Drafts, id_cmp}
 use Rattle.mds_request.specs.Configuration.{Configuration, Operator}
 use Rattle.mds_request.specs.Request.{Request}
 use Rattle.mds_request.specs.Reply.{Reply}
-use Rattle.mds_request.specs.declared.route.Call.{Call}
-use Rattle.mds_world.specs.Acts.{OperatorAnswers, OperatorGives}
-use Rattle.mds_world.specs.Step.{Comes, operator_step, with_rows, new_state}
-use Rattle.mds_world.specs.World.{State}
+use Rattle.mds_request.specs.declared.call.OperatorCall.{OperatorCall}
+use Rattle.mds_request.specs.declared.call.Call.TheVariants.{Operator as OperatorAt}
+use Rattle.mds_machine.specs.Answer.{Gives, or_code, ◌>>=◌}
+use Rattle.mds_machine.specs.Operator.{operator_does}
+use Rattle.mds_machine.specs.Step.{State, call_does, with_rows, new_state}
+use Rattle.mds_request.specs.declared.code.Code.{Code}
+use Rattle.mds_request.specs.declared.code.Code.TheVariants.{Token}
+use Rattle.mds_world.proofs.Settled.{lifted}
 
 abbrev limit_of : Fleet → ℕ
 limit_of book = book.limit
@@ -28,6 +32,10 @@ rows_of book = book.rows
 
 abbrev allowed : Operator → ℕ
 allowed operator = operator.limit
+
+-- there are as many books as operators
+pub as_many : (books : List Fleet) (operators : List Operator) → map limit_of books ≡ map allowed operators → length books ≡ length operators
+as_many books operators limits = sym (length-map books limit_of) ∙ ap length limits ∙ length-map operators allowed
 
 -- a book's limit is its operator's
 pub limit_at : (books : List Fleet) (operators : List Operator) (place : ℕ) (book : Fleet) → map limit_of books ≡ map allowed operators → place < length books → book ≡ get_or books place book → Some book.limit ≡ option_map allowed (slice_get operators place)
@@ -42,28 +50,34 @@ pub limits_kept : (books : List Fleet) (operators : List Operator) (place : ℕ)
 limits_kept books operators place book new limits here same =
     map-set_same limit_of books place new book (same ∙ ap limit_of here) ∙ limits
 
-module _ (w : State) (place : ℕ) (call : Call) (request : Request) (reply : Reply) where
-  -- the rows of the book at a place are held there
-  gives : (found : Option Operator) (old new : Rows) → set w.fleets place old ≡ w.fleets → OperatorGives w.configuration found w.publications old call request reply new → Comes (operator_step w place found (Some old) call request) w reply (with_rows w place new)
-  gives None old new same h = absurd h
-  gives (Some operator) old new same h = elim h [
-    | inl k ↦ inl (k.0, ap (with_rows w place) k.1)
-    | inr k ↦ inr (k.0, ap (with_rows w place) k.1 ∙ ap (λ fleets. record { configuration = w.configuration; publications = w.publications; drafts = w.drafts; fleets = fleets }) same)
-  ]
+-- an operator's call, where the operator and its rows are these
+abbrev own_does : State → ℕ → Option Operator → Option Rows → OperatorCall → Request → Result (Reply × State) Code
+own_does w place operator found call request = do
+  o ← or_code Token operator
+  rows ← or_code Token found
+  after ← operator_does w.configuration.zone o w.publications rows call request
+  Ok (after.0, with_rows w place after.1)
 
--- a call of an operator is a step of the machine
-pub comes : (configuration : Configuration) (publications : List Publication) (drafts : Drafts) (books : List Fleet) (place : ℕ) (book new : Fleet) (call : Call) (request : Request) (reply : Reply) → place < length books → book ≡ get_or books place book → OperatorAnswers configuration place publications book.rows call request reply new.rows → Comes (operator_step (record { configuration = configuration; publications = publications; drafts = drafts; fleets = map rows_of books }) place (slice_get configuration.operators place) (slice_get (map rows_of books) place) call request) (record { configuration = configuration; publications = publications; drafts = drafts; fleets = map rows_of books }) reply (record { configuration = configuration; publications = publications; drafts = drafts; fleets = map rows_of (set books place new) })
-comes configuration publications drafts books place book new call request reply within here answer =
+-- what an operator's call gives of its rows, it gives of the state
+own : (w : State) (place : ℕ) (operator : Option Operator) (found : Option Rows) (rows new : Rows) (limit : ℕ) (call : OperatorCall) (request : Request) (reply : Reply) → Some limit ≡ option_map allowed operator → found ≡ Some rows → with_rows w place rows ≡ w → IfSome operator (λ o. Gives (Unit {0}) rows (operator_does w.configuration.zone o w.publications rows call request) reply new) → Gives (Unit {0}) w (own_does w place operator found call request) reply (with_rows w place new)
+own w place None found rows new limit call request reply there held same h = absurd (cc)
+own w place (Some o) None rows new limit call request reply there held same h = absurd (cc)
+own w place (Some o) (Some r) rows new limit call request reply there held same h =
+    subst (λ rs. Gives (Unit {0}) w (own_does w place (Some o) rs call request) reply (with_rows w place new)) (sym held)
+    (lifted (with_rows w place) rows new w (operator_does w.configuration.zone o w.publications rows call request) reply same h)
+
+-- a call of an operator is a call of the machine
+pub comes : (configuration : Configuration) (publications : List Publication) (drafts : Drafts) (books : List Fleet) (place : ℕ) (book new : Fleet) (call : OperatorCall) (request : Request) (reply : Reply) → place < length books → book ≡ get_or books place book → IfSome (slice_get configuration.operators place) (λ o. Gives (Unit {0}) book.rows (operator_does configuration.zone o publications book.rows call request) reply new.rows) → map limit_of books ≡ map allowed configuration.operators → Gives (Unit {0}) (record { configuration = configuration; publications = publications; drafts = drafts; fleets = map rows_of books }) (call_does (record { configuration = configuration; publications = publications; drafts = drafts; fleets = map rows_of books }) (OperatorAt place call) request) reply (record { configuration = configuration; publications = publications; drafts = drafts; fleets = map rows_of (set books place new) })
+comes configuration publications drafts books place book new call request reply within here answer limits =
     let w : State = record { configuration = configuration; publications = publications; drafts = drafts; fleets = map rows_of books } in
     let held : slice_get (map rows_of books) place ≡ Some book.rows =
     slice_get-map rows_of books place ∙ ap (option_map rows_of) (slice_get_read books (length books) place book refl within here) in
     let same : set (map rows_of books) place book.rows ≡ map rows_of books =
     sym (map-set rows_of books place book) ∙ map-set_same rows_of books place book book (ap rows_of here) in
-    let step : Comes (operator_step w place (slice_get configuration.operators place) (Some book.rows) call request) w reply (with_rows w place new.rows) =
-    gives w place call request reply (slice_get configuration.operators place) book.rows new.rows same answer in
-    subst (λ fleets. Comes (operator_step w place (slice_get configuration.operators place) (slice_get (map rows_of books) place) call request) w reply (record { configuration = configuration; publications = publications; drafts = drafts; fleets = fleets }))
+    subst (λ fleets. Gives (Unit {0}) w (call_does w (OperatorAt place call) request) reply (record { configuration = configuration; publications = publications; drafts = drafts; fleets = fleets }))
     (sym (map-set rows_of books place new))
-    (subst (λ o. Comes (operator_step w place (slice_get configuration.operators place) o call request) w reply (with_rows w place new.rows)) (sym held) step)
+    (own w place (slice_get configuration.operators place) (slice_get (map rows_of books) place) book.rows new.rows book.limit call request reply
+    (limit_at books configuration.operators place book limits within here) held (ap (λ fleets. record { configuration = configuration; publications = publications; drafts = drafts; fleets = fleets }) same) answer)
 
 -- a machine without a publication, a draft or a row
 pub new_is : (configuration : Configuration) (publications : List Publication) (policies : FinMap id_cmp Policy) (geographies : FinMap id_cmp Geography) (fleets : List Rows) → publications ≡ [] → policies ≡ empty → geographies ≡ empty → fleets ≡ map (λ operator. empty) configuration.operators → record { configuration = configuration; publications = publications; drafts = record { policies = policies; geographies = geographies }; fleets = fleets } ≡ new_state configuration

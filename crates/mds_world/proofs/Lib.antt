@@ -1,13 +1,7 @@
 mod Ascending
 mod Books
-mod Drafting
-mod Histories
-mod Isolated
-mod Meaning
 mod OneLine
-mod Outcome
-mod Reported
+mod Places
+mod Replies
 mod Running
-mod Shown
-mod Steps
-mod TwoWorlds
+mod Settled

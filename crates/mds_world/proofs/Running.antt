@@ -1,12 +1,11 @@
 -- A run grows by one exchange at its end.
-use Rattle.std.proofs.Common.{◌≡◌, ℕ, ◌+◌, ◌<◌, List, [], ◌∷◌, ◌++◌, map, take, length, get_or, refl, sym, ap, subst, ◌∙◌, arith, add-one}
-use Rattle.std.proofs.Math.Seq.{take-suc}
+use Rattle.std.proofs.Common.{◌≡◌, ℕ, ◌+◌, ◌<◌, ◌≤◌, List, [], ◌∷◌, ◌++◌, map, take, length, get_or, refl, sym, ap, subst, ◌∙◌, arith, add-one}
+use Rattle.std.proofs.Math.Seq.{take-suc, take-length}
 use Rattle.std.proofs.lemmas.List.{length-map, length-take-le, map-append}
 use Rattle.mds_request.specs.Request.{Request, request_of}
 use Rattle.mds_request.specs.declared.request.Request.{Request as Lent}
 use Rattle.mds_request.specs.Reply.{Reply}
-use Rattle.mds_world.specs.Step.{Exchange, Step, Run, exchanges}
-use Rattle.mds_world.specs.World.{State}
+use Rattle.mds_machine.specs.Step.{State, Exchange, Step, Run, exchanges}
 
 -- one more exchange
 pub run_on : (w between next : State) (history : List Exchange) (e : Exchange) → Run w history between → Step between e.request e.reply next → Run w (history ++ e ∷ []) next
@@ -34,3 +33,9 @@ turn w between next lent i item replies all reply within here same more run step
     ∙ exchanges_on (map request_of (take i lent)) replies (request_of item) reply as_many in
     subst (λ history. Run w history next) (sym grown)
     (run_on w between next (exchanges (map request_of (take i lent)) replies) (record { request = request_of item; reply = reply }) run step)
+
+-- all requests are answered
+pub finished : (w next : State) (lent : List Lent) (i : ℕ) (replies : List Reply) → i ≤ length lent → length lent ≤ i → Run w (exchanges (map request_of (take i lent)) replies) next → Run w (exchanges (map request_of lent) replies) next
+finished w next lent i replies below above run =
+    let all : take i lent ≡ lent = ap (λ n. take n lent) (let e : i ≡ length lent = omega (arith, below, above) in e) ∙ take-length lent in
+    subst (λ ls. Run w (exchanges (map request_of ls) replies) next) all run

@@ -1,14 +1,3 @@
 pub mod Acts
-pub mod Answer
-pub mod Author
-pub mod Bodies
-pub mod Denial
-pub mod History
-pub mod Isolation
-pub mod Laws
-pub mod Meaning
-pub mod Operator
-pub mod Published
-pub mod Step
-pub mod Views
+pub mod Denied
 pub mod World

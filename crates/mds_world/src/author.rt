@@ -1,29 +1,28 @@
 //! The calls of the author.
-ghost use Rattle.std.specs.Prelude.{◌≡◌, ◌+◌, ◌≤◌, length, false, IfOk, OnOk, OnErr, IsTrue};
+ghost use Rattle.std.specs.Prelude.{◌≡◌, ◌≤◌, length, IfOk, OnErr, IsTrue};
 ghost use Rattle.mds_text.specs.Printed.{printed};
 ghost use Rattle.mds_text.specs.View.{view};
 ghost use Rattle.mds_catalog.specs.Catalogue.{publications_of};
-ghost use Rattle.mds_catalog.specs.Publication.{publication_of, is_lawful};
-ghost use Rattle.mds_drafts.specs.Drafts.{without_draft};
 ghost use Rattle.mds_drafts.specs.Entries.{document_of as draft_document};
 ghost use Rattle.mds_drafts.specs.Shelf.{drafts_of};
 ghost use Rattle.mds_request.specs.Request.{request_of};
 ghost use Rattle.mds_request.specs.Reply.{is_line};
-ghost use Rattle.mds_world.specs.Acts.{AuthorActs, is_publish};
-ghost use Rattle.mds_world.specs.Answer.{Meets, told};
-ghost use Rattle.mds_world.specs.Author.{put_document, document_of, put_word, put_draft_answer, with_document, draft_served, get_draft_answer, drop_draft_answer, draft_answer, drafts_by, publication_asked, author_answer, author_drafts};
-ghost use Rattle.mds_world.specs.Bodies.{result_json, published_json};
+ghost use Rattle.mds_machine.specs.Answer.{Gives};
+ghost use Rattle.mds_machine.specs.Author.{document_of, put_word, put_draft, draft_served, draft_answer, drop_draft, publish, author_does};
+ghost use Rattle.mds_machine.specs.Bodies.{result_json};
+ghost use Rattle.mds_world.specs.Acts.{outcome, IsOpen};
+ghost use Rattle.mds_world.specs.Denied.{Meets};
+ghost use Rattle.mds_world.specs.declared.bodies.TheConstants.{ROOM};
 
-use crate::answer::{identified, in_room, reply_of, room};
-use crate::bodies::{draft_reply, published_reply, removed_reply};
+use crate::bodies::{draft_reply, in_room, published_reply, removed_reply, room};
 use crate::denied::Denied;
-use crate::published::{Reader, geographies, geography, policies, policy};
+use crate::published::{geographies, geography, policies, policy};
 use mds_catalog::{Batch, Catalogue};
-use mds_drafts::{Draft, DraftKind, Drafts, PublishList, Put};
+use mds_drafts::{Draft, Drafts, PublishList, Put};
 use mds_geography::Geography;
 use mds_policy::Policy;
-use mds_request::{Call, Code, Reply, Request, Route, Verb};
-use mds_text::{Id, Tree};
+use mds_request::{AuthorCall, Code, Reply, Request};
+use mds_text::{DraftKind, Id, Tree};
 use std::alloc::{AllocError, Global};
 use std::sync::Arc;
 
@@ -40,7 +39,7 @@ pub enum AuthorAct {
 /// What became of a draft, as a body.
 fn put_body(put: Put) -> &'static [u8]
     ensures body { result.now ≡ printed (result_json (put_word put)) }
-    ensures short { length result.now ≤ 24 }
+    ensures short { length result.now ≤ ROOM }
     ensures line { IsTrue (is_line result.now) }
 {
     match put {
@@ -65,19 +64,7 @@ fn document(alloc: Global, kind: DraftKind, text: &[u8]) -> Result<Draft, Denied
     }
 }
 
-/// The draft that is to be put under this identifier, which has to be its own.
-fn draft_under(alloc: Global, kind: DraftKind, id: Id, text: &[u8]) -> Result<Draft, Denied>
-    ensures { Meets draft_document result (put_document kind id text.now) }
-{
-    let draft = document(alloc, kind, text)?;
-    if draft.id() == id {
-        Ok(draft)
-    } else {
-        Err(Denied::Refused(Code::IdMismatch))
-    }
-}
-
-/// Puts a draft. The room for the reply comes before the change.
+/// Puts a draft under its own identifier. The room for the reply comes before the change.
 fn put_draft(
     alloc: Global,
     drafts: &mut Drafts,
@@ -85,11 +72,13 @@ fn put_draft(
     id: Id,
     text: &[u8],
 ) -> Result<Reply, Denied>
-    ensures answer { Meets (λ r. r) result (put_draft_answer (drafts_of drafts.old) kind id text.now) }
-    ensures drafts { OnOk result (drafts_of drafts.new ≡ with_document (drafts_of drafts.old) (put_document kind id text.now)) }
+    ensures answer { Meets (λ r. (r, drafts_of drafts.new)) result (put_draft (drafts_of drafts.old) kind id text.now) }
     ensures refused { OnErr result (drafts_of drafts.new ≡ drafts_of drafts.old) }
 {
-    let draft = draft_under(alloc, kind, id, text)?;
+    let draft = document(alloc, kind, text)?;
+    if draft.id() != id {
+        return Err(Denied::Refused(Code::IdMismatch));
+    }
     let body = room(alloc)?;
     let put = drafts.put(draft)?;
     Ok(in_room(body, put_body(put)))
@@ -106,8 +95,8 @@ fn served(alloc: Global, draft: &Draft) -> Result<Tree, AllocError>
 }
 
 /// Shows a draft.
-fn get_draft(alloc: Global, drafts: &Drafts, kind: DraftKind, id: Id) -> Result<Reply, Denied>
-    ensures { Meets (λ r. r) result (get_draft_answer (drafts_of drafts.now) kind id) }
+fn show_draft(alloc: Global, drafts: &Drafts, kind: DraftKind, id: Id) -> Result<Reply, Denied>
+    ensures { Meets (λ r. r) result (draft_answer (drafts_of drafts.now) kind id) }
 {
     let Some(draft) = drafts.get(kind, id) else {
         return Err(Denied::Refused(Code::NoDraft));
@@ -118,8 +107,7 @@ fn get_draft(alloc: Global, drafts: &Drafts, kind: DraftKind, id: Id) -> Result<
 
 /// Drops a draft. The reply is made before the change.
 fn drop_draft(alloc: Global, drafts: &mut Drafts, kind: DraftKind, id: Id) -> Result<Reply, Denied>
-    ensures answer { Meets (λ r. r) result (drop_draft_answer (drafts_of drafts.old) kind id) }
-    ensures drafts { OnOk result (drafts_of drafts.new ≡ without_draft (drafts_of drafts.old) kind id) }
+    ensures answer { Meets (λ r. (r, drafts_of drafts.new)) result (drop_draft (drafts_of drafts.old) kind id) }
     ensures refused { OnErr result (drafts_of drafts.new ≡ drafts_of drafts.old) }
 {
     let reply = removed_reply(alloc, id)?;
@@ -129,92 +117,49 @@ fn drop_draft(alloc: Global, drafts: &mut Drafts, kind: DraftKind, id: Id) -> Re
     }
 }
 
-/// A call of a draft, by its method.
-fn draft_call(
-    alloc: Global,
-    drafts: &mut Drafts,
-    kind: DraftKind,
-    id: Id,
-    verb: Verb,
-    text: &[u8],
-) -> Result<Reply, Denied>
-    ensures answer { Meets (λ r. r) result (draft_answer (drafts_of drafts.old) kind verb text.now id) }
-    ensures drafts { OnOk result (drafts_of drafts.new ≡ drafts_by (drafts_of drafts.old) kind verb text.now id) }
-    ensures refused { OnErr result (drafts_of drafts.new ≡ drafts_of drafts.old) }
-{
-    match verb {
-        Verb::Put => put_draft(alloc, drafts, kind, id, text),
-        Verb::Get => get_draft(alloc, drafts, kind, id),
-        Verb::Delete => drop_draft(alloc, drafts, kind, id),
-        Verb::Post | Verb::Other => Err(Denied::Refused(Code::Method)),
-    }
-}
-
 /// The batch that a publish request asks for, and the reply to it.
 fn publish(
     alloc: Global,
     drafts: &Drafts,
     catalogue: &Catalogue,
     request: &Request<'_>,
-) -> Result<(Arc<Batch>, Reply), Denied>
-    ensures batch { Meets (λ x. publication_of x.0.value) result
-        (publication_asked (drafts_of drafts.now) (publications_of catalogue.now) (request_of request.now)) }
-    ensures lawful { IfOk result (λ x. IsTrue (is_lawful (publications_of catalogue.now) (publication_of x.0.value))) }
-    ensures reply { IfOk result (λ x. x.1 ≡ told (published_json (request_of request.now).at (length (publications_of catalogue.now) + 1))) }
+) -> Result<AuthorAct, Denied>
+    ensures answer { Meets (outcome (drafts_of drafts.now) (publications_of catalogue.now)) result
+        (publish (drafts_of drafts.now) (publications_of catalogue.now) (request_of request.now)) }
+    ensures lawful { IfOk result (IsOpen (drafts_of drafts.now) (publications_of catalogue.now) (drafts_of drafts.now)) }
 {
     let list = PublishList::read(alloc, request.body)?;
     let batch = drafts.batch(alloc, &list, catalogue, request.at)?;
     let reply = published_reply(alloc, request.at, catalogue.revision() + 1)?;
-    Ok((Arc::new(alloc, batch)?, reply))
+    Ok(AuthorAct::Publish(Arc::new(alloc, batch)?, reply))
 }
 
-/// A call of the author that publishes nothing.
-fn answered(
+/// What a call of the author comes to, if it isn't refused.
+fn act(
     alloc: Global,
     drafts: &mut Drafts,
     catalogue: &Catalogue,
-    call: &Call,
+    call: &AuthorCall,
     request: &Request<'_>,
-) -> Result<Reply, Denied>
-    requires { is_publish call.now.route ≡ false }
-    ensures answer { Meets (λ r. r) result (author_answer (drafts_of drafts.old) (publications_of catalogue.now) call.now (request_of request.now)) }
-    ensures drafts { OnOk result (drafts_of drafts.new ≡ author_drafts (drafts_of drafts.old) (publications_of catalogue.now) call.now (request_of request.now)) }
+) -> Result<AuthorAct, Denied>
+    ensures answer { Meets (outcome (drafts_of drafts.new) (publications_of catalogue.now)) result
+        (author_does (drafts_of drafts.old) (publications_of catalogue.now) call.now (request_of request.now)) }
+    ensures lawful { IfOk result (IsOpen (drafts_of drafts.old) (publications_of catalogue.now) (drafts_of drafts.new)) }
     ensures refused { OnErr result (drafts_of drafts.new ≡ drafts_of drafts.old) }
 {
-    let reader = Reader::Author;
-    match call.route {
-        Route::Policies => policies(alloc, &reader, catalogue),
-        Route::Policy => policy(alloc, &reader, catalogue, identified(call)?),
-        Route::Geographies => geographies(alloc, catalogue),
-        Route::Geography => geography(alloc, catalogue, identified(call)?),
-        Route::PolicyDraft => {
-            let id = identified(call)?;
-            draft_call(
-                alloc,
-                drafts,
-                DraftKind::Policy,
-                id,
-                call.verb,
-                request.body,
-            )
+    match *call {
+        AuthorCall::Policies => Ok(AuthorAct::Answer(policies(alloc, catalogue, None)?)),
+        AuthorCall::Policy(id) => Ok(AuthorAct::Answer(policy(alloc, catalogue, None, id)?)),
+        AuthorCall::Geographies => Ok(AuthorAct::Answer(geographies(alloc, catalogue)?)),
+        AuthorCall::Geography(id) => Ok(AuthorAct::Answer(geography(alloc, catalogue, id)?)),
+        AuthorCall::PutDraft(kind, id) => {
+            Ok(AuthorAct::Answer(put_draft(alloc, drafts, kind, id, request.body)?))
         }
-        Route::GeographyDraft => {
-            let id = identified(call)?;
-            draft_call(
-                alloc,
-                drafts,
-                DraftKind::Geography,
-                id,
-                call.verb,
-                request.body,
-            )
-        }
-        Route::FleetEvents
-        | Route::FleetVehicles
-        | Route::FleetVehicle
-        | Route::Compliance
-        | Route::PolicyCompliance
-        | Route::Publish => Err(Denied::Refused(Code::Role)),
+        AuthorCall::Draft(kind, id) => Ok(AuthorAct::Answer(show_draft(alloc, drafts, kind, id)?)),
+        AuthorCall::DropDraft(kind, id) => Ok(AuthorAct::Answer(drop_draft(
+            alloc, drafts, kind, id,
+        )?)),
+        AuthorCall::Publish => publish(alloc, drafts, catalogue, request),
     }
 }
 
@@ -227,16 +172,17 @@ pub fn author_step(
     alloc: Global,
     drafts: &mut Drafts,
     catalogue: &Catalogue,
-    call: &Call,
+    call: &AuthorCall,
     request: &Request<'_>,
 ) -> AuthorAct
-    ensures { AuthorActs (drafts_of drafts.old) (publications_of catalogue.now) call.now (request_of request.now) result (drafts_of drafts.new) }
+    // once a batch that is to be published is, and its drafts are taken out, all is as defined
+    ensures answer { let after = outcome (drafts_of drafts.new) (publications_of catalogue.now) result in
+        Gives (Unit {0}) (drafts_of drafts.old, publications_of catalogue.now)
+        (author_does (drafts_of drafts.old) (publications_of catalogue.now) call.now (request_of request.now)) after.0 after.1 }
+    ensures lawful { IsOpen (drafts_of drafts.old) (publications_of catalogue.now) (drafts_of drafts.new) result }
 {
-    match call.route {
-        Route::Publish => match publish(alloc, drafts, catalogue, request) {
-            Ok((batch, reply)) => AuthorAct::Publish(batch, reply),
-            Err(denied) => AuthorAct::Answer(reply_of(Err(denied))),
-        },
-        _ => AuthorAct::Answer(reply_of(answered(alloc, drafts, catalogue, call, request))),
+    match act(alloc, drafts, catalogue, call, request) {
+        Ok(act) => act,
+        Err(denied) => AuthorAct::Answer(Reply::from(denied)),
     }
 }

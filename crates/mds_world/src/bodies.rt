@@ -1,9 +1,10 @@
-//! The bodies of successes.
-ghost use Rattle.std.specs.Prelude.{◌≡◌, ◌^◌, ◌<◌, IfOk, map};
+//! The replies of successes.
+ghost use Rattle.std.specs.Prelude.{◌≡◌, ◌^◌, ◌<◌, ◌≤◌, [], length, IfOk, IsTrue, map, vec_capacity};
 ghost use Rattle.mds_text.specs.View.{view};
 ghost use Rattle.mds_match.specs.Row.{row_of};
-ghost use Rattle.mds_world.specs.Answer.{told};
-ghost use Rattle.mds_world.specs.Bodies.{words_json, removed_json, draft_json, published_json, revised_json, compliance_json, location_json, vehicle_json, vehicles_json};
+ghost use Rattle.mds_request.specs.Reply.{is_line, success};
+ghost use Rattle.mds_machine.specs.Answer.{told};
+ghost use Rattle.mds_machine.specs.Bodies.{words_json, removed_json, draft_json, published_json, revised_json, compliance_json, location_json, vehicle_json, vehicles_json};
 
 use mds_match::Vehicle;
 use mds_request::Reply;
@@ -14,7 +15,38 @@ use mds_text::{
 use std::alloc::{AllocError, Global};
 
 /// The version of the compliance reports.
-const REPORT_VERSION: i64 = 1;
+const REPORT_VERSION: i64 = 2;
+
+/// The most bytes of a body that is made in room that was kept for it.
+const ROOM: usize = 24;
+
+/// Room for a short body, so that it can be made after a change.
+pub(crate) fn room(alloc: Global) -> Result<Vec<u8>, AllocError>
+    ensures empty { IfOk result (λ room. room.items ≡ []) }
+    ensures roomy { IfOk result (λ room. ROOM ≤ vec_capacity room) }
+{
+    Vec::with_capacity(alloc, ROOM)
+}
+
+/// A success with this body, in room that was kept for it, so that no memory is asked for.
+pub(crate) fn in_room(mut room: Vec<u8>, body: &[u8]) -> Reply
+    requires empty { room.items ≡ [] }
+    requires roomy { ROOM ≤ vec_capacity room }
+    requires short { length body.now ≤ ROOM }
+    requires line { IsTrue (is_line body.now) }
+    ensures { result ≡ success body.now }
+{
+    fill(&mut room, body);
+    Reply::ok(room)
+}
+
+fn fill(room: &mut Vec<u8>, bytes: &[u8])
+    requires empty { room.old.items ≡ [] }
+    requires roomy { length bytes.now ≤ vec_capacity room.old }
+    ensures { room.new.items ≡ bytes.now }
+{
+    let _ = room.extend_from_slice(bytes);
+}
 
 /// A success with this value as its body.
 #[tactic(auto, using(crate::proofs::OneLine::one_line))]
@@ -74,7 +106,7 @@ pub(crate) fn revised_reply(
     told(alloc, &object_tree(members))
 }
 
-/// What is found at a moment, under its name: `{"at":moment,name:value,"revision":revision,"version":1}`.
+/// What is found at a moment, under its name: `{"at":moment,name:value,"revision":revision,"version":2}`.
 pub(crate) fn compliance_reply(
     alloc: Global,
     moment: Moment,

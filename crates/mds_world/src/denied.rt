@@ -1,14 +1,14 @@
-//! From the faults of the layers below to the codes of refusals.
+//! From the faults of the layers below to the codes of refusals, and from these to replies.
 ghost use Rattle.std.specs.Prelude.{◌≡◌};
 ghost use Rattle.mds_geography.specs.Fault.{ring_cause};
-ghost use Rattle.mds_world.specs.Answer.{code_of};
+ghost use Rattle.mds_machine.specs.Codes.{fault_code};
 
 use mds_drafts::{PublishFault, PutFault};
 use mds_fleet::BookFault;
 use mds_geography::GeoFault;
 use mds_geometry::RingFault;
 use mds_policy::PolicyFault;
-use mds_request::Code;
+use mds_request::{Code, Reply};
 use mds_text::TextFault;
 use std::alloc::{AllocError, AllocFailed};
 
@@ -19,6 +19,21 @@ pub enum Denied {
     Refused(Code),
     /// Memory ran out.
     Exhausted,
+}
+
+impl From<Denied> for Reply {
+    ghost use Rattle.std.specs.Prelude.{◌≡◌};
+    ghost use Rattle.mds_request.specs.Reply.{refused};
+    ghost use Rattle.mds_world.specs.Denied.{code_of};
+
+    ghost from_gives = { λ denied reply. reply ≡ refused (code_of denied) };
+
+    fn from(denied: Denied) -> Reply {
+        match denied {
+            Denied::Refused(code) => Reply::from(code),
+            Denied::Exhausted => Reply::from(Code::NoMemory),
+        }
+    }
 }
 
 impl From<AllocError> for Denied {
@@ -46,9 +61,10 @@ impl<T: Drop> From<AllocFailed<T>> for Denied {
 impl From<TextFault> for Denied {
     ghost use Rattle.std.specs.Prelude.{◌≡◌, option_map};
     ghost use Rattle.mds_text.specs.Fault.{text_cause};
-    ghost use Rattle.mds_world.specs.Answer.{denial, code_of};
+    ghost use Rattle.mds_machine.specs.Codes.{fault_code};
+    ghost use Rattle.mds_world.specs.Denied.{denial};
 
-    ghost from_gives = { λ fault e. denial e ≡ option_map code_of (text_cause fault) };
+    ghost from_gives = { λ fault e. denial e ≡ option_map fault_code (text_cause fault) };
 
     fn from(fault: TextFault) -> Denied {
         match fault {
@@ -64,9 +80,10 @@ impl From<TextFault> for Denied {
 impl From<PolicyFault> for Denied {
     ghost use Rattle.std.specs.Prelude.{◌≡◌, option_map};
     ghost use Rattle.mds_policy.specs.Fault.{policy_cause};
-    ghost use Rattle.mds_world.specs.Answer.{denial, code_of};
+    ghost use Rattle.mds_machine.specs.Codes.{fault_code};
+    ghost use Rattle.mds_world.specs.Denied.{denial};
 
-    ghost from_gives = { λ fault e. denial e ≡ option_map code_of (policy_cause fault) };
+    ghost from_gives = { λ fault e. denial e ≡ option_map fault_code (policy_cause fault) };
 
     fn from(fault: PolicyFault) -> Denied {
         match fault {
@@ -80,9 +97,10 @@ impl From<PolicyFault> for Denied {
 impl From<GeoFault> for Denied {
     ghost use Rattle.std.specs.Prelude.{◌≡◌, option_map};
     ghost use Rattle.mds_geography.specs.Fault.{geo_cause};
-    ghost use Rattle.mds_world.specs.Answer.{denial, code_of};
+    ghost use Rattle.mds_machine.specs.Codes.{fault_code};
+    ghost use Rattle.mds_world.specs.Denied.{denial};
 
-    ghost from_gives = { λ fault e. denial e ≡ option_map code_of (geo_cause fault) };
+    ghost from_gives = { λ fault e. denial e ≡ option_map fault_code (geo_cause fault) };
 
     fn from(fault: GeoFault) -> Denied {
         match fault {
@@ -94,7 +112,7 @@ impl From<GeoFault> for Denied {
 }
 
 fn ring_code(fault: RingFault) -> Code
-    ensures { result ≡ code_of (ring_cause fault) }
+    ensures { result ≡ fault_code (ring_cause fault) }
 {
     match fault {
         RingFault::Short => Code::RingShort,
@@ -104,10 +122,10 @@ fn ring_code(fault: RingFault) -> Code
 
 impl From<BookFault> for Denied {
     ghost use Rattle.std.specs.Prelude.{◌≡◌};
-    ghost use Rattle.mds_world.specs.Answer.{denial};
-    ghost use Rattle.mds_world.specs.Denial.{book_denial};
+    ghost use Rattle.mds_machine.specs.Codes.{book_code};
+    ghost use Rattle.mds_world.specs.Denied.{denial, unless_memory};
 
-    ghost from_gives = { λ fault e. denial e ≡ book_denial fault };
+    ghost from_gives = { λ fault e. denial e ≡ unless_memory (book_code fault) };
 
     fn from(fault: BookFault) -> Denied {
         match fault {
@@ -121,10 +139,10 @@ impl From<BookFault> for Denied {
 
 impl From<PutFault> for Denied {
     ghost use Rattle.std.specs.Prelude.{◌≡◌};
-    ghost use Rattle.mds_world.specs.Answer.{denial};
-    ghost use Rattle.mds_world.specs.Denial.{put_denial};
+    ghost use Rattle.mds_machine.specs.Codes.{put_code};
+    ghost use Rattle.mds_world.specs.Denied.{denial, unless_memory};
 
-    ghost from_gives = { λ fault e. denial e ≡ put_denial fault };
+    ghost from_gives = { λ fault e. denial e ≡ unless_memory (put_code fault) };
 
     fn from(fault: PutFault) -> Denied {
         match fault {
@@ -136,10 +154,10 @@ impl From<PutFault> for Denied {
 
 impl From<PublishFault> for Denied {
     ghost use Rattle.std.specs.Prelude.{◌≡◌};
-    ghost use Rattle.mds_world.specs.Answer.{denial};
-    ghost use Rattle.mds_world.specs.Denial.{publish_denial};
+    ghost use Rattle.mds_machine.specs.Codes.{publish_code};
+    ghost use Rattle.mds_world.specs.Denied.{denial, unless_memory};
 
-    ghost from_gives = { λ fault e. denial e ≡ publish_denial fault };
+    ghost from_gives = { λ fault e. denial e ≡ unless_memory (publish_code fault) };
 
     fn from(fault: PublishFault) -> Denied {
         match fault {
@@ -148,6 +166,7 @@ impl From<PublishFault> for Denied {
             PublishFault::Published(_) => Denied::Refused(Code::Published),
             PublishFault::NoGeography(_) => Denied::Refused(Code::NoGeography),
             PublishFault::NoPredecessor(_) => Denied::Refused(Code::NoPredecessor),
+            PublishFault::NotPublished(_) => Denied::Refused(Code::NotPublished),
             PublishFault::CatalogFull => Denied::Refused(Code::CatalogFull),
             PublishFault::NoMemory => Denied::Exhausted,
         }

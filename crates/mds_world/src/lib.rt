@@ -1,13 +1,11 @@
-//! The machine: what each request is answered, and what becomes of an operator's vehicles, of drafts
-//! and of publications.
+//! The program of the machine: it answers requests, and keeps each operator's vehicles, the drafts
+//! and the published catalogue.
 #![tactic(auto)]
 
-mod answer;
 mod author;
 mod bodies;
 mod compliance;
 mod denied;
-pub mod laws;
 mod operator;
 mod published;
 #[cfg(test)]

@@ -1,33 +1,32 @@
 //! The calls of an operator.
-ghost use Rattle.std.specs.Prelude.{◌≡◌, ◌<◌, ◌≤◌, length, OnOk, OnErr, Ok, Some, option_map, slice_get, IsTrue};
+ghost use Rattle.std.specs.Prelude.{◌≡◌, ◌<◌, ◌≤◌, length, IfOk, OnErr, IfSome, Some, option_map, slice_get, IsTrue};
 ghost use Rattle.std.specs.FinMap as finite;
 ghost use Rattle.mds_text.specs.Printed.{printed};
 ghost use Rattle.mds_catalog.specs.Catalogue.{publications_of};
-ghost use Rattle.mds_request.specs.Configuration.{configuration, operator as operator_of};
+ghost use Rattle.mds_request.specs.Configuration.{configuration, operator as operator_of, Operator as Configured};
 ghost use Rattle.mds_request.specs.Request.{request_of};
 ghost use Rattle.mds_request.specs.Reply.{is_line};
-ghost use Rattle.mds_world.specs.Answer.{Meets, told};
-ghost use Rattle.mds_world.specs.Bodies.{result_json, vehicles_json};
-ghost use Rattle.mds_world.specs.Operator.{taken_word, event_answer, rows_after_read, removal_answer, operator_answer, operator_rows};
-ghost use Rattle.mds_world.specs.Acts.{OperatorAnswers};
-ghost use Rattle.mds_fleet.specs.Reading.{read_report};
+ghost use Rattle.mds_machine.specs.Answer.{told, Gives};
+ghost use Rattle.mds_machine.specs.Bodies.{result_json, vehicles_json};
+ghost use Rattle.mds_machine.specs.Operator.{taken_word, report, removal, operator_does};
+ghost use Rattle.mds_world.specs.Denied.{Meets};
+ghost use Rattle.mds_world.specs.declared.bodies.TheConstants.{ROOM};
 
-use crate::answer::{identified, in_room, reply_of, room};
-use crate::bodies::{removed_reply, vehicles_reply};
+use crate::bodies::{in_room, removed_reply, room, vehicles_reply};
 use crate::compliance::{compliance, policy_compliance};
 use crate::denied::Denied;
-use crate::published::{Reader, geographies, geography, policies, policy};
+use crate::published::{geographies, geography, policies, policy};
 use mds_catalog::Catalogue;
 use mds_fleet::{Book, Report, Taken};
-use mds_request::{Call, Code, Config, Operator, Reply, Request, Route};
+use mds_request::{Code, Config, Operator, OperatorCall, Reply, Request};
 use mds_text::Id;
 use mds_verdict::Evaluator;
-use std::alloc::Global;
+use std::alloc::{AllocError, Global};
 
 /// What became of a report, as a body.
 fn taken_body(taken: Taken) -> &'static [u8]
     ensures body { result.now ≡ printed (result_json (taken_word taken)) }
-    ensures short { length result.now ≤ 24 }
+    ensures short { length result.now ≤ ROOM }
     ensures line { IsTrue (is_line result.now) }
 {
     match taken {
@@ -38,17 +37,9 @@ fn taken_body(taken: Taken) -> &'static [u8]
 }
 
 /// Takes a report. The room for the reply comes before the change.
-#[tactic(auto, using(crate::proofs::Outcome::accepted, crate::proofs::Outcome::refused))]
-fn report(
-    alloc: Global,
-    book: &mut Book,
-    operator: &Operator,
-    request: &Request<'_>,
-) -> Result<Reply, Denied>
-    requires { book.old.limit ≡ (operator_of operator.now).limit }
-    ensures answer { Meets (λ r. r) result (event_answer (operator_of operator.now) book.old.rows (request_of request.now)) }
-    ensures rows { OnOk result (book.new.rows
-        ≡ rows_after_read (operator_of operator.now) book.old.rows (request_of request.now).at (read_report (request_of request.now).body)) }
+fn report(alloc: Global, book: &mut Book, request: &Request<'_>) -> Result<Reply, Denied>
+    ensures answer { (o : Configured) → o.limit ≡ book.old.limit
+        → Meets (λ r. (r, book.new.rows)) result (report o book.old.rows (request_of request.now)) }
     ensures refused { OnErr result (book.new.rows ≡ book.old.rows) }
     ensures limit { book.new.limit ≡ book.old.limit }
 {
@@ -59,18 +50,15 @@ fn report(
 }
 
 /// All vehicles, ascending by device id.
-fn vehicles(alloc: Global, book: &Book) -> Result<Reply, Denied>
-    ensures { Meets (λ r. r) result (Ok (told (vehicles_json (finite.values book.now.rows)))) }
+fn vehicles(alloc: Global, book: &Book) -> Result<Reply, AllocError>
+    ensures { IfOk result (λ r. r ≡ told (vehicles_json (finite.values book.now.rows))) }
 {
-    let rows = book.rows()?;
-    let reply = vehicles_reply(alloc, &rows)?;
-    Ok(reply)
+    vehicles_reply(alloc, &book.rows()?)
 }
 
 /// Removes a vehicle. The reply is made before the change.
 fn remove(alloc: Global, book: &mut Book, device: Id) -> Result<Reply, Denied>
-    ensures answer { Meets (λ r. r) result (removal_answer book.old.rows device) }
-    ensures rows { OnOk result (book.new.rows ≡ finite.remove book.old.rows device) }
+    ensures answer { Meets (λ r. (r, book.new.rows)) result (removal book.old.rows device) }
     ensures refused { OnErr result (book.new.rows ≡ book.old.rows) }
     ensures limit { book.new.limit ≡ book.old.limit }
 {
@@ -88,34 +76,30 @@ fn answered<E: Evaluator<Catalogue>>(
     catalogue: &Catalogue,
     config: &Config,
     operator: &Operator,
-    call: &Call,
+    call: &OperatorCall,
     request: &Request<'_>,
     evaluator: &E,
 ) -> Result<Reply, Denied>
     requires { book.old.limit ≡ (operator_of operator.now).limit }
-    ensures answer { Meets (λ r. r) result (operator_answer (configuration config.now).zone (operator_of operator.now)
+    ensures answer { Meets (λ r. (r, book.new.rows)) result (operator_does (configuration config.now).zone (operator_of operator.now)
         (publications_of catalogue.now) book.old.rows call.now (request_of request.now)) }
-    ensures rows { OnOk result (book.new.rows ≡ operator_rows (operator_of operator.now) book.old.rows call.now (request_of request.now)) }
     ensures refused { OnErr result (book.new.rows ≡ book.old.rows) }
     ensures limit { book.new.limit ≡ book.old.limit }
 {
     let (zone, at) = (config.zone(), request.at);
-    let reader = Reader::Operator(operator.id);
-    match call.route {
-        Route::Policies => policies(alloc, &reader, catalogue),
-        Route::Policy => policy(alloc, &reader, catalogue, identified(call)?),
-        Route::Geographies => geographies(alloc, catalogue),
-        Route::Geography => geography(alloc, catalogue, identified(call)?),
-        Route::FleetEvents => report(alloc, book, operator, request),
-        Route::FleetVehicles => vehicles(alloc, book),
-        Route::FleetVehicle => remove(alloc, book, identified(call)?),
-        Route::Compliance => compliance(alloc, evaluator, book, catalogue, zone, operator, at),
-        Route::PolicyCompliance => {
-            let id = identified(call)?;
+    match *call {
+        OperatorCall::Policies => Ok(policies(alloc, catalogue, Some(operator.id))?),
+        OperatorCall::Policy(id) => policy(alloc, catalogue, Some(operator.id), id),
+        OperatorCall::Geographies => Ok(geographies(alloc, catalogue)?),
+        OperatorCall::Geography(id) => geography(alloc, catalogue, id),
+        OperatorCall::Report => report(alloc, book, request),
+        OperatorCall::Vehicles => Ok(vehicles(alloc, book)?),
+        OperatorCall::RemoveVehicle(device) => remove(alloc, book, device),
+        OperatorCall::Compliance => Ok(compliance(
+            alloc, evaluator, book, catalogue, zone, operator, at,
+        )?),
+        OperatorCall::PolicyCompliance(id) => {
             policy_compliance(alloc, evaluator, book, catalogue, zone, operator, at, id)
-        }
-        Route::PolicyDraft | Route::GeographyDraft | Route::Publish => {
-            Err(Denied::Refused(Code::Role))
         }
     }
 }
@@ -131,18 +115,22 @@ pub fn operator_step<E: Evaluator<Catalogue>>(
     catalogue: &Catalogue,
     config: &Config,
     operator: usize,
-    call: &Call,
+    call: &OperatorCall,
     request: &Request<'_>,
     evaluator: &E,
 ) -> Reply
     requires place { operator < length (configuration config.now).operators }
     requires limit { Some book.old.limit ≡ option_map (λ o. o.limit) (slice_get (configuration config.now).operators operator) }
-    ensures answer { OperatorAnswers (configuration config.now) operator (publications_of catalogue.now)
-        book.old.rows call.now (request_of request.now) result book.new.rows }
+    ensures answer { IfSome (slice_get (configuration config.now).operators operator) (λ o.
+        Gives (Unit {0}) book.old.rows (operator_does (configuration config.now).zone o (publications_of catalogue.now)
+        book.old.rows call.now (request_of request.now)) result book.new.rows) }
     ensures limit { book.new.limit ≡ book.old.limit }
 {
     let operator = &config.operators()[operator];
-    reply_of(answered(
+    match answered(
         alloc, book, catalogue, config, operator, call, request, evaluator,
-    ))
+    ) {
+        Ok(reply) => reply,
+        Err(denied) => Reply::from(denied),
+    }
 }

@@ -1,97 +1,68 @@
-//! What is told of published documents, to the author and to operators.
-ghost use Rattle.std.specs.Prelude.{◌≡◌, ◌++◌, IfOk, OnOk, map, filter};
+//! What is told of published documents: to the author of all, to an operator of the policies that are
+//! meant for it.
+ghost use Rattle.std.specs.Prelude.{◌≡◌, IfOk, map};
 ghost use Rattle.mds_text.specs.View.{view};
-ghost use Rattle.mds_policy.specs.Policy.{policy_document};
-ghost use Rattle.mds_catalog.specs.Publication.{publication_of, dated, published_policies, published_geographies};
-ghost use Rattle.mds_catalog.specs.Catalogue.{publications_of};
-ghost use Rattle.mds_world.specs.Answer.{Meets};
-ghost use Rattle.mds_world.specs.Bodies.{list_json};
-ghost use Rattle.mds_world.specs.Published.{is_shown, policy_json, geography_json, policies_answer, policy_answer, geographies_answer, geography_answer};
+ghost use Rattle.mds_catalog.specs.Catalogue.{publications_of, lent_policy, lent_geography};
+ghost use Rattle.mds_machine.specs.Bodies.{list_json};
+ghost use Rattle.mds_machine.specs.Published.{policy_json, geography_json, is_shown, policies_reply, policy_answer, geographies_reply, geography_answer};
+ghost use Rattle.mds_world.specs.Denied.{Meets};
 
 use crate::bodies::revised_reply;
 use crate::denied::Denied;
-use mds_catalog::{Batch, Catalogue};
+use mds_catalog::{Catalogue, Published, is_meant_for};
+use mds_geography::Geography;
 use mds_policy::Policy;
 use mds_request::{Code, Reply};
 use mds_text::{Id, Tree, list_tree};
 use std::alloc::{AllocError, Global};
 
-/// Who asks for published documents.
-#[derive(Drop)]
-pub(crate) enum Reader {
-    Author,
-    /// The operator of this identifier.
-    Operator(Id),
-}
-
-/// Whether the one who asks is shown a policy: the author any, an operator those that are meant for
-/// it (MDS 2.0 Policy, `provider_ids`).
-fn is_shown(reader: &Reader, policy: &Policy) -> bool
-    ensures { result ≡ is_shown reader.now (policy_document policy.now) }
+fn policies_tree(alloc: Global, policies: &[Published<'_, Policy>]) -> Result<Tree, AllocError>
+    ensures { IfOk result (λ t. view t ≡ list_json (map policy_json (map lent_policy policies.now))) }
 {
-    match reader {
-        Reader::Author => true,
-        Reader::Operator(operator) => {
-            policy.providers().is_empty() || policy.providers().contains(operator)
-        }
-    }
-}
-
-/// Adds the policies of a batch that are shown.
-fn add_policies(
-    alloc: Global,
-    trees: &mut Vec<Tree>,
-    reader: &Reader,
-    batch: &Batch,
-) -> Result<(), AllocError>
-    ensures { OnOk result (map view trees.new.items ≡ map view trees.old.items
-        ++ map policy_json (filter (λ p. is_shown reader.now p.document) (map (dated batch.now.moment) (publication_of batch.now).policies))) }
-{
-    for policy in &batch.policies {
-        if is_shown(reader, policy) {
-            trees.push(policy.served(alloc, Some(batch.moment))?)?;
-        }
-    }
-    Ok(())
-}
-
-fn policies_tree(alloc: Global, reader: &Reader, catalogue: &Catalogue) -> Result<Tree, AllocError>
-    ensures { IfOk result (λ t. view t ≡ list_json (map policy_json
-        (filter (λ p. is_shown reader.now p.document) (published_policies (publications_of catalogue.now))))) }
-{
-    let mut trees = Vec::new(alloc);
-    for batch in catalogue.batches() {
-        add_policies(alloc, &mut trees, reader, batch)?;
+    let mut trees = Vec::with_capacity(alloc, policies.len())?;
+    for policy in policies {
+        trees.push(policy.document.served(alloc, Some(policy.moment))?)?;
     }
     Ok(list_tree(trees))
 }
 
-/// All published policies that are shown, in order of publication (MDS 2.0 Policy).
+/// The policies that are meant for an operator, or all, in order of publication (MDS 2.0 Policy).
 pub(crate) fn policies(
     alloc: Global,
-    reader: &Reader,
     catalogue: &Catalogue,
-) -> Result<Reply, Denied>
-    ensures { Meets (λ r. r) result (policies_answer reader.now (publications_of catalogue.now)) }
+    operator: Option<Id>,
+) -> Result<Reply, AllocError>
+    ensures { IfOk result (λ r. r ≡ policies_reply (publications_of catalogue.now) operator) }
 {
-    let policies = policies_tree(alloc, reader, catalogue)?;
-    let reply = revised_reply(alloc, "policies", policies, catalogue.revision())?;
+    let policies = catalogue.policies(alloc, operator)?;
+    let tree = policies_tree(alloc, &policies)?;
+    let reply = revised_reply(alloc, "policies", tree, catalogue.revision())?;
     Ok(reply)
 }
 
-/// One published policy, if it is shown.
+/// Whether an operator is shown a policy; the author, who is none, is shown any.
+fn is_shown(operator: Option<Id>, policy: &Published<'_, Policy>) -> bool
+    ensures { result ≡ is_shown operator (lent_policy policy.now) }
+{
+    match operator {
+        Some(operator) => is_meant_for(policy.document, operator),
+        None => true,
+    }
+}
+
+/// One published policy, if it is meant for the operator who asks.
 pub(crate) fn policy(
     alloc: Global,
-    reader: &Reader,
     catalogue: &Catalogue,
+    operator: Option<Id>,
     id: Id,
 ) -> Result<Reply, Denied>
-    ensures { Meets (λ r. r) result (policy_answer reader.now (publications_of catalogue.now) id) }
+    ensures { Meets (λ r. r) result (policy_answer (publications_of catalogue.now) operator id) }
 {
     let Some(found) = catalogue.policy(id) else {
         return Err(Denied::Refused(Code::NotFound));
     };
-    if !is_shown(reader, found.document) {
+    if !is_shown(operator, &found) {
         return Err(Denied::Refused(Code::NotFound));
     }
     let served = found.document.served(alloc, Some(found.moment))?;
@@ -99,33 +70,26 @@ pub(crate) fn policy(
     Ok(reply)
 }
 
-/// Adds the geographies of a batch.
-fn add_geographies(alloc: Global, trees: &mut Vec<Tree>, batch: &Batch) -> Result<(), AllocError>
-    ensures { OnOk result (map view trees.new.items ≡ map view trees.old.items
-        ++ map geography_json (map (dated batch.now.moment) (publication_of batch.now).geographies)) }
+fn geographies_tree(
+    alloc: Global,
+    geographies: &[Published<'_, Geography>],
+) -> Result<Tree, AllocError>
+    ensures { IfOk result (λ t. view t ≡ list_json (map geography_json (map lent_geography geographies.now))) }
 {
-    for geography in &batch.geographies {
-        trees.push(geography.served(alloc, Some(batch.moment))?)?;
-    }
-    Ok(())
-}
-
-fn geographies_tree(alloc: Global, catalogue: &Catalogue) -> Result<Tree, AllocError>
-    ensures { IfOk result (λ t. view t ≡ list_json (map geography_json (published_geographies (publications_of catalogue.now)))) }
-{
-    let mut trees = Vec::new(alloc);
-    for batch in catalogue.batches() {
-        add_geographies(alloc, &mut trees, batch)?;
+    let mut trees = Vec::with_capacity(alloc, geographies.len())?;
+    for geography in geographies {
+        trees.push(geography.document.served(alloc, Some(geography.moment))?)?;
     }
     Ok(list_tree(trees))
 }
 
 /// All published geographies, in order of publication (MDS 2.0 Geography).
-pub(crate) fn geographies(alloc: Global, catalogue: &Catalogue) -> Result<Reply, Denied>
-    ensures { Meets (λ r. r) result (geographies_answer (publications_of catalogue.now)) }
+pub(crate) fn geographies(alloc: Global, catalogue: &Catalogue) -> Result<Reply, AllocError>
+    ensures { IfOk result (λ r. r ≡ geographies_reply (publications_of catalogue.now)) }
 {
-    let geographies = geographies_tree(alloc, catalogue)?;
-    let reply = revised_reply(alloc, "geographies", geographies, catalogue.revision())?;
+    let geographies = catalogue.geographies(alloc)?;
+    let tree = geographies_tree(alloc, &geographies)?;
+    let reply = revised_reply(alloc, "geographies", tree, catalogue.revision())?;
     Ok(reply)
 }
 

@@ -1,7 +1,11 @@
-//! The first verdicts, asked of the machine, also with one growth refused wherever it is.
-use crate::world::World;
-use mds_request::{Config, Reply, Request, Verb};
-use mds_text::Moment;
+//! Verdicts and withdrawals, asked of the machine and of its parts, also with one growth refused
+//! wherever it is.
+use crate::{AuthorAct, World, author_step, operator_step};
+use mds_catalog::Catalogue;
+use mds_drafts::Drafts;
+use mds_fleet::Book;
+use mds_request::{AuthorCall, Config, OperatorCall, Reply, Request, Verb};
+use mds_text::{DraftKind, Id, Moment};
 use mds_verdict::Plain;
 use std::alloc::Global;
 use std::process::Abort;
@@ -25,13 +29,20 @@ const FIRST_REPORT: &str =
 const SECOND_REPORT: &str =
     r#"{"device_id":"00000000-0000-4000-8000-000000000402","vehicle_type":"scooter","propulsion_types":["electric"],"vehicle_state":"available","event_types":["trip_end"],"timestamp":2001,"location":{"lat":5,"lng":5}}"#;
 
+const WITHDRAWN: &str = r#"{"withdraw":["00000000-0000-4000-8000-000000000201"]}"#;
+
 const NEW: &str = r#"{"result":"new"}"#;
 
-const FIRST_VERDICT: &str =
-    r#"{"at":2000,"policies":[{"policy_id":"00000000-0000-4000-8000-000000000201","rules":[{"measure":1,"rule_id":"00000000-0000-4000-8000-000000000301","status":"ok"}]}],"revision":1,"version":1}"#;
+const WITHIN: &str =
+    r#"{"at":2000,"policies":[{"policy_id":"00000000-0000-4000-8000-000000000201","rules":[{"measure":1,"rule_id":"00000000-0000-4000-8000-000000000301","status":"ok"}]}],"revision":1,"version":2}"#;
 
-const SECOND_VERDICT: &str =
-    r#"{"at":2001,"policies":[{"policy_id":"00000000-0000-4000-8000-000000000201","rules":[{"measure":2,"rule_id":"00000000-0000-4000-8000-000000000301","status":"violated"}]}],"revision":1,"version":1}"#;
+const EXCEEDED: &str =
+    r#"{"at":2001,"policies":[{"policy_id":"00000000-0000-4000-8000-000000000201","rules":[{"devices":["00000000-0000-4000-8000-000000000401","00000000-0000-4000-8000-000000000402"],"measure":2,"rule_id":"00000000-0000-4000-8000-000000000301","status":"violated"}]}],"revision":1,"version":2}"#;
+
+const BEFORE_THE_WITHDRAWAL: &str =
+    r#"{"at":2999,"policy":{"policy_id":"00000000-0000-4000-8000-000000000201","rules":[{"devices":["00000000-0000-4000-8000-000000000401","00000000-0000-4000-8000-000000000402"],"measure":2,"rule_id":"00000000-0000-4000-8000-000000000301","status":"violated"}]},"revision":2,"version":2}"#;
+
+const AFTER_THE_WITHDRAWAL: &str = r#"{"at":3000,"policies":[],"revision":2,"version":2}"#;
 
 /// A moment, a token, a method, a target and a body; and the body of the success.
 type Exchange = (
@@ -43,33 +54,29 @@ type Exchange = (
     &'static str,
 );
 
-const EXCHANGES: [Exchange; 7] = [
-    (
-        1000,
-        "city",
-        Verb::Put,
-        "/drafts/geographies/00000000-0000-4000-8000-000000000101",
-        SQUARE,
-        NEW,
-    ),
-    (
-        1000,
-        "city",
-        Verb::Put,
-        "/drafts/policies/00000000-0000-4000-8000-000000000201",
-        CAP,
-        NEW,
-    ),
+const SQUARE_DRAFT: &str = "/drafts/geographies/00000000-0000-4000-8000-000000000101";
+
+const CAP_DRAFT: &str = "/drafts/policies/00000000-0000-4000-8000-000000000201";
+
+const PUBLISHED_FIRST: &str = r#"{"published_date":1000,"revision":1}"#;
+
+const PUBLISHED_SECOND: &str = r#"{"published_date":3000,"revision":2}"#;
+
+const CAP_COMPLIANCE: &str = "/compliance/00000000-0000-4000-8000-000000000201";
+
+const EXCHANGES: [Exchange; 10] = [
+    (1000, "city", Verb::Put, SQUARE_DRAFT, SQUARE, NEW),
+    (1000, "city", Verb::Put, CAP_DRAFT, CAP, NEW),
     (
         1000,
         "city",
         Verb::Post,
         "/publish",
         PUBLISHED,
-        r#"{"published_date":1000,"revision":1}"#,
+        PUBLISHED_FIRST,
     ),
     (2000, "alfa", Verb::Post, "/fleet/events", FIRST_REPORT, NEW),
-    (2000, "alfa", Verb::Get, "/compliance", "", FIRST_VERDICT),
+    (2000, "alfa", Verb::Get, "/compliance", "", WITHIN),
     (
         2001,
         "alfa",
@@ -78,18 +85,46 @@ const EXCHANGES: [Exchange; 7] = [
         SECOND_REPORT,
         NEW,
     ),
-    (2001, "alfa", Verb::Get, "/compliance", "", SECOND_VERDICT),
+    (2001, "alfa", Verb::Get, "/compliance", "", EXCEEDED),
+    (
+        3000,
+        "city",
+        Verb::Post,
+        "/publish",
+        WITHDRAWN,
+        PUBLISHED_SECOND,
+    ),
+    (
+        2999,
+        "alfa",
+        Verb::Get,
+        CAP_COMPLIANCE,
+        "",
+        BEFORE_THE_WITHDRAWAL,
+    ),
+    (
+        3000,
+        "alfa",
+        Verb::Get,
+        "/compliance",
+        "",
+        AFTER_THE_WITHDRAWAL,
+    ),
 ];
+
+/// A configuration; a second try where the first found no memory.
+fn config(alloc: Global) -> Result<Config, Fail> {
+    match Config::read(alloc, CONFIGURATION) {
+        Ok(config) => Ok(config),
+        Err(_) => Ok(Config::read(alloc, CONFIGURATION)?),
+    }
+}
 
 /// A machine of the configuration; a second try where the first found no memory.
 fn machine(alloc: Global) -> Result<World<Plain>, Fail> {
-    let config = match Config::read(alloc, CONFIGURATION) {
-        Ok(config) => config,
-        Err(_) => Config::read(alloc, CONFIGURATION)?,
-    };
-    match World::new(alloc, config, Plain) {
+    match World::new(alloc, config(alloc)?, Plain) {
         Ok(world) => Ok(world),
-        Err(_) => Ok(World::new(alloc, Config::read(alloc, CONFIGURATION)?, Plain)?),
+        Err(_) => Ok(World::new(alloc, config(alloc)?, Plain)?),
     }
 }
 
@@ -150,7 +185,18 @@ fn answers_or_wants_memory(rt: HostRuntime) -> Result<(), Fail> {
 /// be, and a new machine answers all of them.
 #[test]
 fn runs_or_wants_memory(rt: HostRuntime) -> Result<(), Fail> {
-    let [first, second, third, fourth, fifth, sixth, seventh] = &EXCHANGES;
+    let [
+        first,
+        second,
+        third,
+        fourth,
+        fifth,
+        sixth,
+        seventh,
+        eighth,
+        ninth,
+        tenth,
+    ] = &EXCHANGES;
     let requests = [
         request(moment(first)?, first),
         request(moment(second)?, second),
@@ -159,6 +205,9 @@ fn runs_or_wants_memory(rt: HostRuntime) -> Result<(), Fail> {
         request(moment(fifth)?, fifth),
         request(moment(sixth)?, sixth),
         request(moment(seventh)?, seventh),
+        request(moment(eighth)?, eighth),
+        request(moment(ninth)?, ninth),
+        request(moment(tenth)?, tenth),
     ];
     let mut replies = run(&mut machine(rt.alloc())?, &requests)?;
     if let Some(place) = replies.iter().position(|reply| reply.status() == 503) {
@@ -171,5 +220,89 @@ fn runs_or_wants_memory(rt: HostRuntime) -> Result<(), Fail> {
     }
     assert_eq!(rt; replies.len(), EXCHANGES.len());
     assert_successes(&rt, &replies);
+    Ok(())
+}
+
+/// An empty catalogue; a second try where the first found no memory.
+fn catalogue(alloc: Global) -> Result<Catalogue, Fail> {
+    match Catalogue::with_room(alloc) {
+        Ok(catalogue) => Ok(catalogue),
+        Err(_) => Ok(Catalogue::with_room(alloc)?),
+    }
+}
+
+/// An operator's call, over a book alone: with one growth refused it is 503 `no_memory`, and the same
+/// call then takes the report.
+#[test]
+fn operator_step_reports(rt: HostRuntime) -> Result<(), Fail> {
+    let alloc = rt.alloc();
+    let config = config(alloc)?;
+    let catalogue = catalogue(alloc)?;
+    let operators = config.operators();
+    if operators.is_empty() {
+        return Err(Fail::from("no operator"));
+    }
+    let mut book = Book::new(alloc, operators[0].limit as u32);
+    let exchange = &EXCHANGES[3];
+    let request = request(moment(exchange)?, exchange);
+    let call = OperatorCall::Report;
+    let mut reply = operator_step(
+        alloc, &mut book, &catalogue, &config, 0, &call, &request, &Plain,
+    );
+    if reply.status() == 503 {
+        assert_eq!(rt; book.len(), 0);
+        reply = operator_step(
+            alloc, &mut book, &catalogue, &config, 0, &call, &request, &Plain,
+        );
+    }
+    assert_eq!(rt; reply.body(), NEW.as_bytes());
+    assert_eq!(rt; book.len(), 1);
+    Ok(())
+}
+
+/// The act of the author; a second try where the first found no memory.
+fn acted(
+    alloc: Global,
+    drafts: &mut Drafts,
+    catalogue: &Catalogue,
+    call: &AuthorCall,
+    exchange: &Exchange,
+) -> Result<AuthorAct, Fail> {
+    let request = request(moment(exchange)?, exchange);
+    match author_step(alloc, drafts, catalogue, call, &request) {
+        AuthorAct::Answer(reply) => {
+            if reply.status() == 503 {
+                Ok(author_step(alloc, drafts, catalogue, call, &request))
+            } else {
+                Ok(AuthorAct::Answer(reply))
+            }
+        }
+        act => Ok(act),
+    }
+}
+
+/// A draft that is put is answered; a publication of it is handed on with its reply, and the draft is
+/// there still.
+#[test]
+fn author_step_publishes(rt: HostRuntime) -> Result<(), Fail> {
+    let alloc = rt.alloc();
+    let catalogue = catalogue(alloc)?;
+    let mut drafts = Drafts::new(alloc);
+    let id = Id::read("00000000-0000-4000-8000-000000000101").ok_or("no identifier")?;
+    let put = AuthorCall::PutDraft(DraftKind::Geography, id);
+    match acted(alloc, &mut drafts, &catalogue, &put, &EXCHANGES[0])? {
+        AuthorAct::Answer(reply) => assert_eq!(rt; reply.body(), NEW.as_bytes()),
+        AuthorAct::Publish(_, _) => return Err(Fail::from("a draft is published as it is put")),
+    }
+    let list = r#"{"geographies":["00000000-0000-4000-8000-000000000101"]}"#;
+    let asked = (1000, "city", Verb::Post, "/publish", list, PUBLISHED_FIRST);
+    match acted(alloc, &mut drafts, &catalogue, &AuthorCall::Publish, &asked)? {
+        AuthorAct::Publish(batch, reply) => {
+            assert_eq!(rt; batch.geographies.len(), 1);
+            assert_eq!(rt; reply.body(), PUBLISHED_FIRST.as_bytes());
+            assert!(rt; drafts.get(DraftKind::Geography, id).is_some());
+        }
+        AuthorAct::Answer(_) => return Err(Fail::from("nothing is published")),
+    }
     Ok(())
 }

@@ -8,7 +8,7 @@ use mds_catalog::Catalogue;
 use mds_drafts::Drafts;
 use mds_fleet::Book;
 use mds_request::{
-    Actor, Call, Code, Config, Operator, Refusal, Reply, Request, Routes, read_call,
+    AuthorCall, Call, Config, Operator, OperatorCall, Reply, Request, Routes, read_call,
 };
 use mds_verdict::Evaluator;
 use std::alloc::{AllocError, Global};
@@ -40,11 +40,12 @@ fn empty_books(alloc: Global, operators: &[Operator]) -> Result<Vec<Book>, Alloc
 }
 
 impl<E: Evaluator<Catalogue> + Drop> World<E> {
-    ghost use Rattle.mds_request.specs.Call.{call_of};
-    ghost use Rattle.mds_request.specs.Configuration.{actor_of};
+    ghost use Rattle.std.specs.Prelude.{◌≢◌, ◌<◌};
     ghost use Rattle.mds_request.specs.Request.{request_of};
-    ghost use Rattle.mds_request.specs.declared.actor.Actor.TheVariants.{Operator as OperatorAt};
-    ghost use Rattle.mds_world.specs.Step.{Step, Run, Comes, actor_step, author_step, exchanges, new_state};
+    ghost use Rattle.mds_request.specs.declared.call.Call.TheVariants as call_kinds;
+    ghost use Rattle.mds_machine.specs.Answer.{Gives};
+    ghost use Rattle.mds_machine.specs.Isolation.{IsIsolatedFrom, IsMeantFrom};
+    ghost use Rattle.mds_machine.specs.Step.{Step, Run, call_does, exchanges, new_state};
     ghost use Rattle.mds_world.specs.World.{state_of};
 
     /// A machine of this configuration that no request has come to: without a publication, a draft or
@@ -74,11 +75,13 @@ impl<E: Evaluator<Catalogue> + Drop> World<E> {
     /// The reply is the success, the first refusal that applies, or 503 `no_memory`; a request that
     /// isn't a success changes nothing.
     pub fn answer(&mut self, request: &Request<'_>) -> Reply
-        ensures { Step (state_of self.old) (request_of request.now) result (state_of self.new) }
+        ensures step { Step (state_of self.old) (request_of request.now) result (state_of self.new) }
+        ensures refused { result.status ≢ 200 → state_of self.new ≡ state_of self.old }
     {
         match read_call(&self.routes, &self.config, request) {
-            Ok(call) => self.answer_call(&call, request),
-            Err(refusal) => Reply::from(refusal),
+            Ok(Call::Author(call)) => self.author_call(&call, request),
+            Ok(Call::Operator(place, call)) => self.operator_call(place, &call, request),
+            Err(code) => Reply::from(code),
         }
     }
 
@@ -93,6 +96,8 @@ impl<E: Evaluator<Catalogue> + Drop> World<E> {
     pub fn run(&mut self, requests: &[Request<'_>]) -> Result<Vec<Reply>, AllocError>
         ensures history { IfOk result (λ replies. Run (state_of self.old) (exchanges (map request_of requests.now) replies.items) (state_of self.new)) }
         ensures each { IfOk result (λ replies. length replies.items ≡ length requests.now) }
+        ensures isolation { IfOk result (λ replies. IsIsolatedFrom (state_of self.old) (exchanges (map request_of requests.now) replies.items) (state_of self.new)) }
+        ensures meaning { IfOk result (λ replies. IsMeantFrom (state_of self.old) (exchanges (map request_of requests.now) replies.items) (state_of self.new)) }
         ensures unchanged { OnErr result (self.new ≡ self.old) }
     {
         let alloc = *self.books.allocator();
@@ -104,21 +109,9 @@ impl<E: Evaluator<Catalogue> + Drop> World<E> {
         Ok(replies)
     }
 
-    /// Answers a call of whoever the access token belongs to.
-    fn answer_call(&mut self, call: &Call, request: &Request<'_>) -> Reply
-        ensures { Comes (actor_step (state_of self.old) (actor_of (state_of self.old).configuration (request_of request.now).token) call.now (request_of request.now))
-            (state_of self.old) result (state_of self.new) }
-    {
-        match self.config.actor(request.token) {
-            Actor::Author => self.author_call(call, request),
-            Actor::Operator(place) => self.operator_call(place, call, request),
-            Actor::Nobody => Reply::from(Refusal::new(Code::Token)),
-        }
-    }
-
     /// Answers a call of the author. A publication takes its drafts out.
-    fn author_call(&mut self, call: &Call, request: &Request<'_>) -> Reply
-        ensures { Comes (author_step (state_of self.old) call.now (request_of request.now)) (state_of self.old) result (state_of self.new) }
+    fn author_call(&mut self, call: &AuthorCall, request: &Request<'_>) -> Reply
+        ensures { Gives (Unit {0}) (state_of self.old) (call_does (state_of self.old) (call_kinds.Author call.now) (request_of request.now)) result (state_of self.new) }
     {
         let alloc = *self.books.allocator();
         match author_step(alloc, &mut self.drafts, &self.catalogue, call, request) {
@@ -132,12 +125,10 @@ impl<E: Evaluator<Catalogue> + Drop> World<E> {
     }
 
     /// Answers a call of the operator at this place of the configuration.
-    fn operator_call(&mut self, place: usize, call: &Call, request: &Request<'_>) -> Reply
-        ensures { Comes (actor_step (state_of self.old) (OperatorAt place) call.now (request_of request.now)) (state_of self.old) result (state_of self.new) }
+    fn operator_call(&mut self, place: usize, call: &OperatorCall, request: &Request<'_>) -> Reply
+        requires { place < length (state_of self.old).configuration.operators }
+        ensures { Gives (Unit {0}) (state_of self.old) (call_does (state_of self.old) (call_kinds.Operator place call.now) (request_of request.now)) result (state_of self.new) }
     {
-        if place >= self.books.len() {
-            return Reply::from(Refusal::new(Code::Token));
-        }
         let alloc = *self.books.allocator();
         operator_step(
             alloc,

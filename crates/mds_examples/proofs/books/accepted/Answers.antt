@@ -9,7 +9,6 @@ returns c =
       same = rw one_first refl;
       same_leaves_rows = rw one_first refl;
       later = rw one_first refl;
-      different = rw one_first refl;
       elsewhere = rw one_first refl;
       repeated_event = rw one_first refl;
       in_a_full_fleet = rw two_first refl;

@@ -2,10 +2,9 @@ use Rattle.std.proofs.Common.{◌≡◌, ℕ, List, [], ◌∷◌, codes, refl, 
 use Rattle.std.specs.FinMap.{get}
 use Rattle.mds_fleet.specs.Books.{outcome, rows_after}
 use Rattle.mds_fleet.specs.History.{Event, arrival, accepted_reports, row_by}
-use Rattle.mds_fleet.specs.Laws.{Follows}
-use Rattle.mds_fleet.proofs.ByHistory.{follows_history, follows_report}
-use Rattle.mds_world.specs.Meaning.{IsAnswer, own_step, events_of}
-use Rattle.mds_world.specs.Views.{Seen, asked, published, view}
+use Rattle.mds_fleet.proofs.ByHistory.{follows_history}
+use Rattle.mds_machine.specs.Meaning.{IsAnswer, own_step, events_of}
+use Rattle.mds_machine.specs.Views.{Seen, asked, published, view}
 use Rattle.mds_examples.specs.Computed.{documents, places, zones}
 use Rattle.mds_examples.specs.Histories.{no_drafts, ask_for_cap, before_question, question, answer}
 use Rattle.mds_examples.specs.Machine.{report}
@@ -27,9 +26,7 @@ abbrev AreTheirs : List Event → Type 0
 AreTheirs events = (device : List ℕ) → get one_row device ≡ row_by (accepted_reports 2 events device)
 
 rows_of_reports : AreTheirs reports
-rows_of_reports device =
-    let follows = subst (Follows 2 (arrival (first_report 2000) 2000) no_rows) taken (follows_report 2 (first_report 2000) 2000 no_rows) in
-    follows_history 2 reports one_row device (no_rows, refl, follows)
+rows_of_reports device = follows_history 2 reports one_row device (no_rows, refl, sym taken)
 
 events_are : events_of configuration (report 2000 (codes "401") ∷ ask_for_cap ∷ []) ≡ reports
 unfolding documents

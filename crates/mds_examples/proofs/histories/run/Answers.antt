@@ -7,9 +7,8 @@ use Rattle.mds_policy.specs.Reading.{read_policy}
 use Rattle.mds_request.specs.Call.{call_of}
 use Rattle.mds_request.specs.Reply.{Reply, success}
 use Rattle.mds_request.specs.Request.{Request}
-use Rattle.mds_request.specs.declared.verb.Verb.TheVariants.{Put, Post}
-use Rattle.mds_world.specs.Step.{Step, Run, answered}
-use Rattle.mds_world.specs.World.{State}
+use Rattle.mds_request.specs.declared.request.Verb.TheVariants.{Put, Post}
+use Rattle.mds_machine.specs.Step.{State, Step, Run, answered}
 use Rattle.mds_examples.specs.Computed.{documents, places, zones}
 use Rattle.mds_examples.specs.Geographies.{square_text}
 use Rattle.mds_examples.specs.Histories.{ask_for_cap, other_report, question, answer, history, after_history}
@@ -32,7 +31,7 @@ with_vehicle = record after_square { fleets = one_row ∷ no_rows ∷ [] }
 abbrev with_both : State
 with_both = record after_cap { fleets = one_row ∷ no_rows ∷ [] }
 
-reported : (target body : List ℕ) → call_of configuration (request 2000 (codes "alfa") Post target body) ≡ Ok report_call → read_report body ≡ Ok (first_report 2000) → answered after_square (request 2000 (codes "alfa") Post target body) ≡ (done (codes "new"), with_vehicle)
+reported : (target body : List ℕ) → call_of configuration (request 2000 (codes "alfa") Post target body) ≡ Ok (report_call 0) → read_report body ≡ Ok (first_report 2000) → answered after_square (request 2000 (codes "alfa") Post target body) ≡ (done (codes "new"), with_vehicle)
 reported target body call read = rw (call, read, none_first, none_count, none_first) refl
 
 cap_put : (target body : List ℕ) → call_of configuration (request 1000 (codes "city") Put target body) ≡ Ok cap_call → read_policy body ≡ Ok cap → answered with_vehicle (request 1000 (codes "city") Put target body) ≡ (done (codes "new"), with_both)
@@ -41,7 +40,7 @@ cap_put target body call read = rw (call, read, no_cap, policy_count) refl
 none_second : get no_rows second_device ≡ None
 none_second = get-empty device_cmp second_device
 
-reported_by_other : (target body : List ℕ) → call_of configuration (request 2000 (codes "bravo") Post target body) ≡ Ok report_call → read_report body ≡ Ok (second_report 2000) → answered after_first_vehicle (request 2000 (codes "bravo") Post target body) ≡ (done (codes "new"), after_history)
+reported_by_other : (target body : List ℕ) → call_of configuration (request 2000 (codes "bravo") Post target body) ≡ Ok (report_call 1) → read_report body ≡ Ok (second_report 2000) → answered after_first_vehicle (request 2000 (codes "bravo") Post target body) ≡ (done (codes "new"), after_history)
 reported_by_other target body call read = rw (call, read, none_second, none_count, none_second) refl
 
 first_step : answered start put_square ≡ (done (codes "new"), after_square)

@@ -1,16 +1,17 @@
-use Rattle.std.proofs.Common.{◌≡◌, ℕ, codes, replicate, true, false, nat_lt, refl}
+use Rattle.std.proofs.Common.{◌≡◌, ℕ, codes, replicate, true, false, nat_lt, Err, refl}
 use Rattle.std.proofs.lemmas.List.{length-replicate}
-use Rattle.mds_request.specs.Call.{call_of, refuse, most_body}
+use Rattle.mds_request.specs.Call.{call_of}
+use Rattle.mds_request.specs.declared.call.TheConstants.{MOST_BODY}
 use Rattle.mds_request.specs.declared.code.Code.TheVariants.{TooLarge, Token}
-use Rattle.mds_request.specs.declared.verb.Verb.TheVariants.{Get}
+use Rattle.mds_request.specs.declared.request.Verb.TheVariants.{Get}
 use Rattle.mds_examples.specs.Requests.{configuration, request}
 use Rattle.mds_examples.proofs.requests.refusals.Goals as goal
 
 -- by the size alone, so that no long body is computed
-too_large : (n : ℕ) → nat_lt most_body n ≡ true → call_of configuration (request 2000 (codes "nobody") Get (codes "/nowhere") (replicate n 0)) ≡ refuse TooLarge
+too_large : (n : ℕ) → nat_lt MOST_BODY n ≡ true → call_of configuration (request 2000 (codes "nobody") Get (codes "/nowhere") (replicate n 0)) ≡ Err TooLarge
 too_large n size = rw (length-replicate {A = ℕ} n 0, size) refl
 
-of_nobody : (n : ℕ) → nat_lt most_body n ≡ false → call_of configuration (request 2000 (codes "nobody") Get (codes "/nowhere") (replicate n 0)) ≡ refuse Token
+of_nobody : (n : ℕ) → nat_lt MOST_BODY n ≡ false → call_of configuration (request 2000 (codes "nobody") Get (codes "/nowhere") (replicate n 0)) ≡ Err Token
 of_nobody n size = rw (length-replicate {A = ℕ} n 0, size) refl
 
 pub returns-clause-size : goal.returns-clause-size

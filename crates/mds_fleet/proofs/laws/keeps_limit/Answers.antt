@@ -2,4 +2,4 @@ use Rattle.mds_fleet.proofs.Taking.{keeps_limit}
 use Rattle.mds_fleet.proofs.laws.keeps_limit.Goals as goal
 
 pub returns : goal.returns
-returns c = λ rows limit report moment result after taken within. keeps_limit rows limit report moment result after taken within
+returns c = keeps_limit

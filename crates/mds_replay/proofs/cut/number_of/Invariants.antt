@@ -1,5 +1,5 @@
 use Rattle.std.proofs.Common.{◌≡◌, true, ◌<◌, ◌^◌, take}
-use Rattle.mds_replay.specs.Cutting.{are_digits, decimal}
+use Rattle.mds_replay.specs.Input.{are_digits, decimal}
 use Rattle.mds_replay.proofs.cut.number_of.Given as goal
 
 abbrev pub invariant-loop-digit : goal.invariant-loop-digit

@@ -1,5 +1,5 @@
 use Rattle.std.proofs.Common.{Ok, [], ◌++◌, refl, subst, ◌∙◌}
-use Rattle.mds_replay.specs.Reader.{left, passed}
+use Rattle.mds_replay.specs.LineReading.{left, passed}
 use Rattle.mds_replay.specs.Turning.{Turns, written_of}
 use Rattle.mds_replay.proofs.Reading.{advances_none, advances_more}
 use Rattle.mds_replay.proofs.Written.{appends_none, appends_more}

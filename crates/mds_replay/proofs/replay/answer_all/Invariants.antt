@@ -1,8 +1,9 @@
 use Rattle.std.proofs.Common.{◌≡◌, ◌-◌, List, ℕ}
 use Rattle.std.specs.Io.KnownBytes.{Appends}
-use Rattle.mds_replay.specs.Reader.{left, passed, Advances}
+use Rattle.mds_replay.specs.LineReading.{left, passed, Advances}
 use Rattle.mds_replay.proofs.Progress.{Ran}
 use Rattle.mds_replay.proofs.replay.answer_all.Given as goal
+use Rattle.mds_replay.specs.declared.lines.TheConstants.{INPUT_LIMIT}
 
 abbrev pub invariant-turns : goal.invariant-turns
 invariant-turns g l = record {
@@ -13,4 +14,4 @@ invariant-turns g l = record {
 }
 
 abbrev pub decreases-turns : goal.decreases-turns
-decreases-turns g l = 1073741824 - passed l.reader
+decreases-turns g l = INPUT_LIMIT - passed l.reader

@@ -1,9 +1,9 @@
 use Rattle.std.proofs.Common.{Some, refl, subst}
 use Rattle.mds_request.specs.declared.code.Code.TheVariants.{BadLine}
 use Rattle.mds_request.specs.Reply.{refused}
-use Rattle.mds_replay.specs.Reader.{left, held, Finds}
+use Rattle.mds_replay.specs.LineReading.{left, held, Finds}
 use Rattle.mds_replay.specs.Turning.{written_of}
-use Rattle.mds_replay.specs.Writing.{Writes}
+use Rattle.mds_replay.specs.Ends.{Writes}
 use Rattle.mds_replay.proofs.Progress.{turns_from, long_turned}
 use Rattle.mds_replay.proofs.replay.turn.Goals as goal
 

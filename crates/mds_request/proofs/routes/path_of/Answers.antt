@@ -1,4 +1,4 @@
-use Rattle.mds_request.specs.Route.{is_query_mark}
+use Rattle.mds_request.specs.Call.{is_query_mark}
 use Rattle.mds_request.proofs.Paths.{before_found, before_none}
 use Rattle.mds_request.proofs.routes.path_of.Goals as goal
 

@@ -1,5 +1,5 @@
 use Rattle.std.proofs.Common.{◌≡◌, ◌≤◌, ◌++◌}
-use Rattle.mds_text.specs.Leading.{leading}
+use Rattle.mds_text.specs.Numbers.{leading}
 use Rattle.mds_text.proofs.degrees.leading.Given as goal
 
 abbrev pub invariant-loop-place : goal.invariant-loop-place

@@ -1,5 +1,5 @@
 use Rattle.std.proofs.Common.{◌++◌, ap, ◌∙◌}
-use Rattle.mds_text.specs.Leading.{leading, places_of, up_to_limit}
+use Rattle.mds_text.specs.Numbers.{leading, places_of, up_to_limit}
 use Rattle.mds_text.specs.Numbers.{parts_view, size_of}
 use Rattle.mds_text.proofs.Leading.{rounds_within, rounds_over}
 use Rattle.mds_text.proofs.Rounding.{size_of-leading}

@@ -1,5 +1,5 @@
-use Rattle.mds_verdict.proofs.Counting.{verdicts-IsPermutation}
+use Rattle.mds_verdict.proofs.Measures.{outcomes-IsPermutation}
 use Rattle.mds_verdict.proofs.laws.any_order.Goals as goal
 
 pub returns : goal.returns
-returns c = verdicts-IsPermutation
+returns c = outcomes-IsPermutation

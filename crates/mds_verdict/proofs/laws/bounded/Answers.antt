@@ -1,8 +1,11 @@
-use Rattle.mds_verdict.proofs.Counting.{length-verdicts, verdicts_at_most}
+use Rattle.mds_verdict.proofs.Measures.{length-verdicts, verdicts_at_most, few_devices}
 use Rattle.mds_verdict.proofs.laws.bounded.Goals as goal
 
 pub returns-clause-each : goal.returns-clause-each
-returns-clause-each c = length-verdicts
+returns-clause-each c = λ policy polygons rows local t. length-verdicts policy polygons rows rows local t
 
 pub returns-clause-measures : goal.returns-clause-measures
-returns-clause-measures c = verdicts_at_most
+returns-clause-measures c = λ policy polygons rows local t. verdicts_at_most policy polygons rows rows local t
+
+pub returns-clause-devices : goal.returns-clause-devices
+returns-clause-devices c = few_devices

@@ -1,7 +1,7 @@
 use Rattle.std.proofs.Common.{◌≡◌, map, take}
 use Rattle.mds_text.specs.View.{view}
 use Rattle.mds_match.specs.Row.{row_of}
-use Rattle.mds_world.specs.Bodies.{vehicle_json}
+use Rattle.mds_machine.specs.Bodies.{vehicle_json}
 use Rattle.mds_world.proofs.bodies.vehicles_reply.Given as goal
 
 abbrev pub invariant-loop-vehicle : goal.invariant-loop-vehicle

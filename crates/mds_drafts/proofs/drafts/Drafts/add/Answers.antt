@@ -1,8 +1,8 @@
 use Rattle.std.proofs.Common.{◌≡◌, is_some, ap, sym, ◌∙◌, arith}
-use Rattle.mds_drafts.specs.Drafts.{kind_of, id_of, with_draft, is_held}
+use Rattle.mds_drafts.specs.Drafts.{kind_of, id_of, with_draft}
 use Rattle.mds_drafts.specs.Entries.{drafts_in, document_of}
-use Rattle.mds_drafts.specs.declared.draft.DraftKind.TheVariants as kinds
-use Rattle.mds_drafts.proofs.Held.{added, none_at_position, count_more}
+use Rattle.mds_text.specs.declared.draft_kind.DraftKind.TheVariants as kinds
+use Rattle.mds_drafts.proofs.Held.{is_held, added, none_at_position, count_more}
 use Rattle.mds_drafts.proofs.drafts.Drafts.add.Goals as goal
 
 pub invariant_of-self-in-Policy : goal.invariant_of-self-in-Policy

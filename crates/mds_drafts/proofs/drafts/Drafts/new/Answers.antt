@@ -4,7 +4,7 @@ use Rattle.mds_policy.specs.Policy.{Policy}
 use Rattle.mds_geography.specs.Geography.{Geography}
 use Rattle.mds_drafts.specs.Drafts.{id_cmp, count_of}
 use Rattle.mds_drafts.specs.Entries.{drafts_in}
-use Rattle.mds_drafts.specs.declared.draft.DraftKind.TheVariants as kinds
+use Rattle.mds_text.specs.declared.draft_kind.DraftKind.TheVariants as kinds
 use Rattle.mds_drafts.proofs.drafts.Drafts.new.Goals as goal
 
 pub invariant_of-result : goal.invariant_of-result

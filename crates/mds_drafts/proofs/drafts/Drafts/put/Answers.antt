@@ -1,9 +1,9 @@
 use Rattle.std.proofs.Common.{◌≡◌, ℕ, List, Option, Some, None, position, is_some, ap, sym, ◌∙◌, arith}
-use Rattle.mds_drafts.specs.Drafts.{is_of, kind_of, id_of, is_held, count_of}
+use Rattle.mds_drafts.specs.Drafts.{is_of, kind_of, id_of, count_of}
 use Rattle.mds_drafts.specs.Entries.{drafts_in, document_of}
 use Rattle.mds_drafts.specs.declared.draft.Draft.{Draft}
-use Rattle.mds_drafts.specs.declared.draft.DraftKind.{DraftKind}
-use Rattle.mds_drafts.proofs.Held.{held_at, none_at_position, answer_replaced, answer_full, answer_new}
+use Rattle.mds_text.specs.declared.draft_kind.DraftKind.{DraftKind}
+use Rattle.mds_drafts.proofs.Held.{is_held, held_at, none_at_position, answer_replaced, answer_full, answer_new}
 use Rattle.mds_drafts.proofs.drafts.Drafts.put.Goals as goal
 
 -- the place of a key, by equal names of it

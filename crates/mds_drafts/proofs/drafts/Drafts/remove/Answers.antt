@@ -1,7 +1,7 @@
 use Rattle.std.proofs.Common.{◌≡◌, is_some, true, ap, ◌∙◌, arith}
 use Rattle.mds_drafts.specs.Drafts.{draft_at}
 use Rattle.mds_drafts.specs.Entries.{drafts_in}
-use Rattle.mds_drafts.specs.declared.draft.DraftKind.TheVariants as kinds
+use Rattle.mds_text.specs.declared.draft_kind.DraftKind.TheVariants as kinds
 use Rattle.mds_drafts.proofs.Held.{taken, count_less, one_if}
 use Rattle.mds_drafts.proofs.drafts.Drafts.remove.Goals as goal
 

@@ -1,7 +1,7 @@
 use Rattle.std.proofs.Common.{◌≡◌, ap, sym, ◌∙◌}
 use Rattle.mds_drafts.specs.Drafts.{count_of, kind_of, id_of}
 use Rattle.mds_drafts.specs.Entries.{drafts_in, document_of}
-use Rattle.mds_drafts.specs.declared.draft.DraftKind.TheVariants as kinds
+use Rattle.mds_text.specs.declared.draft_kind.DraftKind.TheVariants as kinds
 use Rattle.mds_drafts.proofs.Held.{replaced, held_at, count_replaced}
 use Rattle.mds_drafts.proofs.drafts.Drafts.replace.Goals as goal
 

@@ -1,6 +1,7 @@
 use Rattle.std.proofs.Common.{◌∙◌}
 use Rattle.std.proofs.lemmas.Bool.{MatchBool-at_false}
-use Rattle.mds_replay.specs.Reader.{passed, left}
+use Rattle.mds_replay.specs.LineReading.{held, passed, left}
+use Rattle.mds_replay.proofs.Gathered.{closes, closes_last}
 use Rattle.mds_replay.proofs.Reading.{fails_from, gathered_advances}
 use Rattle.mds_replay.proofs.Steps.{after_no_feed, after_refill, line_found, line_advances, end_found, end_advances, end_nearer}
 use Rattle.mds_replay.proofs.lines.LineReader.next.Goals as goal
@@ -10,13 +11,13 @@ returns-then-take_line-clause-found g c =
     let r = c.pieces.self in
     line_found (left c.args.self.now (g.S.Source.remaining c.args.source.now)) (passed c.args.self.now)
     r c.take_line.new.self c.end_line.new.self (g.S.Source.remaining c.pieces.source) c.end_line.result
-    c.pieces.invariant.gathered c.if-take_line.ensures.takes c.end_line.ensures.closes c.end_line.ensures.others
+    c.pieces.invariant.gathered c.if-take_line.ensures.takes (closes (held c.take_line.new.self) (held c.end_line.new.self) c.end_line.result c.end_line.ensures.found c.end_line.ensures.line) (record { ahead_same = c.end_line.ensures.ahead; passed_same = c.end_line.ensures.passed })
 
 pub returns-then-take_line-clause-advances : goal.returns-then-take_line-clause-advances
 returns-then-take_line-clause-advances g c =
     line_advances (left c.args.self.now (g.S.Source.remaining c.args.source.now)) (passed c.args.self.now)
     c.pieces.self c.take_line.new.self c.end_line.new.self (g.S.Source.remaining c.pieces.source)
-    c.pieces.invariant.gathered c.if-take_line.ensures.takes c.end_line.ensures.others
+    c.pieces.invariant.gathered c.if-take_line.ensures.takes (record { ahead_same = c.end_line.ensures.ahead; passed_same = c.end_line.ensures.passed })
 
 pub pieces-preserved : goal.pieces-preserved
 pieces-preserved g c =
@@ -40,7 +41,7 @@ returns-in-Ok-false-clause-found g c =
     (after_refill old passed_old c.take_line.new.self c.refill.new.self remaining (g.S.Source.remaining c.refill.new.source)
     (after_no_feed old passed_old c.pieces.self c.take_line.new.self remaining c.pieces.invariant.gathered c.if-take_line.ensures.takes)
     c.in-Ok-false.ensures.left c.in-Ok-false.ensures.kept c.in-Ok-false.ensures.passed)
-    over.0 over.1 c.end_input.ensures.closes c.end_input.ensures.others
+    over.0 over.1 (closes_last (held c.refill.new.self) (held c.end_input.new.self) c.end_input.result c.end_input.ensures.found c.end_input.ensures.held) (record { ahead_same = c.end_input.ensures.ahead; passed_same = c.end_input.ensures.passed })
 
 pub returns-in-Ok-false-clause-advances : goal.returns-in-Ok-false-clause-advances
 returns-in-Ok-false-clause-advances g c =
@@ -51,7 +52,7 @@ returns-in-Ok-false-clause-advances g c =
     (after_refill old passed_old c.take_line.new.self c.refill.new.self remaining (g.S.Source.remaining c.refill.new.source)
     (after_no_feed old passed_old c.pieces.self c.take_line.new.self remaining c.pieces.invariant.gathered c.if-take_line.ensures.takes)
     c.in-Ok-false.ensures.left c.in-Ok-false.ensures.kept c.in-Ok-false.ensures.passed)
-    c.end_input.ensures.others
+    (record { ahead_same = c.end_input.ensures.ahead; passed_same = c.end_input.ensures.passed })
 
 pub returns-in-Ok-false-clause-nearer : goal.returns-in-Ok-false-clause-nearer
 returns-in-Ok-false-clause-nearer g c =
@@ -62,7 +63,7 @@ returns-in-Ok-false-clause-nearer g c =
     (after_refill old passed_old c.take_line.new.self c.refill.new.self remaining (g.S.Source.remaining c.refill.new.source)
     (after_no_feed old passed_old c.pieces.self c.take_line.new.self remaining c.pieces.invariant.gathered c.if-take_line.ensures.takes)
     c.in-Ok-false.ensures.left c.in-Ok-false.ensures.kept c.in-Ok-false.ensures.passed)
-    c.end_input.ensures.closes c.end_input.ensures.others
+    (closes_last (held c.refill.new.self) (held c.end_input.new.self) c.end_input.result c.end_input.ensures.found c.end_input.ensures.held) (record { ahead_same = c.end_input.ensures.ahead; passed_same = c.end_input.ensures.passed })
 
 pub returns-in-Err-clause-failed : goal.returns-in-Err-clause-failed
 returns-in-Err-clause-failed g c =

@@ -1,7 +1,8 @@
 use Rattle.std.proofs.Common.{◌≡◌, ◌-◌}
-use Rattle.mds_replay.specs.Reader.{held, passed, left}
+use Rattle.mds_replay.specs.LineReading.{held, passed, left}
 use Rattle.mds_replay.proofs.Reading.{Gathered}
 use Rattle.mds_replay.proofs.lines.LineReader.next.Given as goal
+use Rattle.mds_replay.specs.declared.lines.TheConstants.{INPUT_LIMIT}
 
 abbrev pub invariant-pieces : goal.invariant-pieces
 invariant-pieces g l = record {
@@ -10,4 +11,4 @@ invariant-pieces g l = record {
 }
 
 abbrev pub decreases-pieces : goal.decreases-pieces
-decreases-pieces g l = 1073741824 - l.self.total
+decreases-pieces g l = INPUT_LIMIT - l.self.total

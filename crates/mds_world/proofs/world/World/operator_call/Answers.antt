@@ -3,20 +3,28 @@ use Rattle.mds_catalog.specs.Catalogue.{publications_of}
 use Rattle.mds_drafts.specs.Shelf.{drafts_of}
 use Rattle.mds_request.specs.Configuration.{configuration}
 use Rattle.mds_request.specs.Request.{request_of}
-use Rattle.mds_world.proofs.Books.{limit_at, limits_kept, comes}
+use Rattle.mds_world.proofs.Books.{as_many, limit_at, limits_kept, comes}
 use Rattle.mds_world.proofs.world.World.operator_call.Goals as goal
+
+pub index_mut-requires : goal.index_mut-requires
+index_mut-requires g c =
+    let now = c.args.self.now in
+    let same = as_many now.books.items (configuration now.config).operators now.limits in
+    omega (arith, c.requires, same)
 
 pub operator_step-requires-clause-limit : goal.operator_step-requires-clause-limit
 operator_step-requires-clause-limit g c =
     let now = c.args.self.now in
-    limit_at now.books.items (configuration now.config).operators c.args.place c.index_mut.result.now now.limits (omega (arith, c.if-place-len.false, c.len.ensures)) c.index_mut.ensures.value
+    let same = as_many now.books.items (configuration now.config).operators now.limits in
+    limit_at now.books.items (configuration now.config).operators c.args.place c.index_mut.result.now now.limits (omega (arith, c.requires, same)) c.index_mut.ensures.value
 
-pub invariant_of-self-2 : goal.invariant_of-self-2
-invariant_of-self-2 g c =
+pub invariant_of-self : goal.invariant_of-self
+invariant_of-self g c =
     let now = c.args.self.now in
     record { limits = limits_kept now.books.items (configuration now.config).operators c.args.place c.index_mut.result.now c.operator_step.new.book now.limits c.index_mut.ensures.value c.operator_step.ensures.limit }
 
 pub returns : goal.returns
 returns g c =
     let now = c.args.self.now in
-    comes (configuration now.config) (publications_of now.catalogue) (drafts_of now.drafts) now.books.items c.args.place c.index_mut.result.now c.operator_step.new.book c.args.call.now (request_of c.args.request.now) c.operator_step.result (omega (arith, c.if-place-len.false, c.len.ensures)) c.index_mut.ensures.value c.operator_step.ensures.answer
+    let same = as_many now.books.items (configuration now.config).operators now.limits in
+    comes (configuration now.config) (publications_of now.catalogue) (drafts_of now.drafts) now.books.items c.args.place c.index_mut.result.now c.operator_step.new.book c.args.call.now (request_of c.args.request.now) c.operator_step.result (omega (arith, c.requires, same)) c.index_mut.ensures.value c.operator_step.ensures.answer now.limits

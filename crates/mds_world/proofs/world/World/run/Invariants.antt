@@ -1,7 +1,7 @@
 use Rattle.std.proofs.Common.{◌≡◌, ◌≤◌, map, take, length}
 use Rattle.std.specs.Vec.{vec_capacity}
 use Rattle.mds_request.specs.Request.{request_of}
-use Rattle.mds_world.specs.Step.{Run, exchanges}
+use Rattle.mds_machine.specs.Step.{Run, exchanges}
 use Rattle.mds_world.specs.World.{state_of}
 use Rattle.mds_world.proofs.world.World.run.Given as goal
 

@@ -1,0 +1,67 @@
+-- Laws of the machine's steps, and of its drafts and publications.
+use Rattle.std.specs.Prelude.{◌≡◌, ◌≢◌, ℕ, List, ◌++◌}
+use Rattle.mds_text.specs.declared.draft_kind.DraftKind.{DraftKind}
+use Rattle.mds_drafts.specs.Drafts.{draft_at}
+use Rattle.mds_request.specs.Configuration.{Configuration, Operator as Configured, actor_of}
+use Rattle.mds_request.specs.Request.{Request}
+use Rattle.mds_request.specs.Reply.{Reply, refused}
+use Rattle.mds_request.specs.declared.config.Actor.TheVariants.{Author, Operator}
+use Rattle.mds_request.specs.declared.code.Code.TheVariants.{NoMemory}
+use Rattle.mds_machine.specs.History.{draft_after, publications_after}
+use Rattle.mds_machine.specs.Isolation.{Agree, AreKeyed}
+use Rattle.mds_machine.specs.Meaning.{IsAnswer}
+use Rattle.mds_machine.specs.Step.{State, Exchange, Step, Run, new_state}
+use Rattle.mds_machine.specs.Views.{Seen}
+
+-- some reply is right to every request
+abbrev pub IsTotal : Type 0
+IsTotal = (w : State) (request : Request) → (reply : Reply) × (next : State) × Step w request reply next
+
+-- want of memory aside, only one reply is, and only one state follows
+abbrev pub IsDetermined : Type 0
+IsDetermined =
+    (w : State) (request : Request) (reply other : Reply) (next apart : State)
+    → Step w request reply next → Step w request other apart → reply ≢ refused NoMemory → other ≢ refused NoMemory
+    → (reply ≡ other) × (next ≡ apart)
+
+-- a reply other than a success leaves the state
+abbrev pub RefusedLeaves : Type 0
+RefusedLeaves =
+    (w : State) (request : Request) (reply : Reply) (next : State)
+    → Step w request reply next → reply.status ≢ 200 → next ≡ w
+
+-- a request of an operator leaves the drafts, and a state that agrees with the old one for every other operator
+abbrev pub LeavesOthers : Type 0
+LeavesOthers =
+    (w : State) (request : Request) (reply : Reply) (next : State) (place other : ℕ)
+    → actor_of w.configuration request.token ≡ Operator place → Step w request reply next → other ≢ place
+    → Agree next w other × (next.drafts ≡ w.drafts)
+
+-- a request of the author leaves all rows
+abbrev pub LeavesRows : Type 0
+LeavesRows =
+    (w : State) (request : Request) (reply : Reply) (next : State)
+    → actor_of w.configuration request.token ≡ Author → Step w request reply next → next.fleets ≡ w.fleets
+
+-- after each view there is just one answer to a request
+abbrev pub HasOneAnswer : Type 0
+HasOneAnswer =
+    (configuration : Configuration) (operator : Configured) (seen : List Seen) (request : Request)
+    → ((reply : Reply) × IsAnswer configuration operator seen request reply)
+    × ((reply other : Reply) → IsAnswer configuration operator seen request reply → IsAnswer configuration operator seen request other → reply ≡ other)
+
+-- What a state is after a history, told by the history alone: the drafts and the publications are what was put, dropped
+-- and published with success in it.
+pub record IsAfter (w : State) (history : List Exchange) (next : State) : Type 0 where
+  pub configuration : next.configuration ≡ w.configuration
+  pub publications : next.publications ≡ w.publications ++ publications_after w.configuration w.drafts history
+  pub drafts : (kind : DraftKind) (id : List ℕ) → draft_at next.drafts kind id ≡ draft_after w.configuration w.drafts history kind id
+  pub keyed : AreKeyed next.drafts
+
+-- the machine's drafts and publications after a history are that history's
+abbrev pub GoesByHistory : Type 0
+GoesByHistory = (w next : State) (history : List Exchange) → AreKeyed w.drafts → Run w history next → IsAfter w history next
+
+-- a new machine holds each of its drafts, of which there is none, under its own identifier
+abbrev pub BeginsKeyed : Type 0
+BeginsKeyed = (configuration : Configuration) → AreKeyed (new_state configuration).drafts

@@ -1,0 +1,12 @@
+pub mod Answer
+pub mod Author
+pub mod Bodies
+pub mod Codes
+pub mod History
+pub mod Isolation
+pub mod Laws
+pub mod Meaning
+pub mod Operator
+pub mod Published
+pub mod Step
+pub mod Views

@@ -1,5 +1,0 @@
-use Rattle.mds_world.proofs.Histories.{begins_keyed}
-use Rattle.mds_world.proofs.laws.begins_keyed.Goals as goal
-
-pub returns : goal.returns
-returns c = begins_keyed

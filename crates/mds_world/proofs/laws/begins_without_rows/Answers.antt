@@ -1,5 +1,0 @@
-use Rattle.mds_world.proofs.Meaning.{begins_without_rows}
-use Rattle.mds_world.proofs.laws.begins_without_rows.Goals as goal
-
-pub returns : goal.returns
-returns c = begins_without_rows

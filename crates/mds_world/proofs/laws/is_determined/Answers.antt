@@ -1,5 +1,0 @@
-use Rattle.mds_world.proofs.Steps.{is_determined}
-use Rattle.mds_world.proofs.laws.is_determined.Goals as goal
-
-pub returns : goal.returns
-returns c = is_determined

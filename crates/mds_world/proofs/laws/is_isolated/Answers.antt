@@ -1,5 +1,0 @@
-use Rattle.mds_world.proofs.Steps.{is_isolated}
-use Rattle.mds_world.proofs.laws.is_isolated.Goals as goal
-
-pub returns : goal.returns
-returns c = is_isolated

@@ -1,5 +1,0 @@
-use Rattle.mds_world.proofs.TwoWorlds.{is_isolated_throughout}
-use Rattle.mds_world.proofs.laws.is_isolated_throughout.Goals as goal
-
-pub returns : goal.returns
-returns c = is_isolated_throughout

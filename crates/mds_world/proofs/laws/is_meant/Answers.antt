@@ -1,5 +1,0 @@
-use Rattle.mds_world.proofs.Meaning.{is_meant}
-use Rattle.mds_world.proofs.laws.is_meant.Goals as goal
-
-pub returns : goal.returns
-returns c = is_meant

@@ -1,5 +1,0 @@
-use Rattle.mds_world.proofs.Isolated.{is_meant_from_new}
-use Rattle.mds_world.proofs.laws.is_meant_from_new.Goals as goal
-
-pub returns : goal.returns
-returns c = is_meant_from_new

@@ -1,5 +1,0 @@
-use Rattle.mds_world.proofs.Isolated.{is_meant_throughout}
-use Rattle.mds_world.proofs.laws.is_meant_throughout.Goals as goal
-
-pub returns : goal.returns
-returns c = is_meant_throughout

@@ -1,5 +1,0 @@
-use Rattle.mds_world.proofs.Steps.{leaves_rows}
-use Rattle.mds_world.proofs.laws.leaves_rows.Goals as goal
-
-pub returns : goal.returns
-returns c = leaves_rows

@@ -1,5 +1,0 @@
-use Rattle.mds_world.proofs.Meaning.{rows_go_on}
-use Rattle.mds_world.proofs.laws.rows_go_on.Goals as goal
-
-pub returns : goal.returns
-returns c = rows_go_on
