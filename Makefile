@@ -1,7 +1,7 @@
 # demo   the main job on real input: a policy is published, a vehicle reported, compliance asked for
 # build  proves mds_replay with all that it stands on, and builds it
 # test   the whole gate: every proof from nothing, the edits that must fail, the tests, the programs, the scripts
-# bench  times mds_replay on generated input, and a plain program beside it; not part of the gate (minutes)
+# bench  times mds_replay on generated input, and two programs in Rust beside it; not part of the gate (minutes)
 
 .PHONY: demo build test bench
 

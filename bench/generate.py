@@ -9,14 +9,13 @@ DEGREE = 10_000_000
 START = 1_700_000_000_000
 CENTRE = (-861_000_000, 398_000_000)
 HALF_BOX = 2_000_000
-FLEET = 50_000
-LARGEST_FLEET = 200_000
 MOST_POSITIONS = 20_000
-OPERATOR = "00000000-0000-4000-8000-0000000000a1"
-CONFIG = (
-    '{"author":"city","operators":[{"id":"%s","limit":%d,"token":"alfa"}],"zone":"Z"}'
-    % (OPERATOR, LARGEST_FLEET)
-)
+MOST_VEHICLES = 200_000
+OPERATORS = 21
+VEHICLE_TYPES = ("bicycle", "cargo_bicycle", "car", "moped", "scooter_standing", "scooter_seated", "delivery_robot", "other")
+STATES = ("available", "reserved", "on_trip", "non_operational", "elsewhere", "stopped")
+PROPULSION = ("human", "electric_assist", "electric", "combustion")
+EVENTS = ("trip_start", "trip_end", "trip_pause", "battery_low", "maintenance", "rebalance_pick_up", "located", "agency_drop_off")
 
 
 class Xorshift:
@@ -34,7 +33,12 @@ class Xorshift:
         return x
 
     def below(self, limit):
-        return self.next() % limit
+        return (self.next() >> 16) % limit
+
+    def some(self, words, most):
+        """So many distinct words at most, one at least."""
+        rest = list(words)
+        return [rest.pop(self.below(len(rest))) for _ in range(1 + self.below(most))]
 
 
 def identifier(kind, number):
@@ -49,6 +53,17 @@ def policy_id(number):
     return identifier(2, number)
 
 
+def token(operator):
+    return "operator_%d" % operator
+
+
+def config():
+    entries = (
+        '{"id":"%s","limit":%d,"token":"%s"}' % (identifier(9, n), MOST_VEHICLES, token(n)) for n in range(OPERATORS)
+    )
+    return '{"author":"city","operators":[%s],"zone":"Z"}' % ",".join(entries)
+
+
 def degrees(units):
     """The text of a coordinate, always with seven decimals."""
     size = abs(units)
@@ -59,19 +74,28 @@ def position_text(position):
     return "[%s,%s]" % (degrees(position[0]), degrees(position[1]))
 
 
-def outline(random, edges):
-    """A closed ring of so many edges round the centre: four corners, else a coast with bays."""
+def outline(random, edges, centre, radius):
+    """A closed ring of so many edges: four corners, else a coast with bays."""
     ring = []
     for number in range(edges):
         angle = 0.3 + 2 * math.pi * number / edges
-        radius = 0.16
+        reach = radius
         if edges > 4:
-            radius *= 1 + 0.2 * math.sin(5 * angle) + 0.05 * math.sin(17 * angle)
-        reach = radius * DEGREE + random.below(1_000)
-        lng = CENTRE[0] + round(reach * math.cos(angle))
-        lat = CENTRE[1] + round(reach * math.sin(angle))
+            reach *= 1 + 0.2 * math.sin(5 * angle) + 0.05 * math.sin(17 * angle)
+        reach = reach * HALF_BOX + random.below(1_000)
+        lng = centre[0] + round(reach * math.cos(angle))
+        lat = centre[1] + round(reach * math.sin(angle))
         ring.append((lng, lat))
     return ring + ring[:1]
+
+
+def districts(random, count, edges, radius):
+    """Rings of so many edges each, round centres that lie anywhere in the city."""
+    rings = []
+    for _ in range(count):
+        centre = [middle - HALF_BOX + random.below(2 * HALF_BOX + 1) for middle in CENTRE]
+        rings.append(outline(random, edges, centre, radius))
+    return rings
 
 
 def geography(number, ring):
@@ -82,12 +106,34 @@ def geography(number, ring):
     )
 
 
-def count_policy(number):
-    return (
-        '{"policy_id":"%s","name":"cap","start_date":%d,"rules":[{"rule_id":"%s","name":"cap",'
-        '"rule_type":"count","geographies":["%s"],"maximum":%d}]}'
-        % (policy_id(number), START, identifier(3, number), geography_id(number), FLEET)
-    )
+def words(texts):
+    return "[%s]" % ",".join('"%s"' % text for text in texts)
+
+
+def rule(random, number, geographies, maximum):
+    """A count rule, three in four of which ask for types, states with events, or propulsion too."""
+    members = [
+        '"rule_id":"%s"' % identifier(3, number),
+        '"name":"rule %d"' % number,
+        '"rule_type":"count"',
+        '"geographies":%s' % words(geography_id(n) for n in geographies),
+        '"maximum":%d' % maximum,
+    ]
+    if random.below(2):
+        members.append('"vehicle_types":%s' % words(random.some(VEHICLE_TYPES, 4)))
+    if random.below(2):
+        states = random.some(STATES, 3)
+        entries = ('"%s":%s' % (state, words(random.some(EVENTS, 4) if random.below(2) else [])) for state in states)
+        members.append('"states":{%s}' % ",".join(entries))
+    if random.below(4) == 0:
+        members.append('"propulsion_types":%s' % words(random.some(PROPULSION, 2)))
+    return "{%s}" % ",".join(members)
+
+
+def policy(random, number, rules, geographies, maximum=MOST_VEHICLES, name="cap"):
+    """A policy of so many rules, each with one of these geographies in turn."""
+    entries = (rule(random, 64 * number + n, [geographies[n % len(geographies)]], maximum) for n in range(rules))
+    return '{"policy_id":"%s","name":"%s","start_date":%d,"rules":[%s]}' % (policy_id(number), name, START, ",".join(entries))
 
 
 def device(random):
@@ -95,24 +141,29 @@ def device(random):
     return "-".join((bits[:8], bits[8:12], bits[12:16], bits[16:20], bits[20:]))
 
 
-def fleet(random, size):
-    """Devices with random identifiers at random positions of the box round the centre."""
-    vehicles = []
-    for _ in range(size):
-        name = device(random)
-        lng = CENTRE[0] - HALF_BOX + random.below(2 * HALF_BOX + 1)
-        lat = CENTRE[1] - HALF_BOX + random.below(2 * HALF_BOX + 1)
-        vehicles.append((name, (lng, lat)))
-    return vehicles
-
-
-def report(vehicle):
-    name, (lng, lat) = vehicle
+def report(random, operator):
+    """A new device with a random identifier at a random position of the city."""
+    lng, lat = (middle - HALF_BOX + random.below(2 * HALF_BOX + 1) for middle in CENTRE)
     return (
-        '%d alfa POST /fleet/events {"device_id":"%s","vehicle_type":"scooter","propulsion_types":["electric"],'
-        '"vehicle_state":"available","event_types":["trip_end"],"timestamp":%d,"location":{"lat":%s,"lng":%s}}'
-        % (START + 1_000, name, START + 500, degrees(lat), degrees(lng))
+        '%d %s POST /fleet/events {"device_id":"%s","vehicle_type":"%s","propulsion_types":%s,'
+        '"vehicle_state":"%s","event_types":%s,"timestamp":%d,"location":{"lat":%s,"lng":%s}}'
+        % (
+            START + 1_000,
+            token(operator),
+            device(random),
+            VEHICLE_TYPES[random.below(len(VEHICLE_TYPES))],
+            words(random.some(PROPULSION, 2)),
+            STATES[random.below(len(STATES))],
+            words(random.some(EVENTS, 2)),
+            START + 500,
+            degrees(lat),
+            degrees(lng),
+        )
     )
+
+
+def fleet(random, size, operator=0):
+    return [report(random, operator) for _ in range(size)]
 
 
 def request(method, target, body=None, who="city", at=START):
@@ -124,18 +175,22 @@ def put_geography(number, body):
     return request("PUT", "/drafts/geographies/" + geography_id(number), body)
 
 
+def put_policy(number, body):
+    return request("PUT", "/drafts/policies/" + policy_id(number), body)
+
+
 def publish(geographies, policies=()):
-    names = lambda ids: ",".join('"%s"' % name for name in ids)
-    return request("POST", "/publish", '{"geographies":[%s],"policies":[%s]}' % (names(geographies), names(policies)))
+    body = '{"geographies":%s,"policies":%s}'
+    return request("POST", "/publish", body % (words(map(geography_id, geographies)), words(map(policy_id, policies))))
 
 
-def ask(number):
-    return request("GET", "/compliance/" + policy_id(number), who="alfa", at=START + 2_000)
+def get(target):
+    return request("GET", target, who=token(0), at=START + 2_000)
 
 
 def write_lines(folder, name, lines):
     path = os.path.join(folder, name)
     with open(path, "w", encoding="ascii", newline="\n") as out:
-        out.write("\n".join(lines))
+        out.write("\n".join([config()] + lines))
         out.write("\n")
     return path

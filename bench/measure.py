@@ -1,11 +1,12 @@
-"""Times mds_replay on generated input, and a plain program in Rust on the same data beside it.
+"""Times mds_replay on generated input, and beside it, on the same input, a good program written by hand and a plain one.
 
 Processor time (user and system) of whole runs; a part's time is the difference of two runs that
-differ in that part alone, divided by how often the part is in the longer one. Three rounds; the
-median is printed with the least and the greatest.
+differ in that part alone, divided by how often the part is in the longer one. The median of the rounds is
+printed with the least and the greatest. All programs have to give the same answers.
 """
 
 import argparse
+import filecmp
 import os
 import shutil
 import statistics
@@ -19,22 +20,19 @@ HERE = os.path.dirname(os.path.abspath(__file__))
 PROGRAM = os.path.join(HERE, "..", "crates", "mds_replay", "out", "mds_replay")
 TIMER = "time"
 ROUNDS = 3
-REPEATS = 20
-EDGES = (4, 100, generate.MOST_POSITIONS - 1)
-QUESTIONS = {4: 400, 100: 40, generate.MOST_POSITIONS - 1: 1}
-SCANS = 200
-SMALL = 200
-REFUSALS = {
-    "put by nobody": '401 {"error":"token"}',
-    "put no json": '400 {"error":"bad_json"}',
-    "put as policy": '400 {"error":"decimal"}',
-}
-LARGEST_QUESTIONS = 40
-SWEEPS = {4: 200, 100: 20, generate.MOST_POSITIONS - 1: 1}
+EDGES = (4, 1_000, generate.MOST_POSITIONS - 1)
+RULES = 64
+RADIUS = 0.2
+FLEET = generate.MOST_VEHICLES
+QUESTIONS = {"ours": 10, "good": 10, "scan": 1}
+POLICIES, POLICY_RULES, PART_FLEET = 30, 8, 20_000
+NEW_DEVICES = 20_000
+SMALL_FLEET = 2_000
+PUTS, POLICY_PUTS, LISTS = 20, 2_000, 50
 
 
 class Run:
-    """One command, its input and output, and what each round measured of it."""
+    """One program on one script, and what each round measured of it."""
 
     def __init__(self, command, source, output):
         self.command = command
@@ -57,240 +55,204 @@ class Run:
         with open(note, encoding="ascii") as text:
             self.memory.append(int(text.read().split()[-1]))
 
-    def text(self):
-        with open(self.output, encoding="ascii") as output:
-            return output.read()
+
+def city(random, first, edges):
+    """So many geographies with a policy of as many rules, published."""
+    numbers = range(first, first + RULES)
+    rings = generate.districts(random, RULES, edges, RADIUS)
+    lines = [generate.put_geography(n, generate.geography(n, ring)) for n, ring in zip(numbers, rings)]
+    lines.append(generate.put_policy(first, generate.policy(random, first, RULES, numbers)))
+    lines.append(generate.publish(numbers, [first]))
+    return lines
 
 
-def geography_scripts(body):
-    """The scripts of the first part: one geography of the most positions, put, published, got back."""
-    name = generate.geography_id(1)
-    target = "/drafts/geographies/" + name
-    put = generate.put_geography(1, body)
-    publish = generate.publish([name])
-    numbers = range(1, REPEATS + 1)
-    names = [generate.geography_id(number) for number in numbers]
-    many = [generate.put_geography(n, body.replace(name, generate.geography_id(n))) for n in numbers]
-    policy = "/drafts/policies/" + generate.policy_id(1)
-    return {
-        "start": [],
-        "put": [put],
-        "put again": [put] + [put] * REPEATS,
-        "put by nobody": [put] + [generate.request("PUT", target, body, who="nobody")] * REPEATS,
-        "put no json": [put] + [generate.put_geography(1, "x" + body)] * REPEATS,
-        "put as policy": [put] + [generate.request("PUT", policy, body)] * REPEATS,
-        "get draft": [put] + [generate.request("GET", target)] * REPEATS,
-        "published": [put, publish],
-        "get published": [put, publish] + [generate.request("GET", "/geographies/" + name)] * REPEATS,
-        "many published": many + [generate.publish(names)],
-    }
-
-
-def small_scripts(random):
-    """Small geographies, put, and then published one by one."""
-    numbers = range(SMALL)
-    bodies = [generate.geography(number, generate.outline(random, 4)) for number in numbers]
-    puts = [generate.put_geography(number, body) for number, body in zip(numbers, bodies)]
-    publications = [generate.publish([generate.geography_id(number)]) for number in numbers]
-    return {"small drafts": puts, "small published": puts + publications}
-
-
-def fleet_scripts(bodies, fleet, largest):
-    """The scripts of the second part: one count policy for each polygon, reports, and questions; and the largest fleet."""
-    city = []
-    for number, body in bodies.items():
-        policy = generate.count_policy(number)
-        city.append(generate.put_geography(number, body))
-        city.append(generate.request("PUT", "/drafts/policies/" + generate.policy_id(number), policy))
-    geographies = [generate.geography_id(number) for number in bodies]
-    city.append(generate.publish(geographies, [generate.policy_id(number) for number in bodies]))
-    ascending = city + [generate.report(vehicle) for vehicle in sorted(fleet)]
-    scripts = {
-        "city": city,
-        "reports": city + [generate.report(vehicle) for vehicle in fleet],
-        "reports ascending": ascending,
-    }
-    for number in bodies:
-        scripts["ask %d" % number] = ascending + [generate.ask(number)] * QUESTIONS[number]
-    scripts["largest"] = city + [generate.report(vehicle) for vehicle in sorted(largest)]
-    scripts["ask largest"] = scripts["largest"] + [generate.ask(EDGES[0])] * LARGEST_QUESTIONS
+def question_scripts(random):
+    """The questions: the largest fleet, and a policy of the most rules for each number of edges."""
+    lines = []
+    for place, edges in enumerate(EDGES):
+        lines += city(random, 100 * (place + 1), edges)
+    scripts = {"cities": lines, "fleet": lines + sorted(generate.fleet(random, FLEET))}
+    for place, edges in enumerate(EDGES):
+        name = "/compliance/" + generate.policy_id(100 * (place + 1))
+        for who, count in QUESTIONS.items():
+            scripts["ask %d, %s" % (edges, who)] = scripts["fleet"] + [generate.get(name)] * count
     return scripts
 
 
-def baseline_runs(folder, bodies, fleet):
-    """The plain program, built here: each loop many times over, and none."""
-    program = os.path.join(folder, "baseline")
-    source = os.path.join(HERE, "baseline.rs")
-    subprocess.run(["rustc", "--edition", "2024", "-O", "-o", program, source], check=True)
-    text = ",".join(generate.position_text(vehicle[1]) for vehicle in fleet)
-    positions = generate.write_lines(folder, "positions", ['{"coordinates":[[%s]]}' % text])
+def policies_scripts(random):
+    """Many small policies and a part of a fleet."""
+    rings = generate.districts(random, RULES, 200, RADIUS)
+    lines = [generate.put_geography(n, generate.geography(n, ring)) for n, ring in enumerate(rings)]
+    for n in range(POLICIES):
+        places = [random.below(RULES) for _ in range(POLICY_RULES)]
+        lines.append(generate.put_policy(n, generate.policy(random, n, POLICY_RULES, places)))
+    lines.append(generate.publish(range(RULES), range(POLICIES)))
+    lines += sorted(generate.fleet(random, PART_FLEET))
+    return {"policies": lines, "ask policies": lines + [generate.get("/compliance")] * 10}
+
+
+def report_scripts(random):
+    """New devices in a large fleet, and as many in fleets of about 2,000, twenty of them."""
+    large = sorted(generate.fleet(random, FLEET - NEW_DEVICES))
+    more = generate.fleet(random, NEW_DEVICES)
+    few = SMALL_FLEET - NEW_DEVICES // 20 // 2
+    small, others = [], []
+    for operator in range(1, generate.OPERATORS):
+        small += sorted(generate.fleet(random, few, operator))
+        others += generate.fleet(random, NEW_DEVICES // 20, operator)
+    return {
+        "large fleet": large,
+        "large fleet and more": large + more,
+        "small fleets": small,
+        "small fleets and more": small + others,
+        "no report": [],
+        "reports": more,
+    }
+
+
+def document_scripts(random):
+    """Putting one geography of the most positions and one policy of about 2 KB, again and again; and lists."""
+    ring = generate.outline(random, EDGES[-1], generate.CENTRE, 0.8)
+    put = generate.put_geography(1, generate.geography(1, ring))
+    policy = generate.put_policy(1, generate.policy(random, 1, 6, [1]))
+    rings = generate.districts(random, 100, 100, RADIUS)
+    lines = [generate.put_geography(n, generate.geography(n, ring)) for n, ring in enumerate(rings)]
+    lines += [generate.put_policy(n, generate.policy(random, n, 6, [n])) for n in range(100)]
+    lines.append(generate.publish(range(100), range(100)))
+    return {
+        "geography": [put],
+        "geography again": [put] * (1 + PUTS),
+        "policy": [policy],
+        "policy again": [policy] * (1 + POLICY_PUTS),
+        "published": lines,
+        "lists": lines + [generate.get("/policies"), generate.get("/geographies")] * LISTS,
+    }
+
+
+def scripts_for(who, scripts):
+    """Which scripts a program runs. The plain one isn't asked what would take it minutes."""
+    for name in scripts:
+        only = name.partition(", ")[2]
+        if only and only != who:
+            continue
+        if who == "scan" and (name.startswith("large") or name.startswith("ask %d" % EDGES[-1])):
+            continue
+        yield name
+
+
+def build_runs(folder, program, scripts):
+    good = os.path.join(folder, "good")
+    source = os.path.join(HERE, "good.rs")
+    subprocess.run(["rustc", "--edition", "2024", "-O", "-o", good, source], check=True)
+    commands = {"ours": [program], "good": [good], "scan": [good, "scan"]}
+    paths = {name: generate.write_lines(folder, name + ".replay", lines) for name, lines in scripts.items()}
     runs = {}
-    for number, body in bodies.items():
-        path = generate.write_lines(folder, "polygon %d" % number, [body])
-        for times in (0, SWEEPS[number]):
-            name = "holds %d, %d" % (number, times)
-            command = [program, "holds", path, positions, str(times)]
-            runs[name] = Run(command, os.devnull, os.path.join(folder, name + ".out"))
-    for times in (0, SCANS):
-        name = "read, %d" % times
-        command = [program, "read", path, str(times)]
-        runs[name] = Run(command, os.devnull, os.path.join(folder, name + ".out"))
-    return runs
-
-
-def program_runs(folder, program, scripts):
-    runs = {}
-    for name, lines in scripts.items():
-        source = generate.write_lines(folder, name + ".replay", [generate.CONFIG] + lines)
-        runs[name] = Run([program], source, os.path.join(folder, name + ".out"))
-    return runs
-
-
-def held_against(name):
-    """Which run of mds_replay a run of the plain program is held against."""
-    return "put again" if name.startswith("read") else name.split(",")[0].replace("holds", "ask")
-
-
-def side_by_side(ours, plain):
-    """All runs, each of the plain program right behind the one that it is held against."""
-    runs = {}
-    for name, run in ours.items():
-        runs[name] = run
-        runs |= {other: run for other, run in plain.items() if held_against(other) == name}
+    for name in scripts:
+        for who, command in commands.items():
+            if name in scripts_for(who, scripts):
+                runs[who, name] = Run(command, paths[name], os.path.join(folder, "%s %s.out" % (who, name)))
     return runs
 
 
 def check(runs, scripts):
-    """Every answer is the one that the script means, and both programs count alike."""
-    for name, lines in scripts.items():
-        answers = runs[name].text().splitlines()
-        refused = REPEATS if name in REFUSALS else 0
-        good = sum(answer.startswith("200 ") for answer in answers)
-        if (good, answers.count(REFUSALS.get(name))) != (len(lines) - refused, refused):
-            sys.exit("the answers to '%s' aren't those expected" % name)
-    for number in EDGES:
-        held = runs["holds %d, %d" % (number, SWEEPS[number])].text().strip()
-        if '"measure":%s,' % held not in runs["ask %d" % number].text():
-            sys.exit("the two programs don't count alike within %d edges" % number)
-        print("within %d edges: %s of %d vehicles, by both programs" % (number, held, generate.FLEET))
+    """Every answer is a success, and all programs give the same ones."""
+    for (who, name), run in runs.items():
+        with open(run.output, "rb") as output:
+            good = sum(line.startswith(b"200 ") for line in output)
+        if good != len(scripts[name]):
+            sys.exit("not every answer of %s to '%s' is a success" % (who, name))
+        other = runs.get(("ours", name.partition(", ")[0] + ", ours" if "," in name else name))
+        if QUESTIONS.get(who) == QUESTIONS["ours"] or "," not in name:
+            if not filecmp.cmp(run.output, other.output, shallow=False):
+                sys.exit("%s answers otherwise to '%s'" % (who, name))
 
 
-def apart(runs, longer, shorter, count):
-    """The seconds of one of the parts that the longer run has over the shorter, by round."""
-    pairs = zip(runs[longer].seconds, runs[shorter].seconds)
-    return [(more - less) / count for more, less in pairs]
+class Table:
+    """The measures, each of all programs that have it."""
+
+    def __init__(self, runs):
+        self.runs = runs
+
+    def seconds(self, who, longer, shorter, count):
+        """The seconds of one of the parts that the longer run has over the shorter, by round."""
+        if (who, longer) not in self.runs:
+            longer, count = "%s, %s" % (longer, who), QUESTIONS[who]
+        if (who, longer) not in self.runs:
+            return None
+        pairs = zip(self.runs[who, longer].seconds, self.runs[who, shorter].seconds)
+        return [(more - less) / count for more, less in pairs]
+
+    def row(self, label, longer, shorter, count, scale, unit):
+        """A line of the table: each program's median with the least and the greatest, and the ratios of the medians."""
+        ours, good, scan = (self.seconds(who, longer, shorter, count) for who in ("ours", "good", "scan"))
+        cells = [label, spread(ours, scale, unit)]
+        for other in (good, scan):
+            cells += [spread(other, scale, unit), figure(ratio(ours, other))] if other else ["", ""]
+        print("| %s |" % " | ".join(cells))
+        return ours
+
+    def compare(self, label, ours, others):
+        print("| %s | %s | | | | |" % (label, figure(ratio(ours, others))))
 
 
-def ratios(ours, plain):
-    return [ours_once / plain_once for ours_once, plain_once in zip(ours, plain)]
+def ratio(ours, others):
+    return statistics.median(ours) / statistics.median(others)
 
 
 def figure(value):
-    """Four digits that count, and never a power of ten."""
-    return "%.0f" % value if abs(value) >= 1000 else "%.4g" % value
+    """Three digits that count, and never a power of ten."""
+    return "%.0f" % value if abs(value) >= 100 else "%.3g" % value
 
 
 def spread(values, scale, unit):
     middle, least, most = (f(values) * scale for f in (statistics.median, min, max))
-    return "%9s %s (%s to %s)" % (figure(middle), unit, figure(least), figure(most))
+    return "%s %s (%s to %s)" % (figure(middle), unit, figure(least), figure(most))
 
 
-def tell_requests(label, seconds, size, way):
-    """Requests and megabytes per second; a part too short to tell from the noise says so."""
-    if min(seconds) <= 0:
-        print("%-36s not told from the noise: %s" % (label, spread(seconds, 1e3, "ms")))
-        return
-    middle = statistics.median(seconds)
-    rate = "%.3g" if middle > 0.01 else "%.0f"
-    text = "%-36s %s, %s requests/s" % (label, spread(seconds, 1e3, "ms"), rate % (1 / middle))
-    print(text + (", %.3g MB/s %s" % (size / middle / 1e6, way) if size else ""))
-
-
-def tell_geography(runs, body):
-    print("\nOne geography of %d positions, a body of %d bytes" % (generate.MOST_POSITIONS, len(body)))
-    served = len(runs["get draft"].text().splitlines()[-1])
-    put = apart(runs, "put again", "put", REPEATS)
-    tell_requests("put a draft again", put, len(body), "read")
-    for name, label in (
-        ("put by nobody", "  refused by its token"),
-        ("put no json", "  refused as no JSON, an x before it"),
-        ("put as policy", "  refused as a policy"),
-    ):
-        tell_requests(label, apart(runs, name, "put", REPEATS), len(body), "read")
-    tell_requests("publish it", apart(runs, "published", "put", 1), 0, "")
-    tell_requests("publish one of 4 edges", apart(runs, "small published", "small drafts", SMALL), 0, "")
-    tell_requests("get the draft", apart(runs, "get draft", "put", REPEATS), served, "written")
-    got = apart(runs, "get published", "published", REPEATS)
-    tell_requests("get what is published", got, served, "written")
-    plain = apart(runs, "read, %d" % SCANS, "read, 0", SCANS)
-    tell_requests("plain program, coordinates alone", plain, len(body), "read")
-    print("%-36s %s" % ("ratio of putting to it", spread(ratios(put, plain), 1, "times")))
-
-
-def tell_reports(runs, fleet):
-    size = sum(len(generate.report(vehicle)) + 1 for vehicle in fleet) / len(fleet)
-    print("\n%d reports of %.0f bytes on average" % (len(fleet), size))
-    for name, label in (("reports", "in random order"), ("reports ascending", "ascending by device")):
-        seconds = apart(runs, name, "city", len(fleet))
-        tell_requests(label, seconds, size, "read")
-        print("%-36s %s" % ("  all of them", spread([s * len(fleet) for s in seconds], 1, "s")))
-
-
-def tell_membership(runs):
-    print("\nCompliance with one count policy, %d vehicles" % generate.FLEET)
-    for number in EDGES:
-        asked = apart(runs, "ask %d" % number, "reports ascending", QUESTIONS[number])
-        plain = apart(runs, "holds %d, %d" % (number, SWEEPS[number]), "holds %d, 0" % number, SWEEPS[number])
-        print("%d edges" % number)
-        tell_requests("  one question", asked, 0, "")
-        tests = generate.FLEET * number
-        print("%-36s %s" % ("  for each vehicle", spread(asked, 1e9 / generate.FLEET, "ns")))
-        print("%-36s %s" % ("    and edge", spread(asked, 1e9 / tests, "ns")))
-        print("%-36s %s" % ("  plain program, each vehicle", spread(plain, 1e9 / generate.FLEET, "ns")))
-        print("%-36s %s" % ("    and edge", spread(plain, 1e9 / tests, "ns")))
-        print("%-36s %s" % ("  ratio", spread(ratios(asked, plain), 1, "times")))
-
-
-def tell_largest(runs):
-    print("\nThe largest fleet, %d vehicles" % generate.LARGEST_FLEET)
-    tell_requests("one report, ascending by device", apart(runs, "largest", "city", generate.LARGEST_FLEET), 0, "")
-    asked = apart(runs, "ask largest", "largest", LARGEST_QUESTIONS)
-    tell_requests("one question, %d edges" % EDGES[0], asked, 0, "")
-    print("%-36s %s" % ("  for each vehicle", spread(asked, 1e9 / generate.LARGEST_FLEET, "ns")))
-
-
-def tell_memory(runs):
-    print("\nPeak memory of a run")
-    for name in ("start", "put", "put again", "get published", "many published", "city", "reports", "reports ascending", "largest"):
-        print("%-36s %8.1f MB" % (name, statistics.median(runs[name].memory) * 1024 / 1e6))
+def tell(runs):
+    table = Table(runs)
+    print("\n| Measure | mds_replay | good | ratio | plain | ratio |\n|---|---|---|---|---|---|")
+    asked = {}
+    for edges in EDGES:
+        label = "a question, %d vehicles, %d rules, %d edges each" % (FLEET, RULES, edges)
+        asked[edges] = table.row(label, "ask %d" % edges, "fleet", 0, 1e3, "ms")
+        each = [seconds / FLEET / RULES for seconds in asked[edges]]
+        print("| for each vehicle and rule | %s | | | | |" % spread(each, 1e9, "ns"))
+    table.compare("each vehicle, %d edges against %d" % (EDGES[2], EDGES[1]), asked[EDGES[2]], asked[EDGES[1]])
+    label = "a question, %d policies of %d rules, %d vehicles" % (POLICIES, POLICY_RULES, PART_FLEET)
+    table.row(label, "ask policies", "policies", 10, 1e3, "ms")
+    large = table.row("a report of a new device, fleet of %d" % FLEET, "large fleet and more", "large fleet", NEW_DEVICES, 1e6, "us")
+    small = table.row("a report of a new device, fleet of %d" % SMALL_FLEET, "small fleets and more", "small fleets", NEW_DEVICES, 1e6, "us")
+    table.compare("a fleet of %d against %d" % (FLEET, SMALL_FLEET), large, small)
+    table.row("a report, fleet from 0 to %d" % NEW_DEVICES, "reports", "no report", NEW_DEVICES, 1e6, "us")
+    table.row("putting a geography of %d positions" % generate.MOST_POSITIONS, "geography again", "geography", PUTS, 1e3, "ms")
+    table.row("putting a policy of 2 KB", "policy again", "policy", POLICY_PUTS, 1e6, "us")
+    table.row("GET of 100 policies and of 100 geographies", "lists", "published", LISTS, 1e3, "ms")
+    cells = []
+    for who in ("ours", "good"):
+        more, less = (statistics.median(runs[who, name].memory) for name in ("fleet", "cities"))
+        cells.append((more - less) * 1024 / FLEET)
+    print("| memory of a vehicle, bytes | %.0f | %.0f | %s | | |" % (cells[0], cells[1], figure(cells[0] / cells[1])))
 
 
 def main():
     parser = argparse.ArgumentParser(description=__doc__)
     parser.add_argument("--program", default=PROGRAM, help="the built mds_replay")
-    program = os.path.abspath(parser.parse_args().program)
+    parser.add_argument("--rounds", type=int, default=ROUNDS)
+    options = parser.parse_args()
     if not shutil.which(TIMER) or not shutil.which("rustc"):
         sys.exit("the benchmark needs rustc, and GNU time as the command %s" % TIMER)
     random = generate.Xorshift(generate.SEED)
-    bodies = {n: generate.geography(n, generate.outline(random, n)) for n in EDGES}
-    body = generate.geography(1, generate.outline(random, EDGES[-1]))
-    fleet = generate.fleet(random, generate.FLEET)
-    largest = generate.fleet(random, generate.LARGEST_FLEET)
-    scripts = geography_scripts(body) | small_scripts(random) | fleet_scripts(bodies, fleet, largest)
+    scripts = question_scripts(random) | policies_scripts(random) | report_scripts(random) | document_scripts(random)
     with tempfile.TemporaryDirectory() as folder:
-        ours = program_runs(folder, program, scripts)
-        runs = side_by_side(ours, baseline_runs(folder, bodies, fleet))
-        for number in range(ROUNDS):
-            for name, run in runs.items():
+        runs = build_runs(folder, os.path.abspath(options.program), scripts)
+        for number in range(options.rounds):
+            for (who, name), run in runs.items():
                 run.measure()
-                print("round %d, %s: %.3f s" % (number + 1, name, run.seconds[-1]), file=sys.stderr)
+                print("round %d, %s, %s: %.3f s" % (number + 1, who, name, run.seconds[-1]), file=sys.stderr)
             print("load of the machine after round %d: %.2f" % (number + 1, os.getloadavg()[0]))
         check(runs, scripts)
-        tell_geography(runs, body)
-        tell_reports(runs, fleet)
-        tell_membership(runs)
-        tell_largest(runs)
-        tell_memory(runs)
+        tell(runs)
 
 
 if __name__ == "__main__":

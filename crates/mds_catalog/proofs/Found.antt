@@ -1,6 +1,5 @@
 -- What is found among documents of several publications.
 use Rattle.std.proofs.Common.{◌≡◌, ℕ, Bool, true, false, cond, List, [], ◌∷◌, ◌++◌, map, find, suc, add-one, drop-cons, Some, None, option_map, length, drop, get_or, ◌+◌, ◌<◌, refl, ap, sym, ◌∙◌}
-use Rattle.std.specs.Prelude.{bytes_eq}
 use Rattle.std.specs.List.{flat_map}
 use Rattle.std.proofs.lemmas.List.{map-append, flat_map_more, length-map}
 use Rattle.std.proofs.lemmas.Bool.{and_parts}
@@ -13,9 +12,8 @@ use Rattle.std.specs.declared.alloc.Global.{Global}
 use Rattle.mds_policy.specs.Policy.{Policy, Rule, policy_document, rule_document}
 use Rattle.mds_policy.specs.declared.rule.Rule as rule
 use Rattle.mds_policy.specs.declared.policy.Policy as policy
-use Rattle.mds_geography.specs.Geography.{Geography}
 use Rattle.mds_catalog.specs.declared.batch.Batch.{Batch}
-use Rattle.mds_catalog.specs.Publication.{Publication, publication_of, publications_in, dated, find_policy, find_geography, published_policies, published_geographies, fits, is_lawful}
+use Rattle.mds_catalog.specs.Publication.{Publication, publication_of, publications_in, dated, published_policies, published_geographies, fits, is_lawful}
 use Rattle.mds_catalog.specs.declared.catalogue.TheConstants.{MOST_POLICIES, MOST_GEOGRAPHIES, MOST_PUBLICATIONS}
 
 -- what is found among documents of one moment
@@ -38,54 +36,6 @@ find_late p xs ys h = find-append p xs ys ∙ ap (λ o. option_or o (find p ys))
 -- the rest of a list from a place on is the element there, and the rest behind it
 pub drop_at : {X : Type 0} (xs : List X) (i : ℕ) (x : X) → i < length xs → x ≡ get_or xs i x → drop i xs ≡ x ∷ drop (i + 1) xs
 drop_at xs i x h e = rw (add-one, drop-cons xs i x) (ap (λ y. y ∷ drop (suc i) xs) (sym e))
-
--- the rest of the publications from a place on
-publications_at : (batches : List (Arc Batch Global)) (i : ℕ) (share : Arc Batch Global) → i < length batches → share ≡ get_or batches i share → publications_in (drop i batches) ≡ publication_of share.value ∷ publications_in (drop (i + 1) batches)
-publications_at batches i share h e = ap publications_in (drop_at batches i share h e)
-
--- found among the documents of the first publication
-policy_head : (p : Publication) (ps : List Publication) (id : List ℕ) (d : Policy) → find (λ p. bytes_eq p.id id) p.policies ≡ Some d → find_policy (p ∷ ps) id ≡ Some (dated p.moment d)
-policy_head p ps id d found =
-    find_early (λ q. bytes_eq q.document.id id) (map (dated p.moment) p.policies) (published_policies ps) (dated p.moment d)
-    (find-dated (λ q. bytes_eq q.id id) p.moment p.policies ∙ ap (option_map (dated p.moment)) found)
-
--- not found there
-policy_tail : (p : Publication) (ps : List Publication) (id : List ℕ) → find (λ p. bytes_eq p.id id) p.policies ≡ None → find_policy (p ∷ ps) id ≡ find_policy ps id
-policy_tail p ps id none =
-    find_late (λ q. bytes_eq q.document.id id) (map (dated p.moment) p.policies) (published_policies ps)
-    (find-dated (λ q. bytes_eq q.id id) p.moment p.policies ∙ ap (option_map (dated p.moment)) none)
-
--- found in this batch, and so the first one from here on
-pub policy_here : (batches : List (Arc Batch Global)) (i : ℕ) (share : Arc Batch Global) (id : List ℕ) (d : Policy) → i < length batches → share ≡ get_or batches i share → find (λ p. bytes_eq p.id id) (publication_of share.value).policies ≡ Some d → find_policy (publications_in (drop i batches)) id ≡ Some (dated share.value.moment d)
-policy_here batches i share id d h e found =
-    ap (λ ps. find_policy ps id) (publications_at batches i share h e) ∙ policy_head (publication_of share.value) (publications_in (drop (i + 1) batches)) id d found
-
--- not found in this batch
-pub policy_later : (batches : List (Arc Batch Global)) (i : ℕ) (share : Arc Batch Global) (id : List ℕ) → i < length batches → share ≡ get_or batches i share → find (λ p. bytes_eq p.id id) (publication_of share.value).policies ≡ None → find_policy (publications_in (drop i batches)) id ≡ find_policy (publications_in (drop (i + 1) batches)) id
-policy_later batches i share id h e none =
-    ap (λ ps. find_policy ps id) (publications_at batches i share h e) ∙ policy_tail (publication_of share.value) (publications_in (drop (i + 1) batches)) id none
-
--- found among the documents of the first publication
-geography_head : (p : Publication) (ps : List Publication) (id : List ℕ) (d : Geography) → find (λ g. bytes_eq g.id id) p.geographies ≡ Some d → find_geography (p ∷ ps) id ≡ Some (dated p.moment d)
-geography_head p ps id d found =
-    find_early (λ q. bytes_eq q.document.id id) (map (dated p.moment) p.geographies) (published_geographies ps) (dated p.moment d)
-    (find-dated (λ q. bytes_eq q.id id) p.moment p.geographies ∙ ap (option_map (dated p.moment)) found)
-
--- not found there
-geography_tail : (p : Publication) (ps : List Publication) (id : List ℕ) → find (λ g. bytes_eq g.id id) p.geographies ≡ None → find_geography (p ∷ ps) id ≡ find_geography ps id
-geography_tail p ps id none =
-    find_late (λ q. bytes_eq q.document.id id) (map (dated p.moment) p.geographies) (published_geographies ps)
-    (find-dated (λ q. bytes_eq q.id id) p.moment p.geographies ∙ ap (option_map (dated p.moment)) none)
-
--- found in this batch, and so the first one from here on
-pub geography_here : (batches : List (Arc Batch Global)) (i : ℕ) (share : Arc Batch Global) (id : List ℕ) (d : Geography) → i < length batches → share ≡ get_or batches i share → find (λ g. bytes_eq g.id id) (publication_of share.value).geographies ≡ Some d → find_geography (publications_in (drop i batches)) id ≡ Some (dated share.value.moment d)
-geography_here batches i share id d h e found =
-    ap (λ ps. find_geography ps id) (publications_at batches i share h e) ∙ geography_head (publication_of share.value) (publications_in (drop (i + 1) batches)) id d found
-
--- not found in this batch
-pub geography_later : (batches : List (Arc Batch Global)) (i : ℕ) (share : Arc Batch Global) (id : List ℕ) → i < length batches → share ≡ get_or batches i share → find (λ g. bytes_eq g.id id) (publication_of share.value).geographies ≡ None → find_geography (publications_in (drop i batches)) id ≡ find_geography (publications_in (drop (i + 1) batches)) id
-geography_later batches i share id h e none =
-    ap (λ ps. find_geography ps id) (publications_at batches i share h e) ∙ geography_tail (publication_of share.value) (publications_in (drop (i + 1) batches)) id none
 
 -- what is found in lists made of the elements from a place on: in the first of them, or in the others
 pub find_at : {S D X : Type 0} (g : D → List X) (doc : S → D) (p : X → Bool) (xs : List S) (i : ℕ) (x : S) → i < length xs → x ≡ get_or xs i x → find p (flat_map g (map doc (drop i xs))) ≡ option_or (find p (g (doc x))) (find p (flat_map g (map doc (drop (i + 1) xs))))

@@ -1,4 +1,7 @@
 pub mod Found
 mod Growing
+mod Keeping
 pub mod Lent
-mod Withdrawn
+mod Marked
+mod Ordered
+mod Places

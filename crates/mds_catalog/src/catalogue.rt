@@ -1,13 +1,14 @@
 ghost use Rattle.std.specs.Prelude.{◌≤◌, vec_capacity};
 ghost use Rattle.mds_catalog.specs.Publication.{publications_in};
 ghost use Rattle.mds_catalog.specs.Kept.{IsKept};
-ghost use Rattle.mds_catalog.specs.declared.catalogue.TheConstants.{MOST_POLICIES, MOST_PUBLICATIONS};
+ghost use Rattle.mds_catalog.specs.declared.catalogue.TheConstants.{MOST_GEOGRAPHIES, MOST_POLICIES, MOST_PUBLICATIONS};
 
 use crate::batch::{Batch, are_distinct};
-use crate::force::{is_meant_for, is_running, is_superseded};
+use crate::entries::{Entry, entry_of, list_policies, supersede, withdraw};
+use crate::force::{is_meant_for, is_running};
 use crate::lists::{lend_geographies, lend_policies};
 use crate::published::Published;
-use crate::withdrawals::{Entry, is_withdrawn, list_policies, withdraw};
+use crate::spots::{Spot, list_geographies, spot_of};
 use mds_geography::Geography;
 use mds_policy::{Policy, Rule};
 use mds_text::{Id, Moment};
@@ -23,23 +24,30 @@ pub const MOST_POLICIES: usize = 512;
 /// The most published geographies.
 pub const MOST_GEOGRAPHIES: usize = 512;
 
-/// All published batches in their order, and from which moment on their policies are withdrawn.
-/// Contracts see the list of the publications.
+/// All published batches in their order, and beside them, by identifier, where each document stands and
+/// from which moment on each policy is superseded and withdrawn. Contracts see the list of the
+/// publications.
 #[derive(Drop)]
 pub struct Catalogue {
+    // in the order of their publication
     batches: Vec<Arc<Batch>>,
+    // of each policy, ascending by identifier
     entries: Vec<Entry>,
+    // of each geography, ascending by identifier
+    spots: Vec<Spot>,
+    policy_count: usize,
     geography_count: usize,
     ghost batch_room: { MOST_PUBLICATIONS ≤ vec_capacity batches },
     ghost entry_room: { MOST_POLICIES ≤ vec_capacity entries },
-    ghost kept: { IsKept (publications_in batches.items) entries.items geography_count },
+    ghost spot_room: { MOST_GEOGRAPHIES ≤ vec_capacity spots },
+    ghost kept: { IsKept (publications_in batches.items) entries.items spots.items policy_count geography_count },
 }
 
 impl Catalogue {
-    ghost use Rattle.std.specs.Prelude.{◌≡◌, ◌++◌, ◌∷◌, [], length, IfOk, OnOk, OnErr, option_map, IsTrue, find, map, not};
+    ghost use Rattle.std.specs.Prelude.{◌≡◌, ◌++◌, ◌∷◌, [], length, IfOk, OnOk, OnErr, option_map, IsTrue, find, map, not, ◌||◌};
     ghost use Rattle.std.specs.List.{flat_map};
     ghost use Rattle.mds_policy.specs.Policy.{rule_document};
-    ghost use Rattle.mds_catalog.specs.Publication.{find_policy, find_geography, is_policy_published, is_geography_published, policy_ids, geography_ids, first_published, is_geography_there, missing_geography, missing_predecessor, first_unpublished, fits, is_lawful, extended, publication_of, is_in_force, policies_for, published_geographies, in_force};
+    ghost use Rattle.mds_catalog.specs.Publication.{find_policy, find_geography, is_policy_published, is_geography_published, policy_ids, geography_ids, first_published, is_geography_there, missing_geography, missing_predecessor, first_unpublished, fits, is_lawful, extended, publication_of, is_in_force, is_superseded, is_withdrawn, policies_for, published_geographies, in_force};
     ghost use Rattle.mds_catalog.specs.Catalogue.{publications_of, lent_policy, lent_geography};
 
     /// An empty catalogue with room for all publications.
@@ -53,6 +61,8 @@ impl Catalogue {
         Ok(Catalogue {
             batches: Vec::with_capacity(alloc, MOST_PUBLICATIONS)?,
             entries: Vec::with_capacity(alloc, MOST_POLICIES)?,
+            spots: Vec::with_capacity(alloc, MOST_GEOGRAPHIES)?,
+            policy_count: 0,
             geography_count: 0,
         })
     }
@@ -74,8 +84,17 @@ impl Catalogue {
         let document = policy.document;
         is_running(policy, at)
             && is_meant_for(document, operator)
-            && !is_superseded(&self.batches, at, document.id())
-            && !is_withdrawn(&self.entries, at, document.id())
+            && !self.is_over(at, document.id())
+    }
+
+    /// Whether the policy of this identifier is superseded or withdrawn at a moment.
+    fn is_over(&self, at: Moment, id: Id) -> bool
+        ensures { result ≡ (is_superseded (publications_of self.now) at id || is_withdrawn (publications_of self.now) at id) }
+    {
+        match entry_of(&self.entries, id) {
+            Some(entry) => entry.is_over(at),
+            None => false,
+        }
     }
 
     /// The published policies in the order of their publication: all, or those that are meant for an
@@ -128,37 +147,29 @@ impl Catalogue {
     }
 
     /// The published policy of this identifier.
-    #[tactic(auto, using(crate::proofs::Found::policy_here, crate::proofs::Found::policy_later))]
     pub fn policy(&self, id: Id) -> Option<Published<'_, Policy>>
         ensures { option_map lent_policy result ≡ find_policy (publications_of self.now) id }
     {
-        for share in &self.batches {
-            let batch: &Batch = share;
-            if let Some(document) = batch.policy(id) {
-                return Some(Published {
-                    document,
-                    moment: batch.moment,
-                });
-            }
-        }
-        None
+        let entry = entry_of(&self.entries, id)?;
+        let batch: &Batch = &self.batches[entry.spot.batch];
+        let document: &Policy = &batch.policies[entry.spot.place];
+        Some(Published {
+            document,
+            moment: batch.moment,
+        })
     }
 
     /// The published geography of this identifier.
-    #[tactic(auto, using(crate::proofs::Found::geography_here, crate::proofs::Found::geography_later))]
     pub fn geography(&self, id: Id) -> Option<Published<'_, Geography>>
         ensures { option_map lent_geography result ≡ find_geography (publications_of self.now) id }
     {
-        for share in &self.batches {
-            let batch: &Batch = share;
-            if let Some(document) = batch.geography(id) {
-                return Some(Published {
-                    document,
-                    moment: batch.moment,
-                });
-            }
-        }
-        None
+        let spot = spot_of(&self.spots, id)?;
+        let batch: &Batch = &self.batches[spot.batch];
+        let document: &Geography = &batch.geographies[spot.place];
+        Some(Published {
+            document,
+            moment: batch.moment,
+        })
     }
 
     /// Whether a policy of this identifier is published.
@@ -285,7 +296,7 @@ impl Catalogue {
     pub fn fits(&self, batch: &Batch) -> bool
         ensures { result ≡ fits (publications_of self.now) (publication_of batch.now) }
     {
-        batch.policies.len() <= MOST_POLICIES - self.entries.len()
+        batch.policies.len() <= MOST_POLICIES - self.policy_count
             && batch.geographies.len() <= MOST_GEOGRAPHIES - self.geography_count
             && self.batches.len() < MOST_PUBLICATIONS
     }
@@ -308,15 +319,19 @@ impl Catalogue {
     }
 
     /// Adds a lawful batch at the end.
-    #[tactic(auto, using(crate::proofs::Found::lawful_room))]
     fn append(&mut self, batch: Arc<Batch>)
         requires { IsTrue (is_lawful (publications_of self.old) (publication_of batch.value)) }
         ensures { publications_of self.new ≡ publications_of self.old ++ publication_of batch.value ∷ [] }
     {
+        let policy_count = self.policy_count + batch.policies.len();
         let geography_count = self.geography_count + batch.geographies.len();
-        list_policies(&mut self.entries, &batch.policies);
+        let number = self.batches.len();
+        list_geographies(&mut self.spots, number, &batch.geographies);
+        list_policies(&mut self.entries, number, &batch.policies);
+        supersede(&mut self.entries, batch.moment, &batch.policies);
         withdraw(&mut self.entries, batch.moment, &batch.withdrawn);
         self.batches.push_reserved(batch);
+        self.policy_count = policy_count;
         self.geography_count = geography_count;
     }
 

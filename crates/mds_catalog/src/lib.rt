@@ -4,12 +4,13 @@
 
 mod batch;
 mod catalogue;
+mod entries;
 mod force;
 pub mod laws;
 mod lists;
 mod published;
 mod shown;
-mod withdrawals;
+mod spots;
 
 pub use batch::{Batch, are_distinct};
 pub use catalogue::{Catalogue, MOST_GEOGRAPHIES, MOST_POLICIES, MOST_PUBLICATIONS};

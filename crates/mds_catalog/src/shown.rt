@@ -1,5 +1,5 @@
 use crate::catalogue::Catalogue;
-use mds_geometry::Position;
+use mds_geometry::{Area, Position};
 use mds_match::Places;
 use mds_text::Id;
 
@@ -14,6 +14,13 @@ impl Places for Catalogue {
         match self.geography(geography) {
             Some(found) => found.document.holds(position),
             None => false,
+        }
+    }
+
+    fn area(&self, geography: Id) -> Option<&Area> {
+        match self.geography(geography) {
+            Some(found) => Some(found.document.area()),
+            None => None,
         }
     }
 }

@@ -1,3 +1,5 @@
+ghost use Rattle.std.specs.Prelude.{◌<◌, ◌≤◌};
+
 use crate::batch::{Batch, are_distinct};
 use crate::catalogue::Catalogue;
 use crate::force::is_meant_for;
@@ -218,5 +220,134 @@ fn refuses_what_is_not_lawful(rt: HostRuntime) -> Result<(), Fail> {
     assert!(rt; catalogue.first_published(&without) == Some(id(P1)?));
     assert!(rt; catalogue.fits(&without));
     assert!(rt; !catalogue.lawful(&alone(alloc, &[])?));
+    Ok(())
+}
+
+/// A policy of this number under these starts, in place of those that are named.
+fn numbered(alloc: Global, number: usize, start: i64, previous: &str) -> Result<Policy, Fail> {
+    let text = format!(in alloc;
+        "{{\"policy_id\":\"00000000-0000-4000-8000-{number:012}\",\"name\":\"n\",\"start_date\":{start},\"prev_policies\":[{previous}],\"rules\":[]}}"
+    )?;
+    Ok(Policy::read(alloc, text.as_bytes())?)
+}
+
+#[test]
+fn supersedes_from_the_least_moment_on(rt: HostRuntime) -> Result<(), Fail> {
+    let alloc = rt.alloc();
+    let mut catalogue = published(alloc, &rt)?;
+    let named = "\"00000000-0000-4000-8000-000000000201\"";
+    for (number, at, start, last) in [
+        (1, 3000, 90_000, 89_999),
+        (2, 6000, 5000, 5999),
+        (3, 7000, 80_000, 5999),
+    ] {
+        let mut batch = alone(alloc, &[])?;
+        batch.moment = moment(at)?;
+        batch
+            .policies
+            .push(Arc::new(alloc, numbered(alloc, number, start, named)?)?)?;
+        catalogue.adopt(Arc::new(alloc, batch)?);
+        assert!(rt;
+            cap_in_force(&catalogue, last)? && !cap_in_force(&catalogue, last + 1)?,
+            "at {last}"
+        );
+    }
+    assert_eq!(rt; catalogue.revision(), 5);
+    Ok(())
+}
+
+/// The number of the policy in this place: each of 0 to 511 once, out of order.
+fn number_at(place: usize) -> usize
+    requires { place < 512 }
+{
+    place * 37 % 512
+}
+
+/// The identifier of the policy of this number.
+fn name_of(alloc: Global, number: usize) -> Result<String, Fail> {
+    Ok(format!(in alloc; "00000000-0000-4000-8000-{number:012}")?)
+}
+
+/// 64 policies, each in the place of the one 64 places before, if there is one.
+fn layer(alloc: Global, first: usize) -> Result<Vec<Arc<Policy>>, Fail>
+    requires { first ≤ 448 }
+{
+    let mut policies = Vec::new(alloc);
+    for place in first..first + 64 {
+        let previous = if place < 64 {
+            String::new(alloc)
+        } else {
+            let before = name_of(alloc, number_at(place - 64))?;
+            format!(in alloc; "\"{before}\"")?
+        };
+        let policy = numbered(alloc, number_at(place), 0, previous.as_str())?;
+        policies.push(Arc::new(alloc, policy)?)?;
+    }
+    Ok(policies)
+}
+
+const LAYERS: [(usize, i64); 8] = [
+    (0, 1000),
+    (64, 2000),
+    (128, 3000),
+    (192, 4000),
+    (256, 5000),
+    (320, 6000),
+    (384, 7000),
+    (448, 8000),
+];
+
+/// Eight batches of 64 policies, a second apart, each batch in the place of the one before.
+fn chained(alloc: Global) -> Result<Catalogue, Fail> {
+    let mut catalogue = Catalogue::with_room(alloc)?;
+    for (first, at) in LAYERS {
+        let mut batch = alone(alloc, &[])?;
+        batch.moment = moment(at)?;
+        batch.policies = layer(alloc, first.min(448))?;
+        catalogue.adopt(Arc::new(alloc, batch)?);
+    }
+    Ok(catalogue)
+}
+
+/// When the policy of this number was published.
+fn published_at(alloc: Global, catalogue: &Catalogue, number: usize) -> Result<Option<i64>, Fail> {
+    let name = name_of(alloc, number)?;
+    match catalogue.policy(id(name.as_str())?) {
+        Some(found) => Ok(Some(found.moment.get())),
+        None => Ok(None),
+    }
+}
+
+#[test]
+fn finds_each_of_512_policies(rt: HostRuntime) -> Result<(), Fail> {
+    let alloc = rt.alloc();
+    let catalogue = chained(alloc)?;
+    assert_eq!(rt; catalogue.revision(), 8);
+    for (first, at) in LAYERS {
+        let first = first.min(448);
+        for place in first..first + 64 {
+            assert_eq!(rt;
+                published_at(alloc, &catalogue, number_at(place))?,
+                Some(at)
+            );
+        }
+    }
+    assert!(rt; catalogue.policy(id(OA)?).is_none());
+    assert!(rt; !catalogue.fits(&alone(alloc, &[NEXT])?));
+    Ok(())
+}
+
+#[test]
+fn has_the_last_of_a_chain_in_force(rt: HostRuntime) -> Result<(), Fail> {
+    let alloc = rt.alloc();
+    let catalogue = chained(alloc)?;
+    for (_, at) in LAYERS {
+        let lent = catalogue.in_force(alloc, id(OA)?, moment(at)?)?;
+        assert_eq!(rt; lent.len(), 64, "at {at}");
+        for policy in &lent {
+            assert_eq!(rt; policy.moment.get(), at);
+        }
+    }
+    assert!(rt; catalogue.in_force(alloc, id(OA)?, moment(999)?)?.is_empty());
     Ok(())
 }

@@ -5,7 +5,8 @@ ghost use Rattle.mds_catalog.specs.Publication.{are_distinct};
 ghost use Rattle.mds_drafts.specs.Named.{distinct_ids_at};
 
 use mds_catalog::are_distinct;
-use mds_text::{Field, Id, TextFault, Tree, document_of, ids_at, read_tree};
+use mds_reading::read_tree;
+use mds_text::{Field, Id, TextFault, Tree, document_of, ids_at};
 use std::alloc::Global;
 
 /// The identifiers of the drafts that are to be published and of the published policies that are to be

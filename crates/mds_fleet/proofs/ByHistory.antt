@@ -23,8 +23,7 @@ use Rattle.mds_fleet.specs.History.{Event, arrival, removal, is_held, is_accepte
 use Rattle.mds_fleet.specs.Laws.{Follows, Leads}
 use Rattle.mds_fleet.proofs.Cases.{Case}
 use Rattle.mds_fleet.proofs.Determined.{can_be, less, not_less}
-use Rattle.mds_fleet.proofs.Kept.{is_true}
-use Rattle.mds_fleet.proofs.Rows.{device_total, device_exact, rising_keys}
+use Rattle.mds_fleet.proofs.Rows.{device_total, device_exact, is_true, rising_keys}
 use Rattle.mds_fleet.proofs.Taking.{tie_false}
 
 -- ---- devices are told apart in one way

@@ -1,31 +1,34 @@
--- Vehicles that ascend by device id, as rows.
-use Rattle.std.proofs.Common.{◌≡◌, ◌≢◌, ℕ, zero, suc, ◌<◌, ◌≤◌, Bool, true, false, cond, nat_lt, inl, List, [], ◌∷◌, ◌++◌, length, get_or, set, take, drop, map, Some, None, Result, Ok, Err, refl, sym, ap, subst, ◌∙◌, arith}
-use Rattle.std.specs.Cmp.{IsTotalOrder}
+-- Vehicles by device id, as rows.
+use Rattle.std.proofs.Common.{◌≡◌, ◌≢◌, ℕ, ◌≤◌, ◌<◌, ◌+◌, Bool, true, false, cond, nat_lt, ◌&&◌, T, inl, inr, List, [], ◌∷◌, length, map, Option, Some, None, Result, Ok, Err, IfSome, refl, sym, ap, subst, ◌∙◌, arith}
+use Rattle.std.specs.declared.cmp.Ordering.{Ordering}
+use Rattle.std.specs.declared.cmp.Ordering.TheVariants.{Less, Equal, Greater}
+use Rattle.std.specs.declared.alloc.Global.{Global}
+use Rattle.std.specs.declared.boxed.Box.{Box}
+use Rattle.std.specs.Ordering.{is_lt, eq_by_cmp}
+use Rattle.std.specs.Cmp.{IsTotalOrder, eq_by_cmp_equiv}
 use Rattle.std.specs.Cmp.Lexicographic.{nat_list_cmp_total}
-use Rattle.std.specs.List.{insert, remove}
+use Rattle.std.specs.List.{All, AllByRecursion}
+use Rattle.std.specs.List.Sorted.{IsStrictlySortedBy}
+use Rattle.std.specs.Option.{option_map}
+use Rattle.std.specs.Map.{lookup, keys_of}
+use Rattle.std.specs.BTreeMap as tree
+use Rattle.std.specs.BTreeMap.{is_at, btree_map_len, IsOrdered}
 use Rattle.std.specs.FinMap as finite
-use Rattle.std.specs.FinMap.{IsAntisymmetric, slice_cmp-IsAntisymmetric, nat_cmp-IsAntisymmetric, is_sorted, len-entries}
-use Rattle.std.proofs.lemmas.List.{map-append, take-map, map-set, length-map, length-set}
+use Rattle.std.specs.FinMap.{IsAntisymmetric, slice_cmp-IsAntisymmetric, nat_cmp-IsAntisymmetric, find, is_sorted, from_sorted, entries, entries-from_sorted, get-from_entries, get-from_sorted, get-insert, get-remove, len-entries, same_map}
+use Rattle.std.specs.FinMap.Entries.{below_all}
 use Rattle.std.proofs.lemmas.Bool.{false≢true}
-use Rattle.std.proofs.lemmas.List.Edits.{length-insert, length-remove}
-use Rattle.std.proofs.Math.ListN.{get_or-map}
-use Rattle.std.proofs.Math.Seq.{map-set_same}
+use Rattle.std.proofs.lemmas.List.{length-map}
+use Rattle.std.proofs.lemmas.List.Elements.{All-head, All-tail, All-weaker}
+use Rattle.std.proofs.lemmas.Map.Views.{All-found, tells_apart}
 use Rattle.mds_match.specs.declared.vehicle.Vehicle.{Vehicle}
 use Rattle.mds_match.specs.Row.{Row, row_of}
 use Rattle.mds_fleet.specs.declared.book.Taken.{Taken}
 use Rattle.mds_fleet.specs.declared.book.Taken.TheVariants.{New, Changed, Same}
 use Rattle.mds_fleet.specs.declared.book.BookFault.{BookFault}
-use Rattle.mds_fleet.specs.declared.book.BookFault.TheVariants.{Future, Stale, FleetFull, NoMemory}
-use Rattle.mds_fleet.specs.Books.{Report, device_cmp, is_same, outcome, outcome_at, reported, row_after, row_from, rows_after, Take}
-use Rattle.mds_fleet.proofs.Cases.{Case, IsNew}
+use Rattle.mds_fleet.specs.declared.book.BookFault.TheVariants.{Stale, FleetFull, NoMemory}
+use Rattle.mds_fleet.specs.Books.{Report, Rows, device_cmp, is_same, outcome, outcome_at, reported, row_after, row_from, rows_after, Take}
+use Rattle.mds_fleet.specs.Fleet.{Vehicles, rows_of, IsKept}
 use Rattle.mds_fleet.proofs.Determined.{past, take_of_case, less}
-use Rattle.mds_fleet.specs.Fleet.{entry, rows_of, IsKept, IsAt, IsGap}
-use Rattle.std.specs.declared.cmp.Ordering.TheVariants.{Less}
-use Rattle.std.specs.List.{AllByRecursion}
-use Rattle.std.specs.List.Sorted.{IsStrictlySortedBy}
-use Rattle.std.specs.FinMap.Entries.{below_all}
-use Rattle.mds_fleet.proofs.Placed.{and_left, and_right, lt_Less}
-use Rattle.mds_fleet.proofs.Kept as kept
 
 pub device_total : IsTotalOrder device_cmp
 device_total = nat_list_cmp_total
@@ -33,64 +36,136 @@ device_total = nat_list_cmp_total
 pub device_exact : IsAntisymmetric device_cmp
 device_exact = slice_cmp-IsAntisymmetric nat_cmp-IsAntisymmetric
 
-drop-map : {A B : Type 0} (f : A → B) (n : ℕ) (xs : List A) → drop n (map f xs) ≡ map f (drop n xs)
-drop-map f zero xs = refl
-drop-map f (suc n) [] = refl
-drop-map f (suc n) (x ∷ xs) = drop-map f n xs
-
-pub map-insert : {A B : Type 0} (f : A → B) (xs : List A) (i : ℕ) (x : A) → map f (insert xs i x) ≡ insert (map f xs) i (f x)
-map-insert f xs i x = map-append f (take i xs) (x ∷ drop i xs) ∙ (λ j. sym (take-map f i xs) j ++ f x ∷ sym (drop-map f i xs) j)
-
-pub map-remove : {A B : Type 0} (f : A → B) (xs : List A) (i : ℕ) → map f (remove xs i) ≡ remove (map f xs) i
-map-remove f xs i = map-append f (take i xs) (drop (suc i) xs) ∙ (λ j. sym (take-map f i xs) j ++ sym (drop-map f (suc i) xs) j)
-
 pub map_map : {A B C : Type 0} (f : A → B) (g : B → C) (xs : List A) → map g (map f xs) ≡ map (λ x. g (f x)) xs
 map_map f g [] = refl
 map_map f g (x ∷ xs) = ap (λ rest. g (f x) ∷ rest) (map_map f g xs)
 
-module _ (vs : List Vehicle) (sorted : is_sorted device_cmp (map entry vs) ≡ true) where
-  pub entries_rows : finite.entries (rows_of vs) ≡ map entry vs
-  entries_rows = kept.entries_kept device_total device_exact (map entry vs) sorted []
+pub is_true : (b : Bool) → T b → b ≡ true
+is_true true h = refl
+is_true false h = absurd h
 
-  pub get_at : (k : List ℕ) (at : ℕ) (d : Vehicle) → IsAt (map entry vs) k at → finite.get (rows_of vs) k ≡ Some (row_of (get_or vs at d))
-  get_at k at d place =
-      kept.get_at device_total device_exact (map entry vs) sorted k at (entry d) place ∙ ap (λ e. Some e.1) (get_or-map entry vs at d)
+and_left : (a b : Bool) → (a && b) ≡ true → a ≡ true
+and_left true b h = refl
+and_left false b h = h
 
-  pub get_gap : (k : List ℕ) (at : ℕ) → IsGap device_cmp (map entry vs) k at → finite.get (rows_of vs) k ≡ None
-  get_gap k at gap = kept.get_gap device_total device_exact (map entry vs) sorted k at gap
+and_right : (a b : Bool) → (a && b) ≡ true → b ≡ true
+and_right true b h = h
+and_right false b h = cc
 
-  pub removed_map : (k : List ℕ) (at : ℕ) → IsAt (map entry vs) k at → rows_of (remove vs at) ≡ finite.remove (rows_of vs) k
-  removed_map k at place =
-      ap (finite.from_sorted {R = device_cmp}) (map-remove entry vs at) ∙ kept.remove_map device_total device_exact (map entry vs) sorted k at place
+both : (a b : Bool) → T a → T b → T (a && b)
+both true b p q = q
+both false b p q = p
 
-  pub removed_kept : (limit : ℕ) (k : List ℕ) (at : ℕ) → length vs ≤ limit → IsAt (map entry vs) k at → IsKept limit (remove vs at)
-  removed_kept limit k at within place =
-      record {
-        ascending = ap (is_sorted device_cmp) (map-remove entry vs at) ∙ kept.sorted_remove device_total device_exact (map entry vs) sorted k at place;
-        within = omega (arith, length-remove vs at (rw (length-map vs entry) at place.within));
-      }
+lt_Less : (r : Ordering) → is_lt r ≡ true → r ≡ Less
+lt_Less Less h = refl
+lt_Less Equal h = cc
+lt_Less Greater h = cc
 
-  pub inserted_map : (v : Vehicle) (at : ℕ) → IsGap device_cmp (map entry vs) v.device at → rows_of (insert vs at v) ≡ finite.insert (rows_of vs) v.device (row_of v)
-  inserted_map v at gap =
-      ap (finite.from_sorted {R = device_cmp}) (map-insert entry vs at v) ∙ kept.insert_map device_total device_exact (map entry vs) sorted v.device (row_of v) at gap
+-- sorted entries have strictly rising keys
+pub rising_keys : (es : List (List ℕ × Row)) → is_sorted device_cmp es ≡ true → IsStrictlySortedBy device_cmp (map (λ e. e.0) es)
+unfolding IsStrictlySortedBy
+rising_keys [] sorted = tt
+rising_keys (e ∷ es) sorted = (above e.0 es (and_left _ _ sorted), rising_keys es (and_right _ _ sorted))
+  where
+    above : (k : List ℕ) (es : List (List ℕ × Row)) → below_all device_cmp k es ≡ true → AllByRecursion (λ y. device_cmp k y ≡ Less) (map (λ e. e.0) es)
+    above k [] h = tt
+    above k (e ∷ es) h = (lt_Less _ (and_left _ _ h), above k es (and_right _ _ h))
 
-  pub inserted_kept : (limit : ℕ) (v : Vehicle) (at : ℕ) → length vs < limit → IsGap device_cmp (map entry vs) v.device at → IsKept limit (insert vs at v)
-  inserted_kept limit v at room gap =
-      record {
-        ascending = ap (is_sorted device_cmp) (map-insert entry vs at v) ∙ kept.sorted_insert device_total device_exact (map entry vs) sorted v.device (row_of v) at gap;
-        within = omega (arith, length-insert vs at v (rw (length-map vs entry) at gap.within));
-      }
+abbrev pub entry : List ℕ × Box Vehicle Global → List ℕ × Row
+entry e = (e.0, row_of e.1.value)
 
-  pub set_map : (v : Vehicle) (at : ℕ) → IsAt (map entry vs) v.device at → rows_of (set vs at v) ≡ finite.insert (rows_of vs) v.device (row_of v)
-  set_map v at place =
-      ap (finite.from_sorted {R = device_cmp}) (map-set entry vs at v) ∙ kept.set_map device_total device_exact (map entry vs) sorted v.device (row_of v) at place
+-- and entries with strictly rising keys are sorted
+sorted_entries : (es : List (List ℕ × Box Vehicle Global)) → IsStrictlySortedBy device_cmp (keys_of es) → T (is_sorted device_cmp (map entry es))
+unfolding IsStrictlySortedBy
+sorted_entries [] rise = tt
+sorted_entries (e ∷ es) rise = both _ _ (below e.0 es rise.0) (sorted_entries es rise.1)
+  where
+    below : (k : List ℕ) (es : List (List ℕ × Box Vehicle Global)) → AllByRecursion (λ y. device_cmp k y ≡ Less) (keys_of es) → T (below_all device_cmp k (map entry es))
+    below k [] h = tt
+    below k (e ∷ es) h = both _ _ (subst (λ r. T (is_lt r)) (sym h.0) tt) (below k es h.1)
 
-  pub set_kept : (limit : ℕ) (v : Vehicle) (at : ℕ) → length vs ≤ limit → IsAt (map entry vs) v.device at → IsKept limit (set vs at v)
-  set_kept limit v at within place =
-      record {
-        ascending = ap (is_sorted device_cmp) (map-set entry vs at v) ∙ kept.sorted_set device_total device_exact (map entry vs) sorted v.device (row_of v) at place;
-        within = omega (arith, length-set vs at v);
-      }
+-- ---- what is held of a device
+
+abbrev pub held_row : Option (Box Vehicle Global) → Option Row
+held_row held = option_map (λ v. row_of v.value) held
+
+held_if : (b : Bool) (held other : Option (Box Vehicle Global)) → held_row (cond b held other) ≡ cond b (held_row held) (held_row other)
+held_if true held other = refl
+held_if false held other = refl
+
+find_row : (es : List (List ℕ × Box Vehicle Global)) (device : List ℕ) → find device_cmp device (map entry es) ≡ held_row (lookup (is_at (device_cmp device)) es)
+find_row [] device = refl
+find_row (e ∷ es) device =
+    ap (cond (is_at (device_cmp device) e.0) (Some (row_of e.1.value))) (find_row es device) ∙ sym (held_if (is_at (device_cmp device) e.0) (Some e.1) (lookup (is_at (device_cmp device)) es))
+
+pub get_row : (vehicles : Vehicles) (device : List ℕ) → finite.get (rows_of vehicles) device ≡ held_row (tree.get device_cmp vehicles device)
+get_row vehicles device = get-from_entries device_total (map entry vehicles.entries) device ∙ find_row vehicles.entries device
+
+-- new has this vehicle of the device, or none of it, and of each other device what old has
+abbrev pub Updates : Vehicles → List ℕ → Option (Box Vehicle Global) → Vehicles → Type 0
+Updates old device held new =
+    (other : List ℕ) → tree.get device_cmp new other ≡ cond (is_at (device_cmp device) other) held (tree.get device_cmp old other)
+
+module _ (old new : Vehicles) (device : List ℕ) where
+  get_updated : (held : Option (Box Vehicle Global)) → Updates old device held new → (other : List ℕ) → finite.get (rows_of new) other ≡ cond (eq_by_cmp device_cmp other device) (held_row held) (finite.get (rows_of old) other)
+  get_updated held updates other =
+      get_row new other ∙ ap held_row (updates other) ∙ held_if (is_at (device_cmp device) other) held _
+      ∙ (λ i. cond ((eq_by_cmp_equiv device_total).symm device other i) (held_row held) (sym (get_row old other) i))
+
+  pub inserted_row : (vehicle : Box Vehicle Global) → Updates old device (Some vehicle) new → rows_of new ≡ finite.insert (rows_of old) device (row_of vehicle.value)
+  inserted_row vehicle updates = same_map device_total device_exact _ _ (λ other. get_updated (Some vehicle) updates other ∙ sym (get-insert device_total (rows_of old) device _ other))
+
+  pub removed_row : Updates old device None new → rows_of new ≡ finite.remove (rows_of old) device
+  removed_row updates = same_map device_total device_exact _ _ (λ other. get_updated None updates other ∙ sym (get-remove device_total (rows_of old) device other))
+
+-- ---- all that is held
+
+-- the vehicle stands under its own id
+abbrev IsOwn : List ℕ × Box Vehicle Global → Type 0
+IsOwn e = e.1.value.device ≡ e.0
+
+same_devices : (es : List (List ℕ × Box Vehicle Global)) → All IsOwn es → map (λ e. e.1.value.device) es ≡ keys_of es
+same_devices [] own = refl
+same_devices (e ∷ es) own = λ i. All-head IsOwn e es own i ∷ same_devices es (All-tail IsOwn e es own) i
+
+module _ (vehicles : Vehicles) (ordered : IsOrdered device_cmp vehicles) where
+  pub entries_rows : entries (rows_of vehicles) ≡ map entry vehicles.entries
+  entries_rows =
+      ap entries (same_map device_total device_exact (rows_of vehicles) (from_sorted (map entry vehicles.entries)) (λ device.
+      get-from_entries device_total _ device ∙ sym (get-from_sorted device_cmp _ device (sorted_entries _ ordered))))
+      ∙ entries-from_sorted device_cmp _ (sorted_entries _ ordered)
+
+  pub rows_len : finite.len (rows_of vehicles) ≡ btree_map_len vehicles
+  rows_len = len-entries _ ∙ ap length entries_rows ∙ length-map vehicles.entries entry
+
+  -- the rows in their order are the vehicles' rows
+  pub values_rows : finite.values (rows_of vehicles) ≡ map (λ b. row_of b.value) (tree.values vehicles)
+  values_rows = ap (map (λ e. e.1)) entries_rows ∙ map_map entry (λ e. e.1) vehicles.entries ∙ sym (map_map (λ e. e.1) (λ b. row_of b.value) vehicles.entries)
+
+  pub keys_rows : finite.keys (rows_of vehicles) ≡ tree.keys vehicles
+  keys_rows = ap (map (λ e. e.0)) entries_rows ∙ map_map entry (λ e. e.0) vehicles.entries
+
+  -- where each stands under its own id, these are the keys
+  pub own_keys : ((device : List ℕ) → IfSome (tree.get device_cmp vehicles device) (λ v. v.value.device ≡ device)) → map (λ b. b.value.device) (tree.values vehicles) ≡ tree.keys vehicles
+  own_keys own =
+      map_map (λ e. e.1) (λ b. b.value.device) vehicles.entries
+      ∙ same_devices vehicles.entries (All-weaker (λ e. tree.get device_cmp vehicles e.0 ≡ Some e.1) IsOwn (λ e found. subst (λ (held : Option (Box Vehicle Global)). IfSome held (λ v. v.value.device ≡ e.0)) found (own e.0)) vehicles.entries (All-found device_total vehicles ordered))
+
+-- ---- what is left of the limit and of the ids
+
+own_kept : (old new : Vehicles) (device : List ℕ) (held : Option (Box Vehicle Global)) → Updates old device held new → IfSome held (λ v. v.value.device ≡ device) → ((other : List ℕ) → IfSome (tree.get device_cmp old other) (λ v. v.value.device ≡ other)) → (other : List ℕ) → IfSome (tree.get device_cmp new other) (λ v. v.value.device ≡ other)
+own_kept old new device held updates here own other =
+    subst (λ (found : Option (Box Vehicle Global)). IfSome found (λ v. v.value.device ≡ other)) (sym (updates other)) (by (is_at (device_cmp device) other) refl)
+  where
+    by : (b : Bool) → is_at (device_cmp device) other ≡ b → IfSome (cond b held (tree.get device_cmp old other)) (λ v. v.value.device ≡ other)
+    by true same = subst (λ k. IfSome held (λ v. v.value.device ≡ k)) (tells_apart device_exact device other same) here
+    by false apart = own other
+
+pub removed_kept : (limit : ℕ) (old new : Vehicles) (device : List ℕ) → Updates old device None new → btree_map_len new ≤ btree_map_len old → IsKept limit old → IsKept limit new
+removed_kept limit old new device updates fewer kept =
+    record { own = own_kept old new device None updates tt kept.own; within = omega (arith, fewer, kept.within) }
+
+-- ---- a report of a device that is held
 
 -- a report of a device that is held is no new one
 abbrev is_new_one : Result Taken BookFault → Bool
@@ -105,85 +180,81 @@ held_not_new : (row : Row) (held limit : ℕ) (report : Report) → is_new_one (
 held_not_new row held limit report =
     either (nat_lt report.timestamp row.timestamp) (Err Stale) _ refl (either (is_same (reported row) report) (Ok Same) (Ok Changed) refl refl)
 
-module _ (vs : List Vehicle) (sorted : is_sorted device_cmp (map entry vs) ≡ true) (report : Report) (at : ℕ) (place : IsAt (map entry vs) report.device at) (d v : Vehicle) where
-  pub held_device : (row_of (get_or vs at d)).device ≡ report.device
-  held_device = ap (λ (e : List ℕ × Row). e.0) (sym (get_or-map entry vs at d)) ∙ place.here (entry d)
-
-  placed : (row : Row) → row.device ≡ report.device → IsAt (map entry vs) row.device at
-  placed row same = record { within = place.within; here = λ e. place.here e ∙ sym same }
-
-  unchanged : row_of v ≡ row_of (get_or vs at d) → rows_of (set vs at v) ≡ rows_of vs
-  unchanged same = ap (finite.from_sorted {R = device_cmp}) (map-set_same entry vs at v d (ap (λ (row : Row). (row.device, row)) same))
-
-  module _ (r : Result Taken BookFault) (changed : r ≡ Ok Changed → row_of v ≡ row_after (Some (row_of (get_or vs at d))) report) (others : r ≢ Ok Changed → row_of v ≡ row_of (get_or vs at d)) where
-    new_device : v.device ≡ report.device
-    new_device = by r changed others
-      where
-        by : (r : Result Taken BookFault) → (r ≡ Ok Changed → row_of v ≡ row_after (Some (row_of (get_or vs at d))) report) → (r ≢ Ok Changed → row_of v ≡ row_of (get_or vs at d)) → v.device ≡ report.device
-        by (Ok Changed) changed others = ap (λ (row : Row). row.device) (changed refl)
-        by (Ok New) changed others = ap (λ (row : Row). row.device) (others (λ e. absurd (cc))) ∙ held_device
-        by (Ok Same) changed others = ap (λ (row : Row). row.device) (others (λ e. absurd (cc))) ∙ held_device
-        by (Err fault) changed others = ap (λ (row : Row). row.device) (others (λ e. absurd (cc))) ∙ held_device
-
-    -- an update of the row of a held device is a report's taking
-    pub take_held : (limit moment : ℕ) → report.timestamp ≤ moment → r ≡ outcome_at (Some (row_of (get_or vs at d))) (finite.len (rows_of vs)) limit report → Take (rows_of vs) limit report moment r (rows_of (set vs at v))
-    take_held limit moment is_past is =
-        (inl (is ∙ sym (past (rows_of vs) limit report moment is_past _ (get_at vs sorted _ at d place))), by r is changed others)
-      where
-        by : (r : Result Taken BookFault) → r ≡ outcome_at (Some (row_of (get_or vs at d))) (finite.len (rows_of vs)) limit report
-            → (r ≡ Ok Changed → row_of v ≡ row_after (Some (row_of (get_or vs at d))) report) → (r ≢ Ok Changed → row_of v ≡ row_of (get_or vs at d))
-            → rows_of (set vs at v) ≡ rows_after (rows_of vs) report r
-        by (Ok Changed) is changed others =
-            set_map vs sorted v at (placed (row_of v) new_device) ∙ ap (λ (row : Row). finite.insert (rows_of vs) row.device row) (changed refl)
-            ∙ ap (λ o. finite.insert (rows_of vs) report.device (row_after o report)) (sym (get_at vs sorted _ at d place))
-        by (Ok New) is changed others = absurd (false≢true (sym (ap is_new_one is ∙ held_not_new (row_of (get_or vs at d)) (finite.len (rows_of vs)) limit report)))
-        by (Ok Same) is changed others = unchanged (others (λ e. absurd (cc)))
-        by (Err fault) is changed others = unchanged (others (λ e. absurd (cc)))
-
-    pub held_kept : (limit : ℕ) → length vs ≤ limit → IsKept limit (set vs at v)
-    held_kept limit within = set_kept vs sorted limit v at within (placed (row_of v) new_device)
-
--- a vehicle of a further device is a report's taking
-module _ (vs : List Vehicle) (sorted : is_sorted device_cmp (map entry vs) ≡ true) (report : Report) (at : ℕ) (gap : IsGap device_cmp (map entry vs) report.device at) where
-  pub rows_len : finite.len (rows_of vs) ≡ length vs
-  rows_len = len-entries _ ∙ ap length (entries_rows vs sorted) ∙ length-map vs entry
-
-  moved : (row : Row) → row.device ≡ report.device → IsGap device_cmp (map entry vs) row.device at
-  moved row same = subst (λ k. IsGap device_cmp (map entry vs) k at) (sym same) gap
-
-  -- a further device comes to a new row, with room for it
-  pub is_new : (limit moment : ℕ) → report.timestamp ≤ moment → length vs < limit → outcome (rows_of vs) limit report moment ≡ Ok New
-  is_new limit moment is_past room =
-      past (rows_of vs) limit report moment is_past None (get_gap vs sorted _ at gap) ∙ ap (λ b. cond b (Ok New) (Err FleetFull)) (less _ _ (rw rows_len room))
-
-  pub take_new : (limit moment : ℕ) → report.timestamp ≤ moment → length vs < limit → (v : Vehicle) → row_of v ≡ row_from report report.timestamp → Take (rows_of vs) limit report moment (Ok New) (rows_of (insert vs at v))
-  take_new limit moment is_past room v is = take_of_case (rows_of vs) limit report moment (Ok New) (rows_of (insert vs at v)) (
-    record { past = is_past; absent = get_gap vs sorted _ at gap; room = rw rows_len room },
-    inserted_map vs sorted v at (moved (row_of v) (ap (λ (row : Row). row.device) is)) ∙ ap (λ (row : Row). finite.insert (rows_of vs) row.device row) is,
-  ) (λ e. absurd (cc))
-
-  pub new_kept : (limit : ℕ) → length vs < limit → (v : Vehicle) → row_of v ≡ row_from report report.timestamp → IsKept limit (insert vs at v)
-  new_kept limit room v is = inserted_kept vs sorted limit v at room (moved (row_of v) (ap (λ (row : Row). row.device) is))
-
-  pub take_full : (limit moment : ℕ) → report.timestamp ≤ moment → limit ≤ length vs → Take (rows_of vs) limit report moment (Err FleetFull) (rows_of vs)
-  take_full limit moment is_past full = take_of_case (rows_of vs) limit report moment (Err FleetFull) (rows_of vs) (is_past, get_gap vs sorted _ at gap, rw rows_len full, refl) (λ e. absurd (cc))
-
--- sorted entries have strictly rising keys
-pub rising_keys : (es : List (List ℕ × Row)) → is_sorted device_cmp es ≡ true → IsStrictlySortedBy device_cmp (map (λ e. e.0) es)
-unfolding IsStrictlySortedBy
-rising_keys [] sorted = tt
-rising_keys (e ∷ es) sorted = (above e.0 es (and_left _ _ sorted), rising_keys es (and_right _ _ sorted))
+-- to insert the row that is there changes nothing
+same_row : (rows : Rows) (device : List ℕ) (row : Row) → finite.get rows device ≡ Some row → finite.insert rows device row ≡ rows
+same_row rows device row held = same_map device_total device_exact _ _ (λ other. get-insert device_total rows device row other ∙ by other (eq_by_cmp device_cmp other device) refl)
   where
-    above : (k : List ℕ) (es : List (List ℕ × Row)) → below_all device_cmp k es ≡ true → AllByRecursion (λ y. device_cmp k y ≡ Less) (map (λ e. e.0) es)
-    above k [] h = tt
-    above k (e ∷ es) h = (lt_Less _ (and_left _ _ h), above k es (and_right _ _ h))
+    by : (other : List ℕ) (b : Bool) → eq_by_cmp device_cmp other device ≡ b → cond b (Some row) (finite.get rows other) ≡ finite.get rows other
+    by other true same = sym held ∙ ap (finite.get rows) (sym (tells_apart device_exact other device same))
+    by other false apart = refl
 
-pub rising_devices : (vs : List Vehicle) → is_sorted device_cmp (map entry vs) ≡ true → IsStrictlySortedBy device_cmp (map (λ v. v.device) vs)
-rising_devices vs sorted = subst (IsStrictlySortedBy device_cmp) (map_map entry (λ e. e.0) vs) (rising_keys (map entry vs) sorted)
+module _ (old new : Vehicles) (report : Report) (before after : Box Vehicle Global) (held : tree.get device_cmp old report.device ≡ Some before) (updates : Updates old report.device (Some after) new) where
+  row_held : finite.get (rows_of old) report.device ≡ Some (row_of before.value)
+  row_held = get_row old report.device ∙ ap held_row held
 
--- the rows in their order are the vehicles' rows
-pub values_rows : (vs : List Vehicle) → is_sorted device_cmp (map entry vs) ≡ true → finite.values (rows_of vs) ≡ map row_of vs
-values_rows vs sorted = ap (map (λ e. e.1)) (entries_rows vs sorted) ∙ map_map entry (λ e. e.1) vs
+  abbrev pub ByOutcome : Result Taken BookFault → Type 0
+  ByOutcome r =
+      record {
+        changed : r ≡ Ok Changed → row_of after.value ≡ row_after (Some (row_of before.value)) report;
+        others : r ≢ Ok Changed → row_of after.value ≡ row_of before.value;
+      }
 
-pub keys_rows : (vs : List Vehicle) → is_sorted device_cmp (map entry vs) ≡ true → finite.keys (rows_of vs) ≡ map (λ v. v.device) vs
-keys_rows vs sorted = ap (map (λ e. e.0)) (entries_rows vs sorted) ∙ map_map entry (λ e. e.0) vs
+  unchanged : row_of after.value ≡ row_of before.value → rows_of new ≡ rows_of old
+  unchanged same = inserted_row old new report.device after updates ∙ ap (finite.insert (rows_of old) report.device) same ∙ same_row (rows_of old) report.device _ row_held
+
+  -- an update of the vehicle of a held device is a report's taking
+  pub take_held : (limit moment : ℕ) (r : Result Taken BookFault) → report.timestamp ≤ moment → ByOutcome r → r ≡ outcome_at (Some (row_of before.value)) (finite.len (rows_of old)) limit report → Take (rows_of old) limit report moment r (rows_of new)
+  take_held limit moment r is_past rows is = (inl (is ∙ sym (past (rows_of old) limit report moment is_past _ row_held)), by r rows is)
+    where
+      by : (r : Result Taken BookFault) → ByOutcome r → r ≡ outcome_at (Some (row_of before.value)) (finite.len (rows_of old)) limit report → rows_of new ≡ rows_after (rows_of old) report r
+      by (Ok Changed) rows is =
+          inserted_row old new report.device after updates ∙ ap (finite.insert (rows_of old) report.device) (rows.changed refl)
+          ∙ ap (λ o. finite.insert (rows_of old) report.device (row_after o report)) (sym row_held)
+      by (Ok New) rows is = absurd (false≢true (sym (ap is_new_one is ∙ held_not_new (row_of before.value) (finite.len (rows_of old)) limit report)))
+      by (Ok Same) rows is = unchanged (rows.others (λ e. absurd (cc)))
+      by (Err fault) rows is = unchanged (rows.others (λ e. absurd (cc)))
+
+  pub held_kept : (limit : ℕ) (r : Result Taken BookFault) → ByOutcome r → btree_map_len new ≡ btree_map_len old → IsKept limit old → IsKept limit new
+  held_kept limit r rows same kept = record {
+    own = own_kept old new report.device (Some after) updates (by r rows) kept.own;
+    within = omega (arith, same, kept.within);
+  }
+    where
+      own_before : before.value.device ≡ report.device
+      own_before = subst (λ (found : Option (Box Vehicle Global)). IfSome found (λ v. v.value.device ≡ report.device)) held (kept.own report.device)
+
+      by : (r : Result Taken BookFault) → ByOutcome r → after.value.device ≡ report.device
+      by (Ok Changed) rows = ap (λ (row : Row). row.device) (rows.changed refl)
+      by (Ok New) rows = ap (λ (row : Row). row.device) (rows.others (λ e. absurd (cc))) ∙ own_before
+      by (Ok Same) rows = ap (λ (row : Row). row.device) (rows.others (λ e. absurd (cc))) ∙ own_before
+      by (Err fault) rows = ap (λ (row : Row). row.device) (rows.others (λ e. absurd (cc))) ∙ own_before
+
+-- ---- a report of a further device
+
+module _ (old : Vehicles) (ordered : IsOrdered device_cmp old) (report : Report) (absent : tree.get device_cmp old report.device ≡ None) (limit moment : ℕ) (is_past : report.timestamp ≤ moment) where
+  row_absent : finite.get (rows_of old) report.device ≡ None
+  row_absent = get_row old report.device ∙ ap held_row absent
+
+  pub take_full : limit ≤ btree_map_len old → Take (rows_of old) limit report moment (Err FleetFull) (rows_of old)
+  take_full full = take_of_case (rows_of old) limit report moment (Err FleetFull) (rows_of old) (is_past, row_absent, rw (rows_len old ordered) full, refl) (λ e. absurd (cc))
+
+  module _ (room : btree_map_len old < limit) where
+    -- a further device comes to a new row, with room for it
+    is_new : outcome (rows_of old) limit report moment ≡ Ok New
+    is_new = past (rows_of old) limit report moment is_past None row_absent ∙ ap (λ b. cond b (Ok New) (Err FleetFull)) (less _ _ (rw (rows_len old ordered) room))
+
+    pub take_refused : (r : Result Taken BookFault) → r ≡ Err NoMemory → Take (rows_of old) limit report moment r (rows_of old)
+    take_refused r none = (inr (none, is_new), ap (rows_after (rows_of old) report) (sym none))
+
+    module _ (new : Vehicles) (vehicle : Box Vehicle Global) (is : row_of vehicle.value ≡ row_from report report.timestamp) (updates : Updates old report.device (Some vehicle) new) where
+      pub take_new : Take (rows_of old) limit report moment (Ok New) (rows_of new)
+      take_new = take_of_case (rows_of old) limit report moment (Ok New) (rows_of new) (
+        record { past = is_past; absent = row_absent; room = rw (rows_len old ordered) room },
+        inserted_row old new report.device vehicle updates ∙ ap (finite.insert (rows_of old) report.device) is,
+      ) (λ e. absurd (cc))
+
+      pub new_kept : btree_map_len new ≡ btree_map_len old + 1 → IsKept limit old → IsKept limit new
+      new_kept more kept = record {
+        own = own_kept old new report.device (Some vehicle) updates (ap (λ (row : Row). row.device) is) kept.own;
+        within = omega (arith, more, room);
+      }

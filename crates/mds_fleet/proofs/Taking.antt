@@ -10,7 +10,7 @@ use Rattle.mds_fleet.specs.declared.book.Taken.{Taken}
 use Rattle.mds_fleet.specs.declared.book.Taken.TheVariants.{New, Changed, Same}
 use Rattle.mds_fleet.specs.declared.book.BookFault.{BookFault}
 use Rattle.mds_fleet.specs.declared.book.BookFault.TheVariants.{Future, Stale, FleetFull, NoMemory}
-use Rattle.mds_fleet.specs.Books.{Report, Rows, device_cmp, outcome, rows_after}
+use Rattle.mds_fleet.specs.Books.{Report, Rows, device_cmp}
 use Rattle.mds_fleet.specs.Laws.{KeepsLimit, LeavesOthers}
 use Rattle.mds_fleet.proofs.Cases.{Case}
 use Rattle.mds_fleet.proofs.Determined.{can_be}

@@ -1,10 +1,11 @@
 -- What a book holds: an operator's rows, and how many there may be.
-use Rattle.std.specs.Prelude.{◌≡◌, ℕ, ℤ, ◌<◌, ◌≤◌, List, map, length, slice_index_or, IsTrue, refl}
-use Rattle.std.specs.declared.cmp.Ordering.{Ordering}
-use Rattle.std.specs.declared.cmp.Ordering.TheVariants.{Less, Greater}
+use Rattle.std.specs.Prelude.{◌≡◌, ℕ, ℤ, ◌≤◌, List, map, IfSome, refl}
 use Rattle.std.specs.Coded.{Coded, code_by, coded×, coded_ℕ, coded_ℤ, coded_list}
+use Rattle.std.specs.declared.boxed.Box.{Box}
+use Rattle.std.specs.BTreeMap.{BTreeMap, get, btree_map_len}
 use Rattle.std.specs.FinMap as finite
-use Rattle.std.specs.FinMap.{from_sorted, is_sorted}
+use Rattle.std.specs.FinMap.{from_entries}
+use Rattle.std.specs.declared.alloc.Global.{Global}
 use Rattle.mds_match.specs.Row.{Row, row_of}
 use Rattle.mds_match.specs.declared.vehicle.Vehicle.{Vehicle}
 use Rattle.mds_fleet.specs.Books.{Rows, device_cmp}
@@ -14,29 +15,18 @@ pub record Fleet : Type 0 where
   pub rows : Rows
   pub limit : ℕ
 
--- a vehicle's row under its device id
-abbrev pub entry : Vehicle → List ℕ × Row
-entry v = (v.device, row_of v)
+-- vehicles by device id
+abbrev pub Vehicles : Type 0
+Vehicles = BTreeMap (List ℕ) (Box Vehicle Global)
 
--- vehicles that ascend by device id, as rows
-abbrev pub rows_of : List Vehicle → Rows
-rows_of vehicles = from_sorted (map entry vehicles)
+-- vehicles by device id, as rows
+abbrev pub rows_of : Vehicles → Rows
+rows_of vehicles = from_entries (map (λ e. (e.0, row_of e.1.value)) vehicles.entries)
 
--- each device once, ascending by device id, and at most as many as the limit
-pub record IsKept (limit : ℕ) (vehicles : List Vehicle) : Type 0 where
-  pub ascending : IsTrue (is_sorted device_cmp (map entry vehicles))
-  pub within : length vehicles ≤ limit
-
--- the entry at this place has the key
-pub record IsAt {K X : Type 0} (entries : List (K × X)) (key : K) (at : ℕ) : Type 0 where
-  pub within : at < length entries
-  pub here : (d : K × X) → (slice_index_or entries at d).0 ≡ key
-
--- the keys before this place are less, and those from it on are greater
-pub record IsGap {K X : Type 0} (cmp : K → K → Ordering) (entries : List (K × X)) (key : K) (at : ℕ) : Type 0 where
-  pub within : at ≤ length entries
-  pub before : (j : ℕ) (d : K × X) → j < at → cmp (slice_index_or entries j d).0 key ≡ Less
-  pub after : (j : ℕ) (d : K × X) → at ≤ j → j < length entries → cmp (slice_index_or entries j d).0 key ≡ Greater
+-- each under its own device id, and at most as many as the limit
+pub record IsKept (limit : ℕ) (vehicles : Vehicles) : Type 0 where
+  pub own : (device : List ℕ) → IfSome (get device_cmp vehicles device) (λ v. v.value.device ≡ device)
+  pub within : btree_map_len vehicles ≤ limit
 
 -- rows and a fleet are stored as the tuples of their fields
 abbrev pub coded_word : Coded (List ℕ)

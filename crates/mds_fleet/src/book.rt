@@ -1,17 +1,18 @@
 ghost use Rattle.std.specs.Prelude.{◌≡◌, ◌≢◌, ℕ, ◌≤◌, ◌↔◌, Ok, Some, option_map, IsTrue, IfOk, OnOk, OnErr, map};
 ghost use Rattle.std.specs.Result.{result_ok};
 ghost use Rattle.std.specs.FinMap as finite;
+ghost use Rattle.std.specs.BTreeMap.{values, IsOrdered};
 ghost use Rattle.std.specs.List.Sorted.{IsStrictlySortedBy};
 ghost use Rattle.mds_match.specs.Row.{row_of};
 ghost use Rattle.mds_match.specs.declared.vehicle.TheConstants.{MOST_VEHICLES};
 ghost use Rattle.mds_fleet.specs.Books.{device_cmp, Take, outcome_at, report_document, reported, row_after, row_from, run_start};
 ghost use Rattle.mds_fleet.specs.Fleet.{rows_of, IsKept};
 
-use crate::place::place_of;
 use crate::report::Report;
 use mds_match::Vehicle;
 use mds_text::{Id, Moment, Token};
 use std::alloc::{AllocError, AllocFailed, Global};
+use std::collections::BTreeMap;
 use std::marker::Model;
 
 /// What an accepted report did to a book.
@@ -46,9 +47,10 @@ pub struct Absent;
 /// from device ids to rows, and the limit.
 #[derive(Drop)]
 pub struct Book {
-    // ascending by device id, each once
-    vehicles: Vec<Vehicle>,
+    // each under its own device id, and boxed, since a node of the map has room for more than it holds
+    vehicles: BTreeMap<Id, Box<Vehicle>>,
     limit: u32,
+    alloc: Global,
 }
 
 impl Model for Book {
@@ -58,18 +60,18 @@ impl Model for Book {
 
     ghost coded = { coded_fleet };
 
-    ghost view = { λ b. record { rows = rows_of b.vehicles.items; limit = b.limit } };
+    ghost view = { λ b. record { rows = rows_of b.vehicles; limit = b.limit } };
 
-    ghost invariant = { λ b. IsKept b.limit b.vehicles.items };
+    ghost invariant = { λ b. IsKept b.limit b.vehicles };
 }
 
-impl From<AllocFailed<Vehicle>> for BookFault {
+impl<T: Drop> From<AllocFailed<T>> for BookFault {
     ghost use Rattle.std.specs.Prelude.{◌≡◌};
     ghost use Rattle.mds_fleet.specs.declared.book.BookFault.TheVariants.{NoMemory};
 
     ghost from_gives = { λ _ e. e ≡ NoMemory };
 
-    fn from(_refused: AllocFailed<Vehicle>) -> BookFault {
+    fn from(_refused: AllocFailed<T>) -> BookFault {
         BookFault::NoMemory
     }
 }
@@ -83,8 +85,9 @@ impl Book {
         ensures limit { result.limit ≡ limit }
     {
         Book {
-            vehicles: Vec::new(alloc),
+            vehicles: BTreeMap::new(alloc),
             limit,
+            alloc,
         }
     }
 
@@ -100,7 +103,7 @@ impl Book {
         ensures taken { Take self.old.rows self.old.limit (report_document report) moment result self.new.rows }
         ensures limit { self.new.limit ≡ self.old.limit }
     {
-        take(&mut self.vehicles, self.limit, report, moment)
+        take(self.alloc, &mut self.vehicles, self.limit, report, moment)
     }
 
     /// Removes a device, and gives what was held of it. Takes no memory.
@@ -114,9 +117,9 @@ impl Book {
         ensures absent { OnErr result (self.new.rows ≡ self.old.rows) }
         ensures limit { self.new.limit ≡ self.old.limit }
     {
-        match place_of(&self.vehicles, device) {
-            Ok(at) => Ok(self.vehicles.remove(at)),
-            Err(_) => Err(Absent),
+        match self.vehicles.remove(&device) {
+            Some(vehicle) => Ok(Box::into_inner(vehicle)),
+            None => Err(Absent),
         }
     }
 
@@ -124,9 +127,9 @@ impl Book {
     pub fn get(&self, device: Id) -> Option<&Vehicle>
         ensures { option_map (λ v. row_of v.now) result ≡ finite.get self.now.rows device }
     {
-        match place_of(&self.vehicles, device) {
-            Ok(at) => Some(&self.vehicles[at]),
-            Err(_) => None,
+        match self.vehicles.get(&device) {
+            Some(vehicle) => Some(&**vehicle),
+            None => None,
         }
     }
 
@@ -148,45 +151,47 @@ impl Book {
         ensures ascending { IfOk result (λ rows. IsStrictlySortedBy device_cmp (map (λ v. v.now.device) rows.items)) }
         ensures devices { IfOk result (λ rows. map (λ v. v.now.device) rows.items ≡ finite.keys self.now.rows) }
     {
-        lent(*self.vehicles.allocator(), &self.vehicles)
+        lent(self.alloc, &self.vehicles)
     }
 }
 
-// Each element, lent.
-fn lent(alloc: Global, vehicles: &[Vehicle]) -> Result<Vec<&Vehicle>, AllocError>
-    ensures { IfOk result (λ rows. map (λ v. v.now) rows.items ≡ vehicles.now) }
+// Each vehicle, lent, ascending by device id.
+fn lent(alloc: Global, vehicles: &BTreeMap<Id, Box<Vehicle>>) -> Result<Vec<&Vehicle>, AllocError>
+    ensures whole { IfOk result (λ rows. map (λ v. v.now) rows.items ≡ map (λ b. b.value) (values vehicles.now)) }
+    ensures ordered { IsOrdered device_cmp vehicles.now }
 {
-    vehicles.iter().collect(alloc)
+    vehicles.values().map(|vehicle| &**vehicle).collect(alloc)
 }
 
-// Takes a report into vehicles that ascend by device id.
+// Takes a report into vehicles that stand each under its own device id.
 fn take(
-    vehicles: &mut Vec<Vehicle>,
+    alloc: Global,
+    vehicles: &mut BTreeMap<Id, Box<Vehicle>>,
     limit: u32,
     report: Report,
     moment: Moment,
 ) -> Result<Taken, BookFault>
-    requires { IsKept limit vehicles.old.items }
-    ensures taken { Take (rows_of vehicles.old.items) limit (report_document report) moment result (rows_of vehicles.new.items) }
-    ensures kept { IsKept limit vehicles.new.items }
+    requires { IsKept limit vehicles.old }
+    ensures taken { Take (rows_of vehicles.old) limit (report_document report) moment result (rows_of vehicles.new) }
+    ensures kept { IsKept limit vehicles.new }
 {
     if report.timestamp > moment {
         return Err(BookFault::Future);
     }
-    match place_of(vehicles, report.device) {
-        Ok(at) => update(&mut vehicles[at], report),
-        Err(_) if vehicles.len() >= limit as usize => Err(BookFault::FleetFull),
-        Err(at) => {
-            let since = report.timestamp;
-            vehicles.insert(at, vehicle_of(report, since))?;
-            Ok(Taken::New)
-        }
+    if let Some(vehicle) = vehicles.get_mut(&report.device) {
+        return update(vehicle, report);
     }
+    if vehicles.len() >= limit as usize {
+        return Err(BookFault::FleetFull);
+    }
+    let (device, since) = (report.device, report.timestamp);
+    let vehicle = Box::new(alloc, vehicle_of(report, since))?;
+    vehicles.insert(device, vehicle)?;
+    Ok(Taken::New)
 }
 
 // Takes a report of a device that is held.
 fn update(vehicle: &mut Vehicle, report: Report) -> Result<Taken, BookFault>
-    requires { vehicle.old.device ≡ report.device }
     ensures outcome { (held limit : ℕ) → result ≡ outcome_at (Some (row_of vehicle.old)) held limit (report_document report) }
     ensures changed { result ≡ Ok Taken.Changed → row_of vehicle.new ≡ row_after (Some (row_of vehicle.old)) (report_document report) }
     ensures others { result ≢ Ok Taken.Changed → row_of vehicle.new ≡ row_of vehicle.old }

@@ -4,7 +4,6 @@
 
 mod book;
 pub mod laws;
-mod place;
 mod reading;
 mod report;
 

@@ -1,6 +1,7 @@
 use crate::reading::report_of;
 use mds_geometry::Position;
-use mds_text::{Id, Moment, TextFault, Token, read_tree};
+use mds_reading::read_tree;
+use mds_text::{Id, Moment, TextFault, Token};
 use std::alloc::Global;
 
 /// What an operator reports of one of its vehicles. Lists are kept as reported, in order and with

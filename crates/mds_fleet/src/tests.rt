@@ -1,7 +1,9 @@
-//! Reports as they are sent, and books of two vehicles.
+//! Reports as they are sent, books of two vehicles, and a book of many against a plain list.
 
 use crate::{Book, BookFault, Report, Taken};
-use mds_text::{Field, Id, Moment, TextFault};
+use mds_geometry::Position;
+use mds_match::Vehicle;
+use mds_text::{Field, Id, Moment, TextFault, Token, Units7};
 use std::alloc::Global;
 use std::process::Abort;
 use std::test::Fail;
@@ -103,6 +105,170 @@ fn stale_future_and_removed(rt: HostRuntime) -> Result<(), Fail> {
     assert_eq!(rt; take(alloc, &mut book, V1, 1999, 2500)?, Ok(Taken::New));
     assert_eq!(rt; since(&book, V1)?, 1999);
     Ok(())
+}
+
+/// The device of this number, which is below a million millions.
+fn device(number: u64) -> Result<Id, Fail> {
+    let mut text = *b"00000000-0000-4000-8000-000000000000";
+    let mut rest = number;
+    for digit in text[24..].iter_mut().rev() {
+        *digit = b'0' + (rest % 10) as u8;
+        rest /= 10;
+    }
+    id(std::str::from_utf8(&text)?)
+}
+
+fn token(text: &str) -> Result<Token, Fail> {
+    Ok(Token::read(text).ok_or("no token")?)
+}
+
+fn units(value: i64) -> Result<Units7, Fail> {
+    Ok(Units7::new(value).ok_or("no coordinate")?)
+}
+
+/// A report without lists, which takes no memory.
+fn bare_report(alloc: Global, number: u64, state: &str, timestamp: i64) -> Result<Report, Fail> {
+    Ok(Report {
+        device: device(number)?,
+        vehicle_type: token("scooter")?,
+        propulsion: Vec::new(alloc),
+        state: token(state)?,
+        events: Vec::new(alloc),
+        timestamp: moment(timestamp)?,
+        position: Position {
+            lng: units(5)?,
+            lat: units(5)?,
+        },
+    })
+}
+
+/// With one growth refused, wherever it is, one report finds no memory and changes nothing, and the
+/// same report is then taken.
+#[test]
+fn takes_or_wants_memory(rt: HostRuntime) -> Result<(), Fail> {
+    let alloc = rt.alloc();
+    let mut book = Book::new(alloc, 40);
+    for number in 0..40 {
+        let report = bare_report(alloc, number, "available", 2000)?;
+        let mut taken = book.report(report, moment(2000)?);
+        if taken == Err(BookFault::NoMemory) {
+            assert!(rt; book.get(device(number)?).is_none());
+            let again = bare_report(alloc, number, "available", 2000)?;
+            taken = book.report(again, moment(2000)?);
+        }
+        assert_eq!(rt; taken, Ok(Taken::New));
+    }
+    assert_eq!(rt; book.len(), 40);
+    let change = bare_report(alloc, 0, "on_trip", 2001)?;
+    assert_eq!(rt; book.report(change, moment(2001)?), Ok(Taken::Changed));
+    let further = bare_report(alloc, 40, "available", 2001)?;
+    assert_eq!(rt;
+        book.report(further, moment(2001)?),
+        Err(BookFault::FleetFull)
+    );
+    Ok(())
+}
+
+/// What a plain list knows of a device.
+#[derive(Drop)]
+struct Listed {
+    number: u64,
+    on_trip: bool,
+    timestamp: i64,
+    since: i64,
+}
+
+const MOST: usize = 2_000;
+
+/// The outcome of a report by the rules for books, over a plain list.
+fn taken_by_list(list: &mut Vec<Listed>, report: Listed) -> Result<Result<Taken, BookFault>, Fail> {
+    let Some(held) = list.iter_mut().find(|held| held.number == report.number) else {
+        if list.len() >= MOST {
+            return Ok(Err(BookFault::FleetFull));
+        }
+        list.push(report)?;
+        return Ok(Ok(Taken::New));
+    };
+    if held.timestamp > report.timestamp {
+        return Ok(Err(BookFault::Stale));
+    }
+    if held.timestamp == report.timestamp && held.on_trip == report.on_trip {
+        return Ok(Ok(Taken::Same));
+    }
+    if held.on_trip != report.on_trip {
+        held.since = report.timestamp;
+    }
+    held.on_trip = report.on_trip;
+    held.timestamp = report.timestamp;
+    Ok(Ok(Taken::Changed))
+}
+
+/// The next of a row of numbers without a pattern.
+fn next(random: u64) -> u64 {
+    random
+        .wrapping_mul(6_364_136_223_846_793_005)
+        .wrapping_add(1_442_695_040_888_963_407)
+}
+
+/// The removal of a device from a book comes to what its removal from a plain list does.
+fn remove_alike(
+    rt: &impl Abort,
+    book: &mut Book,
+    list: &mut Vec<Listed>,
+    number: u64,
+) -> Result<(), Fail> {
+    let removed = book.remove(device(number)?);
+    match list.iter().position(|held| held.number == number) {
+        Some(place) => {
+            let held = list.swap_remove(place);
+            let vehicle = removed.or(Err("not held"))?;
+            assert_eq!(rt; vehicle.timestamp.get(), held.timestamp);
+        }
+        None => assert!(rt; removed.is_err()),
+    }
+    Ok(())
+}
+
+/// These vehicles are those of a plain list.
+fn assert_listed(rt: &impl Abort, rows: &[&Vehicle], list: &[Listed]) -> Result<(), Fail> {
+    assert_eq!(rt; rows.len(), list.len());
+    for (vehicle, held) in rows.iter().zip(list) {
+        assert!(rt; vehicle.device == device(held.number)?);
+        assert_eq!(rt; vehicle.since.get(), held.since);
+    }
+    Ok(())
+}
+
+/// Reports and removals of random devices do to a book what they do to a plain list.
+#[test]
+fn holds_what_a_plain_list_holds(rt: HostRuntime) -> Result<(), Fail> {
+    let alloc = rt.alloc();
+    let mut book = Book::new(alloc, MOST as u32);
+    let mut list: Vec<Listed> = Vec::new(alloc);
+    let mut random = 1;
+    for time in 1..12_000 {
+        random = next(random);
+        let number = (random >> 33) % 3_000;
+        if random >> 62 == 0 {
+            remove_alike(&rt, &mut book, &mut list, number)?;
+            continue;
+        }
+        let on_trip = (random >> 20) % 2 == 0;
+        let timestamp = if (random >> 21) % 8 == 0 { 1 } else { time };
+        let state = if on_trip { "on_trip" } else { "available" };
+        let report = bare_report(alloc, number, state, timestamp)?;
+        let since = timestamp;
+        let entry = Listed {
+            number,
+            on_trip,
+            timestamp,
+            since,
+        };
+        let expected = taken_by_list(&mut list, entry)?;
+        assert_eq!(rt; book.report(report, moment(time)?), expected);
+    }
+    list.sort_by_key(|held| held.number)?;
+    assert_listed(&rt, &book.rows()?, &list)
 }
 
 /// Why a text is no report, if it is none.

@@ -17,5 +17,5 @@ geography_document g =
       id = g.id;
       name = string_bytes g.name;
       description = option_map (λ s. string_bytes s) g.description;
-      polygons = g.polygons.items;
+      polygons = g.area;
     }

@@ -5,10 +5,11 @@ ghost use Rattle.mds_geography.specs.Fault.{geo_cause};
 use crate::fault::GeoFault;
 use crate::served::collection_tree;
 use crate::walk::{geojson_of, kind_of};
-use mds_geometry::{Polygon, Position, area_holds};
+use mds_geometry::{Area, Polygon, Position};
+use mds_reading::read_tree;
 use mds_text::{
-    Field, Id, Moment, Tree, add_member, document_of, id_tree, int_tree, object_tree, read_tree,
-    required_id, required_member, required_text, text_at, text_tree,
+    Field, Id, Moment, Tree, add_member, document_of, id_tree, int_tree, object_tree, required_id,
+    required_member, required_text, text_at, text_tree,
 };
 use std::alloc::{AllocError, Global};
 
@@ -18,7 +19,7 @@ pub struct Geography {
     id: Id,
     name: String,
     description: Option<String>,
-    polygons: Vec<Polygon>,
+    area: Area,
 }
 
 impl Geography {
@@ -51,11 +52,12 @@ impl Geography {
         let geojson = required_member(document, Field::GeographyJson)?;
         let kind = kind_of(geojson, Field::GeographyJson)?;
         let polygons = geojson_of(alloc, kind, geojson)?;
+        let area = Area::new(alloc, polygons)?;
         Ok(Geography {
             id,
             name: String::from_str(alloc, name)?,
             description: copied(alloc, description)?,
-            polygons,
+            area,
         })
     }
 
@@ -70,14 +72,21 @@ impl Geography {
     pub fn polygons(&self) -> &[Polygon]
         ensures { result.now ≡ (geography_document self.now).polygons }
     {
-        self.polygons.as_slice()
+        self.area.polygons()
+    }
+
+    /// The polygons as an area, which answers questions of places by itself.
+    pub fn area(&self) -> &Area
+        ensures { result.now ≡ (geography_document self.now).polygons }
+    {
+        &self.area
     }
 
     /// Whether one of the geography's polygons holds the position.
     pub fn holds(&self, position: Position) -> bool
         ensures { result ≡ area_holds (geography_document self.now).polygons position }
     {
-        area_holds(&self.polygons, position)
+        self.area.holds(position)
     }
 
     /// The geography as it is served, with `published_date` where a moment is given.
@@ -94,7 +103,7 @@ impl Geography {
             add_member(&mut members, "description", value)?;
         }
         add_member(&mut members, "geography_id", id_tree(alloc, &self.id)?)?;
-        let area = collection_tree(alloc, &self.polygons)?;
+        let area = collection_tree(alloc, self.area.polygons())?;
         add_member(&mut members, "geography_json", area)?;
         add_member(&mut members, "name", text_tree(alloc, self.name.as_str())?)?;
         if let Some(moment) = moment {

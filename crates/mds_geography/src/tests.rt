@@ -246,6 +246,8 @@ fn expect_area(
     for ((lng, lat), want) in positions {
         let held = geography.holds(tenths(*lng, *lat)?);
         assert_eq!(rt; held, *want, "at ({lng}, {lat})");
+        let held = geography.area().holds(tenths(*lng, *lat)?);
+        assert_eq!(rt; held, *want, "the area at ({lng}, {lat})");
     }
     Ok(())
 }

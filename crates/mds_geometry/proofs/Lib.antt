@@ -1,2 +1,9 @@
+pub mod Banded
 pub mod Edges
+pub mod Indexed
+pub mod Outside
+pub mod Reaching
 pub mod Seen
+pub mod Signs
+pub mod Wide
+pub mod Idle

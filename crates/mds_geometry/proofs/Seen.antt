@@ -19,17 +19,17 @@ not-not true = refl
 abbrev pub turned : Bool → Bool → Bool
 turned odd rest = cond odd (not rest) rest
 
-turned_more : (odd crossed : Bool) (n : ℕ) → turned odd (is_odd (cond crossed 1 0 + n)) ≡ turned (cond crossed (not odd) odd) (is_odd n)
+pub turned_more : (odd crossed : Bool) (n : ℕ) → turned odd (is_odd (cond crossed 1 0 + n)) ≡ turned (cond crossed (not odd) odd) (is_odd n)
 turned_more false false n = rw zero-add refl
 turned_more true false n = rw zero-add refl
 turned_more false true n = rw is_odd-more refl
 turned_more true true n = rw is_odd-more (not-not (is_odd n))
 
-turned_false : (odd : Bool) → odd ≡ turned odd false
+pub turned_false : (odd : Bool) → odd ≡ turned odd false
 turned_false false = refl
 turned_false true = refl
 
-zip_empty : (starts ends : List Position) → (length starts ≡ 0) ⊎ (length ends ≡ 0) → zip starts ends ≡ []
+pub zip_empty : (starts ends : List Position) → (length starts ≡ 0) ⊎ (length ends ≡ 0) → zip starts ends ≡ []
 zip_empty [] ends done = refl
 zip_empty (x ∷ xs) [] done = refl
 zip_empty (x ∷ xs) (y ∷ ys) done = absurd (elim done [ inl e ↦ omega arith | inr e ↦ omega arith ])
@@ -79,10 +79,10 @@ pub record IsSeenTo (rings : List (List Position)) (at : Position) (i : ℕ) (od
   pub touched : touches (edges (drop i rings)) at ≡ touches (edges rings) at
   pub parity : turned odd (is_odd (crossings (edges (drop i rings)) at)) ≡ is_odd (crossings (edges rings) at)
 
-is_odd-add : (m n : ℕ) → is_odd (m + n) ≡ turned (is_odd m) (is_odd n)
+pub is_odd-add : (m n : ℕ) → is_odd (m + n) ≡ turned (is_odd m) (is_odd n)
 is_odd-add m n = grind arith
 
-turned-turned : (odd first rest : Bool) → turned odd (turned first rest) ≡ turned (not (beq odd first)) rest
+pub turned-turned : (odd first rest : Bool) → turned odd (turned first rest) ≡ turned (not (beq odd first)) rest
 turned-turned false false rest = refl
 turned-turned false true rest = refl
 turned-turned true false rest = refl

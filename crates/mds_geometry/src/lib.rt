@@ -2,20 +2,30 @@
 #![tactic(auto)]
 
 mod area;
+mod band;
+mod blocks;
+mod bounds;
 mod coordinate;
 mod edge;
+mod fit;
+mod gather;
 pub mod laws;
 mod polygon;
 mod position;
 mod ring;
+mod scale;
 mod sight;
+mod strip;
+mod strips;
 
-pub use area::area_holds;
+pub use area::{Area, area_holds};
 pub use coordinate::{MOST_LATITUDE, MOST_LONGITUDE, coordinate_of};
 pub use polygon::Polygon;
 pub use position::Position;
 pub use ring::{Ring, RingFault};
 
+#[cfg(test)]
+mod area_tests;
 #[cfg(test)]
 mod coordinate_tests;
 #[cfg(test)]

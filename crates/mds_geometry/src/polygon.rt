@@ -3,7 +3,6 @@ ghost use Rattle.mds_geometry.specs.Inside.{holds};
 
 use crate::position::Position;
 use crate::ring::Ring;
-use crate::sight::sight;
 use std::marker::Model;
 
 /// A list of linear rings, of which the first is the exterior and the others are holes (RFC 7946,
@@ -47,7 +46,7 @@ impl Polygon {
     {
         let mut odd = false;
         for ring in &self.rings {
-            let Some(crosses) = sight(ring.positions(), &at) else {
+            let Some(crosses) = ring.sight(&at) else {
                 return true;
             };
             odd ^= crosses;

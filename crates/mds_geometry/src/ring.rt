@@ -1,6 +1,9 @@
-ghost use Rattle.std.specs.Prelude.{◌≡◌, ◌<◌, ◌≤◌, ◌↔◌, Err, Ok, IfOk, length};
+ghost use Rattle.std.specs.Prelude.{◌≡◌, ◌<◌, ◌≤◌, ◌↔◌, Err, Ok, IfOk, IfSome, IsNone, IsTrue, length};
+ghost use Rattle.mds_geometry.specs.Inside.{edges_of_ring, touches, crossings, is_odd};
 ghost use Rattle.mds_geometry.specs.Ring.{IsRing, IsClosed};
 
+use crate::band::Band;
+use crate::blocks::{BLOCKS, bands_of, block_size, sight_by_blocks};
 use crate::position::Position;
 use std::marker::Model;
 
@@ -14,22 +17,25 @@ pub enum RingFault {
 }
 
 /// A linear ring: four or more positions of which the last is the first (RFC 7946, section 3.1.6).
-/// Its winding is free. Contracts see the list of its positions.
+/// Its winding is free. It keeps the band of latitudes of each block of neighbouring edges. Contracts
+/// see the list of its positions.
 #[derive(Drop)]
 pub struct Ring {
     positions: Vec<Position>,
+    block: usize,
+    bands: [Band; BLOCKS],
 }
 
 impl Model for Ring {
     ghost use Rattle.std.specs.Prelude.{List};
-    ghost use Rattle.mds_geometry.specs.Ring.{IsRing};
+    ghost use Rattle.mds_geometry.specs.Bounds.{IsBanded};
     ghost use Rattle.mds_geometry.specs.declared.position.Position.{Position};
 
     ghost Value = { List Position };
 
     ghost view = { λ r. r.positions.items };
 
-    ghost invariant = { λ r. IsRing r.positions.items };
+    ghost invariant = { λ r. IsBanded r.block r.bands r.positions.items };
 }
 
 impl Ring {
@@ -48,7 +54,13 @@ impl Ring {
         }
         let last = positions.len() - 1;
         if positions[0] == positions[last] {
-            Ok(Ring { positions })
+            let block = block_size(&positions);
+            let bands = bands_of(&positions, block);
+            Ok(Ring {
+                positions,
+                block,
+                bands,
+            })
         } else {
             Err(RingFault::Open)
         }
@@ -60,5 +72,14 @@ impl Ring {
         ensures ring { IsRing result.now }
     {
         self.positions.as_slice()
+    }
+
+    /// Whether the ray from `at` to the east crosses an odd number of the ring's edges; `None` where
+    /// `at` is on one of them.
+    pub(crate) fn sight(&self, at: &Position) -> Option<bool>
+        ensures border { IsNone result ↔ IsTrue (touches (edges_of_ring self.now) at.now) }
+        ensures odd { IfSome result (λ odd. odd ≡ is_odd (crossings (edges_of_ring self.now) at.now)) }
+    {
+        sight_by_blocks(&self.positions, self.block, &self.bands, at)
     }
 }

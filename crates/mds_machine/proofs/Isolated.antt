@@ -89,7 +89,7 @@ view_on first place before e = each_on (λ e. seen_in first.configuration place 
 
 -- ---- meaning
 
-published_only : (made : Option Publication) → publications_of (map published (option_to_list made)) ≡ option_to_list made
+pub published_only : (made : Option Publication) → publications_of (map published (option_to_list made)) ≡ option_to_list made
 published_only None = refl
 published_only (Some p) = refl
 

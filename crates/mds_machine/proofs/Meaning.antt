@@ -45,11 +45,11 @@ use Rattle.mds_machine.proofs.Steps.{call_step, lifted_reply, lifted_rows, opera
 
 -- ---- rows and events
 
-abbrev Agrees : ℕ → List Event → Rows → Type 0
+abbrev pub Agrees : ℕ → List Event → Rows → Type 0
 Agrees limit events rows = (device : List ℕ) → get rows device ≡ row_by (accepted_reports limit events device)
 
 -- rows that agree with the same events are the same
-same_rows : (limit : ℕ) (events : List Event) (rows others : Rows) → Agrees limit events rows → Agrees limit events others → rows ≡ others
+pub same_rows : (limit : ℕ) (events : List Event) (rows others : Rows) → Agrees limit events rows → Agrees limit events others → rows ≡ others
 same_rows limit events rows others h k = same_map device_total device_exact rows others (λ q. h q ∙ sym (k q))
 
 led : (limit : ℕ) (events : List Event) → (rows : Rows) × Leads limit events rows × Agrees limit events rows

@@ -65,7 +65,7 @@ IsLeft w next other = Agree next w other × (next.drafts ≡ w.drafts)
 same : (w : State) (other : ℕ) → IsLeft w w other
 same w other = (record { configuration = refl; publications = refl; rows = refl }, refl)
 
-set_there : (rows : List Rows) (i j : ℕ) (new : Rows) → j ≢ i → slice_get (set rows i new) j ≡ slice_get rows j
+pub set_there : (rows : List Rows) (i j : ℕ) (new : Rows) → j ≢ i → slice_get (set rows i new) j ≡ slice_get rows j
 set_there [] i j new apart = refl
 set_there (x ∷ rows) zero zero new apart = absurd (apart refl)
 set_there (x ∷ rows) zero (suc j) new apart = refl
@@ -140,7 +140,7 @@ reply_is w place (Some operator) None call request = refl
 reply_is w place (Some operator) (Some rows) call request =
     lifted_reply w place rows (operator_does w.configuration.zone operator w.publications rows call request)
 
-set_here : (fleets : List Rows) (place : ℕ) (old new : Rows) → slice_get fleets place ≡ Some old → slice_get (set fleets place new) place ≡ Some new
+pub set_here : (fleets : List Rows) (place : ℕ) (old new : Rows) → slice_get fleets place ≡ Some old → slice_get (set fleets place new) place ≡ Some new
 set_here fleets place old new held =
     let within : place < length fleets = slice_get_within fleets place old held in
     let within_set : place < length (set fleets place new) = omega (arith, within, length-set fleets place new) in

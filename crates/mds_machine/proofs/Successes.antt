@@ -33,7 +33,7 @@ abbrev Tells : Result Reply Code → Type 0
 Tells (Ok reply) = reply.status ≡ 200
 Tells (Err code) = Unit {0}
 
-abbrev Succeeds : {S : Type 0} → Result (Reply × S) Code → Type 0
+abbrev pub Succeeds : {S : Type 0} → Result (Reply × S) Code → Type 0
 Succeeds (Ok after) = after.0.status ≡ 200
 Succeeds (Err code) = Unit {0}
 
@@ -41,7 +41,7 @@ tells_on : {A : Type 0} (x : Result A Code) (f : A → Result Reply Code) → ((
 tells_on (Ok a) f h = h a
 tells_on (Err code) f h = tt
 
-succeeds_on : {A S : Type 0} (x : Result A Code) (f : A → Result (Reply × S) Code) → ((a : A) → Succeeds (f a)) → Succeeds (x >>= f)
+pub succeeds_on : {A S : Type 0} (x : Result A Code) (f : A → Result (Reply × S) Code) → ((a : A) → Succeeds (f a)) → Succeeds (x >>= f)
 succeeds_on (Ok a) f h = h a
 succeeds_on (Err code) f h = tt
 
@@ -66,7 +66,7 @@ policy_tells publications reader id =
 geography_tells : (publications : List Publication) (id : List ℕ) → Tells (geography_answer publications id)
 geography_tells publications id = tells_on (or_code NotFound (find_geography publications id)) _ (λ found. refl)
 
-operator_succeeds : (zone : Zone) (operator : Operator) (publications : List Publication) (rows : Rows) (own : OperatorCall) (request : Request) → Succeeds (operator_does zone operator publications rows own request)
+pub operator_succeeds : (zone : Zone) (operator : Operator) (publications : List Publication) (rows : Rows) (own : OperatorCall) (request : Request) → Succeeds (operator_does zone operator publications rows own request)
 operator_succeeds zone operator publications rows operators.Policies request = refl
 operator_succeeds zone operator publications rows (operators.Policy id) request =
     leaving_succeeds rows (policy_answer publications (Some operator.id) id) (policy_tells publications (Some operator.id) id)
@@ -107,7 +107,7 @@ call_succeeds w (call.Operator place own) request =
     succeeds_on (or_code Token (slice_get w.configuration.operators place)) _ (λ operator. succeeds_on (or_code Token (slice_get w.fleets place)) _ (λ rows.
     carried _ (operator_does w.configuration.zone operator w.publications rows own request) (operator_succeeds w.configuration.zone operator w.publications rows own request)))
 
-settled_leaves : {S : Type 0} (old : S) (x : Result (Reply × S) Code) → Succeeds x → (settled old x).0.status ≢ 200 → (settled old x).1 ≡ old
+pub settled_leaves : {S : Type 0} (old : S) (x : Result (Reply × S) Code) → Succeeds x → (settled old x).0.status ≢ 200 → (settled old x).1 ≡ old
 settled_leaves old (Ok after) h failed = absurd (failed h)
 settled_leaves old (Err code) h failed = refl
 

@@ -1,6 +1,7 @@
 pub mod Examples
 pub mod Kept
 pub mod Matching
+pub mod Resolved
 pub mod Row
 pub mod Zone
 pub mod ZoneFault

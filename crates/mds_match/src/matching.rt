@@ -2,6 +2,7 @@ ghost use Rattle.std.specs.Prelude.{◌≡◌, bytes_eq, map, position};
 ghost use Rattle.std.specs.List.{list_any};
 ghost use Rattle.mds_policy.specs.Policy.{rule_document, policy_document, states_document};
 ghost use Rattle.mds_match.specs.Matching.{is_evaluated, contains, shares, empty_or, state_fits, in_place, meets, first};
+ghost use Rattle.mds_match.specs.Resolved.{is_meant};
 ghost use Rattle.mds_match.specs.Row.{row_of};
 
 use crate::local::Local;
@@ -20,10 +21,17 @@ pub fn meets<P: Places>(rule: &Rule, places: &P, vehicle: &Vehicle, local: Local
 {
     is_evaluated(rule.kind)
         && open_at(rule, local)
-        && has_or_all(&rule.vehicle_types, vehicle.vehicle_type)
+        && is_meant(rule, vehicle)
+        && in_place(&rule.geographies, places, vehicle.position)
+}
+
+/// Whether the vehicle's type, propulsion, state and last events are those of the rule.
+pub(crate) fn is_meant(rule: &Rule, vehicle: &Vehicle) -> bool
+    ensures { result ≡ is_meant (rule_document rule.now) (row_of vehicle.now) }
+{
+    has_or_all(&rule.vehicle_types, vehicle.vehicle_type)
         && shares_or_all(&rule.propulsion_types, &vehicle.propulsion)
         && state_fits_or_all(&rule.states, vehicle)
-        && in_place(&rule.geographies, places, vehicle.position)
 }
 
 /// The number of the first rule of a policy that a vehicle meets, counted from 0, if there is one
@@ -49,7 +57,7 @@ fn first_of<P: Places>(rules: &[Rule], places: &P, vehicle: &Vehicle, local: Loc
         .position(|rule| meets(rule, places, vehicle, local))
 }
 
-fn is_evaluated(kind: Kind) -> bool
+pub(crate) fn is_evaluated(kind: Kind) -> bool
     ensures { result ≡ is_evaluated kind }
 {
     match kind {

@@ -1,9 +1,9 @@
 //! Zones, windows and matching, at local times worked out by hand.
 
-ghost use Rattle.std.specs.Prelude.{[], ◌∷◌, cond, bytes_eq};
+ghost use Rattle.std.specs.Prelude.{[], cond, bytes_eq};
 
-use crate::{Local, Places, Vehicle, Zone, ZoneFault, first, meets, open_at};
-use mds_geometry::{Polygon, Position, Ring};
+use crate::{Local, Places, ResolvedPolicy, Vehicle, Zone, ZoneFault, first, meets, open_at};
+use mds_geometry::{Area, Polygon, Position, Ring};
 use mds_policy::{Policy, Rule};
 use mds_text::{Id, Moment, Token, Units7};
 use std::alloc::Global;
@@ -20,14 +20,22 @@ const NOON: Local = Local {
 #[derive(Drop)]
 struct Square {
     id: Id,
-    square: Polygon,
+    square: Area,
 }
 
 impl Places for Square {
-    ghost polygons = { λ s id. cond (bytes_eq id s.id) (s.square ∷ []) [] };
+    ghost polygons = { λ s id. cond (bytes_eq id s.id) s.square [] };
 
     fn holds(&self, geography: Id, position: Position) -> bool {
         geography == self.id && self.square.holds(position)
+    }
+
+    fn area(&self, geography: Id) -> Option<&Area> {
+        if geography == self.id {
+            Some(&self.square)
+        } else {
+            None
+        }
     }
 }
 
@@ -55,9 +63,11 @@ fn one_square(alloc: Global) -> Result<Square, Fail> {
     corners.push(position(0, 0)?)?;
     let mut rings = Vec::new(alloc);
     rings.push(Ring::new(corners)?)?;
+    let mut polygons = Vec::new(alloc);
+    polygons.push(Polygon::new(rings))?;
     Ok(Square {
         id: id("00000000-0000-4000-8000-000000000101")?,
-        square: Polygon::new(rings),
+        square: Area::new(alloc, polygons)?,
     })
 }
 
@@ -142,6 +152,8 @@ fn vehicles(rt: HostRuntime) -> Result<(), Fail> {
         let policy = policy(alloc, more)?;
         let is_met = meets(rule_of(&policy)?, &places, &corner, NOON);
         assert_eq!(rt; is_met, wanted, "{more}");
+        let resolved = ResolvedPolicy::new(alloc, &policy, &places, NOON)?;
+        assert_eq!(rt; resolved.first(&corner).is_some(), wanted, "{more}");
     }
     let policy = policy(alloc, "")?;
     let beside = scooter(alloc, 100_000_001)?;
@@ -158,9 +170,12 @@ fn the_first_rule(rt: HostRuntime) -> Result<(), Fail> {
         br#"{"policy_id":"00000000-0000-4000-8000-000000000201","name":"three","start_date":1000,"rules":[{"rule_id":"00000000-0000-4000-8000-000000000301","name":"slow","rule_type":"speed","geographies":["00000000-0000-4000-8000-000000000101"],"maximum":15},{"rule_id":"00000000-0000-4000-8000-000000000302","name":"cap","rule_type":"count","geographies":["00000000-0000-4000-8000-000000000101"]},{"rule_id":"00000000-0000-4000-8000-000000000303","name":"cap","rule_type":"count","geographies":["00000000-0000-4000-8000-000000000101"]}]}"#,
     )?;
     let corner = scooter(alloc, 100_000_000)?;
+    let resolved = ResolvedPolicy::new(alloc, &policy, &places, NOON)?;
     assert_eq!(rt; first(&policy, &places, &corner, NOON), Some(1));
+    assert_eq!(rt; resolved.first(&corner), Some(1));
     let beside = scooter(alloc, 100_000_001)?;
     assert_eq!(rt; first(&policy, &places, &beside, NOON), None);
+    assert_eq!(rt; resolved.first(&beside), None);
     Ok(())
 }
 

@@ -2,7 +2,8 @@ use crate::fault::PolicyFault;
 use crate::reading::policy_of;
 use crate::rule::Rule;
 use crate::served::dated;
-use mds_text::{Id, Moment, Tree, copy_tree, read_counted};
+use mds_reading::read_counted;
+use mds_text::{Id, Moment, Tree, copy_tree};
 use std::alloc::{AllocError, Global};
 
 /// A policy (MDS 2.0 Policy, policies): the author's whole document, and beside it what the server

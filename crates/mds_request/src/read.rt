@@ -13,8 +13,9 @@ use crate::config::{Config, MOST_OPERATORS, MOST_TOKEN, Operator};
 use crate::fault::ConfigFault;
 use crate::lookup::are_alike;
 use mds_match::{MOST_VEHICLES, Zone};
+use mds_reading::read_tree;
 use mds_text::{
-    Field, TextFault, Tree, document_of, int_of, object_of, read_tree, required_id, required_list,
+    Field, TextFault, Tree, document_of, int_of, object_of, required_id, required_list,
     required_member, required_text, text_of,
 };
 use std::alloc::Global;

@@ -36,7 +36,7 @@ pub use make::{
 pub use moment::Moment;
 pub use number::two_digits;
 pub use print::{print_tree, print_units};
-pub use quote::quote_numbers;
+pub use quote::{is_quoted, quote_numbers};
 pub use read::{read_counted, read_tree};
 pub use token::Token;
 pub use tree::{Member, Tree};

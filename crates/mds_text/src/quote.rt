@@ -43,7 +43,7 @@ fn push_piece(out: &mut Vec<u8>, piece: &[u8]) -> Result<(), AllocError>
 }
 
 /// Whether a piece of the text is a number that isn't plain.
-fn is_quoted(piece: &[u8]) -> bool
+pub fn is_quoted(piece: &[u8]) -> bool
     ensures { result ≡ is_quoted piece.now }
 {
     match number_of(piece) {

@@ -1,24 +1,22 @@
 -- What one vehicle more changes in the verdicts.
-use Rattle.std.proofs.Common.{◌≡◌, ◌≢◌, ℕ, ◌+◌, ◌<◌, ◌≤◌, Bool, true, false, cond, ◌&&◌, not, min, nat_lt, Option, Some, None, List, [], ◌∷◌, ◌++◌, length, map, take, filter, get_or, set, refl, sym, ap, subst, ◌∙◌, arith, length-append, sum_by, IsPermutation}
+use Rattle.std.proofs.Common.{◌≡◌, ◌≢◌, ℕ, ◌+◌, ◌<◌, ◌≤◌, Bool, true, false, cond, ◌&&◌, not, nat_lt, Option, Some, None, List, [], ◌∷◌, ◌++◌, length, map, take, filter, get_or, set, refl, sym, ap, subst, ◌∙◌, arith, length-append}
 use Rattle.std.proofs.lemmas.Bool.Decides.{nat_tests}
-use Rattle.std.specs.List.{All, enumerate_from}
-use Rattle.std.proofs.lemmas.List.{append-nil, set-get_or, get_or-map, length-map, length-take, length-take-le, take_all, take-append-le, map-append}
-use Rattle.std.proofs.lemmas.List.FromFn.{length-enumerate_from}
-use Rattle.std.proofs.lemmas.List.Sorted.{sum_by-IsPermutation}
-use Rattle.std.proofs.lemmas.List.Sums.{length-filter, count_by-le-length, sum_by-cons}
-use Rattle.std.proofs.lemmas.List.Elements.{All-map, All-same, All-weaker, filter-append}
+use Rattle.std.specs.List.{enumerate_from, position}
+use Rattle.std.specs.Option.{IfSome}
+use Rattle.std.proofs.lemmas.List.{take_more as take_one_more, append-nil, set-get_or, get_or-map, length-map, length-take, take_all, take-append-le, map-append}
+use Rattle.std.proofs.lemmas.List.Elements.{filter-append}
 use Rattle.std.proofs.lemmas.List.Quantifiers.{position-Some}
 use Rattle.mds_geometry.specs.declared.position.Position.{Position}
 use Rattle.mds_policy.specs.Policy.{Rule, Policy}
 use Rattle.mds_match.specs.declared.local.Local.{Local}
 use Rattle.mds_match.specs.Matching.{is_evaluated, is_open, is_rule, meets, first}
 use Rattle.mds_match.specs.Row.{Row}
-use Rattle.mds_verdict.specs.Verdict.{Verdict, adds, measured, status_of, listed, judged, verdict_document, verdicts_by, verdicts}
+use Rattle.mds_verdict.specs.Gathered.{firsts, gathered_rule, gathered, shown_devices, shown}
+use Rattle.mds_verdict.specs.Verdict.{Verdict, adds, measured, status_of, listed, judged, verdicts}
 use Rattle.mds_verdict.specs.declared.verdict.TheConstants.{MOST_DEVICES}
-use Rattle.mds_verdict.specs.declared.verdict.RuleVerdict.{RuleVerdict}
 use Rattle.mds_verdict.specs.declared.verdict.Status.{Status}
 use Rattle.mds_verdict.specs.declared.verdict.Status.TheVariants.{NotEvaluated, Inactive, Ok, Violated}
-use Rattle.mds_verdict.proofs.Numbered.{numbered, numbered_same, numbered_set, get_or-numbered}
+use Rattle.mds_verdict.proofs.Numbered.{map-map, numbered, numbered_same, numbered_set, get_or-numbered}
 
 -- a row, where a test holds
 abbrev row_if : Bool → Row → List Row
@@ -111,10 +109,10 @@ module _ (policy : Policy) (polygons : List ℕ → List (List (List Position)))
         (measured-append n rule
         ∙ ap (λ b. measured policy n rule polygons rows local t ++ row_if b row) (both_there (is_rule n (first policy polygons row local)) (adds rule.kind rule.bounds t row) (that_rule n (first policy polygons row local) caught_by) adding))
 
--- the verdict on an open rule
-judged_open : (rule : Rule) (local : Local) (m : ℕ) (rows : List Row) → is_evaluated rule.kind ≡ true → is_open rule.window local ≡ true
-    → judged rule local m rows ≡ (record { rule = rule.id; status = status_of rule.kind rule.bounds m; measure = m; devices = listed (status_of rule.kind rule.bounds m) rows })
-judged_open rule local m rows p q = rw (p, q) refl
+-- what is gathered for an open rule
+gathered_open : (rule : Rule) (local : Local) (rows : List Row) → is_evaluated rule.kind ≡ true → is_open rule.window local ≡ true
+    → gathered_rule rule local rows ≡ (record { rule = rule.id; status = status_of rule.kind rule.bounds (length rows); measure = length rows; devices = take MOST_DEVICES (map (λ (r : Row). r.device) rows) })
+gathered_open rule local rows p q = rw (p, q) refl
 
 first_two : (a b c d e f : Bool) → (a && b && c && d && e && f) ≡ true → (a ≡ true) × (b ≡ true)
 first_two true true c d e f h = (refl, refl)
@@ -128,41 +126,6 @@ pub evaluated_and_open : (policy : Policy) (polygons : List ℕ → List (List (
 evaluated_and_open policy polygons row local n rule caught_by here =
     first_two (is_evaluated rule.kind) (is_open rule.window local) _ _ _ _
     (ap (λ r. meets r polygons row local) (sym here) ∙ (position-Some (λ r. meets r polygons row local) policy.rules n rule caught_by).1)
-
-listed-nil : (status : Status) → listed status [] ≡ []
-listed-nil NotEvaluated = refl
-listed-nil Inactive = refl
-listed-nil Ok = refl
-listed-nil Violated = refl
-
--- one row more that is counted
-pub counted_more : (rule : Rule) (local : Local) (rows : List Row) (row : Row) (old new : Verdict)
-    → (is_evaluated rule.kind ≡ true) × (is_open rule.window local ≡ true) → old ≡ judged rule local (length rows) []
-    → new ≡ (record old { status = status_of rule.kind rule.bounds (old.measure + 1); measure = old.measure + 1 })
-    → new ≡ judged rule local (length (rows ++ row ∷ [])) []
-counted_more rule local rows row old new opened is now =
-    let m = length rows in
-    let before : old ≡ (record { rule = rule.id; status = status_of rule.kind rule.bounds m; measure = m; devices = [] }) =
-    is ∙ judged_open rule local m [] opened.0 opened.1 ∙ ap (λ ds. let v : Verdict = record { rule = rule.id; status = status_of rule.kind rule.bounds m; measure = m; devices = ds } in v) (listed-nil _) in
-    now
-    ∙ ap (λ (v : Verdict). let w : Verdict = record v { status = status_of rule.kind rule.bounds (v.measure + 1); measure = v.measure + 1 } in w) before
-    ∙ ap (λ ds. let v : Verdict = record { rule = rule.id; status = status_of rule.kind rule.bounds (m + 1); measure = m + 1; devices = ds } in v) (sym (listed-nil _))
-    ∙ sym (judged_open rule local (m + 1) [] opened.0 opened.1)
-    ∙ ap (λ k. judged rule local k []) (sym (length-append rows (row ∷ [])))
-
--- one row more that is listed
-pub listed_more : (rule : Rule) (local : Local) (m : ℕ) (rows more : List Row) (old new : RuleVerdict)
-    → (is_evaluated rule.kind ≡ true) × (is_open rule.window local ≡ true) → verdict_document old ≡ judged rule local m rows
-    → new ≡ (record old { devices = new.devices }) → (old.devices.items ≡ listed old.status rows → new.devices.items ≡ listed old.status more)
-    → verdict_document new ≡ judged rule local m more
-listed_more rule local m rows more old new opened is rest lists =
-    let before = is ∙ judged_open rule local m rows opened.0 opened.1 in
-    let status : old.status ≡ status_of rule.kind rule.bounds m = ap (λ (v : Verdict). v.status) before in
-    let devices : old.devices.items ≡ listed old.status rows = ap (λ (v : Verdict). v.devices) before ∙ ap (λ s. listed s rows) (sym status) in
-    ap (λ (v : RuleVerdict). let w : Verdict = record { rule = v.rule; status = v.status; measure = v.measure; devices = new.devices.items } in w) rest
-    ∙ ap (λ ds. let w : Verdict = record { rule = old.rule; status = old.status; measure = old.measure; devices = ds } in w) (lists devices ∙ ap (λ s. listed s more) status)
-    ∙ ap (λ (v : Verdict). let w : Verdict = record v { devices = listed (status_of rule.kind rule.bounds m) more } in w) before
-    ∙ sym (judged_open rule local m more opened.0 opened.1)
 
 -- a list with room for more, and one that is full
 take_more : (n : ℕ) (xs : List (List ℕ)) (x : List ℕ) → length (take n xs) < n → take n (xs ++ x ∷ []) ≡ take n xs ++ x ∷ []
@@ -199,6 +162,77 @@ listed_next status rows row devices violated is = by (nat_lt (length devices) MO
     by : (b : Bool) → nat_lt (length devices) MOST_DEVICES ≡ b → cond b (devices ++ row.device ∷ []) devices ≡ listed status (rows ++ row ∷ [])
     by true room = listed_last status rows row devices violated (grind (arith, nat_tests)) is
     by false full = listed_full status rows row devices violated (grind (arith, nat_tests)) is
+
+position_within : {X : Type 0} (p : X → Bool) (xs : List X) (i : ℕ) → position p xs ≡ Some i → i < length xs
+position_within p [] i is = cc
+position_within p (x ∷ xs) i is = (position-Some p (x ∷ xs) i x is).0
+
+within_rules : (policy : Policy) (polygons : List ℕ → List (List (List Position))) (row : Row) (local : Local) (k : ℕ) → first policy polygons row local ≡ Some k → k < length policy.rules
+within_rules policy polygons row local k is = position_within (λ r. meets r polygons row local) policy.rules k is
+
+if_some : (found : Option ℕ) (n : ℕ) → ((k : ℕ) → found ≡ Some k → k < n) → IfSome found (λ k. k < n)
+if_some None n h = tt
+if_some (Some k) n h = h k refl
+
+-- what is found is the number of a rule
+pub number_within : (policy : Policy) (polygons : List ℕ → List (List (List Position))) (row : Row) (local : Local) (number : Option ℕ) → number ≡ first policy polygons row local → IfSome number (λ n. n < length policy.rules)
+number_within policy polygons row local number is = if_some number (length policy.rules) (λ k here. within_rules policy polygons row local k (sym is ∙ here))
+
+-- what is found for one of the rows
+pub found_here : {X : Type 0} (row : X → Row) (xs : List X) (n : ℕ) (x : X) (policy : Policy) (polygons : List ℕ → List (List (List Position))) (local : Local) (found : List (Option ℕ))
+    → found ≡ firsts policy polygons (map row xs) local → n < length xs → x ≡ get_or xs n x → get_or found n None ≡ first policy polygons (row x) local
+found_here row xs n x policy polygons local found is within here =
+    let number : Row → Option ℕ = λ r. first policy polygons r local in
+    ap (λ ns. get_or ns n None) is ∙ get_or-map number (map row xs) n (row x) None (omega (arith, length-map xs row)) ∙ ap number (get_or-map row xs n x (row x) within ∙ ap row (sym here))
+
+-- the first rows of a list, and one more
+pub rows_more : {X : Type 0} (row : X → Row) (xs : List X) (n : ℕ) (x : X) → n < length xs → x ≡ get_or xs n x → map row (take (n + 1) xs) ≡ map row (take n xs) ++ row x ∷ []
+rows_more row xs n x within here =
+    ap (map row) (take_one_more xs n x within) ∙ map-append row (take n xs) (get_or xs n x ∷ []) ∙ ap (λ y. map row (take n xs) ++ row y ∷ []) (sym here)
+
+-- one row more that is counted and listed
+pub gathered_more : (rule : Rule) (local : Local) (rows : List Row) (row : Row) (old new : Verdict)
+    → (is_evaluated rule.kind ≡ true) × (is_open rule.window local ≡ true) → old ≡ gathered_rule rule local rows
+    → new ≡ (record old { status = status_of rule.kind rule.bounds (old.measure + 1); measure = old.measure + 1; devices = cond (nat_lt (length old.devices) MOST_DEVICES) (old.devices ++ row.device ∷ []) old.devices })
+    → new ≡ gathered_rule rule local (rows ++ row ∷ [])
+gathered_more rule local rows row old new opened is now =
+    let before = is ∙ gathered_open rule local rows opened.0 opened.1 in
+    let made : ℕ → List (List ℕ) → Verdict = λ k ds. record { rule = rule.id; status = status_of rule.kind rule.bounds k; measure = k; devices = ds } in
+    let pushed : List (List ℕ) → List (List ℕ) = λ ds. cond (nat_lt (length ds) MOST_DEVICES) (ds ++ row.device ∷ []) ds in
+    now
+    ∙ ap (λ (v : Verdict). let w : Verdict = record v { status = status_of rule.kind rule.bounds (v.measure + 1); measure = v.measure + 1; devices = pushed v.devices } in w) before
+    ∙ ap (made (length rows + 1)) (listed_next Violated rows row (take MOST_DEVICES (map (λ (r : Row). r.device) rows)) refl refl)
+    ∙ ap (λ k. made k (take MOST_DEVICES (map (λ (r : Row). r.device) (rows ++ row ∷ [])))) (sym (length-append rows (row ∷ [])))
+    ∙ sym (gathered_open rule local (rows ++ row ∷ []) opened.0 opened.1)
+
+shown_if : (b : Bool) (x y : Verdict) → shown (cond b x y) ≡ cond b (shown x) (shown y)
+shown_if true x y = refl
+shown_if false x y = refl
+
+shown_listed : (status : Status) (rows : List Row) → shown_devices status (take MOST_DEVICES (map (λ (r : Row). r.device) rows)) ≡ listed status rows
+shown_listed NotEvaluated rows = refl
+shown_listed Inactive rows = refl
+shown_listed Ok rows = refl
+shown_listed Violated rows = refl
+
+-- what is shown of what is gathered is the verdict
+shown_gathered : (rule : Rule) (local : Local) (rows : List Row) → shown (gathered_rule rule local rows) ≡ judged rule local (length rows) rows
+shown_gathered rule local rows =
+    let status = status_of rule.kind rule.bounds (length rows) in
+    let none : Status → Verdict = λ s. record { rule = rule.id; status = s; measure = 0; devices = [] } in
+    let made : List (List ℕ) → Verdict = λ ds. record { rule = rule.id; status = status; measure = length rows; devices = ds } in
+    shown_if (not (is_evaluated rule.kind)) (none NotEvaluated) (cond (not (is_open rule.window local)) (none Inactive) (made (take MOST_DEVICES (map (λ (r : Row). r.device) rows))))
+    ∙ ap (cond (not (is_evaluated rule.kind)) (none NotEvaluated))
+    (shown_if (not (is_open rule.window local)) (none Inactive) (made (take MOST_DEVICES (map (λ (r : Row). r.device) rows)))
+    ∙ ap (λ ds. cond (not (is_open rule.window local)) (none Inactive) (made ds)) (shown_listed status rows))
+
+pub verdicts_shown : (policy : Policy) (polygons : List ℕ → List (List (List Position))) (rows : List Row) (local : Local) (t : ℕ)
+    → map shown (gathered policy polygons rows local t) ≡ verdicts policy polygons rows local t
+verdicts_shown policy polygons rows local t =
+    let rows_of : ℕ → Rule → List Row = λ k rule. measured policy k rule polygons rows local t in
+    map-map shown (λ e. gathered_rule e.1 local (rows_of e.0 e.1)) (enumerate_from 0 policy.rules)
+    ∙ numbered_same (λ k rule. judged rule local (length (rows_of k rule)) (rows_of k rule)) (λ k rule. shown (gathered_rule rule local (rows_of k rule))) 0 policy.rules
+    (λ k rule low. shown_gathered rule local (rows_of k rule))
 
 -- an element of a list, and of what the list stands for
 pub at_document : {X Y : Type 0} (document : X → Y) (xs : List X) (ys : List Y) (n : ℕ) (x : X) → map document xs ≡ ys → n < length xs → x ≡ get_or xs n x → get_or ys n (document x) ≡ document x

@@ -11,12 +11,13 @@ use Rattle.mds_policy.specs.Policy.{Rule, Policy}
 use Rattle.mds_match.specs.declared.local.Local.{Local}
 use Rattle.mds_match.specs.Matching.{is_evaluated, is_open, is_rule, first}
 use Rattle.mds_match.specs.Row.{Row}
+use Rattle.mds_verdict.specs.Gathered.{gathered_rule, gathered}
 use Rattle.mds_verdict.specs.Verdict.{Verdict, adds, measured, listed, judged, verdict_document, verdicts_by, verdicts}
 use Rattle.mds_verdict.specs.declared.verdict.RuleVerdict.{RuleVerdict}
 use Rattle.mds_verdict.specs.declared.verdict.TheConstants.{MOST_DEVICES}
 use Rattle.mds_verdict.specs.declared.verdict.Status.{Status}
 use Rattle.mds_verdict.specs.declared.verdict.Status.TheVariants.{NotEvaluated, Inactive, Ok, Violated}
-use Rattle.mds_verdict.proofs.Numbered.{numbered_same}
+use Rattle.mds_verdict.proofs.Numbered.{map-map, numbered_same}
 
 measured_at_most : (policy : Policy) (n : ℕ) (rule : Rule) (polygons : List ℕ → List (List (List Position))) (rows : List Row) (local : Local) (t : ℕ)
     → length (measured policy n rule polygons rows local t) ≤ length rows
@@ -50,41 +51,48 @@ pub length-verdicts : (policy : Policy) (polygons : List ℕ → List (List (Lis
 length-verdicts policy polygons counted named local t =
     length-map (enumerate_from 0 policy.rules) (λ e. judged e.1 local (length (measured policy e.0 e.1 polygons counted local t)) (measured policy e.0 e.1 polygons named local t)) ∙ length-enumerate_from 0 policy.rules
 
--- as many as the rules
-pub length_held : (policy : Policy) (polygons : List ℕ → List (List (List Position))) (counted named : List Row) (local : Local) (t : ℕ) (held : List RuleVerdict)
-    → map verdict_document held ≡ verdicts_by policy polygons counted named local t → length held ≡ length policy.rules
-length_held policy polygons counted named local t held is =
-    sym (length-map held verdict_document) ∙ ap length is ∙ length-verdicts policy polygons counted named local t
-
 numbered_alike : {X V : Type 0} (f : X → V) (n : ℕ) (xs : List X) → map (λ e. f e.1) (enumerate_from n xs) ≡ map f xs
 numbered_alike f n [] = refl
 numbered_alike f n (x ∷ xs) = ap (λ vs. f x ∷ vs) (numbered_alike f (n + 1) xs)
 
-map-map : {X Y Z : Type 0} (f : Y → Z) (g : X → Y) (xs : List X) → map f (map g xs) ≡ map (λ x. f (g x)) xs
-map-map f g [] = refl
-map-map f g (x ∷ xs) = ap (λ zs. f (g x) ∷ zs) (map-map f g xs)
+-- what is gathered of no vehicle, from what the rules stand for
+pub gathered_of_none : {X : Type 0} (document : X → Rule) (xs : List X) (policy : Policy) (polygons : List ℕ → List (List (List Position))) (local : Local) (t : ℕ) (found : List Verdict)
+    → map document xs ≡ policy.rules → found ≡ map (λ x. gathered_rule (document x) local []) xs → found ≡ gathered policy polygons [] local t
+gathered_of_none document xs policy polygons local t found same is =
+    is ∙ sym (map-map (λ rule. gathered_rule rule local []) document xs) ∙ ap (map (λ rule. gathered_rule rule local [])) same ∙ sym (numbered_alike (λ rule. gathered_rule rule local []) 0 policy.rules)
 
--- the verdicts on no vehicle, from what the rules stand for
-pub verdicts_of_none : {X : Type 0} (document : X → Rule) (xs : List X) (policy : Policy) (polygons : List ℕ → List (List (List Position))) (local : Local) (t : ℕ) (found : List Verdict)
-    → map document xs ≡ policy.rules → found ≡ map (λ x. judged (document x) local 0 []) xs → found ≡ verdicts_by policy polygons [] [] local t
-verdicts_of_none document xs policy polygons local t found same is =
-    is ∙ sym (map-map (λ rule. judged rule local 0 []) document xs) ∙ ap (map (λ rule. judged rule local 0 [])) same ∙ sym (numbered_alike (λ rule. judged rule local 0 []) 0 policy.rules)
+gathered_rule_at_most : (rule : Rule) (local : Local) (rows : List Row) → (gathered_rule rule local rows).measure ≤ length rows
+gathered_rule_at_most rule local rows = at_most (not (is_evaluated rule.kind)) (not (is_open rule.window local)) _ _ _ (length rows) (omega arith) (omega arith) (omega arith)
+
+-- no measure is greater than the number of vehicles that are gathered
+pub gathered_at_most : (policy : Policy) (polygons : List ℕ → List (List (List Position))) (rows : List Row) (local : Local) (t : ℕ)
+    → All (λ v. v.measure ≤ length rows) (gathered policy polygons rows local t)
+gathered_at_most policy polygons rows local t =
+    All-map (λ v. v.measure ≤ length rows) (λ e. gathered_rule e.1 local (measured policy e.0 e.1 polygons rows local t)) (enumerate_from 0 policy.rules)
+    (λ k d within. let e = get_or (enumerate_from 0 policy.rules) k d in
+    at_most_through _ _ _ (gathered_rule_at_most e.1 local (measured policy e.0 e.1 polygons rows local t)) (measured_at_most policy e.0 e.1 polygons rows local t))
+
+-- as many as the rules
+pub length_held : (policy : Policy) (polygons : List ℕ → List (List (List Position))) (rows : List Row) (local : Local) (t : ℕ) (held : List RuleVerdict)
+    → map verdict_document held ≡ gathered policy polygons rows local t → length held ≡ length policy.rules
+length_held policy polygons rows local t held is =
+    sym (length-map held verdict_document) ∙ ap length is
+    ∙ length-map (enumerate_from 0 policy.rules) (λ e. gathered_rule e.1 local (measured policy e.0 e.1 polygons rows local t)) ∙ length-enumerate_from 0 policy.rules
 
 -- measures that fit
-pub measures_fit : (policy : Policy) (polygons : List ℕ → List (List (List Position))) (counted named : List Row) (local : Local) (t most : ℕ) (held : List RuleVerdict)
-    → map verdict_document held ≡ verdicts_by policy polygons counted named local t → length counted < most → All (λ v. v.measure < most) held
-measures_fit policy polygons counted named local t most held is few = λ k d within.
+pub measures_fit : (found : List Verdict) (n most : ℕ) (held : List RuleVerdict) → map verdict_document held ≡ found → All (λ v. v.measure ≤ n) found → n < most → All (λ v. v.measure < most) held
+measures_fit found n most held is bounded few = λ k d within.
     let there : All (λ v. v.measure < most) (map verdict_document held) =
-    All-same (λ v. v.measure < most) _ (verdicts_by policy polygons counted named local t) is
-    (All-weaker (λ v. v.measure ≤ length counted) (λ v. v.measure < most) (λ v h. omega arith) (verdicts_by policy polygons counted named local t) (verdicts_at_most policy polygons counted named local t)) in
+    All-same (λ v. v.measure < most) _ found is (All-weaker (λ v. v.measure ≤ n) (λ v. v.measure < most) (λ v h. omega arith) found bounded) in
     subst (λ (v : Verdict). v.measure < most) (get_or-map verdict_document held k d (verdict_document d) within)
     (there k (verdict_document d) (rw (length-map held verdict_document) within))
 
 -- measures of the first vehicles of a list
-pub measures_fit_so_far : {X : Type 0} (row : X → Row) (xs : List X) (n : ℕ) (policy : Policy) (polygons : List ℕ → List (List (List Position))) (named : List Row) (local : Local) (t most : ℕ) (held : List RuleVerdict)
-    → map verdict_document held ≡ verdicts_by policy polygons (map row (take n xs)) named local t → n ≤ length xs → length xs < most → All (λ v. v.measure < most) held
-measures_fit_so_far row xs n policy polygons named local t most held is within few =
-    measures_fit policy polygons (map row (take n xs)) named local t most held is (omega (arith, length-map (take n xs) row, length-take-le n xs within))
+pub measures_fit_so_far : {X : Type 0} (row : X → Row) (xs : List X) (n : ℕ) (policy : Policy) (polygons : List ℕ → List (List (List Position))) (local : Local) (t most : ℕ) (held : List RuleVerdict)
+    → map verdict_document held ≡ gathered policy polygons (map row (take n xs)) local t → n ≤ length xs → length xs < most → All (λ v. v.measure < most) held
+measures_fit_so_far row xs n policy polygons local t most held is within few =
+    measures_fit (gathered policy polygons (map row (take n xs)) local t) (length (map row (take n xs))) most held is (gathered_at_most policy polygons (map row (take n xs)) local t)
+    (omega (arith, length-map (take n xs) row, length-take-le n xs within))
 
 -- 1 where a test holds
 abbrev one_if : Bool → ℕ

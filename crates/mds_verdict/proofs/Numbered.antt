@@ -1,10 +1,15 @@
 -- Values of numbered elements.
-use Rattle.std.proofs.Common.{◌≡◌, ◌≢◌, ℕ, zero, suc, ◌+◌, ◌<◌, ◌≤◌, List, [], ◌∷◌, length, map, get_or, set, refl, ap, ◌∙◌, arith}
+use Rattle.std.proofs.Common.{◌≡◌, ◌≢◌, ℕ, zero, suc, ◌+◌, ◌<◌, ◌≤◌, List, [], ◌∷◌, ◌++◌, length, map, take, drop, get_or, set, refl, ap, ◌∙◌, arith}
+use Rattle.std.proofs.Math.Seq.{take-append_seam}
 use Rattle.std.specs.List.{enumerate_from}
 
 -- a value for each element and its number
 abbrev pub numbered : {X V : Type 0} → (ℕ → X → V) → ℕ → List X → List V
 numbered f n xs = map (λ e. f e.0 e.1) (enumerate_from n xs)
+
+pub map-map : {X Y Z : Type 0} (f : Y → Z) (g : X → Y) (xs : List X) → map f (map g xs) ≡ map (λ x. f (g x)) xs
+map-map f g [] = refl
+map-map f g (x ∷ xs) = ap (λ zs. f (g x) ∷ zs) (map-map f g xs)
 
 -- values that are alike from a number on
 pub numbered_same : {X V : Type 0} (f g : ℕ → X → V) (n : ℕ) (xs : List X) → ((k : ℕ) (x : X) → n ≤ k → g k x ≡ f k x) → numbered g n xs ≡ numbered f n xs
@@ -28,3 +33,16 @@ pub get_or-numbered : {X V : Type 0} (f : ℕ → X → V) (n i m : ℕ) (xs : L
 get_or-numbered f n i m [] d v within at = absurd (omega arith)
 get_or-numbered f n zero m (x ∷ xs) d v within at = ap (λ k. f k x) (let e : n ≡ m = omega arith in e)
 get_or-numbered f n (suc i) m (x ∷ xs) d v within at = get_or-numbered f (n + 1) i m xs d v (omega arith) (omega arith)
+
+-- values of two lists that are alike at each place
+pub map_alike : {X V : Type 0} (f g : X → V) (xs ys : List X) → length xs ≡ length ys
+    → ((k : ℕ) (d : X) → k < length ys → f (get_or xs k d) ≡ g (get_or ys k d)) → map f xs ≡ map g ys
+map_alike f g [] [] long same = refl
+map_alike f g [] (y ∷ ys) long same = absurd (omega arith)
+map_alike f g (x ∷ xs) [] long same = absurd (omega arith)
+map_alike f g (x ∷ xs) (y ∷ ys) long same =
+    ap (λ v. v ∷ map f xs) (same 0 x (omega arith)) ∙ ap (λ vs. g y ∷ vs) (map_alike f g xs ys (omega arith) (λ k d l. same (suc k) d (omega arith)))
+
+-- what a vector has after its elements were written
+pub written_back : {X : Type 0} (n : ℕ) (xs ys : List X) → n ≡ length ys → take n (ys ++ drop (length ys) xs) ≡ ys
+written_back n xs ys long = ap (λ k. take k (ys ++ drop (length ys) xs)) long ∙ take-append_seam ys (drop (length ys) xs)

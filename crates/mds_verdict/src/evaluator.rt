@@ -8,10 +8,13 @@ use std::alloc::{AllocError, Global};
 /// Judges the rules of a policy by an operator's vehicles (MDS 2.0 Policy, rules and order of
 /// operations).
 pub trait Evaluator<P: Places> {
-    ghost use Rattle.std.specs.Prelude.{◌≡◌, ◌^◌, ◌<◌, All, IfOk, map};
+    ghost use Rattle.std.specs.Prelude.{◌≡◌, ◌^◌, ◌<◌, All, IfOk, map, ⊤};
     ghost use Rattle.mds_policy.specs.Policy.{policy_document};
     ghost use Rattle.mds_match.specs.Row.{row_of};
     ghost use Rattle.mds_verdict.specs.Verdict.{Ascends, verdict_document, verdicts};
+
+    /// What it takes to judge: nothing, or threads that may share what they judge.
+    ghost may_judge: { Type 0 } = { ⊤ };
 
     /// The verdict on each rule of the policy, in their order, at a local time and at the moment up
     /// to which a vehicle's time in its state counts. The vehicles ascend by device id, each once.
@@ -28,14 +31,16 @@ pub trait Evaluator<P: Places> {
         local: Local,
         moment: Moment,
     ) -> Result<Vec<RuleVerdict>, AllocError>
-        requires { Ascends (map (λ v. row_of v.now) vehicles.now) }
+        requires ready { may_judge }
+        requires ascends { Ascends (map (λ v. row_of v.now) vehicles.now) }
         ensures exact { IfOk result (λ found. map verdict_document found.items
             ≡ verdicts (policy_document policy.now) (P.polygons places.now) (map (λ v. row_of v.now) vehicles.now) local moment) }
         ensures fits { IfOk result (λ found. All (λ v. v.measure < 2 ^ 63) found.items) };
 }
 
-/// Takes the vehicles one after another, first to count and then to list them, and grows its result
-/// alone.
+/// Takes the vehicles one after another, to count and to list them. Besides its result it grows what
+/// it finds first: the areas of each rule's geographies. While it counts, it lists the first
+/// `MOST_DEVICES` of each rule; the lists of kept rules are dropped at the end.
 #[derive(Clone, Copy, Debug)]
 pub struct Plain;
 

@@ -9,6 +9,7 @@ mod report;
 mod verdict;
 
 pub use evaluator::{Evaluator, Plain};
+pub use judge::judge_found;
 pub use report::report_tree;
 pub use verdict::{MOST_DEVICES, RuleVerdict, Status};
 

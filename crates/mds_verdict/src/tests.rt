@@ -1,9 +1,9 @@
 //! Verdicts on policies over two squares, at local times worked out by hand.
 
-ghost use Rattle.std.specs.Prelude.{[], ◌∷◌, cond, bytes_eq};
+ghost use Rattle.std.specs.Prelude.{cond, bytes_eq};
 
 use crate::{Evaluator, Plain, RuleVerdict, Status, report_tree};
-use mds_geometry::{Polygon, Position, Ring};
+use mds_geometry::{Area, Polygon, Position, Ring};
 use mds_match::{Local, Places, Vehicle};
 use mds_policy::Policy;
 use mds_text::{Id, Moment, Token, Units7, print_tree};
@@ -21,18 +21,26 @@ const NOON: Local = Local {
 #[derive(Drop)]
 struct Squares {
     id: Id,
-    square: Polygon,
-    wide: Polygon,
+    square: Area,
+    wide: Area,
 }
 
 impl Places for Squares {
-    ghost polygons = { λ s id. cond (bytes_eq id s.id) (s.square ∷ []) (s.wide ∷ []) };
+    ghost polygons = { λ s id. cond (bytes_eq id s.id) s.square s.wide };
 
     fn holds(&self, geography: Id, position: Position) -> bool {
         if geography == self.id {
             self.square.holds(position)
         } else {
             self.wide.holds(position)
+        }
+    }
+
+    fn area(&self, geography: Id) -> Option<&Area> {
+        if geography == self.id {
+            Some(&self.square)
+        } else {
+            Some(&self.wide)
         }
     }
 }
@@ -56,7 +64,7 @@ fn position(lng: i64, lat: i64) -> Result<Position, Fail> {
 }
 
 /// From one corner to the other.
-fn rectangle(alloc: Global, low: i64, high: i64) -> Result<Polygon, Fail> {
+fn rectangle(alloc: Global, low: i64, high: i64) -> Result<Area, Fail> {
     let mut corners = Vec::new(alloc);
     corners.push(position(low, low)?)?;
     corners.push(position(high, low)?)?;
@@ -65,7 +73,9 @@ fn rectangle(alloc: Global, low: i64, high: i64) -> Result<Polygon, Fail> {
     corners.push(position(low, low)?)?;
     let mut rings = Vec::new(alloc);
     rings.push(Ring::new(corners)?)?;
-    Ok(Polygon::new(rings))
+    let mut polygons = Vec::new(alloc);
+    polygons.push(Polygon::new(rings))?;
+    Ok(Area::new(alloc, polygons)?)
 }
 
 /// From 0 to 10 degrees, and from -20 to 20.

@@ -42,7 +42,8 @@ fn policy_report<E: Evaluator<Catalogue>>(
     local: Local,
     at: Moment,
 ) -> Result<Tree, AllocError>
-    requires { Ascends (map (λ v. row_of v.now) vehicles.now) }
+    requires ready { E.may_judge }
+    requires ascends { Ascends (map (λ v. row_of v.now) vehicles.now) }
     ensures { IfOk result (λ t. view t ≡ reported (policy_document policy.now)
         (verdicts (policy_document policy.now) (published_area (publications_of catalogue.now)) (map (λ v. row_of v.now) vehicles.now) local at)) }
 {
@@ -60,7 +61,8 @@ fn policy_reports<E: Evaluator<Catalogue>>(
     local: Local,
     at: Moment,
 ) -> Result<Tree, AllocError>
-    requires { Ascends (map (λ v. row_of v.now) vehicles.now) }
+    requires ready { E.may_judge }
+    requires ascends { Ascends (map (λ v. row_of v.now) vehicles.now) }
     ensures { IfOk result (λ t. view t ≡ list_json (map (λ p. reported p.document
         (verdicts p.document (published_area (publications_of catalogue.now)) (map (λ v. row_of v.now) vehicles.now) local at)) (map lent_policy policies.now))) }
 {
@@ -90,6 +92,7 @@ pub(crate) fn compliance<E: Evaluator<Catalogue>>(
     operator: &Operator,
     at: Moment,
 ) -> Result<Reply, AllocError>
+    requires { E.may_judge }
     ensures { IfOk result (λ r. r ≡ compliance_reply zone.now (operator_of operator.now) (publications_of catalogue.now) book.now.rows at) }
 {
     let vehicles = fleet(book)?;
@@ -111,6 +114,7 @@ pub(crate) fn policy_compliance<E: Evaluator<Catalogue>>(
     at: Moment,
     id: Id,
 ) -> Result<Reply, Denied>
+    requires { E.may_judge }
     ensures { Meets (λ r. r) result
         (policy_compliance_answer zone.now (operator_of operator.now) (publications_of catalogue.now) book.now.rows at id) }
 {

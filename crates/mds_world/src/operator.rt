@@ -80,7 +80,8 @@ fn answered<E: Evaluator<Catalogue>>(
     request: &Request<'_>,
     evaluator: &E,
 ) -> Result<Reply, Denied>
-    requires { book.old.limit ≡ (operator_of operator.now).limit }
+    requires ready { E.may_judge }
+    requires limit { book.old.limit ≡ (operator_of operator.now).limit }
     ensures answer { Meets (λ r. (r, book.new.rows)) result (operator_does (configuration config.now).zone (operator_of operator.now)
         (publications_of catalogue.now) book.old.rows call.now (request_of request.now)) }
     ensures refused { OnErr result (book.new.rows ≡ book.old.rows) }
@@ -119,6 +120,7 @@ pub fn operator_step<E: Evaluator<Catalogue>>(
     request: &Request<'_>,
     evaluator: &E,
 ) -> Reply
+    requires ready { E.may_judge }
     requires place { operator < length (configuration config.now).operators }
     requires limit { Some book.old.limit ≡ option_map (λ o. o.limit) (slice_get (configuration config.now).operators operator) }
     ensures answer { IfSome (slice_get (configuration config.now).operators operator) (λ o.

@@ -75,6 +75,7 @@ impl<E: Evaluator<Catalogue> + Drop> World<E> {
     /// The reply is the success, the first refusal that applies, or 503 `no_memory`; a request that
     /// isn't a success changes nothing.
     pub fn answer(&mut self, request: &Request<'_>) -> Reply
+        requires { E.may_judge }
         ensures step { Step (state_of self.old) (request_of request.now) result (state_of self.new) }
         ensures refused { result.status ≢ 200 → state_of self.new ≡ state_of self.old }
     {
@@ -94,6 +95,7 @@ impl<E: Evaluator<Catalogue> + Drop> World<E> {
     /// There is no memory for the list of replies. No request was answered then, and nothing has
     /// changed.
     pub fn run(&mut self, requests: &[Request<'_>]) -> Result<Vec<Reply>, AllocError>
+        requires { E.may_judge }
         ensures history { IfOk result (λ replies. Run (state_of self.old) (exchanges (map request_of requests.now) replies.items) (state_of self.new)) }
         ensures each { IfOk result (λ replies. length replies.items ≡ length requests.now) }
         ensures isolation { IfOk result (λ replies. IsIsolatedFrom (state_of self.old) (exchanges (map request_of requests.now) replies.items) (state_of self.new)) }
@@ -126,7 +128,8 @@ impl<E: Evaluator<Catalogue> + Drop> World<E> {
 
     /// Answers a call of the operator at this place of the configuration.
     fn operator_call(&mut self, place: usize, call: &OperatorCall, request: &Request<'_>) -> Reply
-        requires { place < length (state_of self.old).configuration.operators }
+        requires ready { E.may_judge }
+        requires place { place < length (state_of self.old).configuration.operators }
         ensures { Gives (Unit {0}) (state_of self.old) (call_does (state_of self.old) (call_kinds.Operator place call.now) (request_of request.now)) result (state_of self.new) }
     {
         let alloc = *self.books.allocator();

@@ -1,13 +1,47 @@
-use Rattle.std.proofs.Common.{◌≡◌, Some, find, bytes_eq, ap, sym, ◌∙◌, arith}
-use Rattle.mds_geography.specs.Geography.{geography_document}
-use Rattle.mds_catalog.specs.Publication.{publication_of, dated}
-use Rattle.mds_catalog.proofs.Found.{geography_here}
+use Rattle.std.proofs.Common.{◌≡◌, Some, None, find, map, get_or, option_map, ap, sym, ◌∙◌, arith}
+use Rattle.std.proofs.Math.ListN.{get_or-map}
+use Rattle.std.proofs.lemmas.List.{length-map}
+use Rattle.std.specs.declared.sync.Arc.{Arc}
+use Rattle.std.specs.declared.alloc.Global.{Global}
+use Rattle.mds_geography.specs.declared.geography.Geography as program
+use Rattle.mds_geography.specs.Geography.{Geography, geography_document}
+use Rattle.mds_catalog.specs.declared.batch.Batch.{Batch}
+use Rattle.mds_catalog.specs.declared.spots.Spot.{Spot}
+use Rattle.mds_catalog.specs.Publication.{Publication, dated, geography_ids}
+use Rattle.mds_catalog.specs.Catalogue.{publications_of}
+use Rattle.mds_catalog.specs.Listed.{has, spots_in}
+use Rattle.mds_catalog.proofs.Places.{nowhere_in, placed, within}
 use Rattle.mds_catalog.proofs.catalogue.Catalogue.geography.Goals as goal
 
-pub returns-in-Some : goal.returns-in-Some
-returns-in-Some c =
-    let same = c.deref-batch.ensures in
-    let found : find (λ g. bytes_eq g.id c.args.id) (publication_of c.share-item.result.value).geographies ≡ Some (geography_document c.in-Some.document.now) =
-    ap (λ b. find (λ g. bytes_eq g.id c.args.id) (publication_of b).geographies) (sym same) ∙ sym c.in-Some.ensures in
-    let here = geography_here c.args.self.now.batches.items c.loop-share.share-index c.share-item.result c.args.id (geography_document c.in-Some.document.now) (omega arith) (cc) found in
-    ap (λ b. Some (dated b.moment (geography_document c.in-Some.document.now))) same ∙ sym here ∙ c.loop-share.invariant
+pub returns-in_err-spot : goal.returns-in_err-spot
+returns-in_err-spot c =
+    let kept = c.args.self.now.kept in
+    let none : find (has (λ (s : Spot). s.id) c.args.id) (spots_in geography_ids 0 (publications_of c.args.self.now)) ≡ None = sym (kept.geographies_found c.args.id) ∙ ap (find (has (λ (s : Spot). s.id) c.args.id)) (sym c.deref.ensures.value) ∙ sym c.spot_of.ensures ∙ c.in_err-spot.was in
+    ap (option_map _) c.from_residual.ensures ∙ sym (nowhere_in (λ (d : Geography). d.id) c.args.id (λ (p : Publication). p.geographies) 0 (publications_of c.args.self.now) none)
+
+pub index-requires : goal.index-requires
+index-requires c =
+    let kept = c.args.self.now.kept in
+    let found : find (has (λ (s : Spot). s.id) c.args.id) (spots_in geography_ids 0 (publications_of c.args.self.now)) ≡ Some c.in_ok-spot.spot = sym (kept.geographies_found c.args.id) ∙ ap (find (has (λ (s : Spot). s.id) c.args.id)) (sym c.deref.ensures.value) ∙ sym c.spot_of.ensures ∙ c.in_ok-spot.was in
+    omega (arith, within (λ (d : Geography). d.id) c.args.id (λ (p : Publication). p.geographies) c.args.self.now.batches.items c.in_ok-spot.spot found, c.args.self.now.batches.ok.0)
+
+pub index-requires-2 : goal.index-requires-2
+index-requires-2 c =
+    let kept = c.args.self.now.kept in
+    let found : find (has (λ (s : Spot). s.id) c.args.id) (spots_in geography_ids 0 (publications_of c.args.self.now)) ≡ Some c.in_ok-spot.spot = sym (kept.geographies_found c.args.id) ∙ ap (find (has (λ (s : Spot). s.id) c.args.id)) (sym c.deref.ensures.value) ∙ sym c.spot_of.ensures ∙ c.in_ok-spot.was in
+    let at = placed (λ (d : Geography). d.id) c.args.id (λ (p : Publication). p.geographies) c.args.self.now.batches.items c.in_ok-spot.spot c.index.result.now c.index.ensures found in
+    omega (arith, at.place, length-map c.index.result.now.value.geographies.items (λ (s : Arc program.Geography Global). geography_document s.value), c.index.result.now.value.geographies.ok.0, ap (λ (b : Batch). b.geographies.len) c.deref-batch.ensures)
+
+pub returns : goal.returns
+returns c =
+    let kept = c.args.self.now.kept in
+    let found : find (has (λ (s : Spot). s.id) c.args.id) (spots_in geography_ids 0 (publications_of c.args.self.now)) ≡ Some c.in_ok-spot.spot = sym (kept.geographies_found c.args.id) ∙ ap (find (has (λ (s : Spot). s.id) c.args.id)) (sym c.deref.ensures.value) ∙ sym c.spot_of.ensures ∙ c.in_ok-spot.was in
+    let at = placed (λ (d : Geography). d.id) c.args.id (λ (p : Publication). p.geographies) c.args.self.now.batches.items c.in_ok-spot.spot c.index.result.now c.index.ensures found in
+    let document : Arc program.Geography Global → Geography = λ s. geography_document s.value in
+    let share = c.index-2.result.now in
+    let items = c.index.result.now.value.geographies.items in
+    let here : get_or (map document items) c.in_ok-spot.spot.place (document share) ≡ document share =
+    get_or-map document items c.in_ok-spot.spot.place share ∙ ap document (ap (λ (b : Batch). get_or b.geographies.items c.in_ok-spot.spot.place share) (sym c.deref-batch.ensures) ∙ sym c.index-2.ensures) in
+    ap (λ d. Some (dated c.deref-batch.result.now.moment (geography_document d))) c.deref-document.ensures
+    ∙ ap (λ (b : Batch). Some (dated b.moment (document share))) c.deref-batch.ensures
+    ∙ ap (λ d. Some (dated c.index.result.now.value.moment d)) (sym here) ∙ sym (at.is (document share))

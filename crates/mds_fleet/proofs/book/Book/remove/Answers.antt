@@ -1,30 +1,29 @@
-use Rattle.std.proofs.Common.{Some, ap, sym, ◌∙◌}
+use Rattle.std.proofs.Common.{Some, Result, Ok, Err, OnOk, ap, sym, ◌∙◌, arith}
 use Rattle.std.specs.FinMap as finite
+use Rattle.std.specs.Option.{option_map}
+use Rattle.std.specs.Result.{result_ok}
 use Rattle.mds_match.specs.Row.{row_of}
-use Rattle.mds_fleet.specs.Fleet.{rows_of}
-use Rattle.mds_fleet.proofs.Rows.{get_at, get_gap, removed_map, removed_kept}
+use Rattle.mds_fleet.proofs.Rows.{get_row, held_row, removed_row, removed_kept}
 use Rattle.mds_fleet.proofs.book.Book.remove.Goals as goal
+use Rattle.mds_fleet.proofs.book.Book.remove.Goals.{in-Some, in-None}
 
 pub invariant_of-self : goal.invariant_of-self
 invariant_of-self c =
-    let place = rw c.deref.ensures.value at c.in-Ok.ensures.found in
-    rw c.remove.ensures.items (removed_kept _ c.self.invariant.ascending c.self.inside.limit _ _ c.self.invariant.within place)
+    removed_kept c.self.inside.limit c.self.inside.vehicles c.remove.new.self c.args.device c.remove.ensures.updates.0 (omega (arith, c.remove.ensures.len)) c.self.invariant
 
-pub returns-in-Ok-clause-held : goal.returns-in-Ok-clause-held
-returns-in-Ok-clause-held c =
-    let place = rw c.deref.ensures.value at c.in-Ok.ensures.found in
-    ap (λ v. Some (row_of v)) c.remove.ensures.value
-    ∙ sym (get_at _ c.self.invariant.ascending _ _ c.remove.result place)
+pub returns-clause-held : goal.returns-clause-held
+returns-clause-held c =
+    elim c.match-remove.branch [
+      | in-Some w ↦ ap (λ r. option_map row_of (result_ok r)) w.result-is ∙ ap (λ v. Some (row_of v)) w.into_inner.ensures ∙ ap held_row w.in-Some.ensures.value
+      | in-None w ↦ ap (λ r. option_map row_of (result_ok r)) w.result-is ∙ ap held_row w.in-None.ensures.value
+    ]
+    ∙ sym (get_row c.self.inside.vehicles c.args.device)
     ∙ ap (λ b. finite.get b.rows c.args.device) c.self.view_is
 
-pub returns-in-Ok-clause-rows : goal.returns-in-Ok-clause-rows
-returns-in-Ok-clause-rows c =
-    let place = rw c.deref.ensures.value at c.in-Ok.ensures.found in
-    ap rows_of c.remove.ensures.items
-    ∙ removed_map _ c.self.invariant.ascending _ _ place
-    ∙ ap (λ b. finite.remove b.rows c.args.device) c.self.view_is
+on_ok : {T E : Type 0} {P : Type 0} (r : Result T E) → P → OnOk r P
+on_ok (Ok value) holds = holds
+on_ok (Err fault) holds = tt
 
-pub returns-in-Err-clause-held : goal.returns-in-Err-clause-held
-returns-in-Err-clause-held c =
-    let gap = rw c.deref.ensures.value at c.in-Err.ensures.gap in
-    sym (get_gap _ c.self.invariant.ascending _ _ gap) ∙ ap (λ b. finite.get b.rows c.args.device) c.self.view_is
+pub returns-clause-rows : goal.returns-clause-rows
+returns-clause-rows c =
+    on_ok _ (removed_row c.self.inside.vehicles c.remove.new.self c.args.device c.remove.ensures.updates.0 ∙ ap (λ b. finite.remove b.rows c.args.device) c.self.view_is)

@@ -1,5 +1,4 @@
-use Rattle.std.proofs.Common.{◌≡◌, Bool, true, false, IsTrue, refl, sym, ap, ◌∙◌}
-use Rattle.mds_geometry.specs.Inside.{edges_of_ring, touches, crossings, is_odd}
+use Rattle.std.proofs.Common.{◌≡◌, Bool, true, false, IsTrue, refl}
 use Rattle.mds_geometry.proofs.Seen.{seen_to_more}
 use Rattle.mds_geometry.proofs.polygon.Polygon.holds.Goals as goal
 
@@ -10,9 +9,7 @@ not_true true h = h refl
 
 pub loop-ring-preserved : goal.loop-ring-preserved
 loop-ring-preserved c =
-    let same = c.positions.ensures.positions in
     let off = not_true _ c.in-Some.ensures.border.1 in
     seen_to_more _ _ _ _ _ _ c.loop-ring-test.true c.ring-item.is
-    (ap (λ r. touches (edges_of_ring r) c.args.at) (sym same) ∙ off)
-    (c.in-Some.ensures.odd ∙ ap (λ r. is_odd (crossings (edges_of_ring r) c.args.at)) same)
+    off c.in-Some.ensures.odd
     c.loop-ring.invariant

@@ -8,8 +8,8 @@ use Rattle.mds_world.proofs.Places.{placed}
 use Rattle.mds_world.proofs.Settled.{stepped}
 use Rattle.mds_world.proofs.world.World.answer.Goals as goal
 
-pub operator_call-requires : goal.operator_call-requires
-operator_call-requires g c =
+pub operator_call-requires-clause-place : goal.operator_call-requires-clause-place
+operator_call-requires-clause-place g c =
     placed (configuration c.args.self.now.config) (request_of c.args.request.now) c.in-Ok-Operator.place c.in-Ok-Operator.call
     (sym c.read_call.ensures ∙ c.in-Ok-Operator.is ∙ ap Ok c.in-Ok-Operator.field-0-is)
 

@@ -1,0 +1,19 @@
+use Rattle.std.proofs.Common.{cond, ◌∷◌, [], subst, sym, ap, ◌∙◌, arith}
+use Rattle.std.specs.List.{insert}
+use Rattle.mds_catalog.specs.Listed.{Lists}
+use Rattle.mds_catalog.specs.Kept.{fresh}
+use Rattle.mds_catalog.proofs.Ordered.{inserted, lists_inserted, lists_known}
+use Rattle.mds_catalog.proofs.entries.list_entry.Goals as goal
+
+pub returns-in-Err-clause-listed : goal.returns-in-Err-clause-listed
+returns-in-Err-clause-listed c =
+    let old = c.args.entries.now.items in
+    let gap = rw c.deref.ensures.value at c.in-Err.ensures.gap in
+    let done = inserted c.insert.result (omega (arith, c.requires.room)) c.insert.ensures.full in
+    let items = c.insert.ensures.items ∙ ap (λ b. cond b (insert old c.in-Err.at c.new.result) old) done ∙ ap (insert old c.in-Err.at) c.new.ensures in
+    subst (λ xs. Lists (λ e. e.spot.id) old xs ((fresh c.args.spot) ∷ [])) (sym items) (lists_inserted (λ e. e.spot.id) old (fresh c.args.spot) c.in-Err.at c.requires.ascends gap)
+
+pub returns-in_default-clause-listed : goal.returns-in_default-clause-listed
+returns-in_default-clause-listed c =
+    let place = rw c.deref.ensures.value at c.in_default.ensures.found in
+    lists_known (λ e. e.spot.id) _ (fresh c.args.spot) _ c.requires.ascends place

@@ -1,8 +1,0 @@
-use Rattle.std.proofs.Common.{◌≡◌, ◌++◌, map, take, drop}
-use Rattle.mds_catalog.specs.Kept.{after_withdrawal}
-use Rattle.mds_catalog.proofs.withdrawals.withdraw.Given as goal
-
--- the entries before this one are withdrawn, the others as they were
-abbrev pub invariant-loop-entry : goal.invariant-loop-entry
-invariant-loop-entry l =
-    l.entries ≡ map (after_withdrawal l.moment l.ids) (take l.entry-index l.initial.entries) ++ drop l.entry-index l.initial.entries

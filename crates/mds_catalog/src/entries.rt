@@ -1,0 +1,172 @@
+//! The published policies in the order of their identifiers, and from when on each is over.
+ghost use Rattle.std.specs.Prelude.{◌≡◌, ◌+◌, ◌≤◌, ◌<◌, ◌∷◌, ◌||◌, [], find, map, min, max, length, vec_len, vec_capacity, IfOk, IfErr};
+ghost use Rattle.std.specs.Option.{option_map_or};
+ghost use Rattle.mds_policy.specs.Policy.{policy_document};
+ghost use Rattle.mds_catalog.specs.Listed.{Ascends, IsAt, IsGap, Lists, has, spots_from};
+ghost use Rattle.mds_catalog.specs.Kept.{after_successors, after_superseding, after_withdrawal, fresh, has_come};
+
+use crate::spots::Spot;
+use mds_policy::Policy;
+use mds_text::{Id, Moment};
+use std::sync::Arc;
+
+/// A published policy: where it stands, and the least moments from which on it is superseded and
+/// withdrawn, where there are any.
+#[derive(Clone, Copy)]
+pub(crate) struct Entry {
+    /// Where the policy stands.
+    pub(crate) spot: Spot,
+    superseded: Option<Moment>,
+    withdrawn: Option<Moment>,
+}
+
+/// The lesser of a moment and one that may be known.
+fn least(known: Option<Moment>, moment: Moment) -> Moment
+    ensures { result ≡ option_map_or (min moment) known moment }
+{
+    match known {
+        Some(known) if known <= moment => known,
+        _ => moment,
+    }
+}
+
+/// Whether a moment that may be known isn't after another.
+fn has_come(known: Option<Moment>, at: Moment) -> bool
+    ensures { result ≡ has_come at known }
+{
+    match known {
+        Some(known) => known <= at,
+        None => false,
+    }
+}
+
+impl Entry {
+    /// The entry of a policy that is new.
+    fn new(spot: Spot) -> Entry
+        ensures { result ≡ fresh spot }
+    {
+        Entry {
+            spot,
+            superseded: None,
+            withdrawn: None,
+        }
+    }
+
+    /// The entry after a policy that takes the place of these from a moment on.
+    fn after_superseding(self, moment: Moment, ids: &[Id]) -> Entry
+        ensures { result ≡ after_superseding moment ids.now self }
+    {
+        if !ids.contains(&self.spot.id) {
+            return self;
+        }
+        Entry {
+            spot: self.spot,
+            superseded: Some(least(self.superseded, moment)),
+            withdrawn: self.withdrawn,
+        }
+    }
+
+    /// The entry after a publication of this moment that withdraws these policies.
+    fn after_withdrawal(self, moment: Moment, ids: &[Id]) -> Entry
+        ensures { result ≡ after_withdrawal moment ids.now self }
+    {
+        if !ids.contains(&self.spot.id) {
+            return self;
+        }
+        Entry {
+            spot: self.spot,
+            superseded: self.superseded,
+            withdrawn: Some(least(self.withdrawn, moment)),
+        }
+    }
+
+    /// Whether the policy is superseded or withdrawn at a moment.
+    pub(crate) fn is_over(&self, at: Moment) -> bool
+        ensures { result ≡ (has_come at self.now.superseded || has_come at self.now.withdrawn) }
+    {
+        has_come(self.superseded, at) || has_come(self.withdrawn, at)
+    }
+}
+
+/// Where an identifier stands among entries, or where it would go.
+fn place_of(entries: &[Entry], id: Id) -> Result<usize, usize>
+    requires { Ascends (λ e. e.spot.id) entries.now }
+    ensures found { IfOk result (IsAt (λ e. e.spot.id) entries.now id) }
+    ensures gap { IfErr result (IsGap (λ e. e.spot.id) entries.now id) }
+{
+    entries.binary_search_by_key(&id, |entry| entry.spot.id)
+}
+
+/// The entry of the policy of this identifier.
+pub(crate) fn entry_of(entries: &[Entry], id: Id) -> Option<Entry>
+    requires { Ascends (λ e. e.spot.id) entries.now }
+    ensures { result ≡ find (has (λ e. e.spot.id) id) entries.now }
+{
+    match place_of(entries, id) {
+        Ok(at) => Some(entries[at]),
+        Err(_) => None,
+    }
+}
+
+/// Lists a policy that is new, unless one of its identifier is listed.
+fn list_entry(entries: &mut Vec<Entry>, spot: Spot)
+    requires ascends { Ascends (λ e. e.spot.id) entries.old.items }
+    requires room { vec_len entries.old < vec_capacity entries.old }
+    ensures listed { Lists (λ e. e.spot.id) entries.old.items entries.new.items (fresh spot ∷ []) }
+    ensures capacity { vec_capacity entries.new ≡ vec_capacity entries.old }
+{
+    if let Err(at) = place_of(entries, spot.id) {
+        let _ = entries.insert(at, Entry::new(spot));
+    }
+}
+
+/// Lists the policies of a batch.
+pub(crate) fn list_policies(entries: &mut Vec<Entry>, batch: usize, policies: &[Arc<Policy>])
+    requires ascends { Ascends (λ e. e.spot.id) entries.old.items }
+    requires room { vec_len entries.old + length policies.now ≤ vec_capacity entries.old }
+    ensures listed { Lists (λ e. e.spot.id) entries.old.items entries.new.items
+        (map fresh (spots_from batch 0 (map (λ share. (policy_document share.value).id) policies.now))) }
+    ensures capacity { vec_capacity entries.new ≡ vec_capacity entries.old }
+{
+    for (place, policy) in policies.iter().enumerate() {
+        let id = policy.id();
+        list_entry(entries, Spot { id, batch, place });
+    }
+}
+
+/// Marks the policies of these identifiers as superseded from a moment on.
+fn supersede_each(entries: &mut [Entry], moment: Moment, ids: &[Id])
+    ensures { entries.new ≡ map (after_superseding moment ids.now) entries.old }
+{
+    for entry in entries.iter_mut() {
+        *entry = entry.after_superseding(moment, ids);
+    }
+}
+
+/// Marks what policies that are published at this moment take the place of: each from its own start
+/// on, and not before the publication (MDS 2.0 Policy, `prev_policies`).
+pub(crate) fn supersede(entries: &mut [Entry], moment: Moment, policies: &[Arc<Policy>])
+    ensures { entries.new
+        ≡ after_successors moment (map (λ share. policy_document share.value) policies.now) entries.old }
+{
+    for policy in policies {
+        let from = later(moment, policy.start());
+        supersede_each(entries, from, policy.previous());
+    }
+}
+
+/// The later of two moments.
+fn later(moment: Moment, other: Moment) -> Moment
+    ensures { result ≡ max moment other }
+{
+    if moment < other { other } else { moment }
+}
+
+/// Marks the policies of these identifiers as withdrawn from a moment on.
+pub(crate) fn withdraw(entries: &mut [Entry], moment: Moment, ids: &[Id])
+    ensures { entries.new ≡ map (after_withdrawal moment ids.now) entries.old }
+{
+    for entry in entries.iter_mut() {
+        *entry = entry.after_withdrawal(moment, ids);
+    }
+}

@@ -1,0 +1,4 @@
+mod Joining
+pub mod Made
+pub mod Running
+pub mod Turning

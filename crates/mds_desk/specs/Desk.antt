@@ -1,0 +1,65 @@
+-- What a desk holds, and what becomes of it.
+use mathlib.Core.List.{IsPrefix}
+use Rattle.std.specs.Prelude.{◌≡◌, ◌⊎◌, ℕ, List, [], length, map, Some, slice_get}
+use Rattle.std.specs.FinMap.{empty}
+use Rattle.std.specs.List.{range_with_len}
+use Rattle.mds_catalog.specs.Publication.{Publication}
+use Rattle.mds_fleet.specs.Books.{Rows}
+use Rattle.mds_request.specs.Configuration.{Configuration, Operator, configuration}
+use Rattle.mds_request.specs.Request.{Request}
+use Rattle.mds_request.specs.Reply.{Reply}
+use Rattle.mds_fronts.specs.Desks.{IsTurn, IsRun}
+use Rattle.mds_desk.specs.declared.desk.Desk.{Desk}
+
+-- a desk between two requests
+pub record DeskState : Type 0 where
+  pub configuration : Configuration
+  -- the operator's place in it
+  pub place : ℕ
+  -- all publications that were seen or learnt, in their order
+  pub known : List Publication
+  -- the operator's rows
+  pub rows : Rows
+
+abbrev pub state_of : {K : Type 0} → Desk K → DeskState
+state_of d =
+    record {
+      configuration = configuration d.config.value;
+      place = d.place;
+      known = d.pane;
+      rows = d.book.rows;
+    }
+
+-- it is a desk of the same operator
+pub record IsSameDesk (d next : DeskState) : Type 0 where
+  pub configuration : next.configuration ≡ d.configuration
+  pub place : next.place ≡ d.place
+
+-- A desk takes one turn, at the front that it knows afterwards.
+pub record TakesTurn (d : DeskState) (request : Request) (reply : Reply) (next : DeskState) : Type 0 where
+  pub same : IsSameDesk d next
+  pub turn : (operator : Operator) → slice_get d.configuration.operators d.place ≡ Some operator
+      → IsTurn d.configuration d.place operator d.known d.rows (record { request = request; front = next.known; reply = reply }) next.rows
+
+-- A desk takes a turn for each of these requests, in their order.
+pub record TakesRun (d : DeskState) (requests : List Request) (replies : List Reply) (next : DeskState) : Type 0 where
+  pub same : IsSameDesk d next
+  pub run : (operator : Operator) → slice_get d.configuration.operators d.place ≡ Some operator
+      → IsRun d.configuration d.place operator d.known d.rows requests replies next.known next.rows
+
+-- A desk learns a list of publications: what it knew and what it is told both begin what it knows then, which is one of
+-- the two. Its rows stay.
+pub record Learns (d : DeskState) (list : List Publication) (next : DeskState) : Type 0 where
+  pub same : IsSameDesk d next
+  pub kept : IsPrefix d.known next.known
+  pub told : IsPrefix list next.known
+  pub one : (next.known ≡ d.known) ⊎ (next.known ≡ list)
+  pub rows : next.rows ≡ d.rows
+
+-- the desk at this place that knows of no publication and has no rows
+abbrev pub new_desk : Configuration → ℕ → DeskState
+new_desk configuration place = record { configuration = configuration; place = place; known = []; rows = empty }
+
+-- one for each operator, in the configuration's order
+abbrev pub new_desks : Configuration → List DeskState
+new_desks configuration = map (new_desk configuration) (range_with_len 0 (length configuration.operators))

@@ -1,0 +1,50 @@
+-- What the author's room holds, and what becomes of it.
+use Rattle.std.specs.Prelude.{◌≡◌, List, [], ◌∷◌, ◌++◌, Bool, true, false, Option, Some, None, IfSome}
+use Rattle.mds_catalog.specs.Publication.{Publication}
+use Rattle.mds_drafts.specs.Drafts.{Drafts}
+use Rattle.mds_drafts.specs.Shelf.{drafts_of}
+use Rattle.mds_request.specs.Configuration.{Configuration, configuration}
+use Rattle.mds_request.specs.Request.{Request}
+use Rattle.mds_request.specs.Reply.{Reply}
+use Rattle.mds_machine.specs.Step.{new_state}
+use Rattle.mds_fronts.specs.Room.{IsRoomTurn}
+use Rattle.mds_desk.specs.declared.author.AuthorRoom.{AuthorRoom}
+
+-- the author's room between two requests
+pub record RoomState : Type 0 where
+  pub configuration : Configuration
+  pub drafts : Drafts
+  -- what is published, in its order
+  pub publications : List Publication
+  -- more can be published
+  pub is_open : Bool
+
+abbrev pub room_of : {K : Type 0} → AuthorRoom K → RoomState
+room_of r =
+    record {
+      configuration = configuration r.config.value;
+      drafts = drafts_of r.drafts;
+      publications = r.publisher.publications;
+      is_open = r.publisher.is_open;
+    }
+
+abbrev pub held_in : RoomState → Drafts × List Publication
+held_in r = (r.drafts, r.publications)
+
+-- A note comes exactly where one publication more stands, and it is of the list then.
+abbrev pub IsNoted : List Publication → Option (List Publication) → List Publication → Type 0
+IsNoted publications None after = after ≡ publications
+IsNoted publications (Some note) after = (note ≡ after) × (p : Publication) × (after ≡ publications ++ p ∷ [])
+
+-- The room takes one turn. Once it is closed it stays so and gives no note; it is open after each note that it gives.
+pub record TakesRoomTurn (r : RoomState) (request : Request) (reply : Reply) (note : Option (List Publication)) (next : RoomState) : Type 0 where
+  pub same : next.configuration ≡ r.configuration
+  pub turn : IsRoomTurn r.configuration (held_in r) request reply (held_in next)
+  pub noted : IsNoted r.publications note next.publications
+  pub stays_closed : r.is_open ≡ false → (next.is_open ≡ false) × (note ≡ None)
+  pub stays_open : IfSome note (λ list. next.is_open ≡ true)
+
+-- the room without a draft and a publication
+abbrev pub new_room : Configuration → RoomState
+new_room configuration =
+    record { configuration = configuration; drafts = (new_state configuration).drafts; publications = []; is_open = true }

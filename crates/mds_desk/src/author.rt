@@ -1,0 +1,128 @@
+//! The author's room.
+ghost use Rattle.std.specs.Prelude.{◌≡◌};
+
+use crate::desk::Desk;
+use crate::operator::refusal_of_another;
+use mds_drafts::Drafts;
+use mds_request::{Actor, AuthorCall, Call, Code, Config, Reply, Request, Routes, read_call};
+use mds_snapshot::{Naming, Note, Publisher};
+use mds_world::{AuthorAct, author_step};
+use std::alloc::Global;
+use std::sync::{Arc, Wait};
+
+/// The author's own place: its drafts, and what is published. It is not `Drop`: end it by `finish`.
+/// Contracts see the configuration, the drafts and the list of what is published.
+pub struct AuthorRoom<K: Naming> {
+    alloc: Global,
+    config: Arc<Config>,
+    routes: Arc<Routes>,
+    drafts: Drafts,
+    publisher: Publisher<K>,
+}
+
+impl<K: Naming> AuthorRoom<K> {
+    ghost use Rattle.std.specs.Prelude.{[], true, false, None, IfSome, MatchBool};
+    ghost use mathlib.Core.List.{IsPrefix};
+    ghost use Rattle.mds_request.specs.Configuration.{configuration};
+    ghost use Rattle.mds_request.specs.Request.{request_of};
+    ghost use Rattle.mds_machine.specs.Answer.{Gives};
+    ghost use Rattle.mds_machine.specs.Author.{author_does};
+    ghost use Rattle.mds_desk.specs.Desk.{state_of};
+    ghost use Rattle.mds_desk.specs.Room.{room_of, new_room, held_in, IsNoted, TakesRoomTurn};
+
+    /// The room over this publisher, without a draft.
+    pub(crate) fn new(
+        alloc: Global,
+        config: Arc<Config>,
+        routes: Arc<Routes>,
+        publisher: Publisher<K>,
+    ) -> AuthorRoom<K>
+        requires { publisher ≡ record { publications = []; is_open = true } }
+        ensures { room_of result ≡ new_room (configuration config.value) }
+    {
+        AuthorRoom {
+            alloc,
+            config,
+            routes,
+            drafts: Drafts::new(alloc),
+            publisher,
+        }
+    }
+
+    /// Answers a request, and carries it out. A publication gives a note of the list, for desks to learn.
+    ///
+    /// For a request of the author the reply is the success, the first refusal that applies, or 503
+    /// `no_memory`; for any other it is `too_large` or `token`. A request that isn't a success changes
+    /// nothing. The reply to a publication is made before it is published, so that nothing is published
+    /// without its success being told. Once memory ran out in the publishing itself, each further
+    /// publication is answered 503.
+    pub fn answer<R: Wait>(&mut self, rt: &R, request: &Request<'_>) -> (Reply, Option<Note<K>>)
+        ensures { TakesRoomTurn (room_of self.old) (request_of request.now) result.0 result.1 (room_of self.new) }
+    {
+        match self.config.actor(request.token) {
+            Actor::Author => match read_call(&self.routes, &self.config, request) {
+                Ok(Call::Author(call)) => self.called(rt, &call, request),
+                Ok(Call::Operator(_, _)) => (Reply::from(Code::Role), None),
+                Err(code) => (Reply::from(code), None),
+            },
+            _ => {
+                let code = refusal_of_another(&self.routes, &self.config, request);
+                (Reply::from(code), None)
+            }
+        }
+    }
+
+    /// Answers a call of the author. The drafts of a publication are taken out after it.
+    fn called<R: Wait>(
+        &mut self,
+        rt: &R,
+        call: &AuthorCall,
+        request: &Request<'_>,
+    ) -> (Reply, Option<Note<K>>)
+        ensures same { (room_of self.new).configuration ≡ (room_of self.old).configuration }
+        ensures answer { Gives (Unit {0}) (held_in (room_of self.old))
+            (author_does (room_of self.old).drafts (room_of self.old).publications call.now (request_of request.now)) result.0 (held_in (room_of self.new)) }
+        ensures noted { IsNoted (room_of self.old).publications result.1 (room_of self.new).publications }
+        ensures stays_closed { (room_of self.old).is_open ≡ false → ((room_of self.new).is_open ≡ false) × (result.1 ≡ None) }
+        ensures stays_open { IfSome result.1 (λ list. (room_of self.new).is_open ≡ true) }
+    {
+        let catalogue = self.publisher.catalogue();
+        match author_step(self.alloc, &mut self.drafts, catalogue, call, request) {
+            AuthorAct::Answer(reply) => (reply, None),
+            AuthorAct::Publish(batch, reply) => {
+                let Ok(share) = Arc::try_clone(&batch) else {
+                    return (Reply::from(Code::NoMemory), None);
+                };
+                match self.publisher.publish(rt, share) {
+                    Ok(note) => {
+                        self.drafts.take_out(&batch);
+                        (reply, Some(note))
+                    }
+                    Err(_) => (Reply::from(Code::NoMemory), None),
+                }
+            }
+        }
+    }
+
+    /// Whether all that a desk of the same opening knows is published here; if not, the desk knows all that
+    /// is published here. Takes no memory.
+    pub fn has_published(&self, desk: &Desk<K>) -> bool
+        ensures { MatchBool result (IsPrefix (state_of desk.now).known (room_of self.now).publications)
+            (IsPrefix (room_of self.now).publications (state_of desk.now).known) }
+    {
+        self.publisher.has_published(desk.pane())
+    }
+
+    /// Ends the room. It waits for the looks that are held; every request at a desk is then answered 503
+    /// `no_snapshot`.
+    pub fn finish<R: Wait>(self, rt: &R) {
+        let Self {
+            alloc: _,
+            config: _config,
+            routes: _routes,
+            drafts: _drafts,
+            publisher,
+        } = self;
+        publisher.finish(rt);
+    }
+}

@@ -1,0 +1,67 @@
+//! The room and the desks of a server, all of one list.
+ghost use Rattle.std.specs.Prelude.{◌≡◌, [], IfOk, length, map, replicate};
+ghost use Rattle.mds_request.specs.Configuration.{configuration};
+ghost use Rattle.mds_snapshot.specs.Opening.{book_of};
+ghost use Rattle.mds_desk.specs.Desk.{state_of, new_desks};
+ghost use Rattle.mds_desk.specs.Room.{room_of, new_room};
+
+use crate::author::AuthorRoom;
+use crate::desk::Desk;
+use mds_request::{Config, Routes};
+use mds_snapshot::{Blank, Naming, OpenFault, Pane, open};
+use std::alloc::{AllocError, Global};
+use std::sync::{Arc, Wait};
+
+/// A desk of each operator, in the configuration's order.
+fn desks<K: Naming>(
+    alloc: Global,
+    config: &Arc<Config>,
+    routes: &Arc<Routes>,
+    panes: Vec<Pane<K>>,
+) -> Result<Vec<Desk<K>>, AllocError>
+    requires { panes.items ≡ replicate (length (configuration config.now.value).operators) [] }
+    ensures { IfOk result (λ desks. map state_of desks.items ≡ new_desks (configuration config.now.value)) }
+{
+    let mut desks = Vec::with_capacity(alloc, panes.len())?;
+    for pane in panes {
+        let place = desks.len();
+        let config = Arc::try_clone(config)?;
+        let routes = Arc::try_clone(routes)?;
+        desks.push_reserved(Desk::new(alloc, config, routes, place, pane));
+    }
+    Ok(desks)
+}
+
+/// The author's room, without a draft and a publication, and the desk of each operator, in the
+/// configuration's order, without a vehicle. They are of the one opening that the blank is; K names it.
+///
+/// # Errors
+///
+/// `NoMemory` where memory ran out, `NoPlace` where no reader's place was to be had.
+pub fn furnish<K: Naming, R: Wait>(
+    rt: &R,
+    alloc: Global,
+    config: Config,
+    blank: Blank,
+) -> Result<(AuthorRoom<K>, Vec<Desk<K>>), OpenFault>
+    requires { book_of blank ≡ K.book }
+    ensures { IfOk result (λ r. (room_of r.0 ≡ new_room (configuration config)) × (map state_of r.1.items ≡ new_desks (configuration config))) }
+{
+    let (Ok(config), Ok(routes)) = (Arc::new(alloc, config), Routes::new(alloc)) else {
+        return Err(OpenFault::NoMemory);
+    };
+    let Ok(routes) = Arc::new(alloc, routes) else {
+        return Err(OpenFault::NoMemory);
+    };
+    let (publisher, panes) = open::<K, R>(rt, alloc, blank, config.operators().len())?;
+    match desks(alloc, &config, &routes, panes) {
+        Ok(desks) => {
+            let room = AuthorRoom::new(alloc, config, routes, publisher);
+            Ok((room, desks))
+        }
+        Err(_) => {
+            publisher.finish(rt);
+            Err(OpenFault::NoMemory)
+        }
+    }
+}

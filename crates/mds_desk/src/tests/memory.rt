@@ -1,0 +1,122 @@
+//! The same with one growth refused, wherever it is: then one reply is 503 `no_memory`, or one call wants
+//! memory, and what is asked once more is answered. Where nothing could be furnished, the scene is played
+//! again.
+use super::*;
+
+/// Plays a scene; a second time where the first found no memory.
+fn stage_at_last<S: Scene, R: Wait + Abort>(rt: &R, alloc: Global, scene: &S) -> Result<(), Fail> {
+    if !stage(rt, alloc, scene)? {
+        assert!(rt; stage(rt, alloc, scene)?);
+    }
+    Ok(())
+}
+
+/// A request of the author, once more where it was refused for want of memory: no note comes then.
+fn told<K: Naming, R: Wait + Abort>(
+    rt: &R,
+    room: &mut AuthorRoom<K>,
+    exchange: &Exchange,
+) -> Result<Option<Note<K>>, Fail> {
+    let request = request(moment(exchange)?, exchange);
+    let (mut reply, mut note) = room.answer(rt, &request);
+    if reply.status() == 503 {
+        assert_eq!(rt; reply.body(), NO_MEMORY.as_bytes());
+        assert!(rt; note.is_none());
+        (reply, note) = room.answer(rt, &request);
+    }
+    assert_success(rt, &reply, exchange);
+    Ok(note)
+}
+
+/// Puts both documents and publishes them, each at the first or the second try.
+fn set_up_at_last<K: Naming, R: Wait + Abort>(
+    rt: &R,
+    room: &mut AuthorRoom<K>,
+) -> Result<Note<K>, Fail> {
+    assert!(rt; told(rt, room, &PUT_SQUARE)?.is_none());
+    assert!(rt; told(rt, room, &PUT_CAP)?.is_none());
+    Ok(told(rt, room, &PUBLISH)?.ok_or("a note")?)
+}
+
+const LINES: [Exchange; 4] = [REPORT_FIRST, WITHIN, REPORT_SECOND, EXCEEDED];
+
+struct Answering;
+
+impl Scene for Answering {
+    fn play<K: Naming, R: Wait + Abort>(
+        &self,
+        rt: &R,
+        _alloc: Global,
+        room: &mut AuthorRoom<K>,
+        alfa: &mut Desk<K>,
+        mut bravo: Desk<K>,
+    ) -> Result<bool, Fail> {
+        let note = set_up_at_last(rt, room)?;
+        alfa.learn(&note);
+        bravo.learn(&note.again());
+        for exchange in &LINES {
+            let mut reply = asked(alfa, exchange)?;
+            if reply.status() == 503 {
+                assert_eq!(rt; reply.body(), NO_MEMORY.as_bytes());
+                reply = asked(alfa, exchange)?;
+            }
+            assert_success(rt, &reply, exchange);
+        }
+        let mut reply = asked(&mut bravo, &none_counted("bravo"))?;
+        if reply.status() == 503 {
+            assert_eq!(rt; reply.body(), NO_MEMORY.as_bytes());
+            reply = asked(&mut bravo, &none_counted("bravo"))?;
+        }
+        assert_success(rt, &reply, &none_counted("bravo"));
+        Ok(true)
+    }
+}
+
+/// Drafts, a publication, what is learnt, reports and questions. Learning takes no memory.
+#[test]
+fn answers_or_wants_memory(rt: HostRuntime) -> Result<(), Fail> {
+    stage_at_last(&rt, rt.alloc(), &Answering)
+}
+
+struct Running;
+
+impl Scene for Running {
+    fn play<K: Naming, R: Wait + Abort>(
+        &self,
+        rt: &R,
+        _alloc: Global,
+        room: &mut AuthorRoom<K>,
+        alfa: &mut Desk<K>,
+        _bravo: Desk<K>,
+    ) -> Result<bool, Fail> {
+        let note = set_up_at_last(rt, room)?;
+        alfa.learn(&note);
+        let [first, second, third, fourth] = &LINES;
+        let requests = [
+            request(moment(first)?, first),
+            request(moment(second)?, second),
+            request(moment(third)?, third),
+            request(moment(fourth)?, fourth),
+        ];
+        let replies = match alfa.run(&requests, &mut OpenGate, &Plain) {
+            Ok(replies) => replies,
+            Err(_) => alfa.run(&requests, &mut OpenGate, &Plain)?,
+        };
+        assert_eq!(rt; replies.len(), 4);
+        for (reply, exchange) in replies.iter().zip(&LINES) {
+            if reply.status() == 503 {
+                assert_eq!(rt; reply.body(), NO_MEMORY.as_bytes());
+                return Ok(false);
+            }
+            assert_success(rt, reply, exchange);
+        }
+        Ok(true)
+    }
+}
+
+/// All of an operator's requests in one call. Where the call wants memory, the same call answers them
+/// all; where one reply is 503 `no_memory`, those before it are as they should be.
+#[test]
+fn runs_or_wants_memory(rt: HostRuntime) -> Result<(), Fail> {
+    stage_at_last(&rt, rt.alloc(), &Running)
+}

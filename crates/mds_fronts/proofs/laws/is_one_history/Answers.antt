@@ -1,0 +1,5 @@
+use Rattle.mds_fronts.proofs.Together.{is_one_history}
+use Rattle.mds_fronts.proofs.laws.is_one_history.Goals as goal
+
+pub returns : goal.returns
+returns c = is_one_history

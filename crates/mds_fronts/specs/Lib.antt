@@ -1,0 +1,5 @@
+pub mod Desks
+pub mod Fronts
+pub mod Laws
+pub mod OneHistory
+pub mod Room

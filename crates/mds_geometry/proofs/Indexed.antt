@@ -1,0 +1,36 @@
+-- One strip tells what the polygons of an index hold.
+use Rattle.std.proofs.Common.{arith, ◌≡◌, ◌∙◌, ap, ℕ, ◌+◌, ◌<◌, false, List, [], length, get_or}
+use Rattle.std.proofs.lemmas.Bool.Decides.{nat_tests}
+use Rattle.std.proofs.lemmas.List.{get_or_default}
+use Rattle.mds_geometry.specs.declared.position.Position.{Position}
+use Rattle.mds_geometry.specs.declared.bounds.Bounds.{Bounds}
+use Rattle.mds_geometry.specs.declared.scale.Scale.{Scale}
+use Rattle.mds_geometry.specs.declared.strip.Edge.{Edge}
+use Rattle.mds_geometry.specs.Area.{area_holds}
+use Rattle.mds_geometry.specs.Strips.{IsIndexed, any_holds, at_most, edges_from, reaches, strip_of}
+use Rattle.mds_geometry.proofs.Idle.{any_holds-edges, any_holds-filter, edges_ascend}
+use Rattle.mds_geometry.proofs.Reaching.{idle_unreached}
+
+at_most_within : (last n : ℕ) → at_most last n < last + 1
+at_most_within last n = grind (arith, nat_tests)
+
+pub strip_within : (polygons : List (List (List Position))) (bounds : Bounds) (scale : Scale) (strips : List (List Edge)) (at : Position)
+    → IsIndexed polygons bounds scale strips → strip_of scale at.lat < length strips
+strip_within polygons bounds scale strips at index =
+    let within = at_most_within scale.last _ in
+    let s : strip_of scale at.lat < scale.last + 1 = within in
+    let whole = index.filed.whole in
+    rw whole s
+
+pub strip_tells : (polygons : List (List (List Position))) (bounds : Bounds) (scale : Scale) (strips : List (List Edge)) (at : Position)
+    → IsIndexed polygons bounds scale strips
+    → any_holds at 0 false (get_or strips (strip_of scale at.lat) []) ≡ area_holds polygons at
+strip_tells polygons bounds scale strips at index =
+    let s = strip_of scale at.lat in
+    ap (any_holds at 0 false) (index.filed.filed s (strip_within polygons bounds scale strips at index))
+    ∙ any_holds-filter at (reaches scale s) (idle_unreached scale at) 0 false (edges_from 0 polygons) (edges_ascend 0 polygons)
+    ∙ any_holds-edges at 0 polygons
+
+-- an element within a list, whatever stands in for what is past it
+pub strip_at : (strips : List (List Edge)) (i j : ℕ) (strip : List Edge) → strip ≡ get_or strips i strip → i ≡ j → j < length strips → strip ≡ get_or strips j []
+strip_at strips i j strip is same within = is ∙ ap (λ k. get_or strips k strip) same ∙ get_or_default strips j strip [] within

@@ -1,0 +1,63 @@
+-- The edges of an area by strips of latitude, and how the edges of one strip tell what the area holds.
+use Rattle.std.specs.Prelude.{ℕ, ◌+◌, ◌-◌, ◌*◌, ◌/◌, ◌^◌, ◌<◌, ◌≤◌, ◌≡◌, length, get_or, Bool, not, cond, ◌&&◌, ◌||◌, nat_eq, nat_le, if◌then◌else◌, List, [], ◌∷◌, ◌++◌, map, ℤ, pos, neg_ℤ, ◌+ℤ◌, int_le, unsigned_abs}
+use Rattle.std.specs.Int.{abs_diff}
+use Rattle.std.specs.List.{filter, sum_by}
+use Rattle.mds_geometry.specs.Bounds.{AreBounded}
+use Rattle.mds_geometry.specs.declared.bounds.Bounds.{Bounds}
+use Rattle.mds_geometry.specs.Inside.{edges, is_on, is_crossed}
+use Rattle.mds_geometry.specs.declared.position.Position.{Position}
+use Rattle.mds_geometry.specs.declared.strip.Edge.{Edge}
+use Rattle.mds_geometry.specs.declared.scale.Scale.{Scale}
+
+-- an edge of the polygon at this place
+abbrev pub edge_of : ℕ → Position × Position → Edge
+edge_of polygon e = record { from = e.0; to = e.1; polygon = polygon }
+
+-- the edges of some polygons in their order, where the first polygon has this place
+abbrev pub edges_from : ℕ → List (List (List Position)) → List Edge
+edges_from place [] = []
+edges_from place (rings ∷ polygons) = map (edge_of place) (edges rings) ++ edges_from (place + 1) polygons
+
+-- the row of a latitude: its units north of the least latitude that there is
+abbrev pub row_of : ℤ → ℕ
+row_of lat = if int_le (neg_ℤ (pos 1800000000)) lat then unsigned_abs (lat +ℤ pos 1800000000) else 0
+
+-- the lesser of a number and the last strip
+abbrev pub at_most : ℕ → ℕ → ℕ
+at_most last n = if nat_le n last then n else last
+
+-- the strip of a latitude, from south to north
+abbrev pub strip_of : Scale → ℤ → ℕ
+strip_of scale lat = at_most scale.last (row_of lat / 2 ^ scale.shift - scale.first)
+
+-- a number lies between two others, these included
+abbrev pub lies_between : ℕ → ℕ → ℕ → Bool
+lies_between a b n = (nat_le a n && nat_le n b) || (nat_le b n && nat_le n a)
+
+-- an edge reaches a strip
+abbrev pub reaches : Scale → ℕ → Edge → Bool
+reaches scale strip e = lies_between (strip_of scale e.from.lat) (strip_of scale e.to.lat) strip
+
+-- whether a polygon among these edges holds a position, where edges of the first polygon were seen
+-- before, of which an odd or an even number was crossed
+abbrev pub any_holds : Position → ℕ → Bool → List Edge → Bool
+any_holds at polygon odd [] = odd
+any_holds at polygon odd (e ∷ es) =
+    if nat_eq e.polygon polygon
+    then (is_on e.from e.to at || any_holds at polygon (cond (is_crossed e.from e.to at) (not odd) odd) es)
+    else (odd || (is_on e.from e.to at || any_holds at e.polygon (is_crossed e.from e.to at) es))
+
+-- each strip has the edges that reach it, in their order
+pub record AreFiled (scale : Scale) (edges : List Edge) (strips : List (List Edge)) : Type 0 where
+  pub whole : length strips ≡ scale.last + 1
+  pub filed : (s : ℕ) → s < length strips → get_or strips s [] ≡ filter (reaches scale s) edges
+
+-- how many strips an edge reaches
+abbrev pub span : Scale → Edge → ℕ
+span scale e = abs_diff (strip_of scale e.from.lat) (strip_of scale e.to.lat) + 1
+
+-- the polygons lie within the bounds, and their edges are in the strips, in which they have few places
+pub record IsIndexed (polygons : List (List (List Position))) (bounds : Bounds) (scale : Scale) (strips : List (List Edge)) : Type 0 where
+  pub bounded : AreBounded bounds polygons
+  pub filed : AreFiled scale (edges_from 0 polygons) strips
+  pub few : sum_by (span scale) (edges_from 0 polygons) ≤ 4 * length (edges_from 0 polygons)

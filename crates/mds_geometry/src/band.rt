@@ -1,0 +1,42 @@
+//! Bands of longitude or latitude.
+ghost use Rattle.std.specs.Prelude.{◌≡◌, true};
+ghost use Rattle.mds_geometry.specs.Bounds.{lies_in, IsWider};
+
+use mds_text::Units7;
+
+/// A least and a greatest coordinate, in units of 10^-7 degree.
+#[derive(Clone, Copy)]
+pub(crate) struct Band {
+    /// The least coordinate.
+    least: i64,
+    /// The greatest coordinate.
+    greatest: i64,
+}
+
+impl Band {
+    /// A band that holds nothing.
+    pub(crate) fn none() -> Band {
+        Band {
+            least: i64::MAX,
+            greatest: i64::MIN,
+        }
+    }
+
+    /// Whether a coordinate lies in the band, its borders included.
+    pub(crate) fn holds(&self, x: Units7) -> bool
+        ensures { result ≡ lies_in self.now x }
+    {
+        let x = x.get();
+        self.least <= x && x <= self.greatest
+    }
+
+    /// Widens the band to hold a coordinate.
+    pub(crate) fn widen(&mut self, x: Units7)
+        ensures wider { IsWider self.old self.new }
+        ensures held { lies_in self.new x ≡ true }
+    {
+        let x = x.get();
+        self.least = self.least.min(x);
+        self.greatest = self.greatest.max(x);
+    }
+}

@@ -1,0 +1,75 @@
+//! The bounds of an area (a bounding box: RFC 7946, section 5).
+ghost use Rattle.std.specs.Prelude.{◌≡◌, true};
+ghost use Rattle.std.specs.List.{All};
+ghost use Rattle.mds_geometry.specs.Bounds.{is_within, AreWider, IsBounded, AreBounded};
+
+use crate::band::Band;
+use crate::polygon::Polygon;
+use crate::position::Position;
+use crate::ring::Ring;
+
+/// Bounds of longitude and latitude.
+#[derive(Clone, Copy)]
+pub(crate) struct Bounds {
+    /// The longitudes.
+    lng: Band,
+    /// The latitudes.
+    lat: Band,
+}
+
+impl Bounds {
+    /// Bounds that hold nothing.
+    fn none() -> Bounds {
+        Bounds {
+            lng: Band::none(),
+            lat: Band::none(),
+        }
+    }
+
+    /// Whether a position lies within the bounds, these included.
+    pub(crate) fn holds(&self, at: &Position) -> bool
+        ensures { result ≡ is_within self.now at.now }
+    {
+        self.lng.holds(at.lng) && self.lat.holds(at.lat)
+    }
+
+    /// Widens the bounds to hold a position.
+    fn widen(&mut self, at: &Position)
+        ensures wider { AreWider self.old self.new }
+        ensures held { is_within self.new at.now ≡ true }
+    {
+        self.lng.widen(at.lng);
+        self.lat.widen(at.lat);
+    }
+
+    /// Widens the bounds to hold a ring.
+    fn widen_to_ring(&mut self, ring: &Ring)
+        ensures wider { AreWider self.old self.new }
+        ensures held { IsBounded self.new ring.now }
+    {
+        for position in ring.positions() {
+            self.widen(position);
+        }
+    }
+
+    /// Widens the bounds to hold a polygon.
+    fn widen_to_polygon(&mut self, polygon: &Polygon)
+        ensures wider { AreWider self.old self.new }
+        ensures held { All (IsBounded self.new) polygon.now }
+    {
+        for ring in polygon.rings() {
+            self.widen_to_ring(ring);
+        }
+    }
+}
+
+/// The narrowest bounds that hold all positions of the polygons.
+pub(crate) fn bounds_of(polygons: &[Polygon]) -> Bounds
+    ensures { AreBounded result polygons.now }
+{
+    let mut bounds = Bounds::none();
+    for polygon in polygons {
+        bounds.widen_to_polygon(polygon);
+    }
+    bounds
+}

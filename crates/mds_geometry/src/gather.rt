@@ -1,0 +1,49 @@
+//! The edges of several polygons in one list.
+ghost use Rattle.std.specs.Prelude.{◌≡◌, ◌≤◌, ◌++◌, length, map, OnOk, IfOk};
+ghost use Rattle.mds_geometry.specs.Inside.{edges_of_ring, edges};
+ghost use Rattle.mds_geometry.specs.Strips.{edge_of, edges_from};
+
+use crate::polygon::Polygon;
+use crate::position::Position;
+use crate::strip::Edge;
+use std::alloc::{AllocError, Global};
+
+/// Puts the edges of a ring after others, as edges of the polygon at this place.
+fn gather_ring(all: &mut Vec<Edge>, polygon: usize, ring: &[Position]) -> Result<(), AllocError>
+    requires { 1 ≤ length ring.now }
+    ensures { OnOk result (all.new.items ≡ all.old.items ++ map (edge_of polygon) (edges_of_ring ring.now)) }
+{
+    for (from, to) in ring.iter().zip(&ring[1..]) {
+        all.push(Edge {
+            from: *from,
+            to: *to,
+            polygon,
+        })?;
+    }
+    Ok(())
+}
+
+/// Puts the edges of a polygon, which has this place, after others.
+fn gather_polygon(all: &mut Vec<Edge>, place: usize, polygon: &Polygon) -> Result<(), AllocError>
+    ensures { OnOk result (all.new.items ≡ all.old.items ++ map (edge_of place) (edges polygon.now)) }
+{
+    for ring in polygon.rings() {
+        gather_ring(all, place, ring.positions())?;
+    }
+    Ok(())
+}
+
+/// The edges of the polygons in their order.
+///
+/// # Errors
+///
+/// Memory ran out.
+pub(crate) fn gather(alloc: Global, polygons: &[Polygon]) -> Result<Vec<Edge>, AllocError>
+    ensures { IfOk result (λ all. all.items ≡ edges_from 0 polygons.now) }
+{
+    let mut all = Vec::new(alloc);
+    for (place, polygon) in polygons.iter().enumerate() {
+        gather_polygon(&mut all, place, polygon)?;
+    }
+    Ok(all)
+}

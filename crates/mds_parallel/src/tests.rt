@@ -1,0 +1,177 @@
+//! Verdicts by one thread and by several, over vehicles in one square.
+
+ghost use Rattle.std.specs.Prelude.{[], cond, bytes_eq};
+
+use crate::Chunked;
+use crate::chunked::by_threads;
+use mds_geometry::{Area, Polygon, Position, Ring};
+use mds_match::{Local, Places, Vehicle};
+use mds_policy::Policy;
+use mds_text::{Id, Moment, Token, Units7};
+use mds_verdict::{Evaluator, Plain, RuleVerdict, Status};
+use std::alloc::Global;
+use std::process::Abort;
+use std::test::Fail;
+
+/// Thursday, noon.
+const NOON: Local = Local {
+    weekday: 4,
+    second: 43200,
+};
+
+/// A square, and no geography under any other identifier.
+#[derive(Drop)]
+struct Square {
+    id: Id,
+    square: Area,
+}
+
+impl Places for Square {
+    ghost polygons = { λ s id. cond (bytes_eq id s.id) s.square [] };
+
+    fn holds(&self, geography: Id, position: Position) -> bool {
+        geography == self.id && self.square.holds(position)
+    }
+
+    fn area(&self, geography: Id) -> Option<&Area> {
+        if geography == self.id {
+            Some(&self.square)
+        } else {
+            None
+        }
+    }
+}
+
+fn id(text: &str) -> Result<Id, Fail> {
+    Ok(Id::read(text).ok_or("no identifier")?)
+}
+
+fn word(text: &str) -> Result<Token, Fail> {
+    Ok(Token::read(text).ok_or("no token")?)
+}
+
+fn moment() -> Result<Moment, Fail> {
+    Ok(Moment::new(2000).ok_or("no moment")?)
+}
+
+fn position(lng: i64, lat: i64) -> Result<Position, Fail> {
+    let lng = Units7::new(lng).ok_or("no longitude")?;
+    let lat = Units7::new(lat).ok_or("no latitude")?;
+    Ok(Position { lng, lat })
+}
+
+/// From 0 to 10 degrees.
+fn one_square(alloc: Global) -> Result<Square, Fail> {
+    let mut corners = Vec::new(alloc);
+    corners.push(position(0, 0)?)?;
+    corners.push(position(100_000_000, 0)?)?;
+    corners.push(position(100_000_000, 100_000_000)?)?;
+    corners.push(position(0, 100_000_000)?)?;
+    corners.push(position(0, 0)?)?;
+    let mut rings = Vec::new(alloc);
+    rings.push(Ring::new(corners)?)?;
+    let mut polygons = Vec::new(alloc);
+    polygons.push(Polygon::new(rings))?;
+    Ok(Square {
+        id: id("00000000-0000-4000-8000-000000000101")?,
+        square: Area::new(alloc, polygons)?,
+    })
+}
+
+/// A policy of one rule, at most one vehicle in the square.
+fn cap(alloc: Global) -> Result<Policy, Fail> {
+    Ok(Policy::read(
+        alloc,
+        br#"{"policy_id":"00000000-0000-4000-8000-000000000201","name":"cap","start_date":1000,"rules":[{"rule_id":"00000000-0000-4000-8000-000000000301","name":"cap","rule_type":"count","geographies":["00000000-0000-4000-8000-000000000101"],"maximum":1}]}"#,
+    )?)
+}
+
+/// An available scooter at 5 degrees east and north.
+fn scooter(alloc: Global, device: &str) -> Result<Vehicle, Fail> {
+    Ok(Vehicle {
+        device: id(device)?,
+        vehicle_type: word("scooter")?,
+        propulsion: Vec::new(alloc),
+        state: word("available")?,
+        events: Vec::new(alloc),
+        timestamp: moment()?,
+        position: position(50_000_000, 50_000_000)?,
+        since: moment()?,
+    })
+}
+
+/// Scooters with the device numbers before this one.
+fn fleet_of(alloc: Global, size: u32) -> Result<Vec<Vehicle>, Fail> {
+    let mut fleet = Vec::new(alloc);
+    for number in 0..size {
+        let device = format!(in alloc; "00000000-0000-4000-8000-{number:012x}")?;
+        fleet.push(scooter(alloc, device.as_str())?)?;
+    }
+    Ok(fleet)
+}
+
+/// One verdict on the rule, with this status and measure.
+fn expect(
+    rt: &impl Abort,
+    found: &[RuleVerdict],
+    status: Status,
+    measure: u64,
+) -> Result<(), Fail> {
+    assert_eq!(rt; found.len(), 1);
+    for verdict in found {
+        assert!(rt; verdict.rule == id("00000000-0000-4000-8000-000000000301")?);
+        assert_eq!(rt; verdict.status, status);
+        assert_eq!(rt; verdict.measure, measure);
+    }
+    Ok(())
+}
+
+/// The first 100 devices of `fleet_of`.
+fn expect_devices(rt: &impl Abort, found: &[RuleVerdict]) -> Result<(), Fail> {
+    for verdict in found {
+        assert_eq!(rt; verdict.devices.len(), 100);
+        for (number, device) in verdict.devices.iter().enumerate() {
+            let wanted = format!(in *verdict.devices.allocator();
+                "00000000-0000-4000-8000-{number:012x}"
+            )?;
+            assert!(rt; *device == id(wanted.as_str())?);
+        }
+    }
+    Ok(())
+}
+
+#[test]
+fn as_one_thread(rt: HostRuntime) -> Result<(), Fail> {
+    let alloc = rt.alloc();
+    let places = one_square(alloc)?;
+    let policy = cap(alloc)?;
+    let fleet = fleet_of(alloc, 5003)?;
+    let vehicles = fleet.iter().collect::<Vec<&Vehicle>>(alloc)?;
+    let at = moment()?;
+    let plain = Plain.verdicts(alloc, &policy, &places, &vehicles, NOON, at)?;
+    expect(&rt, &plain, Status::Violated, 5003)?;
+    expect_devices(&rt, &plain)?;
+    let threads = by_threads(&rt, alloc, &policy, &places, &vehicles, NOON, at)?;
+    expect(&rt, &threads, Status::Violated, 5003)?;
+    expect_devices(&rt, &threads)?;
+    Ok(())
+}
+
+#[test]
+fn little_work(rt: HostRuntime) -> Result<(), Fail> {
+    let alloc = rt.alloc();
+    let places = one_square(alloc)?;
+    let policy = cap(alloc)?;
+    let at = moment()?;
+    let chunked = Chunked(rt);
+    let none = chunked.verdicts(alloc, &policy, &places, &[], NOON, at)?;
+    expect(&chunked.0, &none, Status::Ok, 0)?;
+    let none = by_threads(&chunked.0, alloc, &policy, &places, &[], NOON, at)?;
+    expect(&chunked.0, &none, Status::Ok, 0)?;
+    let fleet = fleet_of(alloc, 101)?;
+    let vehicles = fleet.iter().collect::<Vec<&Vehicle>>(alloc)?;
+    let few = chunked.verdicts(alloc, &policy, &places, &vehicles, NOON, at)?;
+    expect(&chunked.0, &few, Status::Violated, 101)?;
+    expect_devices(&chunked.0, &few)?;
+    Ok(())
+}

@@ -1,0 +1,14 @@
+mod Turning
+mod Punctuated
+mod Passing
+mod Closing
+mod Bytes
+mod Lexed
+mod Valued
+mod Agreeing
+mod Turns
+mod Single
+mod Placing
+mod Counted
+mod Nodes
+mod Lists

@@ -1,0 +1,4 @@
+pub mod Direct
+pub mod Entries
+pub mod Gathered
+pub mod Node

@@ -1,0 +1,28 @@
+-- The JSON value that a `Node` stands for.
+use Rattle.std.specs.Prelude.{ℕ, List}
+use Rattle.mds_text.specs.Tree.{Json, null, boolean, int, text, degrees, list, object, no_items, item, items_of, members_of}
+use Rattle.mds_reading.specs.declared.node.Node.{Node, Node-F, fold-Node}
+use Rattle.mds_reading.specs.declared.node.Node.TheOpen.{NodeMember-F}
+use Rattle.mds_reading.specs.declared.node.NodeMember.{NodeMember}
+
+-- one level, with each value inside already seen as JSON
+abbrev pub node_step : Node-F Json (List ℕ × Json) → Json
+node_step Node-F.Null = null
+node_step (Node-F.Bool b) = boolean b
+node_step (Node-F.Int z) = int z
+node_step (Node-F.Text s) = text s.now
+node_step (Node-F.Degrees u) = degrees u
+node_step (Node-F.Pair s t) = list (item (text s.now) (item (text t.now) no_items))
+node_step (Node-F.List v) = list (items_of v.items)
+node_step (Node-F.Object v) = object (members_of v.items)
+
+abbrev pub member_step : NodeMember-F Json (List ℕ × Json) → List ℕ × Json
+member_step m = (m.name.now, m.value)
+
+-- what a `Node` stands for
+abbrev pub node_view : Node → Json
+node_view = fold-Node Json (List ℕ × Json) node_step member_step
+
+-- a member's name and value
+abbrev pub node_member_view : NodeMember → List ℕ × Json
+node_member_view m = (m.name.now, node_view m.value)

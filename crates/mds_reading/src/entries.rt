@@ -1,0 +1,57 @@
+ghost use Rattle.std.specs.Prelude.{◌≡◌, [], map};
+ghost use Rattle.mds_text.specs.Fault.{Gives, text_cause};
+ghost use Rattle.mds_text.specs.Fields.{list_of};
+ghost use Rattle.mds_reading.specs.Entries.{entries_view};
+ghost use Rattle.mds_reading.specs.Node.{node_view};
+
+use crate::node::Node;
+use mds_text::{Field, TextFault};
+use std::alloc::Global;
+
+/// The entries of a list: those that are lent, or where there are any those that were made for it.
+#[derive(Drop)]
+pub struct Entries<'t, 'a> {
+    lent: &'t [Node<'a>],
+    made: Vec<Node<'a>>,
+}
+
+impl<'t, 'a> Entries<'t, 'a> {
+    /// The entries, in their order.
+    pub fn as_slice(&self) -> &[Node<'a>]
+        ensures { map node_view result.now ≡ entries_view self.now }
+    {
+        if self.made.is_empty() {
+            self.lent
+        } else {
+            &self.made
+        }
+    }
+}
+
+/// The entries of a list. Any other value is a bad field of this name. For a list of two texts memory
+/// is asked for.
+pub fn entries_of<'t, 'a>(
+    alloc: Global,
+    value: &'t Node<'a>,
+    field: Field,
+) -> Result<Entries<'t, 'a>, TextFault>
+    ensures { Gives text_cause (λ entries. entries_view entries) result (list_of field (node_view value.now)) }
+{
+    match value {
+        Node::List(entries) => Ok(Entries {
+            lent: entries,
+            made: Vec::new(alloc),
+        }),
+        Node::Pair(first, second) => {
+            let made = vec![in alloc; Node::Text(first), Node::Text(second)]?;
+            Ok(Entries { lent: none(), made })
+        }
+        _ => Err(TextFault::BadField(field)),
+    }
+}
+
+fn none<'t, 'a>() -> &'t [Node<'a>]
+    ensures { result.now ≡ [] }
+{
+    &[]
+}

@@ -1,0 +1,25 @@
+use mds_text::Units7;
+
+/// A JSON text (RFC 8259) as a tree that lends its strings and its numbers that aren't plain: these are
+/// texts. `Degrees` stands in none that was read.
+#[derive(Drop)]
+#[cycle(node)]
+pub enum Node<'a> {
+    Null,
+    Bool(bool),
+    Int(i64),
+    Text(&'a str),
+    Degrees(Units7),
+    /// A list of two texts, such as the longitude and latitude of a position.
+    Pair(&'a str, &'a str),
+    List(Vec<Node<'a>>),
+    Object(Vec<NodeMember<'a>>),
+}
+
+/// A member of an object.
+#[derive(Drop)]
+#[cycle(node)]
+pub struct NodeMember<'a> {
+    pub name: &'a str,
+    pub value: Node<'a>,
+}

@@ -1,0 +1,49 @@
+ghost use Rattle.std.specs.Prelude.{◌≡◌};
+ghost use Rattle.mds_text.specs.Fault.{Gives, text_cause};
+ghost use Rattle.mds_text.specs.Reading.{read_text};
+ghost use Rattle.mds_reading.specs.Node.{node_view};
+
+use crate::direct::read_direct;
+use crate::node::Node;
+use crate::own::lend;
+use crate::stop::Stop;
+use json::Scratch;
+use mds_text::{TextFault, Tree};
+use std::alloc::Global;
+
+/// What the nodes of a text lend from beside the text: its strings with escapes, and the tree of a text
+/// that is unusual.
+#[derive(Drop)]
+pub struct Source {
+    scratch: Scratch<Global>,
+    tree: Tree,
+}
+
+impl Source {
+    /// A source of no text. It takes no memory.
+    pub fn new(alloc: Global) -> Source {
+        Source {
+            scratch: Scratch::new(alloc),
+            tree: Tree::Null,
+        }
+    }
+
+    /// Reads a JSON text (RFC 8259) of at most 127 levels, as `read_tree` does, into a tree that lends.
+    ///
+    /// # Errors
+    ///
+    /// `BadJson` where the text is no such text or no UTF-8, or want of memory.
+    pub fn read<'a>(&'a mut self, alloc: Global, bytes: &'a [u8]) -> Result<Node<'a>, TextFault>
+        ensures { Gives text_cause (λ n. node_view n) result (read_text bytes.now) }
+    {
+        let Source { scratch, tree } = self;
+        match read_direct(alloc, { scratch }, bytes) {
+            Ok((node, _quoted)) => Ok(node),
+            Err(Stop::NoMemory) => Err(TextFault::NoMemory),
+            Err(Stop::Unusual) => {
+                *tree = mds_text::read_tree(alloc, bytes)?;
+                Ok(lend(alloc, tree)?)
+            }
+        }
+    }
+}

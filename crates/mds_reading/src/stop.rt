@@ -1,0 +1,36 @@
+use json::Invalid;
+use mds_text::TextFault;
+use std::alloc::{AllocError, AllocFailed};
+
+/// Why a text isn't read straight from its tokens.
+#[derive(Clone, Copy, Drop)]
+pub(crate) enum Stop {
+    /// The text is unusual, or no JSON.
+    Unusual,
+    /// Memory ran out.
+    NoMemory,
+}
+
+impl From<AllocError> for Stop {
+    fn from(_refused: AllocError) -> Stop {
+        Stop::NoMemory
+    }
+}
+
+impl<T: Drop> From<AllocFailed<T>> for Stop {
+    fn from(_refused: AllocFailed<T>) -> Stop {
+        Stop::NoMemory
+    }
+}
+
+impl From<Invalid> for Stop {
+    fn from(_refused: Invalid) -> Stop {
+        Stop::Unusual
+    }
+}
+
+impl From<TextFault> for Stop {
+    fn from(_fault: TextFault) -> Stop {
+        Stop::Unusual
+    }
+}

@@ -1,0 +1,5 @@
+pub mod Codes
+pub mod Publishing
+pub mod History
+pub mod Copies
+pub mod Opening

@@ -1,0 +1,14 @@
+-- What a publisher has published, and whether it may publish more.
+use Rattle.std.specs.Prelude.{List, Bool, refl}
+use Rattle.std.specs.Coded.{Coded, code_by, coded×, coded_bool}
+use Rattle.mds_catalog.specs.Publication.{Publication}
+use Rattle.mds_snapshot.specs.Codes.{coded_publications}
+
+pub record Publishing : Type 0 where
+  pub publications : List Publication
+  pub is_open : Bool
+
+abbrev pub coded_publishing : Coded Publishing
+coded_publishing =
+    code_by (List Publication × Bool) (coded× coded_publications coded_bool) (λ p. (p.publications, p.is_open)) (λ t. record { publications = t.0; is_open = t.1 })
+    (λ _. refl)

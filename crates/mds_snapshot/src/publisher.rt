@@ -1,0 +1,282 @@
+//! The one who publishes.
+ghost use Rattle.std.specs.Prelude.{◌≡◌, ◌++◌, ◌∷◌, [], drop, true, false, IfOk, OnOk, OnErr, IfSome, IsErr, MatchBool};
+ghost use mathlib.Core.List.{IsPrefix};
+ghost use Rattle.mds_catalog.specs.Publication.{publication_of, is_lawful};
+ghost use Rattle.mds_catalog.specs.Catalogue.{publications_of};
+ghost use Rattle.mds_catalog.specs.Laws.{AreLawful};
+ghost use Rattle.mds_snapshot.specs.Copies.{IsFrontOf};
+
+use crate::history::{Front, Ledger, Listed, Naming, Trail};
+use crate::note::Note;
+use crate::pane::Pane;
+use crate::rule::Fronts;
+use crate::shown::{Operation, Shown};
+use core::mem::replace_with;
+use left_right::writer::Writer;
+use mds_catalog::{Batch, Catalogue};
+use std::alloc::AllocError;
+use std::marker::Model;
+use std::sync::{Arc, Wait};
+
+/// The two copies of what is shown.
+pub(crate) type Copies<K> = Writer<Shown, Operation, [Listed; 0], Fronts<K>>;
+
+/// The one who publishes, with a catalogue of its own. Contracts see the list that is published, and whether
+/// it is open: want of memory within an exchange closes it. It is not `Drop`: end it by `finish`.
+pub struct Publisher<K: Naming> {
+    writer: Copies<K>,
+    ledger: Ledger<K>,
+    front: Front<K>,
+    catalogue: Catalogue,
+    is_open: bool,
+}
+
+impl<K: Naming> Model for Publisher<K> {
+    ghost use Rattle.std.specs.Prelude.{◌≡◌, [], drop, true};
+    ghost use Rattle.mds_catalog.specs.Catalogue.{publications_of};
+    ghost use Rattle.mds_snapshot.specs.Copies.{IsFrontOf};
+    ghost use Rattle.mds_snapshot.specs.Publishing.{Publishing, coded_publishing};
+
+    ghost Value = { Publishing };
+
+    ghost coded = { coded_publishing };
+
+    ghost view = { λ p. record { publications = publications_of p.writer.desk.shown.value.catalogue; is_open = p.is_open } };
+
+    ghost invariant = { λ p. IsFrontOf K.book p.writer.desk.shown.value × (publications_of p.writer.desk.shown.value.catalogue ≡ p.front) × (p.is_open ≡ true → drop p.writer.behind p.writer.log.items ≡ []) × (publications_of p.catalogue ≡ p.front) };
+}
+
+impl<K: Naming> Publisher<K> {
+    /// An open publisher of the list that is shown.
+    pub(crate) fn over(
+        writer: Copies<K>,
+        ledger: Ledger<K>,
+        front: Front<K>,
+        catalogue: Catalogue,
+    ) -> Publisher<K>
+        requires shown { IsFrontOf K.book writer.desk.shown.value × (publications_of writer.desk.shown.value.catalogue ≡ front) }
+        requires idle { drop writer.behind writer.log.items ≡ [] }
+        requires own { publications_of catalogue ≡ front }
+        ensures { result ≡ record { publications = front; is_open = true } }
+    {
+        Publisher {
+            writer,
+            ledger,
+            front,
+            catalogue,
+            is_open: true,
+        }
+    }
+
+    /// A pane that knows what was published so far.
+    pub(crate) fn pane(&self) -> Option<Pane<K>>
+        requires { self.now.publications ≡ [] }
+        ensures { IfSome result (λ p. p ≡ []) }
+    {
+        match self.writer.factory().reader() {
+            Ok(reader) => Some(Pane::over(reader, self.front.again())),
+            Err(_) => None,
+        }
+    }
+
+    /// An exchange that changes nothing. It makes the room in the operations' log that each publication
+    /// takes.
+    pub(crate) fn rested<R: Wait>(self, rt: &R) -> (Publisher<K>, Result<(), AllocError>)
+        requires { self.is_open ≡ true }
+        ensures { OnOk result.1 (result.0 ≡ self) }
+    {
+        let Self {
+            writer,
+            ledger,
+            front,
+            catalogue,
+            is_open: _,
+        } = self;
+        let (writer, shown) = rest::<K, R>(rt, writer);
+        let publisher = Publisher {
+            writer,
+            ledger,
+            front,
+            catalogue,
+            is_open: shown.is_ok(),
+        };
+        (publisher, shown)
+    }
+
+    /// The whole list's.
+    pub fn catalogue(&self) -> &Catalogue
+        ensures publications { publications_of result.now ≡ self.now.publications }
+        ensures lawful { AreLawful self.now.publications }
+    {
+        &self.catalogue
+    }
+
+    /// Whether all that the pane knows is published here.
+    pub fn has_published(&self, pane: &Pane<K>) -> bool
+        ensures { MatchBool result (IsPrefix pane.now self.now.publications) (IsPrefix self.now.publications pane.now) }
+    {
+        self.front.covers(&pane.front())
+    }
+
+    /// Publishes a lawful batch at once, and gives a note of the list.
+    ///
+    /// # Errors
+    ///
+    /// Memory ran out, or the publisher is closed. The list is the old one, and no later call with another
+    /// batch publishes this one. A publisher that is closed refuses every batch.
+    pub fn publish<R: Wait>(&mut self, rt: &R, batch: Arc<Batch>) -> Result<Note<K>, AllocError>
+        requires lawful { is_lawful self.old.publications (publication_of batch.value) ≡ true }
+        ensures ok { IfOk result (λ n. (self.old.is_open ≡ true) × (self.new ≡ record { publications = self.old.publications ++ publication_of batch.value ∷ []; is_open = true }) × (n ≡ self.new.publications)) }
+        ensures err { OnErr result (self.new ≡ record { publications = self.old.publications; is_open = false }) }
+        ensures closed { self.old.is_open ≡ false → IsErr result × (self.new ≡ self.old) }
+    {
+        replace_with(
+            self,
+            (rt, batch),
+            |publisher, (rt, batch)| publisher.published(rt, batch),
+        )
+    }
+
+    fn published<R: Wait>(
+        self,
+        rt: &R,
+        batch: Arc<Batch>,
+    ) -> (Publisher<K>, Result<Note<K>, AllocError>)
+        requires lawful { is_lawful self.publications (publication_of batch.value) ≡ true }
+        ensures ok { IfOk result.1 (λ n. (self.is_open ≡ true) × (result.0 ≡ record { publications = self.publications ++ publication_of batch.value ∷ []; is_open = true }) × (n ≡ result.0.publications)) }
+        ensures err { OnErr result.1 (result.0 ≡ record { publications = self.publications; is_open = false }) }
+        ensures closed { self.is_open ≡ false → IsErr result.1 × (result.0 ≡ self) }
+    {
+        if !self.is_open {
+            return (self, Err(AllocError));
+        }
+        let Ok(own) = Arc::try_clone(&batch) else {
+            return (self.closed(), Err(AllocError));
+        };
+        let mut after = self.front.again();
+        if !after.extend(&self.ledger, &batch) {
+            return (self.closed(), Err(AllocError));
+        }
+        self.exchanged(rt, batch, own, after)
+    }
+
+    /// The same list, and no more publications.
+    fn closed(self) -> Publisher<K>
+        ensures { result ≡ record { publications = self.publications; is_open = false } }
+    {
+        let Self {
+            writer,
+            ledger,
+            front,
+            catalogue,
+            is_open: _,
+        } = self;
+        Publisher {
+            writer,
+            ledger,
+            front,
+            catalogue,
+            is_open: false,
+        }
+    }
+
+    /// The exchange, with the publisher's own share and the list afterwards.
+    fn exchanged<R: Wait>(
+        self,
+        rt: &R,
+        batch: Arc<Batch>,
+        own: Arc<Batch>,
+        after: Front<K>,
+    ) -> (Publisher<K>, Result<Note<K>, AllocError>)
+        requires open { self.is_open ≡ true }
+        requires lawful { is_lawful self.publications (publication_of batch.value) ≡ true }
+        requires own { own.value ≡ batch.value }
+        requires after { after ≡ self.publications ++ publication_of batch.value ∷ [] }
+        ensures ok { IfOk result.1 (λ n. (result.0 ≡ record { publications = after; is_open = true }) × (n ≡ after)) }
+        ensures err { OnErr result.1 (result.0 ≡ record { publications = self.publications; is_open = false }) }
+    {
+        let Self {
+            writer,
+            ledger,
+            front,
+            mut catalogue,
+            is_open: _,
+        } = self;
+        let (writer, shown) = show::<K, R>(rt, writer, batch, after.trail());
+        match shown {
+            Ok(()) => {
+                catalogue.adopt(own);
+                let note = Note::of(after.again());
+                let publisher = Publisher {
+                    writer,
+                    ledger,
+                    front: after,
+                    catalogue,
+                    is_open: true,
+                };
+                (publisher, Ok(note))
+            }
+            Err(_) => {
+                let publisher = Publisher {
+                    writer,
+                    ledger,
+                    front,
+                    catalogue,
+                    is_open: false,
+                };
+                (publisher, Err(AllocError))
+            }
+        }
+    }
+
+    /// Ends it, open or closed. It waits for the looks that are held; then nothing is shown.
+    pub fn finish<R: Wait>(self, rt: &R) {
+        let Self {
+            writer,
+            ledger: _ledger,
+            front: _front,
+            catalogue: _catalogue,
+            is_open: _,
+        } = self;
+        drop(writer.take(rt));
+    }
+}
+
+/// The exchange: one batch more is shown, or what was shown before.
+fn show<K: Naming, R: Wait>(
+    rt: &R,
+    mut writer: Copies<K>,
+    batch: Arc<Batch>,
+    trail: Trail,
+) -> (Copies<K>, Result<(), AllocError>)
+    requires idle { drop writer.behind writer.log.items ≡ [] }
+    requires lawful { is_lawful (publications_of writer.desk.shown.value.catalogue) (publication_of batch.value) ≡ true }
+    requires front { trail.seen.log ≡ publications_of writer.desk.shown.value.catalogue ++ publication_of batch.value ∷ [] }
+    requires named { trail.seen.book ≡ K.book }
+    ensures ok { OnOk result.1 ((drop result.0.behind result.0.log.items ≡ [])
+        × (publications_of result.0.desk.shown.value.catalogue ≡ trail.seen.log)
+        × IsFrontOf K.book result.0.desk.shown.value) }
+    ensures err { OnErr result.1 (result.0.desk.shown.value ≡ writer.desk.shown.value) }
+{
+    match writer.append(Operation::Publish(batch, trail)) {
+        Ok(()) => writer.publish_as::<Fronts<K>, R>(rt),
+        Err(_) => (writer, Err(AllocError)),
+    }
+}
+
+/// An exchange that changes nothing. It makes the room in the operations' log that each publication takes.
+pub(crate) fn rest<K: Naming, R: Wait>(
+    rt: &R,
+    mut writer: Copies<K>,
+) -> (Copies<K>, Result<(), AllocError>)
+    requires idle { drop writer.behind writer.log.items ≡ [] }
+    ensures ok { OnOk result.1 ((drop result.0.behind result.0.log.items ≡ [])
+        × (publications_of result.0.desk.shown.value.catalogue ≡ publications_of writer.desk.shown.value.catalogue)
+        × IsFrontOf K.book result.0.desk.shown.value) }
+    ensures err { OnErr result.1 (result.0.desk.shown.value ≡ writer.desk.shown.value) }
+{
+    match writer.append(Operation::Rest) {
+        Ok(()) => writer.publish_as::<Fronts<K>, R>(rt),
+        Err(_) => (writer, Err(AllocError)),
+    }
+}

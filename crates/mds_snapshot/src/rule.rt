@@ -1,0 +1,38 @@
+//! The rule of the two copies, and which step moves what a seat has seen.
+//!
+//! | Step | What moves |
+//! |---|---|
+//! | making the publisher's seat, in `open` | its first view, the empty list |
+//! | handing out a pane's seat, in `open` | its first view, the empty list |
+//! | `Pane::look` | that pane's view, to the front entered |
+//! | `Look::leave` | none |
+//! | `Publisher::publish` | the publisher's view, to the list with the batch |
+//! | making the note, in `publish` | none: a note is a token beside the copies |
+//! | `Pane::learn` | what that pane knows, beside the copies |
+//! | dropping a pane or finishing the publisher | none |
+//!
+//! No clause speaks of two panes at once: each step is proved for its one seat. `Note::again` is no step.
+use crate::history::{Listed, Naming};
+use crate::shown::Shown;
+use crossbeam_utils::rule::{Outcome, Protocol};
+use std::marker::PhantomData;
+
+/// What each reader and the writer have seen is a front of what is shown.
+pub struct Fronts<K: Naming> {
+    of: PhantomData<K>,
+}
+
+impl<K: Naming> Protocol<Shown, [Listed; 0]> for Fronts<K> {
+    ghost use Rattle.std.specs.Prelude.{[]};
+    ghost use Rattle.mds_snapshot.specs.Copies.{IsKeptAt};
+
+    ghost holds = { IsKeptAt K.book };
+
+    ghost first = { [] };
+}
+
+impl<K: Naming> Outcome<Shown, [Listed; 0]> for Fronts<K> {
+    ghost use Rattle.mds_snapshot.specs.Copies.{Sees};
+
+    ghost then = { Sees K.book };
+}

@@ -1,0 +1,57 @@
+//! What readers look at: a catalogue, with the front of the history that it is the fold of.
+use crate::history::{Listed, Trail};
+use left_right::Absorb;
+use mds_catalog::{Batch, Catalogue};
+use std::alloc::AllocError;
+use std::sync::Arc;
+
+/// What is done to both copies.
+#[derive(Drop)]
+pub enum Operation {
+    /// Nothing.
+    Rest,
+    /// Takes a batch, and the front that ends with it.
+    Publish(Arc<Batch>, Trail),
+}
+
+/// A catalogue and its front.
+#[derive(Drop)]
+pub struct Shown {
+    pub catalogue: Catalogue,
+    pub trail: Trail,
+}
+
+impl Absorb<Operation> for Shown {
+    ghost use Rattle.std.specs.Prelude.{◌≡◌, IsOk, MatchResult};
+    ghost use Rattle.mds_catalog.specs.Catalogue.{publications_of};
+    ghost use Rattle.mds_snapshot.specs.Copies.{applied};
+
+    // A clause reads an array as a list, of any length.
+    type State = ([Listed; 0], Trail);
+
+    ghost state = { λ s. (publications_of s.catalogue, s.trail) };
+
+    ghost applied = { applied };
+
+    fn absorb_first(&mut self, operation: &Operation, _other: &Shown) -> Result<(), AllocError> {
+        match operation {
+            Operation::Rest => Ok(()),
+            Operation::Publish(batch, trail) => {
+                self.catalogue.absorb(batch)?;
+                self.trail = trail.again();
+                Ok(())
+            }
+        }
+    }
+
+    fn absorb_second(&mut self, operation: Operation, _other: &Shown) -> Result<(), Operation> {
+        match operation {
+            Operation::Rest => {}
+            Operation::Publish(batch, trail) => {
+                self.catalogue.adopt(batch);
+                self.trail = trail;
+            }
+        }
+        Ok(())
+    }
+}
