@@ -46,23 +46,21 @@ impl<'a> Reader<'a> {
         (self.peek()? == byte).then(|| self.at += 1)
     }
 
-    /// The members of an object, each handed to `see`, which reads its value.
-    fn object(&mut self, mut see: impl FnMut(&mut Reader<'a>, &str) -> Option<()>) -> Option<()> {
-        self.take(b'{')?;
+    /// What stands between two brackets, divided by commas; `see` reads each entry.
+    fn entries(&mut self, open: u8, close: u8, mut see: impl FnMut(&mut Reader<'a>) -> Option<()>) -> Option<()> {
+        self.take(open)?;
         self.depth += 1;
         if self.depth > 127 {
             return None;
         }
-        if self.peek()? == b'}' {
+        if self.peek()? == close {
             self.at += 1;
         } else {
             loop {
-                let name = self.string()?;
-                self.take(b':')?;
-                see(self, &name)?;
+                see(self)?;
                 match self.peek()? {
                     b',' => self.at += 1,
-                    b'}' => break self.at += 1,
+                    byte if byte == close => break self.at += 1,
                     _ => return None,
                 }
             }
@@ -71,26 +69,17 @@ impl<'a> Reader<'a> {
         Some(())
     }
 
-    fn list(&mut self, mut see: impl FnMut(&mut Reader<'a>) -> Option<()>) -> Option<()> {
-        self.take(b'[')?;
-        self.depth += 1;
-        if self.depth > 127 {
-            return None;
-        }
-        if self.peek()? == b']' {
-            self.at += 1;
-        } else {
-            loop {
-                see(self)?;
-                match self.peek()? {
-                    b',' => self.at += 1,
-                    b']' => break self.at += 1,
-                    _ => return None,
-                }
-            }
-        }
-        self.depth -= 1;
-        Some(())
+    /// The members of an object, each handed to `see`, which reads its value.
+    fn object(&mut self, mut see: impl FnMut(&mut Reader<'a>, &str) -> Option<()>) -> Option<()> {
+        self.entries(b'{', b'}', |r| {
+            let name = r.string()?;
+            r.take(b':')?;
+            see(r, &name)
+        })
+    }
+
+    fn list(&mut self, see: impl FnMut(&mut Reader<'a>) -> Option<()>) -> Option<()> {
+        self.entries(b'[', b']', see)
     }
 
     fn string(&mut self) -> Option<std::borrow::Cow<'a, str>> {
