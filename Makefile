@@ -1,9 +1,10 @@
 # demo   the main job on real input: a policy is published, a vehicle reported, compliance asked for
 # build  proves mds_replay with all that it stands on, and builds it
 # test   the whole gate: every proof from nothing, the edits that must fail, the tests, the programs, the scripts
-# bench  times mds_replay on generated input, and two programs in Rust beside it; not part of the gate (minutes)
+# openapi  checks docs/openapi.yaml against the protocol and the scripts; not part of the gate (Debian's python3-yaml, python3-jsonschema)
+# bench  times mds_replay and mds_bench on generated input, and two programs in Rust beside them; not part of the gate (minutes)
 
-.PHONY: demo build test bench
+.PHONY: demo build test openapi bench
 
 PROGRAM := crates/mds_replay/out/mds_replay
 SCRIPT := examples/first-verdict.replay
@@ -22,8 +23,13 @@ demo:
 build:
 	cd crates/mds_replay && rt run < stdin > /dev/null
 
+
 test:
 	@bash tests/gate
 
 bench: build
+	cd crates/mds_bench && rt run < stdin > /dev/null
 	python3 -B bench/measure.py
+
+openapi:
+	/usr/bin/python3 -B tests/openapi.py docs/PROTOCOL.md

@@ -2,29 +2,33 @@
 
 Processor time (user and system) of whole runs; a part's time is the difference of two runs that
 differ in that part alone, divided by how often the part is in the longer one. The median of the rounds is
-printed with the least and the greatest. All programs have to give the same answers.
+printed with the least and the greatest, and each ratio with what it must be, what it should be, and whether it
+is. mds_bench, which judges by several threads, is timed by the clock, on one processor and on four. All
+programs have to give the same answers.
 """
 
 import argparse
-import filecmp
 import os
 import shutil
 import statistics
 import subprocess
 import sys
 import tempfile
+import time
 
 import generate
 
 HERE = os.path.dirname(os.path.abspath(__file__))
 PROGRAM = os.path.join(HERE, "..", "crates", "mds_replay", "out", "mds_replay")
+PARALLEL = os.path.join(HERE, "..", "crates", "mds_bench", "out", "mds_bench")
+THREADS = 4
 TIMER = "time"
 ROUNDS = 3
 EDGES = (4, 1_000, generate.MOST_POSITIONS - 1)
 RULES = 64
 RADIUS = 0.2
 FLEET = generate.MOST_VEHICLES
-QUESTIONS = {"ours": 10, "good": 10, "scan": 1}
+QUESTIONS = {"ours": 10, "good": 10, "scan": 1, "threads": 60}
 POLICIES, POLICY_RULES, PART_FLEET = 30, 8, 20_000
 NEW_DEVICES = 20_000
 SMALL_FLEET = 2_000
@@ -34,10 +38,11 @@ PUTS, POLICY_PUTS, LISTS = 20, 2_000, 50
 class Run:
     """One program on one script, and what each round measured of it."""
 
-    def __init__(self, command, source, output):
+    def __init__(self, command, source, output, processors=None):
         self.command = command
         self.source = source
         self.output = output
+        self.processors = processors
         self.seconds = []
         self.memory = []
 
@@ -46,14 +51,21 @@ class Run:
         note = self.output + ".memory"
         with open(self.source, "rb") as source, open(self.output, "wb") as output:
             command = [TIMER, "-f", "%M", "-o", note] + self.command
-            child = subprocess.Popen(command, stdin=source, stdout=output)
+            begun = time.monotonic()
+            child = subprocess.Popen(command, stdin=source, stdout=output, preexec_fn=self.keep_to_processors)
             _, status, usage = os.wait4(child.pid, 0)
+            passed = time.monotonic() - begun
             child.returncode = os.waitstatus_to_exitcode(status)
         if child.returncode != 0:
             sys.exit("%s ended with %d" % (" ".join(self.command), child.returncode))
-        self.seconds.append(usage.ru_utime + usage.ru_stime)
+        self.seconds.append(passed if self.processors else usage.ru_utime + usage.ru_stime)
         with open(note, encoding="ascii") as text:
             self.memory.append(int(text.read().split()[-1]))
+
+    def keep_to_processors(self):
+        """What is timed by the clock runs on so many processors alone."""
+        if self.processors:
+            os.sched_setaffinity(0, self.processors)
 
 
 def city(random, first, edges):
@@ -75,6 +87,8 @@ def question_scripts(random):
     for place, edges in enumerate(EDGES):
         name = "/compliance/" + generate.policy_id(100 * (place + 1))
         for who, count in QUESTIONS.items():
+            if who == "threads" and edges != EDGES[1]:
+                continue
             scripts["ask %d, %s" % (edges, who)] = scripts["fleet"] + [generate.get(name)] * count
     return scripts
 
@@ -133,6 +147,10 @@ def scripts_for(who, scripts):
     """Which scripts a program runs. The plain one isn't asked what would take it minutes."""
     for name in scripts:
         only = name.partition(", ")[2]
+        if who == "threads":
+            if name == "fleet" or only == who:
+                yield name
+            continue
         if only and only != who:
             continue
         if who == "scan" and (name.startswith("large") or name.startswith("ask %d" % EDGES[-1])):
@@ -140,7 +158,7 @@ def scripts_for(who, scripts):
         yield name
 
 
-def build_runs(folder, program, scripts):
+def build_runs(folder, program, parallel, scripts):
     good = os.path.join(folder, "good")
     source = os.path.join(HERE, "good.rs")
     subprocess.run(["rustc", "--edition", "2024", "-O", "-o", good, source], check=True)
@@ -151,6 +169,11 @@ def build_runs(folder, program, scripts):
         for who, command in commands.items():
             if name in scripts_for(who, scripts):
                 runs[who, name] = Run(command, paths[name], os.path.join(folder, "%s %s.out" % (who, name)))
+    processors = sorted(os.sched_getaffinity(0))
+    for count in (1, THREADS) if len(processors) >= THREADS and os.path.exists(parallel) else ():
+        for name in scripts_for("threads", scripts):
+            output = os.path.join(folder, "%d threads %s.out" % (count, name))
+            runs[count, name] = Run([parallel], paths[name], output, processors[:count])
     return runs
 
 
@@ -161,10 +184,17 @@ def check(runs, scripts):
             good = sum(line.startswith(b"200 ") for line in output)
         if good != len(scripts[name]):
             sys.exit("not every answer of %s to '%s' is a success" % (who, name))
-        other = runs.get(("ours", name.partition(", ")[0] + ", ours" if "," in name else name))
-        if QUESTIONS.get(who) == QUESTIONS["ours"] or "," not in name:
-            if not filecmp.cmp(run.output, other.output, shallow=False):
-                sys.exit("%s answers otherwise to '%s'" % (who, name))
+        other = runs["ours", name.partition(", ")[0] + ", ours" if "," in name else name]
+        if not is_front(other.output, run.output):
+            sys.exit("%s answers otherwise to '%s'" % (who, name))
+
+
+def is_front(one, other):
+    """Whether the answers of one are those of the other, or the shorter's are the longer's first ones and its last is
+    given again: questions are asked more often of one program than of another."""
+    with open(one, "rb") as first, open(other, "rb") as second:
+        short, long = sorted((first.read().splitlines(), second.read().splitlines()), key=len)
+    return short == long[: len(short)] and all(answer == short[-1] for answer in long[len(short) :])
 
 
 class Table:
@@ -176,23 +206,52 @@ class Table:
     def seconds(self, who, longer, shorter, count):
         """The seconds of one of the parts that the longer run has over the shorter, by round."""
         if (who, longer) not in self.runs:
-            longer, count = "%s, %s" % (longer, who), QUESTIONS[who]
+            script = who if who in QUESTIONS else "threads"
+            longer, count = "%s, %s" % (longer, script), QUESTIONS[script]
         if (who, longer) not in self.runs:
             return None
         pairs = zip(self.runs[who, longer].seconds, self.runs[who, shorter].seconds)
         return [(more - less) / count for more, less in pairs]
 
-    def row(self, label, longer, shorter, count, scale, unit):
+    def row(self, label, longer, shorter, count, scale, unit, bounds):
         """A line of the table: each program's median with the least and the greatest, and the ratios of the medians."""
         ours, good, scan = (self.seconds(who, longer, shorter, count) for who in ("ours", "good", "scan"))
-        cells = [label, spread(ours, scale, unit)]
-        for other in (good, scan):
-            cells += [spread(other, scale, unit), figure(ratio(ours, other))] if other else ["", ""]
-        print("| %s |" % " | ".join(cells))
+        plain = [spread(scan, scale, unit), figure(ratio(ours, scan))] if scan else ["", ""]
+        line([label, spread(ours, scale, unit), spread(good, scale, unit)] + told(ratio(ours, good), bounds) + plain)
         return ours
 
-    def compare(self, label, ours, others):
-        print("| %s | %s | | | | |" % (label, figure(ratio(ours, others))))
+    def rate(self, label, longer, shorter, count, bounds):
+        """The same for how many there are in a second, where more is better."""
+        each = [self.seconds(who, longer, shorter, count) for who in ("ours", "good", "scan")]
+        ours, good, scan = ([1 / seconds for seconds in rounds] for rounds in each)
+        cells = [spread(rates, 1e-3, "thousand") for rates in (ours, good, scan)]
+        line([label] + cells[:2] + told(ratio(ours, good), bounds, more=True) + [cells[2], figure(ratio(ours, scan))])
+
+    def threads(self, label, longer, bounds):
+        """One processor against several, by the clock: how many times as fast."""
+        one, several = (self.seconds(count, longer, "fleet", 0) for count in (1, THREADS))
+        if not one:
+            print("no program with several threads, or fewer than %d processors: judging by several threads wasn't timed" % THREADS)
+            return
+        cells = ["%d: %s" % (count, spread(times, 1e3, "ms")) for count, times in ((THREADS, several), (1, one))]
+        line([label] + cells + told(ratio(one, several), bounds, more=True) + ["", ""])
+
+    def compare(self, label, ours, others, bounds):
+        line([label, "", ""] + told(ratio(ours, others), bounds) + ["", ""])
+
+
+def line(cells):
+    print("| %s |" % " | ".join(cells))
+
+
+def told(value, bounds, more=False):
+    """A ratio, what it must be at most (or at least, where more is better), what it should be, and whether it is."""
+    if bounds is None:
+        return [figure(value), "", "", ""]
+    if value <= 0:
+        return [figure(value)] + [figure(bound) for bound in bounds] + ["lost in noise"]
+    kept = [value >= bound if more else value <= bound for bound in bounds]
+    return [figure(value)] + [figure(bound) for bound in bounds] + ["no" if not kept[0] else "aim" if kept[1] else "yes"]
 
 
 def ratio(ours, others):
@@ -211,33 +270,43 @@ def spread(values, scale, unit):
 
 def tell(runs):
     table = Table(runs)
-    print("\n| Measure | mds_replay | good | ratio | plain | ratio |\n|---|---|---|---|---|---|")
+    print("\n| Measure | mds_replay | good | ratio | must | aim | kept | plain | ratio |\n|---|---|---|---|---|---|---|---|---|")
     asked = {}
-    for edges in EDGES:
+    for edges, bounds in zip(EDGES, ((1.3, 0.6), (1.3, 0.7), (1.3, 0.7))):
         label = "a question, %d vehicles, %d rules, %d edges each" % (FLEET, RULES, edges)
-        asked[edges] = table.row(label, "ask %d" % edges, "fleet", 0, 1e3, "ms")
+        asked[edges] = table.row(label, "ask %d" % edges, "fleet", 0, 1e3, "ms", bounds)
         each = [seconds / FLEET / RULES for seconds in asked[edges]]
-        print("| for each vehicle and rule | %s | | | | |" % spread(each, 1e9, "ns"))
-    table.compare("each vehicle, %d edges against %d" % (EDGES[2], EDGES[1]), asked[EDGES[2]], asked[EDGES[1]])
+        line(["for each vehicle and rule", spread(each, 1e9, "ns")] + [""] * 7)
+    label = "each vehicle, %d edges against %d" % (EDGES[2], EDGES[1])
+    table.compare(label, asked[EDGES[2]], asked[EDGES[1]], (1.8, 1.4))
     label = "a question, %d policies of %d rules, %d vehicles" % (POLICIES, POLICY_RULES, PART_FLEET)
-    table.row(label, "ask policies", "policies", 10, 1e3, "ms")
-    large = table.row("a report of a new device, fleet of %d" % FLEET, "large fleet and more", "large fleet", NEW_DEVICES, 1e6, "us")
-    small = table.row("a report of a new device, fleet of %d" % SMALL_FLEET, "small fleets and more", "small fleets", NEW_DEVICES, 1e6, "us")
-    table.compare("a fleet of %d against %d" % (FLEET, SMALL_FLEET), large, small)
-    table.row("a report, fleet from 0 to %d" % NEW_DEVICES, "reports", "no report", NEW_DEVICES, 1e6, "us")
-    table.row("putting a geography of %d positions" % generate.MOST_POSITIONS, "geography again", "geography", PUTS, 1e3, "ms")
-    table.row("putting a policy of 2 KB", "policy again", "policy", POLICY_PUTS, 1e6, "us")
-    table.row("GET of 100 policies and of 100 geographies", "lists", "published", LISTS, 1e3, "ms")
-    cells = []
-    for who in ("ours", "good"):
-        more, less = (statistics.median(runs[who, name].memory) for name in ("fleet", "cities"))
-        cells.append((more - less) * 1024 / FLEET)
-    print("| memory of a vehicle, bytes | %.0f | %.0f | %s | | |" % (cells[0], cells[1], figure(cells[0] / cells[1])))
+    table.row(label, "ask policies", "policies", 10, 1e3, "ms", (2, 0.9))
+    label = "mds_bench on %d processors against one, %d edges each (speed-up)" % (THREADS, EDGES[1])
+    table.threads(label, "ask %d" % EDGES[1], (2.5, 3.5))
+    label = "a report of a new device, fleet of %d"
+    large = table.row(label % FLEET, "large fleet and more", "large fleet", NEW_DEVICES, 1e6, "us", None)
+    small = table.row(label % SMALL_FLEET, "small fleets and more", "small fleets", NEW_DEVICES, 1e6, "us", None)
+    table.compare("a fleet of %d against %d" % (FLEET, SMALL_FLEET), large, small, (2, 1.5))
+    table.rate("reports a second, fleet from 0 to %d" % NEW_DEVICES, "reports", "no report", NEW_DEVICES, (0.5, 0.9))
+    label = "putting a geography of %d positions" % generate.MOST_POSITIONS
+    table.row(label, "geography again", "geography", PUTS, 1e3, "ms", (1.2, 0.6))
+    table.row("putting a policy of 2 KB", "policy again", "policy", POLICY_PUTS, 1e6, "us", (0.74, 0.3))
+    table.row("GET of 100 policies and of 100 geographies", "lists", "published", LISTS, 1e3, "ms", (3, 1.5))
+    ours, good = (memory(runs, who) for who in ("ours", "good"))
+    _, must, aim, kept = told(ours, (400, 200))
+    line(["memory of a vehicle, bytes", "%.0f" % ours, "%.0f" % good, figure(ours / good), must, aim, kept, "", ""])
+
+
+def memory(runs, who):
+    """The bytes of a vehicle: the difference of the peaks of runs with the fleet and without it."""
+    more, less = (statistics.median(runs[who, name].memory) for name in ("fleet", "cities"))
+    return (more - less) * 1024 / FLEET
 
 
 def main():
     parser = argparse.ArgumentParser(description=__doc__)
     parser.add_argument("--program", default=PROGRAM, help="the built mds_replay")
+    parser.add_argument("--parallel", default=PARALLEL, help="the built mds_bench")
     parser.add_argument("--rounds", type=int, default=ROUNDS)
     options = parser.parse_args()
     if not shutil.which(TIMER) or not shutil.which("rustc"):
@@ -245,7 +314,7 @@ def main():
     random = generate.Xorshift(generate.SEED)
     scripts = question_scripts(random) | policies_scripts(random) | report_scripts(random) | document_scripts(random)
     with tempfile.TemporaryDirectory() as folder:
-        runs = build_runs(folder, os.path.abspath(options.program), scripts)
+        runs = build_runs(folder, os.path.abspath(options.program), os.path.abspath(options.parallel), scripts)
         for number in range(options.rounds):
             for (who, name), run in runs.items():
                 run.measure()

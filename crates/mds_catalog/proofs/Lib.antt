@@ -5,3 +5,4 @@ pub mod Lent
 mod Marked
 mod Ordered
 mod Places
+mod Texts

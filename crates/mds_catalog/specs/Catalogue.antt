@@ -1,5 +1,5 @@
 -- What a `Catalogue` and the documents that it lends stand for.
-use Rattle.std.specs.Prelude.{List}
+use Rattle.std.specs.Prelude.{ℕ, List}
 use Rattle.mds_policy.specs.Policy.{policy_document, Policy}
 use Rattle.mds_geography.specs.Geography.{geography_document, Geography}
 use Rattle.mds_policy.specs.declared.policy.Policy as program
@@ -7,6 +7,7 @@ use Rattle.mds_geography.specs.declared.geography.Geography as program'
 use Rattle.mds_catalog.specs.declared.catalogue.Catalogue.{Catalogue}
 use Rattle.mds_catalog.specs.declared.published.Published as lent
 use Rattle.mds_catalog.specs.Publication.{Publication, Published, publications_in}
+use Rattle.mds_catalog.specs.Texts.{policy_text, geography_text}
 
 -- the publications of a catalogue in their order
 abbrev pub publications_of : Catalogue → List Publication
@@ -19,3 +20,11 @@ lent_policy p = record { document = policy_document p.document.now; moment = p.m
 -- the published geography that is lent
 abbrev pub lent_geography : lent.Published program'.Geography → Published Geography
 lent_geography g = record { document = geography_document g.document.now; moment = g.moment }
+
+-- a published policy as it is served
+abbrev pub served_policy : Published Policy → List ℕ
+served_policy p = policy_text p.moment p.document
+
+-- a published geography as it is served
+abbrev pub served_geography : Published Geography → List ℕ
+served_geography g = geography_text g.moment g.document

@@ -3,3 +3,4 @@ pub mod Kept
 pub mod Laws
 pub mod Listed
 pub mod Publication
+pub mod Texts

@@ -1,14 +1,19 @@
-ghost use Rattle.std.specs.Prelude.{◌≡◌, find, bytes_eq, option_map, map};
+ghost use Rattle.std.specs.Prelude.{◌≡◌, find, bytes_eq, option_map, map, IfOk};
 ghost use Rattle.mds_policy.specs.Policy.{policy_document};
 ghost use Rattle.mds_geography.specs.Geography.{geography_document};
+ghost use Rattle.mds_catalog.specs.Texts.{policy_text, geography_text};
 
+use crate::distinct::{stands_in_geographies, stands_in_policies};
+use crate::print::{print_geographies, print_policies};
 use mds_geography::Geography;
 use mds_policy::Policy;
 use mds_text::{Id, Moment};
+use std::alloc::{AllocError, Global};
 use std::sync::Arc;
 
 /// Documents that are published whole at one moment, and the published policies that are withdrawn
-/// from then on, each list in the order of the request.
+/// from then on, each list in the order of the request. It keeps the text of each document as it is
+/// served from that moment on, so that it is printed once.
 #[derive(Drop)]
 pub struct Batch {
     /// When it is published, in milliseconds since the Unix epoch.
@@ -19,10 +24,47 @@ pub struct Batch {
     pub policies: Vec<Arc<Policy>>,
     /// The identifiers of the published policies that are withdrawn.
     pub withdrawn: Vec<Id>,
+    // of each geography and of each policy, in their order
+    pub(crate) geography_texts: Vec<Vec<u8>>,
+    pub(crate) policy_texts: Vec<Vec<u8>>,
+    ghost geographies_printed: { map (λ t. t.items) geography_texts.items
+        ≡ map (geography_text moment) (map (λ share. geography_document share.value) geographies.items) },
+    ghost policies_printed: { map (λ t. t.items) policy_texts.items
+        ≡ map (policy_text moment) (map (λ share. policy_document share.value) policies.items) },
 }
 
 impl Batch {
-    ghost use Rattle.mds_catalog.specs.Publication.{publication_of, is_empty, policy_ids, geography_ids};
+    ghost use Rattle.mds_catalog.specs.Publication.{publication_of, is_empty, policy_ids, geography_ids, is_among, are_distinct};
+
+    /// The batch of these documents and of these withdrawals. It prints each document as it is served
+    /// with the moment as its `published_date`.
+    ///
+    /// # Errors
+    ///
+    /// Memory for the texts ran out.
+    pub fn new(
+        alloc: Global,
+        moment: Moment,
+        geographies: Vec<Arc<Geography>>,
+        policies: Vec<Arc<Policy>>,
+        withdrawn: Vec<Id>,
+    ) -> Result<Batch, AllocError>
+        ensures moment { IfOk result (λ b. b.moment ≡ moment) }
+        ensures geographies { IfOk result (λ b. b.geographies ≡ geographies) }
+        ensures policies { IfOk result (λ b. b.policies ≡ policies) }
+        ensures withdrawn { IfOk result (λ b. b.withdrawn ≡ withdrawn) }
+    {
+        let geography_texts = print_geographies(alloc, moment, &geographies)?;
+        let policy_texts = print_policies(alloc, moment, &policies)?;
+        Ok(Batch {
+            moment,
+            geographies,
+            policies,
+            withdrawn,
+            geography_texts,
+            policy_texts,
+        })
+    }
 
     /// Whether it holds no document and withdraws no policy.
     pub(crate) fn is_empty(&self) -> bool
@@ -87,44 +129,4 @@ impl Batch {
         }
         true
     }
-}
-
-ghost use Rattle.mds_catalog.specs.Publication.{is_among, are_distinct};
-
-/// Whether a policy of this identifier is in the list.
-fn stands_in_policies(policies: &[Arc<Policy>], id: Id) -> bool
-    ensures { result
-        ≡ is_among (map (λ d. d.id) (map (λ share. policy_document share.value) policies.now)) id }
-{
-    for policy in policies {
-        if policy.id() == id {
-            return true;
-        }
-    }
-    false
-}
-
-/// Whether a geography of this identifier is in the list.
-fn stands_in_geographies(geographies: &[Arc<Geography>], id: Id) -> bool
-    ensures { result
-        ≡ is_among (map (λ d. d.id) (map (λ share. geography_document share.value) geographies.now)) id }
-{
-    for geography in geographies {
-        if geography.id() == id {
-            return true;
-        }
-    }
-    false
-}
-
-/// Whether no identifier stands twice in the list.
-pub fn are_distinct(ids: &[Id]) -> bool
-    ensures { result ≡ are_distinct ids.now }
-{
-    for (i, id) in ids.iter().enumerate() {
-        if ids[i + 1..].contains(id) {
-            return false;
-        }
-    }
-    true
 }

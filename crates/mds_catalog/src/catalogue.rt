@@ -3,10 +3,11 @@ ghost use Rattle.mds_catalog.specs.Publication.{publications_in};
 ghost use Rattle.mds_catalog.specs.Kept.{IsKept};
 ghost use Rattle.mds_catalog.specs.declared.catalogue.TheConstants.{MOST_GEOGRAPHIES, MOST_POLICIES, MOST_PUBLICATIONS};
 
-use crate::batch::{Batch, are_distinct};
+use crate::batch::Batch;
+use crate::distinct::are_distinct;
 use crate::entries::{Entry, entry_of, list_policies, supersede, withdraw};
 use crate::force::{is_meant_for, is_running};
-use crate::lists::{lend_geographies, lend_policies};
+use crate::lists::{lend_geographies, lend_geography_texts, lend_policies, lend_policy_texts};
 use crate::published::Published;
 use crate::spots::{Spot, list_geographies, spot_of};
 use mds_geography::Geography;
@@ -48,7 +49,7 @@ impl Catalogue {
     ghost use Rattle.std.specs.List.{flat_map};
     ghost use Rattle.mds_policy.specs.Policy.{rule_document};
     ghost use Rattle.mds_catalog.specs.Publication.{find_policy, find_geography, is_policy_published, is_geography_published, policy_ids, geography_ids, first_published, is_geography_there, missing_geography, missing_predecessor, first_unpublished, fits, is_lawful, extended, publication_of, is_in_force, is_superseded, is_withdrawn, policies_for, published_geographies, in_force};
-    ghost use Rattle.mds_catalog.specs.Catalogue.{publications_of, lent_policy, lent_geography};
+    ghost use Rattle.mds_catalog.specs.Catalogue.{publications_of, lent_policy, lent_geography, served_policy, served_geography};
 
     /// An empty catalogue with room for all publications.
     ///
@@ -170,6 +171,59 @@ impl Catalogue {
             document,
             moment: batch.moment,
         })
+    }
+
+    /// The texts of the published policies as they are served, with their `published_date`, in the order
+    /// of their publication: of all, or of those that are meant for an operator (MDS 2.0 Policy,
+    /// `provider_ids`).
+    ///
+    /// # Errors
+    ///
+    /// Memory for the list ran out; the texts are lent.
+    pub fn policy_texts(
+        &self,
+        alloc: Global,
+        operator: Option<Id>,
+    ) -> Result<Vec<&[u8]>, AllocError>
+        ensures { IfOk result (λ v. map (λ t. t.now) v.items
+            ≡ map served_policy (policies_for (publications_of self.now) operator)) }
+    {
+        lend_policy_texts(alloc, self.policy_count, &self.batches, &operator)
+    }
+
+    /// The texts of the published geographies as they are served, with their `published_date`, in the
+    /// order of their publication.
+    ///
+    /// # Errors
+    ///
+    /// Memory for the list ran out; the texts are lent.
+    pub fn geography_texts(&self, alloc: Global) -> Result<Vec<&[u8]>, AllocError>
+        ensures { IfOk result (λ v. map (λ t. t.now) v.items
+            ≡ map served_geography (published_geographies (publications_of self.now))) }
+    {
+        lend_geography_texts(alloc, self.geography_count, &self.batches)
+    }
+
+    /// The text of the published policy of this identifier as it is served, with its `published_date`.
+    pub fn policy_text(&self, id: Id) -> Option<&[u8]>
+        ensures { option_map (λ t. t.now) result ≡ option_map served_policy (find_policy (publications_of self.now) id) }
+    {
+        let entry = entry_of(&self.entries, id)?;
+        let published: &Batch = &self.batches[entry.spot.batch];
+        let text: &[u8] = &published.policy_texts[entry.spot.place];
+        Some(text)
+    }
+
+    /// The text of the published geography of this identifier as it is served, with its
+    /// `published_date`.
+    pub fn geography_text(&self, id: Id) -> Option<&[u8]>
+        ensures { option_map (λ t. t.now) result
+            ≡ option_map served_geography (find_geography (publications_of self.now) id) }
+    {
+        let spot = spot_of(&self.spots, id)?;
+        let published: &Batch = &self.batches[spot.batch];
+        let text: &[u8] = &published.geography_texts[spot.place];
+        Some(text)
     }
 
     /// Whether a policy of this identifier is published.

@@ -17,6 +17,16 @@ pub fn is_meant_for(policy: &Policy, operator: Id) -> bool
     policy.providers().is_empty() || policy.providers().contains(&operator)
 }
 
+/// Whether the policy is meant for an operator; where none is given, any policy is.
+pub(crate) fn is_shown(policy: &Policy, operator: &Option<Id>) -> bool
+    ensures { result ≡ option_map_or (λ o. is_meant_for o (policy_document policy.now)) operator.now true }
+{
+    match operator {
+        Some(operator) => is_meant_for(policy, *operator),
+        None => true,
+    }
+}
+
 /// Whether a policy that was published at this moment has begun and hasn't ended at another.
 pub(crate) fn is_running(policy: &Published<'_, Policy>, at: Moment) -> bool
     ensures { result ≡ (is_effective at (lent_policy policy.now) && option_map_or (nat_lt at) (lent_policy policy.now).document.end true) }

@@ -4,16 +4,19 @@
 
 mod batch;
 mod catalogue;
+mod distinct;
 mod entries;
 mod force;
 pub mod laws;
 mod lists;
+mod print;
 mod published;
 mod shown;
 mod spots;
 
-pub use batch::{Batch, are_distinct};
+pub use batch::Batch;
 pub use catalogue::{Catalogue, MOST_GEOGRAPHIES, MOST_POLICIES, MOST_PUBLICATIONS};
+pub use distinct::are_distinct;
 pub use force::is_meant_for;
 pub use published::Published;
 

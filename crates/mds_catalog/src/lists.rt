@@ -1,12 +1,14 @@
 //! The published documents, lent in the order of their publication.
-ghost use Rattle.std.specs.Prelude.{◌≡◌, map, IfOk};
-ghost use Rattle.mds_catalog.specs.Publication.{publications_in, published_policies, published_geographies};
-ghost use Rattle.mds_catalog.specs.Catalogue.{lent_policy, lent_geography};
+ghost use Rattle.std.specs.Prelude.{◌≡◌, [], ◌∷◌, ◌++◌, if◌then◌else◌, map, IfOk, OnOk};
+ghost use Rattle.mds_catalog.specs.Publication.{publications_in, published_policies, published_geographies, policies_for};
+ghost use Rattle.mds_catalog.specs.Catalogue.{lent_policy, lent_geography, served_policy, served_geography};
 
 use crate::batch::Batch;
+use crate::force::is_shown;
 use crate::published::Published;
 use mds_geography::Geography;
 use mds_policy::Policy;
+use mds_text::Id;
 use std::alloc::{AllocError, Global};
 use std::sync::Arc;
 
@@ -46,6 +48,68 @@ pub(crate) fn lend_geographies(
             let document: &Geography = geography;
             let moment = batch.moment;
             match lent.push(Published { document, moment }) {
+                Ok(()) => {}
+                Err(_) => return Err(AllocError),
+            }
+        }
+    }
+    Ok(lent)
+}
+
+/// Lends a text behind others, if it is shown.
+fn lend<'a>(lent: &mut Vec<&'a [u8]>, text: &'a [u8], shown: bool) -> Result<(), AllocError>
+    ensures { OnOk result (map (λ t. t.now) lent.new.items
+        ≡ map (λ t. t.now) lent.old.items ++ (if shown then text.now ∷ [] else [])) }
+{
+    if !shown {
+        return Ok(());
+    }
+    match lent.push(text) {
+        Ok(()) => Ok(()),
+        Err(_) => Err(AllocError),
+    }
+}
+
+/// The texts of the policies of the batches: of all, or of those that are meant for an operator. There
+/// are no more than `most`.
+pub(crate) fn lend_policy_texts<'a>(
+    alloc: Global,
+    most: usize,
+    batches: &'a [Arc<Batch>],
+    operator: &Option<Id>,
+) -> Result<Vec<&'a [u8]>, AllocError>
+    ensures { IfOk result (λ v. map (λ t. t.now) v.items
+        ≡ map served_policy (policies_for (publications_in batches.now) operator.now)) }
+{
+    let mut lent = Vec::with_capacity(alloc, most)?;
+    for share in batches {
+        let batch: &Batch = share;
+        for (place, policy) in batch.policies.iter().enumerate() {
+            lend(
+                &mut lent,
+                &batch.policy_texts[place],
+                is_shown(policy, operator),
+            )?;
+        }
+    }
+    Ok(lent)
+}
+
+/// The texts of all geographies of the batches. There are no more than `most`.
+pub(crate) fn lend_geography_texts(
+    alloc: Global,
+    most: usize,
+    batches: &[Arc<Batch>],
+) -> Result<Vec<&[u8]>, AllocError>
+    ensures { IfOk result (λ v. map (λ t. t.now) v.items
+        ≡ map served_geography (published_geographies (publications_in batches.now))) }
+{
+    let mut lent = Vec::with_capacity(alloc, most)?;
+    for share in batches {
+        let batch: &Batch = share;
+        for text in &batch.geography_texts {
+            let text: &[u8] = text;
+            match lent.push(text) {
                 Ok(()) => {}
                 Err(_) => return Err(AllocError),
             }

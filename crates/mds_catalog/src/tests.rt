@@ -1,7 +1,8 @@
 ghost use Rattle.std.specs.Prelude.{◌<◌, ◌≤◌};
 
-use crate::batch::{Batch, are_distinct};
+use crate::batch::Batch;
 use crate::catalogue::Catalogue;
+use crate::distinct::are_distinct;
 use crate::force::is_meant_for;
 use mds_geography::Geography;
 use mds_geometry::Position;
@@ -59,34 +60,42 @@ fn policies(alloc: Global, texts: &[&[u8]]) -> Result<Vec<Arc<Policy>>, Fail> {
 
 /// The policies of these texts, with the square.
 fn whole(alloc: Global, texts: &[&[u8]]) -> Result<Batch, Fail> {
-    Ok(Batch {
-        moment: moment(1000)?,
-        geographies: square(alloc)?,
-        policies: policies(alloc, texts)?,
-        withdrawn: Vec::new(alloc),
-    })
+    Ok(Batch::new(
+        alloc,
+        moment(1000)?,
+        square(alloc)?,
+        policies(alloc, texts)?,
+        Vec::new(alloc),
+    )?)
 }
 
 /// The policies of these texts alone, a second later.
 fn alone(alloc: Global, texts: &[&[u8]]) -> Result<Batch, Fail> {
-    Ok(Batch {
-        moment: moment(2000)?,
-        geographies: Vec::new(alloc),
-        policies: policies(alloc, texts)?,
-        withdrawn: Vec::new(alloc),
-    })
+    of_policies(alloc, 2000, policies(alloc, texts)?)
+}
+
+/// These policies alone, at a moment.
+fn of_policies(alloc: Global, at: i64, policies: Vec<Arc<Policy>>) -> Result<Batch, Fail> {
+    Ok(Batch::new(
+        alloc,
+        moment(at)?,
+        Vec::new(alloc),
+        policies,
+        Vec::new(alloc),
+    )?)
 }
 
 /// The withdrawal of the policy of this identifier at a moment.
 fn withdrawal(alloc: Global, text: &str, at: i64) -> Result<Batch, Fail> {
     let mut withdrawn = Vec::new(alloc);
     withdrawn.push(id(text)?)?;
-    Ok(Batch {
-        moment: moment(at)?,
-        geographies: Vec::new(alloc),
-        policies: Vec::new(alloc),
+    Ok(Batch::new(
+        alloc,
+        moment(at)?,
+        Vec::new(alloc),
+        Vec::new(alloc),
         withdrawn,
-    })
+    )?)
 }
 
 /// The first policy with the square, and a second later the one that takes its place.
@@ -141,6 +150,47 @@ fn lends_the_published(rt: HostRuntime) -> Result<(), Fail> {
     assert!(rt; catalogue.policy(id(P2)?).is_some() && catalogue.policy(id(G1)?).is_none());
     assert!(rt; catalogue.geography(id(G1)?).is_some() && catalogue.geography(id(P1)?).is_none());
     assert!(rt; is_meant_for(next.document, id(OA)?) && !is_meant_for(next.document, id(OB)?));
+    Ok(())
+}
+
+/// The texts of the square, of the first policy and of the one that takes its place, as they are served.
+const SQUARE_SERVED: &str =
+    r#"{"geography_id":"00000000-0000-4000-8000-000000000101","geography_json":{"features":[{"geometry":{"coordinates":[[[[0,0],[10,0],[10,10],[0,10],[0,0]]]],"type":"MultiPolygon"},"properties":null,"type":"Feature"}],"type":"FeatureCollection"},"name":"square","published_date":1000}"#;
+
+const CAP_SERVED: &str =
+    r#"{"name":"cap","policy_id":"00000000-0000-4000-8000-000000000201","published_date":1000,"rules":[{"geographies":["00000000-0000-4000-8000-000000000101"],"maximum":1,"name":"cap","rule_id":"00000000-0000-4000-8000-000000000301","rule_type":"count"}],"start_date":1000}"#;
+
+const NEXT_SERVED: &str =
+    r#"{"name":"next","policy_id":"00000000-0000-4000-8000-000000000202","prev_policies":["00000000-0000-4000-8000-000000000201"],"provider_ids":["00000000-0000-4000-8000-0000000000a1"],"published_date":2000,"rules":[{"geographies":["00000000-0000-4000-8000-000000000101"],"maximum":1,"name":"cap","rule_id":"00000000-0000-4000-8000-000000000302","rule_type":"count"}],"start_date":86401000}"#;
+
+#[test]
+fn lends_texts(rt: HostRuntime) -> Result<(), Fail> {
+    let alloc = rt.alloc();
+    let none = Catalogue::with_room(alloc)?;
+    assert!(rt; none.policy_texts(alloc, None)?.is_empty());
+    assert!(rt; none.geography_texts(alloc)?.is_empty());
+    let catalogue = published(alloc, &rt)?;
+    let all = catalogue.policy_texts(alloc, None)?;
+    let [cap, next] = all.as_slice() else {
+        panic!(rt; "two texts")
+    };
+    assert_eq!(rt; *cap, CAP_SERVED.as_bytes());
+    assert_eq!(rt; *next, NEXT_SERVED.as_bytes());
+    assert_eq!(rt; catalogue.policy_texts(alloc, Some(id(OA)?))?.len(), 2);
+    let meant = catalogue.policy_texts(alloc, Some(id(OB)?))?;
+    let [cap] = meant.as_slice() else {
+        panic!(rt; "one text")
+    };
+    assert_eq!(rt; *cap, CAP_SERVED.as_bytes());
+    let geographies = catalogue.geography_texts(alloc)?;
+    let [square] = geographies.as_slice() else {
+        panic!(rt; "one geography")
+    };
+    assert_eq!(rt; *square, SQUARE_SERVED.as_bytes());
+    assert!(rt; catalogue.policy_text(id(P2)?) == Some(NEXT_SERVED.as_bytes()));
+    assert!(rt; catalogue.policy_text(id(G1)?).is_none());
+    assert!(rt; catalogue.geography_text(id(G1)?) == Some(SQUARE_SERVED.as_bytes()));
+    assert!(rt; catalogue.geography_text(id(P2)?).is_none());
     Ok(())
 }
 
@@ -241,12 +291,9 @@ fn supersedes_from_the_least_moment_on(rt: HostRuntime) -> Result<(), Fail> {
         (2, 6000, 5000, 5999),
         (3, 7000, 80_000, 5999),
     ] {
-        let mut batch = alone(alloc, &[])?;
-        batch.moment = moment(at)?;
-        batch
-            .policies
-            .push(Arc::new(alloc, numbered(alloc, number, start, named)?)?)?;
-        catalogue.adopt(Arc::new(alloc, batch)?);
+        let policy = numbered(alloc, number, start, named)?;
+        let policies = vec![in alloc; Arc::new(alloc, policy)?]?;
+        catalogue.adopt(Arc::new(alloc, of_policies(alloc, at, policies)?)?);
         assert!(rt;
             cap_in_force(&catalogue, last)? && !cap_in_force(&catalogue, last + 1)?,
             "at {last}"
@@ -301,9 +348,7 @@ const LAYERS: [(usize, i64); 8] = [
 fn chained(alloc: Global) -> Result<Catalogue, Fail> {
     let mut catalogue = Catalogue::with_room(alloc)?;
     for (first, at) in LAYERS {
-        let mut batch = alone(alloc, &[])?;
-        batch.moment = moment(at)?;
-        batch.policies = layer(alloc, first.min(448))?;
+        let batch = of_policies(alloc, at, layer(alloc, first.min(448))?)?;
         catalogue.adopt(Arc::new(alloc, batch)?);
     }
     Ok(catalogue)

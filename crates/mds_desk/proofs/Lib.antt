@@ -1,4 +1,6 @@
 mod Joining
+pub mod Crossing
 pub mod Made
 pub mod Running
+pub mod Trees
 pub mod Turning

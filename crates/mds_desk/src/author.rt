@@ -7,7 +7,7 @@ use mds_drafts::Drafts;
 use mds_request::{Actor, AuthorCall, Call, Code, Config, Reply, Request, Routes, read_call};
 use mds_snapshot::{Naming, Note, Publisher};
 use mds_world::{AuthorAct, author_step};
-use std::alloc::Global;
+use std::alloc::{AllocError, Global};
 use std::sync::{Arc, Wait};
 
 /// The author's own place: its drafts, and what is published. It is not `Drop`: end it by `finish`.
@@ -21,7 +21,7 @@ pub struct AuthorRoom<K: Naming> {
 }
 
 impl<K: Naming> AuthorRoom<K> {
-    ghost use Rattle.std.specs.Prelude.{[], true, false, None, IfSome, MatchBool};
+    ghost use Rattle.std.specs.Prelude.{[], true, false, None, IfOk, IfSome, MatchBool};
     ghost use mathlib.Core.List.{IsPrefix};
     ghost use Rattle.mds_request.specs.Configuration.{configuration};
     ghost use Rattle.mds_request.specs.Request.{request_of};
@@ -102,6 +102,17 @@ impl<K: Naming> AuthorRoom<K> {
                 }
             }
         }
+    }
+
+    /// A share of the configuration.
+    ///
+    /// # Errors
+    ///
+    /// No further share could be made.
+    pub fn configuration(&self) -> Result<Arc<Config>, AllocError>
+        ensures { IfOk result (λ c. configuration c.value ≡ (room_of self.now).configuration) }
+    {
+        Arc::try_clone(&self.config)
     }
 
     /// Whether all that a desk of the same opening knows is published here; if not, the desk knows all that

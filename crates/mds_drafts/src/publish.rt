@@ -108,13 +108,14 @@ impl Drafts {
     }
 
     /// The batch of the drafts that are named, published at this moment, and of the policies that are
-    /// withdrawn. It shares the documents, and is lawful on the catalogue.
+    /// withdrawn. It shares the documents, has their texts as they will be served, and is lawful on the
+    /// catalogue.
     ///
     /// # Errors
     ///
     /// The first reason why it isn't, each tested for the whole list before the next: no identifier,
     /// one without a draft, one that is published, a rule's geography, a predecessor or a policy to
-    /// withdraw that is missing, a limit of the catalogue. `NoMemory` where the shares found none.
+    /// withdraw that is missing, a limit of the catalogue. `NoMemory` where the shares or the texts found none.
     pub fn batch(
         &self,
         alloc: Global,
@@ -136,12 +137,7 @@ impl Drafts {
         let geographies = self.shared_geographies(alloc, &list.geographies)?;
         let policies = self.shared_policies(alloc, &list.policies)?;
         let withdrawn = Vec::from_slice(alloc, &list.withdraw)?;
-        let batch = Batch {
-            moment,
-            geographies,
-            policies,
-            withdrawn,
-        };
+        let batch = Batch::new(alloc, moment, geographies, policies, withdrawn)?;
         match refusal(catalogue, &batch) {
             Some(fault) => Err(fault),
             None => Ok(batch),

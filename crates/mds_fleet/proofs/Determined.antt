@@ -14,13 +14,11 @@ use Rattle.mds_fleet.specs.declared.book.BookFault.{BookFault}
 use Rattle.mds_fleet.specs.declared.book.BookFault.TheVariants.{Future, Stale, FleetFull, NoMemory}
 use Rattle.mds_fleet.specs.Books.{Report, Rows, Take, is_same, outcome, outcome_at, row_after, rows_after, row_from, run_start, reported}
 use Rattle.mds_fleet.proofs.Cases.{Case}
+use Rattle.mds_fleet.proofs.Words.{words_decide}
 
 both : {P Q : Type 0} (a b : Bool) → Decides a P → Decides b Q → Decides (a && b) (P × Q)
 both true b p q = (λ h. (p.0 refl, q.0 h), λ h. q.1 h.1)
 both false b p q = (λ h. absurd (cc), λ h. p.1 h.0)
-
-words_decide : (xs ys : List (List ℕ)) → Decides (pointwise bytes_eq xs ys) (xs ≡ ys)
-words_decide xs ys = slice_eq-Decides bytes_eq-Decides xs ys _ refl
 
 pub same_decides : (a b : Report) → Decides (is_same a b) (a ≡ b)
 same_decides a b =

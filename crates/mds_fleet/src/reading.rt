@@ -1,21 +1,22 @@
 //! A vehicle report, read line by line of its table.
 ghost use Rattle.std.specs.Prelude.{◌≡◌, ◌≤◌};
+ghost use Rattle.mds_reading.specs.Node.{node_view};
 ghost use Rattle.mds_text.specs.Fault.{Gives, text_cause};
-ghost use Rattle.mds_text.specs.View.{view};
 ghost use Rattle.mds_fleet.specs.Books.{report_document};
 ghost use Rattle.mds_fleet.specs.Reading.{report_of, location_of, position_of, coordinate_at, tokens_at};
 
 use crate::report::Report;
-use mds_geometry::{Position, coordinate_of};
-use mds_text::{
-    Field, TextFault, Token, Tree, Units7, document_of, object_of, required_id, required_member,
-    required_moment, required_token, tokens_at as optional_tokens,
+use mds_geometry::{Position, coordinate_of_node};
+use mds_reading::{
+    Node, document_of, object_of, required_id, required_member, required_moment, required_token,
+    tokens_at as optional_tokens,
 };
+use mds_text::{Field, TextFault, Token, Units7};
 use std::alloc::Global;
 
 #[tactic(auto, unfolding(crate::specs::Reading::report_of))]
-pub(crate) fn report_of(alloc: Global, tree: &Tree) -> Result<Report, TextFault>
-    ensures { Gives text_cause report_document result (report_of (view tree.now)) }
+pub(crate) fn report_of(alloc: Global, tree: &Node<'_>) -> Result<Report, TextFault>
+    ensures { Gives text_cause report_document result (report_of (node_view tree.now)) }
 {
     let document = document_of(tree)?;
     let device = required_id(document, Field::DeviceId)?;
@@ -38,8 +39,8 @@ pub(crate) fn report_of(alloc: Global, tree: &Tree) -> Result<Report, TextFault>
 }
 
 /// Tokens; absent and null are the empty list.
-fn tokens_at(alloc: Global, document: &Tree, field: Field) -> Result<Vec<Token>, TextFault>
-    ensures { Gives text_cause (λ v. v.items) result (tokens_at (view document.now) field) }
+fn tokens_at(alloc: Global, document: &Node<'_>, field: Field) -> Result<Vec<Token>, TextFault>
+    ensures { Gives text_cause (λ v. v.items) result (tokens_at (node_view document.now) field) }
 {
     match optional_tokens(alloc, document, field)? {
         Some(tokens) => Ok(tokens),
@@ -48,15 +49,15 @@ fn tokens_at(alloc: Global, document: &Tree, field: Field) -> Result<Vec<Token>,
 }
 
 /// Where the vehicle is: an object.
-fn location_of(document: &Tree) -> Result<&Tree, TextFault>
-    ensures { Gives text_cause (λ t. view t.now) result (location_of (view document.now)) }
+fn location_of<'t, 'a>(document: &'t Node<'a>) -> Result<&'t Node<'a>, TextFault>
+    ensures { Gives text_cause (λ t. node_view t.now) result (location_of (node_view document.now)) }
 {
     object_of(required_member(document, Field::Location)?, Field::Location)
 }
 
 /// The latitude, then the longitude.
-fn position_of(location: &Tree) -> Result<Position, TextFault>
-    ensures { Gives text_cause (λ p. p) result (position_of (view location.now)) }
+fn position_of(location: &Node<'_>) -> Result<Position, TextFault>
+    ensures { Gives text_cause (λ p. p) result (position_of (node_view location.now)) }
 {
     let lat = coordinate_at(location, Field::Lat, 90)?;
     let lng = coordinate_at(location, Field::Lng, 180)?;
@@ -64,10 +65,10 @@ fn position_of(location: &Tree) -> Result<Position, TextFault>
 }
 
 /// A coordinate at most so many degrees from zero.
-fn coordinate_at(location: &Tree, field: Field, most: u8) -> Result<Units7, TextFault>
+fn coordinate_at(location: &Node<'_>, field: Field, most: u8) -> Result<Units7, TextFault>
     requires { most ≤ 180 }
-    ensures { Gives text_cause (λ u. u) result (coordinate_at most (view location.now) field) }
+    ensures { Gives text_cause (λ u. u) result (coordinate_at most (node_view location.now) field) }
 {
     let value = required_member(location, field)?;
-    coordinate_of(value, field, most)
+    coordinate_of_node(value, field, most)
 }

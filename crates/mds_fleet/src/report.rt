@@ -1,6 +1,6 @@
 use crate::reading::report_of;
 use mds_geometry::Position;
-use mds_reading::read_tree;
+use mds_reading::Source;
 use mds_text::{Id, Moment, TextFault, Token};
 use std::alloc::Global;
 
@@ -41,7 +41,8 @@ impl Report {
     pub fn read(alloc: Global, text: &[u8]) -> Result<Report, TextFault>
         ensures { Gives text_cause report_document result (read_report text.now) }
     {
-        let tree = read_tree(alloc, text)?;
+        let mut source = Source::new(alloc);
+        let tree = source.read(alloc, text)?;
         report_of(alloc, &tree)
     }
 }

@@ -41,6 +41,10 @@ position_of (lng ∷ lat ∷ more) = do
   Ok (record { lng = x; lat = y })
 position_of entries = Err (bad_field Coordinates)
 
+-- the position that an entry of a ring is
+abbrev pub position_at : Json → Result Position Fault
+position_at value = list_of Coordinates value >>= position_of
+
 -- the positions of a ring, each counted before it is read
 abbrev pub positions_of : ℕ → List Json → Result (Counted (List Position)) Fault
 positions_of read [] = Ok ([], read)

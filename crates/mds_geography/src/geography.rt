@@ -6,11 +6,10 @@ use crate::fault::GeoFault;
 use crate::served::collection_tree;
 use crate::walk::{geojson_of, kind_of};
 use mds_geometry::{Area, Polygon, Position};
-use mds_reading::read_tree;
-use mds_text::{
-    Field, Id, Moment, Tree, add_member, document_of, id_tree, int_tree, object_tree, required_id,
-    required_member, required_text, text_at, text_tree,
+use mds_reading::{
+    Node, Source, document_of, required_id, required_member, required_text, text_at,
 };
+use mds_text::{Field, Id, Moment, Tree, add_member, id_tree, int_tree, object_tree, text_tree};
 use std::alloc::{AllocError, Global};
 
 /// A geography: an area of one or more polygons under an identifier (MDS 2.0 Geography).
@@ -24,6 +23,7 @@ pub struct Geography {
 
 impl Geography {
     ghost use Rattle.mds_text.specs.View.{view};
+    ghost use Rattle.mds_reading.specs.Node.{node_view};
     ghost use Rattle.mds_geometry.specs.Area.{area_holds};
     ghost use Rattle.mds_geography.specs.Geography.{geography_document};
     ghost use Rattle.mds_geography.specs.Reading.{read_geography, geography_of};
@@ -38,12 +38,13 @@ impl Geography {
     pub fn read(alloc: Global, text: &[u8]) -> Result<Geography, GeoFault>
         ensures { Gives geo_cause geography_document result (read_geography text.now) }
     {
-        let tree = read_tree(alloc, text)?;
-        Geography::from_tree(alloc, &tree)
+        let mut source = Source::new(alloc);
+        let tree = source.read(alloc, text)?;
+        Geography::from_node(alloc, &tree)
     }
 
-    fn from_tree(alloc: Global, tree: &Tree) -> Result<Geography, GeoFault>
-        ensures { Gives geo_cause geography_document result (geography_of (view tree.now)) }
+    fn from_node(alloc: Global, tree: &Node<'_>) -> Result<Geography, GeoFault>
+        ensures { Gives geo_cause geography_document result (geography_of (node_view tree.now)) }
     {
         let document = document_of(tree)?;
         let id = required_id(document, Field::GeographyId)?;

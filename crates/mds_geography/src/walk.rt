@@ -1,75 +1,104 @@
 //! The walk through the GeoJSON of a geography, in document order. Each step is told how many
 //! positions were read before it, and tells how many were read after it.
-ghost use Rattle.std.specs.Prelude.{◌≡◌, ◌≤◌, map, IfOk, Ok};
+ghost use Rattle.std.specs.Prelude.{◌≡◌, ◌≤◌, ◌∷◌, [], map, IfOk, Ok};
 ghost use Rattle.mds_text.specs.Fault.{Gives, text_cause};
-ghost use Rattle.mds_text.specs.View.{view};
+ghost use Rattle.mds_text.specs.Fields.{list_of, required_at};
+ghost use Rattle.mds_text.specs.Tree.{text};
+ghost use Rattle.mds_text.specs.declared.field.Field.TheVariants.{Features};
+ghost use Rattle.mds_reading.specs.Entries.{entries_view};
+ghost use Rattle.mds_reading.specs.Node.{node_view};
 ghost use Rattle.mds_geography.specs.Fault.{geo_cause};
-ghost use Rattle.mds_geography.specs.Reading.{position_of, positions_of, ring_of, rings_of, polygon_of, polygons_of, multipolygon_of, geometry_of, kind_of, feature_of, feature_geometry, features_of, geojson_of, most_positions, uncounted};
+ghost use Rattle.mds_geography.specs.Reading.{position_of, position_at, positions_of, ring_of, rings_of, polygon_of, polygons_of, multipolygon_of, geometry_of, kind_of, feature_of, feature_geometry, features_of, geojson_of, most_positions, uncounted};
 
 use crate::fault::GeoFault;
-use mds_geometry::{MOST_LATITUDE, MOST_LONGITUDE, Polygon, Position, Ring, coordinate_of};
-use mds_text::{
-    Field, TextFault, Tree, list_of, member_at, required_list, required_member, required_text,
+use mds_geometry::{
+    MOST_LATITUDE, MOST_LONGITUDE, Polygon, Position, Ring, coordinate_of_node, coordinate_of_text,
 };
+use mds_reading::{Entries, Node, entries_of, member_at, required_member, required_text};
+use mds_text::{Field, TextFault};
 use std::alloc::Global;
 
 /// The most positions of a geography, closing ones counted.
 const MOST_POSITIONS: usize = 20_000;
 
 /// Longitude, then latitude; further entries aren't looked at (RFC 7946, section 3.1.1).
-fn position_of(entries: &[Tree]) -> Result<Position, GeoFault>
-    ensures { Gives geo_cause (λ p. p) result (position_of (map view entries.now)) }
+fn position_of(entries: &[Node<'_>]) -> Result<Position, GeoFault>
+    ensures { Gives geo_cause (λ p. p) result (position_of (map node_view entries.now)) }
 {
     let [lng, lat, ..] = entries else {
         return Err(GeoFault::Text(TextFault::BadField(Field::Coordinates)));
     };
-    let lng = coordinate_of(lng, Field::Coordinates, MOST_LONGITUDE)?;
-    let lat = coordinate_of(lat, Field::Coordinates, MOST_LATITUDE)?;
+    let lng = coordinate_of_node(lng, Field::Coordinates, MOST_LONGITUDE)?;
+    let lat = coordinate_of_node(lat, Field::Coordinates, MOST_LATITUDE)?;
     Ok(Position { lng, lat })
+}
+
+/// The position of two numbers' texts: longitude, then latitude.
+fn position_of_texts(lng: &str, lat: &str) -> Result<Position, GeoFault>
+    ensures { Gives geo_cause (λ p. p) result (position_of (text lng.now ∷ text lat.now ∷ [])) }
+{
+    let lng = coordinate_of_text(lng, MOST_LONGITUDE)?;
+    let lat = coordinate_of_text(lat, MOST_LATITUDE)?;
+    Ok(Position { lng, lat })
+}
+
+/// The position that an entry of a ring is.
+fn position_at(entry: &Node<'_>) -> Result<Position, GeoFault>
+    ensures { Gives geo_cause (λ p. p) result (position_at (node_view entry.now)) }
+{
+    match entry {
+        Node::Pair(lng, lat) => position_of_texts(lng, lat),
+        Node::List(entries) => position_of(entries),
+        _ => Err(GeoFault::Text(TextFault::BadField(Field::Coordinates))),
+    }
 }
 
 /// The positions of a ring, each counted before it is read.
 fn positions_of(
     alloc: Global,
     mut read: usize,
-    entries: &[Tree],
+    entries: &[Node<'_>],
 ) -> Result<(Vec<Position>, usize), GeoFault>
     requires { read ≤ most_positions }
-    ensures value { Gives geo_cause (λ x. (x.0.items, x.1)) result (positions_of read (map view entries.now)) }
+    ensures value { Gives geo_cause (λ x. (x.0.items, x.1)) result (positions_of read (map node_view entries.now)) }
     ensures few { IfOk result (λ x. x.1 ≤ most_positions) }
 {
-    let mut positions = Vec::new(alloc);
+    let mut positions = Vec::with_capacity(alloc, entries.len().min(MOST_POSITIONS))?;
     for entry in entries {
         if read >= MOST_POSITIONS {
             return Err(GeoFault::TooManyPoints);
         }
         read += 1;
-        let numbers = list_of(entry, Field::Coordinates)?;
-        positions.push(position_of(numbers)?)?;
+        positions.push(position_at(entry)?)?;
     }
     Ok((positions, read))
 }
 
 /// A ring and its end: too few positions come before ends that differ (RFC 7946, section 3.1.6).
-fn ring_of(alloc: Global, read: usize, value: &Tree) -> Result<(Ring, usize), GeoFault>
+fn ring_of(alloc: Global, read: usize, value: &Node<'_>) -> Result<(Ring, usize), GeoFault>
     requires { read ≤ most_positions }
-    ensures value { Gives geo_cause (λ x. (x.0, x.1)) result (ring_of read (view value.now)) }
+    ensures value { Gives geo_cause (λ x. (x.0, x.1)) result (ring_of read (node_view value.now)) }
     ensures few { IfOk result (λ x. x.1 ≤ most_positions) }
 {
-    let entries = list_of(value, Field::Coordinates)?;
-    let (positions, read) = positions_of(alloc, read, entries)?;
+    let entries = entries_of(alloc, value, Field::Coordinates)?;
+    let (positions, read) = positions_of(alloc, read, entries.as_slice())?;
     let ring = Ring::new(positions)?;
     Ok((ring, read))
 }
 
 /// The rings of a polygon (RFC 7946, section 3.1.6).
-fn polygon_of(alloc: Global, mut read: usize, value: &Tree) -> Result<(Polygon, usize), GeoFault>
+fn polygon_of(
+    alloc: Global,
+    mut read: usize,
+    value: &Node<'_>,
+) -> Result<(Polygon, usize), GeoFault>
     requires { read ≤ most_positions }
-    ensures value { Gives geo_cause (λ x. (x.0, x.1)) result (polygon_of read (view value.now)) }
+    ensures value { Gives geo_cause (λ x. (x.0, x.1)) result (polygon_of read (node_view value.now)) }
     ensures few { IfOk result (λ x. x.1 ≤ most_positions) }
 {
     let mut rings = Vec::new(alloc);
-    for entry in list_of(value, Field::Coordinates)? {
+    let entries = entries_of(alloc, value, Field::Coordinates)?;
+    for entry in entries.as_slice() {
         let (ring, now_read) = ring_of(alloc, read, entry)?;
         rings.push(ring)?;
         read = now_read;
@@ -81,14 +110,15 @@ fn polygon_of(alloc: Global, mut read: usize, value: &Tree) -> Result<(Polygon, 
 fn multipolygon_of(
     alloc: Global,
     mut read: usize,
-    value: &Tree,
+    value: &Node<'_>,
 ) -> Result<(Vec<Polygon>, usize), GeoFault>
     requires { read ≤ most_positions }
-    ensures value { Gives geo_cause (λ x. (x.0.items, x.1)) result (multipolygon_of read (view value.now)) }
+    ensures value { Gives geo_cause (λ x. (x.0.items, x.1)) result (multipolygon_of read (node_view value.now)) }
     ensures few { IfOk result (λ x. x.1 ≤ most_positions) }
 {
     let mut polygons = Vec::new(alloc);
-    for entry in list_of(value, Field::Coordinates)? {
+    let entries = entries_of(alloc, value, Field::Coordinates)?;
+    for entry in entries.as_slice() {
         let (polygon, now_read) = polygon_of(alloc, read, entry)?;
         polygons.push(polygon)?;
         read = now_read;
@@ -97,8 +127,8 @@ fn multipolygon_of(
 }
 
 /// The text `type` of an object (RFC 7946, section 1.4); anything else is a bad field of this name.
-pub(crate) fn kind_of<'a>(value: &'a Tree, field: Field) -> Result<&'a str, TextFault>
-    ensures { Gives text_cause (λ s. s.now) result (kind_of field (view value.now)) }
+pub(crate) fn kind_of<'a>(value: &Node<'a>, field: Field) -> Result<&'a str, TextFault>
+    ensures { Gives text_cause (λ s. s.now) result (kind_of field (node_view value.now)) }
 {
     match required_text(value, Field::Kind) {
         Ok(kind) => Ok(kind),
@@ -113,10 +143,10 @@ fn geometry_of(
     alloc: Global,
     read: usize,
     kind: &str,
-    geometry: &Tree,
+    geometry: &Node<'_>,
 ) -> Result<(Vec<Polygon>, usize), GeoFault>
     requires { read ≤ most_positions }
-    ensures value { Gives geo_cause (λ x. (x.0.items, x.1)) result (geometry_of read kind.now (view geometry.now)) }
+    ensures value { Gives geo_cause (λ x. (x.0.items, x.1)) result (geometry_of read kind.now (node_view geometry.now)) }
     ensures few { IfOk result (λ x. x.1 ≤ most_positions) }
 {
     if kind == "Polygon" {
@@ -132,9 +162,13 @@ fn geometry_of(
 }
 
 /// The polygons of a feature: absent and null geometries add none (RFC 7946, section 3.2).
-fn feature_of(alloc: Global, read: usize, feature: &Tree) -> Result<(Vec<Polygon>, usize), GeoFault>
+fn feature_of(
+    alloc: Global,
+    read: usize,
+    feature: &Node<'_>,
+) -> Result<(Vec<Polygon>, usize), GeoFault>
     requires { read ≤ most_positions }
-    ensures value { Gives geo_cause (λ x. (x.0.items, x.1)) result (feature_of read (view feature.now)) }
+    ensures value { Gives geo_cause (λ x. (x.0.items, x.1)) result (feature_of read (node_view feature.now)) }
     ensures few { IfOk result (λ x. x.1 ≤ most_positions) }
 {
     let Some(geometry) = member_at(feature, Field::Geometry)? else {
@@ -145,8 +179,8 @@ fn feature_of(alloc: Global, read: usize, feature: &Tree) -> Result<(Vec<Polygon
 }
 
 /// The polygons of the features of a collection (RFC 7946, section 3.3).
-fn features_of(alloc: Global, entries: &[Tree]) -> Result<Vec<Polygon>, GeoFault>
-    ensures { Gives geo_cause (λ v. v.items) result (uncounted (features_of 0 (map view entries.now))) }
+fn features_of(alloc: Global, entries: &[Node<'_>]) -> Result<Vec<Polygon>, GeoFault>
+    ensures { Gives geo_cause (λ v. v.items) result (uncounted (features_of 0 (map node_view entries.now))) }
 {
     let mut polygons = Vec::new(alloc);
     let mut read = 0;
@@ -161,14 +195,26 @@ fn features_of(alloc: Global, entries: &[Tree]) -> Result<Vec<Polygon>, GeoFault
     Ok(polygons)
 }
 
+/// The list of a collection's features, which has to be there (RFC 7946, section 3.3).
+fn features_at<'t, 'a>(alloc: Global, value: &'t Node<'a>) -> Result<Entries<'t, 'a>, TextFault>
+    ensures { Gives text_cause (λ entries. entries_view entries) result (required_at list_of (node_view value.now) Features) }
+{
+    let features = required_member(value, Field::Features)?;
+    entries_of(alloc, features, Field::Features)
+}
+
 /// The polygons of a GeoJSON object, in document order: a FeatureCollection's, a Feature's, or those of
 /// a geometry (RFC 7946, section 3).
-pub(crate) fn geojson_of(alloc: Global, kind: &str, value: &Tree) -> Result<Vec<Polygon>, GeoFault>
-    ensures { Gives geo_cause (λ v. v.items) result (uncounted (geojson_of kind.now (view value.now))) }
+pub(crate) fn geojson_of(
+    alloc: Global,
+    kind: &str,
+    value: &Node<'_>,
+) -> Result<Vec<Polygon>, GeoFault>
+    ensures { Gives geo_cause (λ v. v.items) result (uncounted (geojson_of kind.now (node_view value.now))) }
 {
     if kind == "FeatureCollection" {
-        let entries = required_list(value, Field::Features)?;
-        return features_of(alloc, entries);
+        let entries = features_at(alloc, value)?;
+        return features_of(alloc, entries.as_slice());
     }
     let (polygons, _) = if kind == "Feature" {
         feature_of(alloc, 0, value)?

@@ -1,5 +1,5 @@
 -- One strip tells what the polygons of an index hold.
-use Rattle.std.proofs.Common.{arith, ◌≡◌, ◌∙◌, ap, ℕ, ◌+◌, ◌<◌, false, List, [], length, get_or}
+use Rattle.std.proofs.Common.{arith, ◌≡◌, ◌∙◌, ap, ℕ, ℤ, ◌+◌, ◌-◌, ◌/◌, ◌^◌, ◌<◌, ◌≤◌, false, List, [], length, get_or}
 use Rattle.std.proofs.lemmas.Bool.Decides.{nat_tests}
 use Rattle.std.proofs.lemmas.List.{get_or_default}
 use Rattle.mds_geometry.specs.declared.position.Position.{Position}
@@ -7,12 +7,15 @@ use Rattle.mds_geometry.specs.declared.bounds.Bounds.{Bounds}
 use Rattle.mds_geometry.specs.declared.scale.Scale.{Scale}
 use Rattle.mds_geometry.specs.declared.strip.Edge.{Edge}
 use Rattle.mds_geometry.specs.Area.{area_holds}
-use Rattle.mds_geometry.specs.Strips.{IsIndexed, any_holds, at_most, edges_from, reaches, strip_of}
+use Rattle.mds_geometry.specs.Strips.{IsIndexed, any_holds, at_most, edges_from, reaches, row_of, strip_of}
 use Rattle.mds_geometry.proofs.Idle.{any_holds-edges, any_holds-filter, edges_ascend}
 use Rattle.mds_geometry.proofs.Reaching.{idle_unreached}
 
 at_most_within : (last n : ℕ) → at_most last n < last + 1
 at_most_within last n = grind (arith, nat_tests)
+
+pub strip_top : (scale : Scale) (lat : ℤ) → strip_of scale lat ≤ scale.last
+strip_top scale lat = let within = at_most_within scale.last (row_of lat / 2 ^ scale.shift - scale.first) in omega arith
 
 pub strip_within : (polygons : List (List (List Position))) (bounds : Bounds) (scale : Scale) (strips : List (List Edge)) (at : Position)
     → IsIndexed polygons bounds scale strips → strip_of scale at.lat < length strips

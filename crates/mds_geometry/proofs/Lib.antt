@@ -1,9 +1,13 @@
 pub mod Banded
+pub mod Cells
+pub mod Decimals
+pub mod Marked
 pub mod Edges
 pub mod Indexed
 pub mod Outside
 pub mod Reaching
 pub mod Seen
 pub mod Signs
+pub mod Told
 pub mod Wide
 pub mod Idle

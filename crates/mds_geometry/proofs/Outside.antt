@@ -18,7 +18,7 @@ use Rattle.mds_geometry.proofs.Signs.{above, crossed_west, crossed_east}
 
 -- ---- a ring that is closed goes as often up as down
 
-last : Position → List Position → Position
+unfoldable pub last : Position → List Position → Position
 last x [] = x
 last x (y ∷ rest) = last y rest
 
@@ -27,17 +27,17 @@ unfolding last
 slice_get-last x [] = refl
 slice_get-last x (y ∷ rest) = slice_get-last y rest
 
-closed_ends : (x : Position) (rest : List Position) → IsClosed (x ∷ rest) → x ≡ last x rest
+pub closed_ends : (x : Position) (rest : List Position) → IsClosed (x ∷ rest) → x ≡ last x rest
 closed_ends x rest closed =
     let end : length (x ∷ rest) - 1 ≡ length rest = omega arith in
     let ends : Some x ≡ Some (last x rest) = closed ∙ ap (slice_get (x ∷ rest)) end ∙ slice_get-last x rest in
     cc
 
-turned-self : (a : Bool) → turned a a ≡ false
+pub turned-self : (a : Bool) → turned a a ≡ false
 turned-self false = refl
 turned-self true = refl
 
-turned-path : (a b c : Bool) → turned (turned a b) (turned b c) ≡ turned a c
+pub turned-path : (a b c : Bool) → turned (turned a b) (turned b c) ≡ turned a c
 turned-path false false c = refl
 turned-path false true false = refl
 turned-path false true true = refl
@@ -45,7 +45,7 @@ turned-path true false c = refl
 turned-path true true false = refl
 turned-path true true true = refl
 
-flip : (c : Bool) → cond c (not false) false ≡ c
+pub flip : (c : Bool) → cond c (not false) false ≡ c
 flip false = refl
 flip true = refl
 
@@ -89,17 +89,17 @@ crossings_none P at uncrossed (x ∷ y ∷ ring) all =
     let rest = crossings_none P at uncrossed (y ∷ ring) tail in
     sum_by-cons (λ e. cond (is_crossed e.0 e.1 at) 1 0) (x, y) (edges_of_ring (y ∷ ring)) ∙ rw (here, rest) refl
 
-below : (a b x : ℤ) → x <ℤ a → x <ℤ b → is_between a b x ≡ false
+pub below : (a b x : ℤ) → x <ℤ a → x <ℤ b → is_between a b x ≡ false
 below a b x p q = grind (arith, ints)
 
-beyond : (a b x : ℤ) → a <ℤ x → b <ℤ x → is_between a b x ≡ false
+pub beyond : (a b x : ℤ) → a <ℤ x → b <ℤ x → is_between a b x ≡ false
 beyond a b x p q = grind (arith, ints)
 
 neither_on : (a b : Bool) → ((a && false) && b) ≡ false
 neither_on false b = refl
 neither_on true b = refl
 
-off_between : (from to at : Position) → is_between from.lng to.lng at.lng ≡ false → is_on from to at ≡ false
+pub off_between : (from to at : Position) → is_between from.lng to.lng at.lng ≡ false → is_on from to at ≡ false
 off_between from to at h = rw h (neither_on (is_between from.lat to.lat at.lat) _)
 
 -- a position isn't on an edge of a ring, and an even number of its edges is crossed

@@ -24,7 +24,7 @@ shift_rises a b k le = le-div (a / 2 ^ k) b (2 ^ k) (pow_pos k) (omega (arith, d
 at_most_rises : (last a b : ℕ) → a ≤ b → at_most last a ≤ at_most last b
 at_most_rises last a b le = grind (arith, nat_tests)
 
-strip_rises : (scale : Scale) (a b : ℤ) → a ≤ℤ b → strip_of scale a ≤ strip_of scale b
+pub strip_rises : (scale : Scale) (a b : ℤ) → a ≤ℤ b → strip_of scale a ≤ strip_of scale b
 strip_rises scale a b le =
     let rows = shift_rises (row_of a) (row_of b) scale.shift (row_rises a b le) in
     at_most_rises scale.last _ _ (omega (arith, rows))
@@ -34,10 +34,10 @@ strip_rises scale a b le =
 between_cases : (a b x : ℤ) → is_between a b x ≡ true → ((a ≤ℤ x) × (x ≤ℤ b)) ⊎ ((b ≤ℤ x) × (x ≤ℤ a))
 between_cases a b x h = grind (arith, ints)
 
-lies_up : (a b n : ℕ) → a ≤ n → n ≤ b → lies_between a b n ≡ true
+pub lies_up : (a b n : ℕ) → a ≤ n → n ≤ b → lies_between a b n ≡ true
 lies_up a b n low high = grind (arith, nat_tests)
 
-lies_down : (a b n : ℕ) → b ≤ n → n ≤ a → lies_between a b n ≡ true
+pub lies_down : (a b n : ℕ) → b ≤ n → n ≤ a → lies_between a b n ≡ true
 lies_down a b n low high = grind (arith, nat_tests)
 
 between_strips : (scale : Scale) (a b x : ℤ) → is_between a b x ≡ true → lies_between (strip_of scale a) (strip_of scale b) (strip_of scale x) ≡ true

@@ -2,14 +2,12 @@
 ghost use Rattle.std.specs.Prelude.{◌≡◌, IfOk};
 ghost use Rattle.mds_geometry.specs.Area.{area_holds};
 
-use crate::bounds::{Bounds, bounds_of};
-use crate::fit::scale_of;
+use crate::cell::Cell;
 use crate::gather::gather;
+use crate::grid::Grid;
 use crate::polygon::Polygon;
 use crate::position::Position;
-use crate::scale::Scale;
-use crate::strip::Strip;
-use crate::strips::strips_of;
+use crate::striped::Striped;
 use std::alloc::{AllocError, Global};
 use std::marker::Model;
 
@@ -21,31 +19,31 @@ pub fn area_holds(polygons: &[Polygon], position: Position) -> bool
     polygons.iter().any(|polygon| polygon.holds(position))
 }
 
-/// The area of several polygons (RFC 7946, section 3.1.7), with their edges by strips of latitude, so
-/// that a question looks at a few edges however many there are. Contracts see the list of the
-/// polygons, each the list of its rings.
+/// The area of several polygons (RFC 7946, section 3.1.7), with a grid of cells that tell of most
+/// positions whether they are held, and with the edges by strips of latitude for the others: so a
+/// question looks at few edges however many there are. Contracts see the list of the polygons, each the
+/// list of its rings.
 #[derive(Drop)]
 pub struct Area {
-    polygons: Vec<Polygon>,
-    bounds: Bounds,
-    scale: Scale,
-    strips: Vec<Strip>,
+    striped: Striped,
+    grid: Grid,
 }
 
 impl Model for Area {
     ghost use Rattle.std.specs.Prelude.{List};
-    ghost use Rattle.mds_geometry.specs.Strips.{IsIndexed};
+    ghost use Rattle.mds_geometry.specs.Grid.{AreTold};
     ghost use Rattle.mds_geometry.specs.declared.position.Position.{Position};
 
     ghost Value = { List (List (List Position)) };
 
-    ghost view = { λ a. a.polygons.items };
+    ghost view = { λ a. a.striped };
 
-    ghost invariant = { λ a. IsIndexed a.polygons.items a.bounds a.scale a.strips.items };
+    ghost invariant = { λ a. AreTold a.grid.columns a.grid.rows a.striped a.grid.cells.items };
 }
 
 impl Area {
-    /// The area of these polygons. An edge has at most four places in the strips, on the average.
+    /// The area of these polygons. An edge has at most four places in the strips, on the average. There
+    /// are at most sixteen cells for an edge, or one row of 128.
     ///
     /// # Errors
     ///
@@ -54,32 +52,29 @@ impl Area {
         ensures { IfOk result (λ area. area ≡ polygons.items) }
     {
         let edges = gather(alloc, &polygons)?;
-        let scale = scale_of(&edges);
-        let strips = strips_of(alloc, &scale, &edges)?;
-        let bounds = bounds_of(&polygons);
-        Ok(Area {
-            polygons,
-            bounds,
-            scale,
-            strips,
-        })
+        let striped = Striped::new(alloc, polygons, &edges)?;
+        let grid = Grid::new(alloc, &striped, &edges)?;
+        Ok(Area { striped, grid })
     }
 
     /// The polygons in their order.
     pub fn polygons(&self) -> &[Polygon]
         ensures { result.now ≡ self.now }
     {
-        self.polygons.as_slice()
+        self.striped.polygons()
     }
 
     /// Whether one of the polygons holds the position. No polygon holds nothing.
     pub fn holds(&self, position: Position) -> bool
         ensures { result ≡ area_holds self.now position }
     {
-        if !self.bounds.holds(&position) {
+        if self.striped.excludes(&position) {
             return false;
         }
-        let strip = self.scale.strip_of(position.lat);
-        self.strips[strip].holds(&position)
+        match self.grid.cell(&position) {
+            Cell::Inside => true,
+            Cell::Outside => false,
+            Cell::Mixed => self.striped.holds(position),
+        }
     }
 }

@@ -199,15 +199,94 @@ fn holes_and_borders(rt: HostRuntime) -> Result<(), Fail> {
     Ok(())
 }
 
-/// Most strips between two small polygons are empty.
+/// The corners round a rectangle, one unit after another.
+fn outline(alloc: Global, from: Corner, to: Corner) -> Result<Vec<Corner>, AllocError> {
+    let mut all = Vec::new(alloc);
+    for lng in from.0..to.0 {
+        all.push((lng, from.1))?;
+    }
+    for lat in from.1..to.1 {
+        all.push((to.0, lat))?;
+    }
+    for lng in (from.0..to.0).rev() {
+        all.push((lng.saturating_add(1), to.1))?;
+    }
+    for lat in (from.1..to.1).rev() {
+        all.push((from.0, lat.saturating_add(1)))?;
+    }
+    Ok(all)
+}
+
+/// The corners round a square on its tip, so many units from its middle, one after another.
+fn diamond(alloc: Global, middle: Corner, size: i64) -> Result<Vec<Corner>, AllocError> {
+    let mut all = Vec::new(alloc);
+    for (lng, lat, turn_lng, turn_lat) in [
+        (1, 0, -1, 1),
+        (0, 1, -1, -1),
+        (-1, 0, 1, -1),
+        (0, -1, 1, 1),
+    ] {
+        for step in 0..size {
+            let east = size
+                .saturating_mul(lng)
+                .saturating_add(step.saturating_mul(turn_lng));
+            let north = size
+                .saturating_mul(lat)
+                .saturating_add(step.saturating_mul(turn_lat));
+            all.push((
+                middle.0.saturating_add(east),
+                middle.1.saturating_add(north),
+            ))?;
+        }
+    }
+    Ok(all)
+}
+
+/// So many numbers, from two below zero on.
+fn from_minus_two(alloc: Global, count: i64) -> Result<Vec<i64>, AllocError> {
+    let mut all = Vec::new(alloc);
+    for number in -2..count {
+        all.push(number)?;
+    }
+    Ok(all)
+}
+
+/// Most cells tell what is held: inside and outside rectangles with holes, and a polygon in a hole.
+#[test]
+fn cells_of_rectangles(rt: HostRuntime) -> Result<(), Fail> {
+    let alloc = rt.alloc();
+    let exterior = outline(alloc, (0, 0), (32, 28))?;
+    let hole = outline(alloc, (7, 8), (24, 20))?;
+    let within = outline(alloc, (12, 11), (19, 17))?;
+    let (exterior, hole, within) = (exterior.as_slice(), hole.as_slice(), within.as_slice());
+    let all = from_minus_two(alloc, 36)?;
+    agrees(&rt, alloc, &[&[exterior, hole]], &all, &all)?;
+    agrees(&rt, alloc, &[&[exterior, hole], &[within]], &all, &all)
+}
+
+/// Cells that slanted edges cover, and those on both sides.
+#[test]
+fn cells_of_diamonds(rt: HostRuntime) -> Result<(), Fail> {
+    let alloc = rt.alloc();
+    let exterior = diamond(alloc, (20, 20), 20)?;
+    let hole = diamond(alloc, (24, 20), 9)?;
+    let (exterior, hole) = (exterior.as_slice(), hole.as_slice());
+    let all = from_minus_two(alloc, 44)?;
+    agrees(&rt, alloc, &[&[exterior, hole]], &all, &all)?;
+    agrees(&rt, alloc, &[&[hole], &[exterior]], &all, &all)
+}
+
+/// Most strips and most cells between two small polygons are empty.
 #[test]
 fn empty_strips(rt: HostRuntime) -> Result<(), Fail> {
-    let far: &[Corner] = &[(0, 1_000_000), (3, 1_000_000), (3, 1_000_003)];
-    let area: &[&[&[Corner]]] = &[&[&[(0, 0), (2, 0), (2, 2)]], &[far]];
+    let alloc = rt.alloc();
+    let near = outline(alloc, (0, 0), (8, 8))?;
+    let far = outline(alloc, (0, 1_000_000), (8, 1_000_008))?;
+    let area: &[&[&[Corner]]] = &[&[near.as_slice()], &[far.as_slice()]];
     let lats = [
-        -1, 0, 1, 2, 3, 262_144, 500_000, 999_999, 1_000_000, 1_000_001, 1_000_003, 1_000_004,
+        -1, 0, 1, 7, 8, 9, 262_144, 500_000, 999_999, 1_000_000, 1_000_001, 1_000_008, 1_000_009,
     ];
-    agrees(&rt, rt.alloc(), area, &[-1, 0, 1, 2, 3, 4], &lats)
+    agrees(&rt, alloc, area, &[-1, 0, 1, 4, 7, 8, 9], &lats)
 }
 
 /// Corners at the poles and at the ends of the longitudes.

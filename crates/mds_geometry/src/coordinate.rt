@@ -2,9 +2,13 @@
 ghost use Rattle.std.specs.Prelude.{◌≡◌, ◌≤◌, ◌*ℤ◌, pos};
 ghost use Rattle.mds_geometry.specs.Coordinate.{coordinate_of, most_longitude, units_of_degree, within};
 ghost use Rattle.mds_text.specs.Fault.{Gives, IsCaused, text_cause};
+ghost use Rattle.mds_text.specs.Tree.{text};
 ghost use Rattle.mds_text.specs.View.{view};
+ghost use Rattle.mds_reading.specs.Node.{node_view};
 
-use mds_text::{Field, TextFault, Tree, Units7, units_of};
+use crate::decimal::units_of_text;
+use mds_reading::Node;
+use mds_text::{Field, TextFault, Tree, Units7};
 
 /// The most degrees of a longitude (RFC 7946, section 4).
 pub const MOST_LONGITUDE: u8 = 180;
@@ -29,9 +33,41 @@ pub fn coordinate_of(value: &Tree, field: Field, most: u8) -> Result<Units7, Tex
 {
     match value {
         Tree::Int(degrees) => whole_degrees(*degrees, most),
-        Tree::Text(text) => within(units_of(text.as_str())?, most),
+        Tree::Text(text) => coordinate_of_text(text.as_str(), most),
         _ => Err(TextFault::BadField(field)),
     }
+}
+
+/// A coordinate at most `most` degrees from zero, as `coordinate_of` reads it, of a tree that lends.
+///
+/// # Errors
+///
+/// Those of `coordinate_of`.
+pub fn coordinate_of_node(value: &Node<'_>, field: Field, most: u8) -> Result<Units7, TextFault>
+    requires { most ≤ most_longitude }
+    ensures value { Gives text_cause (λ u. u) result (coordinate_of most field (node_view value.now)) }
+    ensures memory { IsCaused result }
+{
+    match value {
+        Node::Int(degrees) => whole_degrees(*degrees, most),
+        Node::Text(text) => coordinate_of_text(text, most),
+        _ => Err(TextFault::BadField(field)),
+    }
+}
+
+/// The coordinate at most `most` degrees from zero that the text of a number (RFC 8259, section 6)
+/// gives in degrees, rounded to units of 10^-7 degree.
+///
+/// # Errors
+///
+/// `BadNumber` for a text that is no number of at most 64 bytes with an exponent of at most three
+/// digits, and `OutOfRange` beyond `most` degrees.
+pub fn coordinate_of_text(number: &str, most: u8) -> Result<Units7, TextFault>
+    requires { most ≤ most_longitude }
+    ensures value { Gives text_cause (λ u. u) result (coordinate_of most Field.Coordinates (text number.now)) }
+    ensures memory { IsCaused result }
+{
+    within(units_of_text(number)?, most)
 }
 
 /// The coordinate of a whole number of degrees.

@@ -1,4 +1,5 @@
-use super::{MOST_LATITUDE, coordinate_of};
+use super::{MOST_LATITUDE, coordinate_of, coordinate_of_node, coordinate_of_text};
+use mds_reading::Source;
 use mds_text::{Field, TextFault, read_tree};
 use std::alloc::Global;
 use std::test::Fail;
@@ -9,6 +10,42 @@ fn units(alloc: Global, text: &str) -> Result<Result<i64, TextFault>, Fail> {
     match coordinate_of(&tree, Field::Lat, MOST_LATITUDE) {
         Ok(units) => Ok(Ok(units.get())),
         Err(fault) => Ok(Err(fault)),
+    }
+}
+
+/// The same of a tree that lends.
+fn units_lent(alloc: Global, text: &str) -> Result<Result<i64, TextFault>, Fail> {
+    let mut source = Source::new(alloc);
+    let node = source.read(alloc, text.as_bytes())?;
+    match coordinate_of_node(&node, Field::Lat, MOST_LATITUDE) {
+        Ok(units) => Ok(Ok(units.get())),
+        Err(fault) => Ok(Err(fault)),
+    }
+}
+
+/// Texts with a point and up to seven decimals, and such that are nearly so.
+#[test]
+fn decimals(rt: HostRuntime) {
+    for (text, want) in [
+        ("0.5", 5_000_000),
+        ("-0.0000001", -1),
+        ("-0.0", 0),
+        ("12.3456789", 123_456_789),
+        ("7.000", 70_000_000),
+        ("-90.0000000", -900_000_000),
+        ("1.12345678", 11_234_568),
+        ("0.000000005e1", 1),
+    ] {
+        let found = coordinate_of_text(text, MOST_LATITUDE);
+        assert!(rt; matches!(found, Ok(units) if units.get() == want), "{text}");
+    }
+    for text in ["00.5", "01.5", "1.", ".5", "1.5.5", "--1.5", "1.5 ", "-"] {
+        let found = coordinate_of_text(text, MOST_LATITUDE);
+        assert!(rt; matches!(found, Err(TextFault::BadNumber)), "{text}");
+    }
+    for text in ["90.0000001", "-91.5", "1234567890.5"] {
+        let found = coordinate_of_text(text, MOST_LATITUDE);
+        assert!(rt; matches!(found, Err(TextFault::OutOfRange)), "{text}");
     }
 }
 
@@ -24,6 +61,8 @@ fn coordinates(rt: HostRuntime) -> Result<(), Fail> {
         ("90.00000004", 900_000_000),
     ] {
         let found = units(rt.alloc(), text)?;
+        assert!(rt; matches!(found, Ok(units) if units == want), "{text}");
+        let found = units_lent(rt.alloc(), text)?;
         assert!(rt; matches!(found, Ok(units) if units == want), "{text}");
     }
     Ok(())
@@ -44,6 +83,8 @@ fn coordinate_faults(rt: HostRuntime) -> Result<(), Fail> {
     }
     for text in ["\"\"", "\"5 \"", "\"01\"", "\"+5\"", "1e1000"] {
         let found = units(rt.alloc(), text)?;
+        assert!(rt; matches!(found, Err(TextFault::BadNumber)), "{text}");
+        let found = units_lent(rt.alloc(), text)?;
         assert!(rt; matches!(found, Err(TextFault::BadNumber)), "{text}");
     }
     for text in ["null", "true", "[5]", "{}"] {

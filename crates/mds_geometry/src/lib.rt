@@ -5,21 +5,28 @@ mod area;
 mod band;
 mod blocks;
 mod bounds;
+mod cell;
 mod coordinate;
+mod decimal;
 mod edge;
 mod fit;
 mod gather;
+mod grid;
 pub mod laws;
+mod marks;
 mod polygon;
 mod position;
 mod ring;
 mod scale;
 mod sight;
 mod strip;
+mod striped;
 mod strips;
 
 pub use area::{Area, area_holds};
-pub use coordinate::{MOST_LATITUDE, MOST_LONGITUDE, coordinate_of};
+pub use coordinate::{
+    MOST_LATITUDE, MOST_LONGITUDE, coordinate_of, coordinate_of_node, coordinate_of_text,
+};
 pub use polygon::Polygon;
 pub use position::Position;
 pub use ring::{Ring, RingFault};

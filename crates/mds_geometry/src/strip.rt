@@ -1,5 +1,5 @@
 //! The edges that one strip of latitude meets.
-ghost use Rattle.std.specs.Prelude.{◌≡◌, [], ◌∷◌, ◌++◌, false, OnOk};
+ghost use Rattle.std.specs.Prelude.{◌≡◌, [], ◌∷◌, ◌++◌, false, IfOk, OnOk};
 ghost use Rattle.mds_geometry.specs.Strips.{any_holds};
 
 use crate::edge::{is_crossed, is_on};
@@ -34,13 +34,17 @@ impl Model for Strip {
 }
 
 impl Strip {
-    /// A strip that meets no edge.
-    pub(crate) fn new(alloc: Global) -> Strip
-        ensures { result ≡ [] }
+    /// A strip that meets no edge, with room for some.
+    ///
+    /// # Errors
+    ///
+    /// Memory ran out.
+    pub(crate) fn with_room(alloc: Global, room: usize) -> Result<Strip, AllocError>
+        ensures { IfOk result (λ strip. strip ≡ []) }
     {
-        Strip {
-            edges: Vec::new(alloc),
-        }
+        Ok(Strip {
+            edges: Vec::with_capacity(alloc, room)?,
+        })
     }
 
     /// Puts an edge after the others.

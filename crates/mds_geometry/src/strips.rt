@@ -10,6 +10,9 @@ use std::alloc::{AllocError, Global};
 /// The units between the least latitude that there is and the equator.
 const SOUTH: i64 = 1_800_000_000;
 
+/// How much room a strip has at first, as a multiple of the edges for each strip.
+const ROOM: usize = 2;
+
 /// The units from the least latitude that there is.
 pub(crate) fn row_of(lat: Units7) -> u32
     ensures { result ≡ strips.row_of lat }
@@ -20,7 +23,8 @@ pub(crate) fn row_of(lat: Units7) -> u32
 impl Scale {
     /// The strip of a latitude. A latitude beyond the strips is taken as one of the nearest strip.
     pub(crate) fn strip_of(&self, lat: Units7) -> usize
-        ensures { result ≡ strips.strip_of self.now lat }
+        ensures value { result ≡ strips.strip_of self.now lat }
+        ensures few { result < 4294967296 }
     {
         let strip = (row_of(lat) >> self.shift).saturating_sub(self.first);
         if strip <= self.last {
@@ -28,6 +32,14 @@ impl Scale {
         } else {
             self.last as usize
         }
+    }
+
+    /// The least coordinate of a strip, where there is one.
+    pub(crate) fn start_of(&self, strip: usize) -> Option<Units7> {
+        let strip = u32::try_from(strip).ok()?;
+        let row = (u64::from(self.first) + u64::from(strip)) << self.shift;
+        let row = u32::try_from(row).ok()?;
+        Units7::new(i64::from(row) - SOUTH)
     }
 }
 
@@ -52,18 +64,18 @@ fn file_edge(all: &mut [Strip], scale: &Scale, edge: &Edge) -> Result<(), AllocE
     Ok(())
 }
 
-/// So many strips that meet no edge.
+/// So many strips that meet no edge, each with room for some.
 ///
 /// # Errors
 ///
 /// Memory ran out.
-fn empty_strips(alloc: Global, count: usize) -> Result<Vec<Strip>, AllocError>
+fn empty_strips(alloc: Global, count: usize, room: usize) -> Result<Vec<Strip>, AllocError>
     ensures count { IfOk result (λ all. length all.items ≡ count) }
     ensures empty { IfOk result (λ all. (s : ℕ) → get_or all.items s [] ≡ []) }
 {
     let mut all = Vec::with_capacity(alloc, count)?;
     for _ in 0..count {
-        all.push(Strip::new(alloc))?;
+        all.push(Strip::with_room(alloc, room)?)?;
     }
     Ok(all)
 }
@@ -80,7 +92,12 @@ pub(crate) fn strips_of(
 ) -> Result<Vec<Strip>, AllocError>
     ensures { IfOk result (λ all. strips.AreFiled scale.now edges.now all.items) }
 {
-    let mut all = empty_strips(alloc, scale.last as usize + 1)?;
+    let count = scale.last as usize + 1;
+    let mut all = empty_strips(
+        alloc,
+        count,
+        edges.len().div_ceil(count).saturating_mul(ROOM),
+    )?;
     for edge in edges {
         file_edge(&mut all, scale, edge)?;
     }

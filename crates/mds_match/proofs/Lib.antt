@@ -1,5 +1,5 @@
+pub mod Candidates
 pub mod Groups
 pub mod Mapped
 pub mod Offsets
 pub mod Positions
-pub mod Words

@@ -1,9 +1,10 @@
 -- Which vehicles meet a policy whose rules are resolved at a local time, with the areas of their geographies at hand.
-use Rattle.std.specs.Prelude.{◌≡◌, ℕ, Bool, ◌&&◌, List, Option, position}
-use Rattle.std.specs.List.{list_any}
+use Rattle.std.specs.Prelude.{◌≡◌, ℕ, Bool, false, ◌&&◌, List, Option, bytes_eq, slice_get, position}
+use Rattle.std.specs.List.{find, list_any}
+use Rattle.std.specs.Option.{option_map_or}
 use Rattle.mds_geometry.specs.Area.{area_holds}
 use Rattle.mds_geometry.specs.declared.position.Position.{Position}
-use Rattle.mds_policy.specs.Policy.{Policy, Rule, rule_document}
+use Rattle.mds_policy.specs.Policy.{Policy, Rule, States, rule_document}
 use Rattle.mds_match.specs.declared.local.Local.{Local}
 use Rattle.mds_match.specs.Matching.{contains, shares, empty_or, state_fits, first}
 use Rattle.mds_match.specs.Row.{Row}
@@ -29,3 +30,29 @@ first_of policy row = position (λ rule. resolved_meets rule row) policy.rules.i
 -- it finds the first rule of the policy that any row meets
 abbrev pub Finds : ResolvedPolicy → Policy → (List ℕ → List (List (List Position))) → Local → Type 0
 Finds resolved policy polygons local = (row : Row) → first_of resolved row ≡ first policy polygons row local
+
+-- the state is that of the entry, whatever events are meant with it
+abbrev pub names_state : List ℕ → States → Bool
+names_state state states = bytes_eq states.state state
+
+-- type and state are those of a rule
+abbrev pub is_for : Rule → List ℕ → List ℕ → Bool
+is_for rule vehicle_type state =
+    empty_or rule.vehicle_types (contains rule.vehicle_types vehicle_type) && empty_or rule.states (list_any (names_state state) rule.states)
+
+-- a rule that is resolved can be met by vehicles of a type in a state
+abbrev pub can_meet : ResolvedRule → List ℕ → List ℕ → Bool
+can_meet rule vehicle_type state = rule.is_open && is_for (rule_document rule.rule.now) vehicle_type state
+
+-- a row meets the rule with this number, if there is one
+abbrev pub meets_number : ResolvedPolicy → Row → ℕ → Bool
+meets_number policy row number = option_map_or (λ rule. resolved_meets rule row) (slice_get policy.rules.items number) false
+
+-- the first of these numbers whose rule a row meets
+abbrev pub first_among : ResolvedPolicy → List ℕ → Row → Option ℕ
+first_among policy numbers row = find (meets_number policy row) numbers
+
+-- the first rule that any row of this type in this state meets is the first among these
+abbrev pub Suffices : ResolvedPolicy → List ℕ → List ℕ → List ℕ → Type 0
+Suffices policy vehicle_type state numbers =
+    (row : Row) → row.vehicle_type ≡ vehicle_type → row.state ≡ state → first_among policy numbers row ≡ first_of policy row

@@ -2,7 +2,7 @@ ghost use Rattle.std.specs.Prelude.{◌≡◌, bytes_eq, map, position};
 ghost use Rattle.std.specs.List.{list_any};
 ghost use Rattle.mds_policy.specs.Policy.{rule_document, policy_document, states_document};
 ghost use Rattle.mds_match.specs.Matching.{is_evaluated, contains, shares, empty_or, state_fits, in_place, meets, first};
-ghost use Rattle.mds_match.specs.Resolved.{is_meant};
+ghost use Rattle.mds_match.specs.Resolved.{is_for, is_meant, names_state};
 ghost use Rattle.mds_match.specs.Row.{row_of};
 
 use crate::local::Local;
@@ -32,6 +32,13 @@ pub(crate) fn is_meant(rule: &Rule, vehicle: &Vehicle) -> bool
     has_or_all(&rule.vehicle_types, vehicle.vehicle_type)
         && shares_or_all(&rule.propulsion_types, &vehicle.propulsion)
         && state_fits_or_all(&rule.states, vehicle)
+}
+
+/// Whether the rule is for vehicles of this type in this state, whatever events are meant with it.
+pub(crate) fn is_for(rule: &Rule, vehicle_type: Token, state: Token) -> bool
+    ensures { result ≡ is_for (rule_document rule.now) vehicle_type state }
+{
+    has_or_all(&rule.vehicle_types, vehicle_type) && names_state_or_all(&rule.states, state)
 }
 
 /// The number of the first rule of a policy that a vehicle meets, counted from 0, if there is one
@@ -115,6 +122,20 @@ fn any_state_fits(states: &[StateEvents], vehicle: &Vehicle) -> bool
         ≡ list_any (λ s. state_fits (row_of vehicle.now) (states_document s)) states.now }
 {
     states.iter().any(|states| state_fits(states, vehicle))
+}
+
+fn names_state_or_all(states: &[StateEvents], state: Token) -> bool
+    ensures { result
+        ≡ empty_or (map states_document states.now) (list_any (names_state state) (map states_document states.now)) }
+{
+    states.is_empty() || any_names_state(states, state)
+}
+
+fn any_names_state(states: &[StateEvents], state: Token) -> bool
+    ensures { result
+        ≡ list_any (λ s. names_state state (states_document s)) states.now }
+{
+    states.iter().any(|states| is_word(states.state, state))
 }
 
 fn in_place<P: Places>(geographies: &[Id], places: &P, position: Position) -> bool

@@ -3,17 +3,17 @@ ghost use Rattle.std.specs.List.{list_any};
 ghost use Rattle.mds_geometry.specs.Area.{area_holds};
 ghost use Rattle.mds_policy.specs.Policy.{rule_document};
 ghost use Rattle.mds_match.specs.Matching.{is_evaluated, is_open, meets, in_place};
-ghost use Rattle.mds_match.specs.Resolved.{is_meant, resolved_meets};
+ghost use Rattle.mds_match.specs.Resolved.{can_meet, is_meant, resolved_meets};
 ghost use Rattle.mds_match.specs.Row.{Row, row_of};
 
 use crate::local::Local;
-use crate::matching::{is_evaluated, is_meant};
+use crate::matching::{is_evaluated, is_for, is_meant};
 use crate::places::Places;
 use crate::vehicle::Vehicle;
 use crate::window::open_at;
 use mds_geometry::{Area, Position};
 use mds_policy::{Policy, Rule};
-use mds_text::Id;
+use mds_text::{Id, Token};
 use std::alloc::{AllocError, Global};
 
 /// A rule at one local time, with the areas of its geographies at hand.
@@ -34,7 +34,7 @@ pub struct ResolvedPolicy<'a> {
 impl<'a> ResolvedPolicy<'a> {
     ghost use Rattle.std.specs.Prelude.{◌≡◌, IfOk};
     ghost use Rattle.mds_policy.specs.Policy.{policy_document};
-    ghost use Rattle.mds_match.specs.Resolved.{first_of, Finds};
+    ghost use Rattle.mds_match.specs.Resolved.{first_among, first_of, meets_number, Finds, Suffices};
     ghost use Rattle.mds_match.specs.Row.{row_of};
 
     /// Finds the geographies of a policy's rules, and which of the rules are evaluated and open.
@@ -65,6 +65,50 @@ impl<'a> ResolvedPolicy<'a> {
             }
         }
         None
+    }
+
+    /// The numbers of the rules, ascending, that vehicles of this type in this state can meet: of
+    /// those that are open the ones that are for them, wherever a vehicle is.
+    ///
+    /// # Errors
+    ///
+    /// Memory ran out.
+    pub fn candidates(
+        &self,
+        alloc: Global,
+        vehicle_type: Token,
+        state: Token,
+    ) -> Result<Vec<usize>, AllocError>
+        ensures { IfOk result (λ numbers. Suffices self.now vehicle_type state numbers.items) }
+    {
+        let mut numbers = Vec::new(alloc);
+        for (number, rule) in self.rules.iter().enumerate() {
+            if can_meet(rule, vehicle_type, state) {
+                numbers.push(number)?;
+            }
+        }
+        Ok(numbers)
+    }
+
+    /// The first of these numbers whose rule a vehicle meets, if there is one. Takes no memory.
+    pub fn first_among(&self, numbers: &[usize], vehicle: &Vehicle) -> Option<usize>
+        ensures { result ≡ first_among self.now numbers.now (row_of vehicle.now) }
+    {
+        for number in numbers {
+            if self.is_met(*number, vehicle) {
+                return Some(*number);
+            }
+        }
+        None
+    }
+
+    fn is_met(&self, number: usize, vehicle: &Vehicle) -> bool
+        ensures { result ≡ meets_number self.now (row_of vehicle.now) number }
+    {
+        match self.rules.get(number) {
+            Some(rule) => meets(rule, vehicle),
+            None => false,
+        }
     }
 }
 
@@ -125,6 +169,13 @@ fn meets(rule: &ResolvedRule<'_>, vehicle: &Vehicle) -> bool
     ensures { result ≡ resolved_meets rule.now (row_of vehicle.now) }
 {
     rule.is_open && in_areas(&rule.areas, &vehicle.position) && is_meant(rule.rule, vehicle)
+}
+
+/// Whether vehicles of this type in this state can meet the rule.
+fn can_meet(rule: &ResolvedRule<'_>, vehicle_type: Token, state: Token) -> bool
+    ensures { result ≡ can_meet rule.now vehicle_type state }
+{
+    rule.is_open && is_for(rule.rule, vehicle_type, state)
 }
 
 fn in_areas(areas: &[&Area], position: &Position) -> bool

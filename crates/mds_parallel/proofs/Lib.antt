@@ -1,1 +1,3 @@
-pub mod Firsts
+pub mod Pieces
+pub mod Tallies
+pub mod Words

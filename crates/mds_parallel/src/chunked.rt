@@ -1,13 +1,17 @@
-ghost use Rattle.std.specs.Prelude.{◌≡◌, ◌^◌, ◌<◌, All, IfOk, map};
+ghost use Rattle.std.specs.Prelude.{◌≡◌, ◌^◌, ◌<◌, All, IfOk, List, ℕ, flat_map, map};
+ghost use Rattle.mds_geometry.specs.declared.position.Position.{Position};
 ghost use Rattle.mds_policy.specs.Policy.{policy_document};
-ghost use Rattle.mds_match.specs.Resolved.{first_of};
-ghost use Rattle.mds_match.specs.Row.{row_of};
+ghost use Rattle.mds_match.specs.Resolved.{Finds};
+ghost use Rattle.mds_match.specs.Row.{Row, row_of};
+ghost use Rattle.mds_verdict.specs.Gathered.{IsTally};
 ghost use Rattle.mds_verdict.specs.Verdict.{verdict_document, verdicts};
+ghost use Rattle.mds_parallel.specs.Chunks.{AreOfPieces, AreTallies, IsResolved, IsTallyBy};
 
+use crate::table::Table;
 use mds_match::{Local, Places, ResolvedPolicy, Vehicle};
 use mds_policy::Policy;
 use mds_text::Moment;
-use mds_verdict::{Evaluator, Plain, RuleVerdict, judge_found};
+use mds_verdict::{Evaluator, Plain, RuleVerdict, Tally};
 use rayon::prelude::*;
 use std::alloc::{AllocError, Global};
 use std::thread::Threads;
@@ -15,9 +19,17 @@ use std::thread::Threads;
 /// The least work that is worth the start of threads, in vehicles times rules: a few milliseconds.
 const LEAST_WORK: usize = 300_000;
 
-/// Matches the vehicles in chunks, by as many threads as there are processors, and then counts and
-/// lists them in their order, as `Plain` does. Little work is left to `Plain`, and so is all where
-/// memory for the matches is refused.
+/// How many chunks there are about, where each has at least `LEAST_CHUNK` vehicles: a multiple of
+/// the pieces that `rayon` makes on up to 16 processors.
+const CHUNKS: usize = 32;
+
+/// The fewest vehicles of a chunk, but for the last one.
+const LEAST_CHUNK: usize = 1024;
+
+/// Takes the vehicles in chunks, by as many threads as there are processors. Each chunk finds for
+/// each pair of vehicle type and state among its vehicles the rules that these can meet, and counts
+/// and lists its vehicles; then the counts are added and the lists joined in the order of the chunks.
+/// Little work is left to `Plain`, and so is all where memory for tables and counts is refused.
 #[derive(Clone, Copy)]
 pub struct Chunked<R>(pub R);
 
@@ -47,7 +59,10 @@ impl<R: Threads + Sync, P: Places> Evaluator<P> for Chunked<R> {
         if vehicles.len().saturating_mul(policy.rules().len()) < LEAST_WORK {
             return Plain.verdicts(alloc, policy, places, vehicles, local, moment);
         }
-        by_threads(&self.0, alloc, policy, places, vehicles, local, moment)
+        match by_threads(&self.0, alloc, policy, places, vehicles, local, moment) {
+            Ok(found) => Ok(found),
+            Err(_) => Plain.verdicts(alloc, policy, places, vehicles, local, moment),
+        }
     }
 }
 
@@ -70,31 +85,90 @@ pub(crate) fn by_threads<R: Threads + Sync, P: Places>(
     ensures fits { IfOk result (λ found. All (λ v. v.measure < 2 ^ 63) found.items) }
 {
     let resolved = ResolvedPolicy::new(alloc, policy, places, local)?;
-    match first_of_each(rt, alloc, &resolved, vehicles) {
-        Ok(found) => judge_found(alloc, policy, &found, vehicles, local, moment),
-        Err(_) => Plain.verdicts(alloc, policy, places, vehicles, local, moment),
-    }
+    let parts = tallies(rt, alloc, &resolved, policy, vehicles, local, moment)?;
+    let tally = joined(alloc, policy, &parts, local)?;
+    Ok(tally.verdicts())
 }
 
-/// The number of the first rule that each vehicle meets, in their order.
+/// What the chunks of the vehicles come to, in the order of the chunks.
 ///
 /// # Errors
 ///
 /// Memory ran out.
-fn first_of_each<R: Threads + Sync>(
+fn tallies<R: Threads + Sync>(
     rt: &R,
     alloc: Global,
     resolved: &ResolvedPolicy<'_>,
+    policy: &Policy,
     vehicles: &[&Vehicle],
-) -> Result<Vec<Option<usize>>, AllocError>
-    ensures { IfOk result (λ found. found.items ≡ map (λ v. first_of resolved.now (row_of v.now)) vehicles.now) }
+    local: Local,
+    moment: Moment,
+) -> Result<Vec<Result<Tally, AllocError>>, AllocError>
+    requires resolved { IsResolved resolved.now (policy_document policy.now) local }
+    ensures { IfOk result (λ parts. (pieces : List (List Row)) × (flat_map (λ piece. piece) pieces ≡ map (λ v. row_of v.now) vehicles.now)
+        × ((polygons : List ℕ → List (List (List Position))) → Finds resolved.now (policy_document policy.now) polygons local →
+        AreTallies (policy_document policy.now) polygons pieces local moment parts.items)) }
 {
+    let size = (vehicles.len() / CHUNKS).max(LEAST_CHUNK);
     vehicles
-        .par_iter()
+        .par_chunks(size)
+        .with_min_len(1)
         .map(
-            |vehicle: &&Vehicle| -> Option<usize>
-                ensures { result ≡ first_of resolved.entry.now (row_of vehicle.now.now) }
-            { resolved.first(vehicle) },
+            |chunk: &[&Vehicle]| -> Result<Tally, AllocError>
+                requires { IsResolved resolved.now (policy_document policy.now) local }
+                ensures { IfOk result (IsTallyBy resolved.entry.now (policy_document policy.entry.now) (map (λ v. row_of v.now) chunk.now) local moment) }
+            { tally_of(alloc, resolved, policy, chunk, local, moment) },
         )
         .collect(rt, alloc)
+}
+
+/// What the vehicles of one chunk come to.
+///
+/// # Errors
+///
+/// Memory ran out.
+fn tally_of(
+    alloc: Global,
+    resolved: &ResolvedPolicy<'_>,
+    policy: &Policy,
+    chunk: &[&Vehicle],
+    local: Local,
+    moment: Moment,
+) -> Result<Tally, AllocError>
+    requires { IsResolved resolved.now (policy_document policy.now) local }
+    ensures { IfOk result (IsTallyBy resolved.now (policy_document policy.now) (map (λ v. row_of v.now) chunk.now) local moment) }
+{
+    let mut table = Table::new(alloc);
+    let mut tally = Tally::new(alloc, policy, local)?;
+    for vehicle in chunk {
+        let number = table.first(resolved, vehicle)?;
+        tally.count(policy, number, vehicle, moment)?;
+    }
+    Ok(tally)
+}
+
+/// What all chunks come to.
+///
+/// # Errors
+///
+/// Memory ran out, now or for a chunk.
+fn joined(
+    alloc: Global,
+    policy: &Policy,
+    parts: &[Result<Tally, AllocError>],
+    local: Local,
+) -> Result<Tally, AllocError>
+    requires { AreOfPieces (policy_document policy.now) local parts.now }
+    ensures { IfOk result (λ tally. (polygons : List ℕ → List (List (List Position))) (pieces : List (List Row)) (moment : ℕ) →
+        AreTallies (policy_document policy.now) polygons pieces local moment parts.now →
+        IsTally tally (policy_document policy.now) polygons (flat_map (λ piece. piece) pieces) local moment) }
+{
+    let mut whole = Tally::new(alloc, policy, local)?;
+    for part in parts {
+        match part {
+            Ok(tally) => whole.join(policy, tally)?,
+            Err(_) => return Err(AllocError),
+        }
+    }
+    Ok(whole)
 }

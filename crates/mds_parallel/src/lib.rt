@@ -2,6 +2,7 @@
 #![tactic(auto)]
 
 mod chunked;
+mod table;
 
 pub use chunked::Chunked;
 

@@ -7,7 +7,7 @@ mod Lexed
 mod Valued
 mod Agreeing
 mod Turns
-mod Single
+mod Wholes
 mod Placing
 mod Counted
 mod Nodes

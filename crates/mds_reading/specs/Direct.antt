@@ -1,6 +1,6 @@
 -- The tree of a value of json's grammar (RFC 8259): numbers that aren't plain are texts, names stand in byte order, and
 -- of equal names the last is kept.
-use Rattle.std.specs.Prelude.{ℕ, ◌+◌, List, [], ◌∷◌, if◌then◌else◌, Option, Some, None, option_map, option_and_then, Result, Ok, Err}
+use Rattle.std.specs.Prelude.{ℕ, ℤ, ◌+◌, List, [], ◌∷◌, if◌then◌else◌, Option, Some, None, option_map, option_and_then, Result, Ok, Err}
 use Rattle.std.specs.Ordering.{nat_cmp, match_ordering}
 use Rattle.std.specs.Cmp.Lexicographic.{slice_cmp}
 use Rattle.json.specs.Json as json
@@ -15,9 +15,13 @@ abbrev pub ok_of : {A : Type 0} → Result A Fault → Option A
 ok_of (Ok a) = Some a
 ok_of (Err e) = None
 
+-- a plain whole number
+abbrev pub whole_number : List ℕ → Option ℤ
+whole_number s = option_and_then (λ n. ok_of (plain_int n)) (number_of s)
+
 -- a number: a text, where it isn't plain
 abbrev pub tree_number : List ℕ → Option Json
-tree_number s = if is_quoted s then Some (text s) else option_map int (option_and_then (λ n. ok_of (plain_int n)) (number_of s))
+tree_number s = if is_quoted s then Some (text s) else option_map int (whole_number s)
 
 -- a member among members that ascend by name: instead of the one of its name, or at its own place
 abbrev pub put : List ℕ → Json → Members → Members

@@ -1,12 +1,9 @@
 //! From a text to a tree that lends from it. Of a text that is unusual nothing is said.
 ghost use Rattle.std.specs.Prelude.{◌≡◌, ◌+◌, ◌<◌, false, [], length, IfOk, OnOk, Ok, Some, map};
 ghost use Rattle.json.specs.Json.{value, items, members};
-ghost use Rattle.json.specs.Print.{IsNumber};
 ghost use Rattle.serde_json.specs.Read.{converted};
-ghost use Rattle.serde_json.specs.View.{number_view};
-ghost use Rattle.mds_text.specs.Fault.{Gives, text_cause};
 ghost use Rattle.mds_text.specs.Quoting.{is_quoted, quoted_count};
-ghost use Rattle.mds_text.specs.Reading.{plain_int, read_text};
+ghost use Rattle.mds_text.specs.Reading.{read_text};
 ghost use Rattle.mds_text.specs.Tree.{int, items_of, list, members_of, no_members};
 ghost use Rattle.mds_reading.specs.Gathered.{gathered};
 ghost use Rattle.mds_reading.specs.Node.{node_view, node_member_view};
@@ -17,16 +14,13 @@ use crate::gathered::Gathered;
 use crate::members::put_member;
 use crate::node::{Node, NodeMember};
 use crate::stop::Stop;
+use crate::whole::whole_number;
 use json::{Reader, Scratch, Token};
-use mds_text::{TextFault, is_quoted};
-use serde_json::{Number, Value};
+use mds_text::is_quoted;
 use std::alloc::Global;
 
 /// The most levels of a text, as many as `serde_json` reads.
 const MAX_DEPTH: usize = 127;
-
-/// Just above the greatest plain whole number, which has 18 digits.
-const LIMIT: i64 = 1_000_000_000_000_000_000;
 
 /// The tree of a text that isn't unusual, and how many of its numbers weren't plain.
 pub(crate) fn read_direct<'a>(
@@ -65,7 +59,7 @@ fn read<'a>(
     };
     match token {
         Token::String(text) => Ok(Node::Text(text)),
-        Token::Number(text) => Ok(read_number(alloc, text, quoted)?),
+        Token::Number(text) => Ok(read_number(text, quoted)?),
         Token::Bool(b) => Ok(Node::Bool(b)),
         Token::Null => Ok(Node::Null),
         Token::BeginArray => {
@@ -125,8 +119,7 @@ fn read_members<'a>(
 }
 
 /// A number: a text, which is counted, where it isn't plain.
-fn read_number<'a>(alloc: Global, text: &'a str, quoted: &mut u64) -> Result<Node<'a>, Stop>
-    requires { IsNumber text.now }
+fn read_number<'a>(text: &'a str, quoted: &mut u64) -> Result<Node<'a>, Stop>
     ensures value { IfOk result (λ n. tree_number text.now ≡ Some (node_view n)) }
     ensures counted { OnOk result (quoted.new ≡ quoted.old + quoted_one (token.number text.now)) }
 {
@@ -134,37 +127,22 @@ fn read_number<'a>(alloc: Global, text: &'a str, quoted: &mut u64) -> Result<Nod
         *quoted = quoted.checked_add(1).ok_or(Stop::Unusual)?;
         return Ok(Node::Text(text));
     }
-    plain_number(alloc, text)
+    plain_number(text)
 }
 
 /// A plain whole number.
-fn plain_number<'a>(alloc: Global, text: &str) -> Result<Node<'a>, Stop>
-    requires number { IsNumber text.now }
-    requires plain { is_quoted text.now ≡ false }
+fn plain_number<'a>(text: &str) -> Result<Node<'a>, Stop>
+    requires { is_quoted text.now ≡ false }
     ensures { IfOk result (λ n. tree_number text.now ≡ Some (node_view n)) }
 {
-    let Ok(value) = Value::from_str(alloc, text) else {
-        return Err(Stop::Unusual);
-    };
-    let Some(number) = value.as_number() else {
-        return Err(Stop::Unusual);
-    };
-    let int = int_from(*number)?;
-    Ok(int_node(int))
+    match whole_number(text.as_bytes()) {
+        Some(int) => Ok(int_node(int)),
+        None => Err(Stop::Unusual),
+    }
 }
 
 fn int_node<'a>(value: i64) -> Node<'a>
     ensures { node_view result ≡ int value }
 {
     Node::Int(value)
-}
-
-/// A plain whole number.
-fn int_from(number: Number) -> Result<i64, TextFault>
-    ensures { Gives text_cause (λ z. z) result (plain_int (number_view number)) }
-{
-    match number.as_i64() {
-        Some(int) if -LIMIT < int && int < LIMIT => Ok(int),
-        _ => Err(TextFault::BadJson),
-    }
 }

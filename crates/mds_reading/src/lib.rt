@@ -11,6 +11,7 @@ mod own;
 mod read;
 mod source;
 mod stop;
+mod whole;
 
 pub use entries::{Entries, entries_of};
 pub use fields::{

@@ -1,5 +1,4 @@
 use json::Invalid;
-use mds_text::TextFault;
 use std::alloc::{AllocError, AllocFailed};
 
 /// Why a text isn't read straight from its tokens.
@@ -25,12 +24,6 @@ impl<T: Drop> From<AllocFailed<T>> for Stop {
 
 impl From<Invalid> for Stop {
     fn from(_refused: Invalid) -> Stop {
-        Stop::Unusual
-    }
-}
-
-impl From<TextFault> for Stop {
-    fn from(_fault: TextFault) -> Stop {
         Stop::Unusual
     }
 }

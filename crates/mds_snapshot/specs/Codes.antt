@@ -199,7 +199,7 @@ coded_geography =
     (λ t. record { id = t.0.0; name = t.0.1; description = t.1.0; polygons = t.1.1 })
     (λ _. refl)
 
-abbrev pub coded_publication : Coded Publication
+pub coded_publication : Coded Publication
 coded_publication =
     code_by ((ℕ × List Geography) × (List Policy × List (List ℕ)))
     (coded× (coded× coded_ℕ (coded_list coded_geography)) (coded× (coded_list coded_policy) coded_words))
@@ -207,5 +207,5 @@ coded_publication =
     (λ t. record { moment = t.0.0; geographies = t.0.1; policies = t.1.0; withdrawn = t.1.1 })
     (λ _. refl)
 
-abbrev pub coded_publications : Coded (List Publication)
+pub coded_publications : Coded (List Publication)
 coded_publications = coded_list coded_publication

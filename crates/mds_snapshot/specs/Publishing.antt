@@ -8,7 +8,7 @@ pub record Publishing : Type 0 where
   pub publications : List Publication
   pub is_open : Bool
 
-abbrev pub coded_publishing : Coded Publishing
+pub coded_publishing : Coded Publishing
 coded_publishing =
     code_by (List Publication × Bool) (coded× coded_publications coded_bool) (λ p. (p.publications, p.is_open)) (λ t. record { publications = t.0; is_open = t.1 })
     (λ _. refl)

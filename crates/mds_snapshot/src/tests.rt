@@ -49,23 +49,17 @@ fn first(alloc: Global) -> Option<Arc<Batch>> {
     let mut geographies = Vec::new(alloc);
     let square = Geography::read(alloc, SQUARE).ok()?;
     geographies.push(Arc::new(alloc, square).ok()?).ok()?;
-    let batch = Batch {
-        moment: Moment::new(1000)?,
-        geographies,
-        policies: policy(alloc, CAP)?,
-        withdrawn: Vec::new(alloc),
-    };
+    let moment = Moment::new(1000)?;
+    let policies = policy(alloc, CAP)?;
+    let batch = Batch::new(alloc, moment, geographies, policies, Vec::new(alloc)).ok()?;
     Arc::new(alloc, batch).ok()
 }
 
 /// The policy that takes its place, a second later; none, memory ran out.
 fn second(alloc: Global) -> Option<Arc<Batch>> {
-    let batch = Batch {
-        moment: Moment::new(2000)?,
-        geographies: Vec::new(alloc),
-        policies: policy(alloc, NEXT)?,
-        withdrawn: Vec::new(alloc),
-    };
+    let moment = Moment::new(2000)?;
+    let policies = policy(alloc, NEXT)?;
+    let batch = Batch::new(alloc, moment, Vec::new(alloc), policies, Vec::new(alloc)).ok()?;
     Arc::new(alloc, batch).ok()
 }
 

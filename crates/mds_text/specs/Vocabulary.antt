@@ -1,6 +1,6 @@
 -- The words of states, vehicle types, propulsion types, event types and rule types.
-use Rattle.std.specs.Prelude.{◌≡◌, ℕ, ◌≤◌, ◌-◌, Bool, true, if◌then◌else◌, Option, Some, None, ◌&&◌, ◌||◌, ◌==◌, nat_le, List, ◌++◌, length, drop, replicate, take}
-use Rattle.std.specs.List.{list_all}
+use Rattle.std.specs.Prelude.{◌≡◌, ℕ, ◌≤◌, ◌-◌, Bool, true, not, if◌then◌else◌, Option, Some, None, ◌&&◌, ◌||◌, ◌==◌, nat_le, List, ◌++◌, length, drop, replicate, take}
+use Rattle.std.specs.List.{list_all, prefix_len}
 use Rattle.std.proofs.Common.{ap, ◌∙◌, sym, arith}
 use Rattle.std.proofs.lemmas.List.{take-append-drop, length-take-le}
 
@@ -15,6 +15,10 @@ is_token s = nat_le 1 (length s) && nat_le (length s) 40 && list_all is_token_by
 -- a text that is a token
 abbrev pub as_token : List ℕ → Option (List ℕ)
 as_token s = if is_token s then Some s else None
+
+-- how many bytes stand before the first zero
+abbrev pub word_len : List ℕ → ℕ
+word_len bytes = prefix_len (λ b. not (b == 0)) bytes
 
 -- a token at the front of forty bytes, and zeros behind it
 pub record IsPadded (len : ℕ) (bytes : List ℕ) : Type 0 where

@@ -1,6 +1,8 @@
-ghost use Rattle.std.specs.Prelude.{◌≡◌, true};
+ghost use Rattle.std.specs.Prelude.{◌≡◌, ◌≤◌, length, true};
 ghost use Rattle.std.specs.List.{list_all};
-ghost use Rattle.mds_text.specs.Vocabulary.{as_token, is_token, is_token_byte};
+ghost use Rattle.std.specs.Cmp.Rules.{comparing};
+ghost use Rattle.std.proofs.Common.{rules};
+ghost use Rattle.mds_text.specs.Vocabulary.{as_token, is_token, is_token_byte, word_len};
 
 use std::marker::Model;
 
@@ -9,10 +11,10 @@ const MOST: usize = 40;
 
 /// A word of the vocabulary, as a vehicle type or an event type: 1 to 40 bytes of `a-z`, `0-9` and
 /// `_`, kept inline. Contracts see its bytes.
-#[derive(Clone, Copy, PartialEq, Eq)]
+#[derive(Clone, Copy)]
 pub struct Token {
+    // the word, and zeros behind it
     bytes: [u8; 40],
-    len: usize,
 }
 
 impl Model for Token {
@@ -20,17 +22,32 @@ impl Model for Token {
 
     ghost Value = { List ℕ };
 
-    ghost use Rattle.mds_text.specs.Vocabulary.{IsPadded};
+    ghost use Rattle.mds_text.specs.Vocabulary.{IsPadded, padded_back, word_len};
 
-    ghost view = { λ t. take t.len t.bytes };
+    ghost view = { λ t. take (word_len t.bytes) t.bytes };
 
-    ghost invariant = { λ t. IsPadded t.len t.bytes };
+    ghost invariant = { λ t. IsPadded (word_len t.bytes) t.bytes };
 
-    ghost inverse = { λ xs. record { bytes = xs ++ replicate (40 - length xs) 0; len = length xs } };
+    ghost inverse = { λ xs. record { bytes = xs ++ replicate (40 - length xs) 0 } };
 
-    ghost use Rattle.mds_text.specs.Vocabulary.{padded_back, padded_length};
+    ghost inverse_ok = { λ a h i. record { bytes = padded_back (word_len a.bytes) a.bytes h i } };
+}
 
-    ghost inverse_ok = { λ a h i. record { bytes = padded_back a.len a.bytes h i; len = padded_length a.len a.bytes h i } };
+impl PartialEq for Token {
+    ghost use Rattle.std.specs.Prelude.{bytes_eq};
+
+    // two tokens are equal where their bytes are
+    ghost eq = { bytes_eq };
+
+    ghost laws = { Prim.search (comparing, rules) };
+
+    fn eq(&self, other: &Token) -> bool {
+        self.bytes == other.bytes
+    }
+}
+
+impl Eq for Token {
+    ghost laws = { Prim.search (comparing, rules) };
 }
 
 impl Token {
@@ -43,9 +60,8 @@ impl Token {
             return None;
         }
         let mut bytes = [0; 40];
-        let len = word.len();
-        bytes[..len].copy_from_slice(word);
-        Some(Token { bytes, len })
+        bytes[..word.len()].copy_from_slice(word);
+        Some(Token { bytes })
     }
 
     /// The text that was read.
@@ -53,9 +69,18 @@ impl Token {
         ensures text { result.now ≡ self.now }
         ensures token { is_token result.now ≡ true }
     {
-        let word = &self.bytes[..self.len];
+        let len = word_len(&self.bytes);
+        let word = &self.bytes[..len];
         unsafe { std::str::from_utf8_unchecked(word) }
     }
+}
+
+/// How many bytes stand before the zeros.
+fn word_len(bytes: &[u8]) -> usize
+    ensures value { result ≡ word_len bytes.now }
+    ensures within { result ≤ length bytes.now }
+{
+    bytes.iter().take_while(|b| **b != 0).count()
 }
 
 fn has_token_bytes(word: &[u8]) -> bool

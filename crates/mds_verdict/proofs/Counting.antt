@@ -11,7 +11,7 @@ use Rattle.mds_policy.specs.Policy.{Rule, Policy}
 use Rattle.mds_match.specs.declared.local.Local.{Local}
 use Rattle.mds_match.specs.Matching.{is_evaluated, is_open, is_rule, meets, first}
 use Rattle.mds_match.specs.Row.{Row}
-use Rattle.mds_verdict.specs.Gathered.{firsts, gathered_rule, gathered, shown_devices, shown}
+use Rattle.mds_verdict.specs.Gathered.{gathered_rule, gathered, shown_devices, shown}
 use Rattle.mds_verdict.specs.Verdict.{Verdict, adds, measured, status_of, listed, judged, verdicts}
 use Rattle.mds_verdict.specs.declared.verdict.TheConstants.{MOST_DEVICES}
 use Rattle.mds_verdict.specs.declared.verdict.Status.{Status}
@@ -177,13 +177,6 @@ if_some (Some k) n h = h k refl
 -- what is found is the number of a rule
 pub number_within : (policy : Policy) (polygons : List ℕ → List (List (List Position))) (row : Row) (local : Local) (number : Option ℕ) → number ≡ first policy polygons row local → IfSome number (λ n. n < length policy.rules)
 number_within policy polygons row local number is = if_some number (length policy.rules) (λ k here. within_rules policy polygons row local k (sym is ∙ here))
-
--- what is found for one of the rows
-pub found_here : {X : Type 0} (row : X → Row) (xs : List X) (n : ℕ) (x : X) (policy : Policy) (polygons : List ℕ → List (List (List Position))) (local : Local) (found : List (Option ℕ))
-    → found ≡ firsts policy polygons (map row xs) local → n < length xs → x ≡ get_or xs n x → get_or found n None ≡ first policy polygons (row x) local
-found_here row xs n x policy polygons local found is within here =
-    let number : Row → Option ℕ = λ r. first policy polygons r local in
-    ap (λ ns. get_or ns n None) is ∙ get_or-map number (map row xs) n (row x) None (omega (arith, length-map xs row)) ∙ ap number (get_or-map row xs n x (row x) within ∙ ap row (sym here))
 
 -- the first rows of a list, and one more
 pub rows_more : {X : Type 0} (row : X → Row) (xs : List X) (n : ℕ) (x : X) → n < length xs → x ≡ get_or xs n x → map row (take (n + 1) xs) ≡ map row (take n xs) ++ row x ∷ []

@@ -43,6 +43,15 @@ map_alike f g (x ∷ xs) [] long same = absurd (omega arith)
 map_alike f g (x ∷ xs) (y ∷ ys) long same =
     ap (λ v. v ∷ map f xs) (same 0 x (omega arith)) ∙ ap (λ vs. g y ∷ vs) (map_alike f g xs ys (omega arith) (λ k d l. same (suc k) d (omega arith)))
 
+-- what a list stands for, told at each place
+pub by_places : {X V : Type 0} (f : X → V) (xs : List X) (vs : List V) → length xs ≡ length vs
+    → ((k : ℕ) (d : X) (v : V) → k < length xs → f (get_or xs k d) ≡ get_or vs k v) → map f xs ≡ vs
+by_places f [] [] long same = refl
+by_places f [] (v ∷ vs) long same = absurd (omega arith)
+by_places f (x ∷ xs) [] long same = absurd (omega arith)
+by_places f (x ∷ xs) (v ∷ vs) long same =
+    ap (λ w. w ∷ map f xs) (same 0 x v (omega arith)) ∙ ap (λ ws. v ∷ ws) (by_places f xs vs (omega arith) (λ k d w l. same (suc k) d w (omega arith)))
+
 -- what a vector has after its elements were written
 pub written_back : {X : Type 0} (n : ℕ) (xs ys : List X) → n ≡ length ys → take n (ys ++ drop (length ys) xs) ≡ ys
 written_back n xs ys long = ap (λ k. take k (ys ++ drop (length ys) xs)) long ∙ take-append_seam ys (drop (length ys) xs)

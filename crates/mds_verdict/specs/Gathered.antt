@@ -1,12 +1,15 @@
 -- What is gathered of the vehicles while they are counted: the verdicts, but with the devices of kept rules too.
-use Rattle.std.specs.Prelude.{◌≡◌, ℕ, List, [], Option, not, if◌then◌else◌, length, map, take}
+use Rattle.std.specs.Prelude.{◌≡◌, ℕ, ◌+◌, ◌-◌, ◌<◌, ◌^◌, List, [], ◌++◌, Option, nat_lt, not, if◌then◌else◌, get_or, length, map, take}
 use Rattle.std.specs.List.{enumerate_from}
 use Rattle.mds_geometry.specs.declared.position.Position.{Position}
-use Rattle.mds_policy.specs.Policy.{Rule, Policy}
+use Rattle.mds_policy.specs.Policy.{Rule, Policy, rule_document}
+use Rattle.mds_policy.specs.declared.rule.Rule as program
 use Rattle.mds_match.specs.declared.local.Local.{Local}
 use Rattle.mds_match.specs.Matching.{is_evaluated, is_open, first}
 use Rattle.mds_match.specs.Row.{Row}
-use Rattle.mds_verdict.specs.Verdict.{Verdict, measured, status_of}
+use Rattle.mds_verdict.specs.Verdict.{Verdict, measured, status_of, verdict_document}
+use Rattle.mds_verdict.specs.declared.tally.Tally.{Tally}
+use Rattle.mds_verdict.specs.declared.verdict.RuleVerdict.{RuleVerdict}
 use Rattle.mds_verdict.specs.declared.verdict.TheConstants.{MOST_DEVICES}
 use Rattle.mds_verdict.specs.declared.verdict.Status.{Status}
 use Rattle.mds_verdict.specs.declared.verdict.Status.TheVariants.{NotEvaluated, Inactive, Violated}
@@ -32,10 +35,37 @@ shown_devices status devices = []
 abbrev pub shown : Verdict → Verdict
 shown verdict = record verdict { devices = shown_devices verdict.status verdict.devices }
 
--- the number of the first rule that each row meets, if there is one
-abbrev pub firsts : Policy → (List ℕ → List (List (List Position))) → List Row → Local → List (Option ℕ)
-firsts policy polygons rows local = map (λ row. first policy polygons row local) rows
+-- a tally of these rows
+abbrev pub IsTally : Tally → Policy → (List ℕ → List (List (List Position))) → List Row → Local → ℕ → Type 0
+IsTally tally policy polygons rows local t = map verdict_document tally.rules.items ≡ gathered policy polygons rows local t
 
--- these are such numbers, for some geographies
-abbrev pub IsFound : Policy → List (Option ℕ) → List Row → Local → Type 0
-IsFound policy found rows local = (polygons : List ℕ → List (List (List Position))) × (found ≡ firsts policy polygons rows local)
+-- it is the tally of some rows, and the number is that of the first rule that a row meets
+abbrev pub MayCount : Tally → Policy → Option ℕ → Row → ℕ → Type 0
+MayCount tally policy number row t =
+    (polygons : List ℕ → List (List (List Position))) × (rows : List Row) × (local : Local)
+    × (number ≡ first policy polygons row local) × (IsTally tally policy polygons rows local t) × (length rows < 2 ^ 63)
+
+-- these are tallies of some rows and of others
+abbrev pub MayJoin : Tally → Tally → Policy → Type 0
+MayJoin tally later policy =
+    (polygons : List ℕ → List (List (List Position))) × (rows : List Row) × (more : List Row) × (local : Local) × (t : ℕ)
+    × (IsTally tally policy polygons rows local t) × (IsTally later policy polygons more local t) × (length rows < 2 ^ 63) × (length more < 2 ^ 63)
+
+-- what is gathered for a rule, with what is gathered of later rows
+abbrev pub joined_rule : Rule → Verdict → Verdict → Verdict
+joined_rule rule verdict later =
+    if nat_lt 0 later.measure
+    then (record {
+      rule = verdict.rule;
+      status = status_of rule.kind rule.bounds (verdict.measure + later.measure);
+      measure = verdict.measure + later.measure;
+      devices = verdict.devices ++ take (MOST_DEVICES - length verdict.devices) later.devices;
+    })
+    else verdict
+
+-- at each place these verdicts are the first joined with the later ones
+abbrev pub IsJoined : List program.Rule → List RuleVerdict → List RuleVerdict → List RuleVerdict → Type 0
+IsJoined rules held later joined =
+    (length joined ≡ length held)
+    × ((k : ℕ) (r : program.Rule) (v : RuleVerdict) → k < length held
+    → verdict_document (get_or joined k v) ≡ joined_rule (rule_document (get_or rules k r)) (verdict_document (get_or held k v)) (verdict_document (get_or later k v)))

@@ -6,11 +6,12 @@ mod evaluator;
 mod judge;
 pub mod laws;
 mod report;
+mod tally;
 mod verdict;
 
 pub use evaluator::{Evaluator, Plain};
-pub use judge::judge_found;
 pub use report::report_tree;
+pub use tally::Tally;
 pub use verdict::{MOST_DEVICES, RuleVerdict, Status};
 
 #[cfg(test)]

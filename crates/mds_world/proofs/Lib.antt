@@ -1,5 +1,6 @@
 mod Ascending
 mod Books
+mod Joined
 mod OneLine
 mod Places
 mod Replies

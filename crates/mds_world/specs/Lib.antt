@@ -1,3 +1,4 @@
 pub mod Acts
 pub mod Denied
+pub mod Texts
 pub mod World

@@ -4,7 +4,7 @@ ghost use Rattle.mds_text.specs.View.{view};
 ghost use Rattle.mds_match.specs.Row.{row_of};
 ghost use Rattle.mds_request.specs.Reply.{is_line, success};
 ghost use Rattle.mds_machine.specs.Answer.{told};
-ghost use Rattle.mds_machine.specs.Bodies.{words_json, removed_json, draft_json, published_json, revised_json, compliance_json, location_json, vehicle_json, vehicles_json};
+ghost use Rattle.mds_machine.specs.Bodies.{words_json, removed_json, draft_json, published_json, compliance_json, location_json, vehicle_json, vehicles_json};
 
 use mds_match::Vehicle;
 use mds_request::Reply;
@@ -86,22 +86,6 @@ pub(crate) fn published_reply(
 {
     let mut members = Vec::new(alloc);
     add_member(&mut members, "published_date", int_tree(moment.get()))?;
-    add_member(&mut members, "revision", int_tree(revision as i64))?;
-    told(alloc, &object_tree(members))
-}
-
-/// What is published, under its name: `{name:value,"revision":revision}`.
-pub(crate) fn revised_reply(
-    alloc: Global,
-    name: &str,
-    value: Tree,
-    revision: u64,
-) -> Result<Reply, AllocError>
-    requires { revision < 2 ^ 63 }
-    ensures { IfOk result (λ r. r ≡ told (revised_json name.now (view value) revision)) }
-{
-    let mut members = Vec::new(alloc);
-    add_member(&mut members, name, value)?;
     add_member(&mut members, "revision", int_tree(revision as i64))?;
     told(alloc, &object_tree(members))
 }

@@ -10,6 +10,7 @@ mod operator;
 mod published;
 #[cfg(test)]
 mod tests;
+mod texts;
 mod world;
 
 pub use author::{AuthorAct, author_step};

@@ -180,6 +180,90 @@ fn answers_or_wants_memory(rt: HostRuntime) -> Result<(), Fail> {
     Ok(())
 }
 
+const NEXT: &str =
+    r#"{"policy_id":"00000000-0000-4000-8000-000000000202","name":"next","start_date":1000,"published_date":5,"provider_ids":["00000000-0000-4000-8000-0000000000a1"],"rules":[]}"#;
+
+const NEXT_DRAFT: &str = "/drafts/policies/00000000-0000-4000-8000-000000000202";
+
+const NEXT_NAMED: &str = r#"{"policies":["00000000-0000-4000-8000-000000000202"]}"#;
+
+const NO_POLICIES: &str = r#"{"policies":[],"revision":0}"#;
+
+const NO_GEOGRAPHIES: &str = r#"{"geographies":[],"revision":0}"#;
+
+const ONE_POLICY: &str =
+    r#"{"policies":[{"name":"cap","policy_id":"00000000-0000-4000-8000-000000000201","published_date":1000,"rules":[{"geographies":["00000000-0000-4000-8000-000000000101"],"maximum":1,"name":"cap","rule_id":"00000000-0000-4000-8000-000000000301","rule_type":"count"}],"start_date":1000}],"revision":1}"#;
+
+const ONE_GEOGRAPHY: &str =
+    r#"{"geographies":[{"geography_id":"00000000-0000-4000-8000-000000000101","geography_json":{"features":[{"geometry":{"coordinates":[[[[0,0],[10,0],[10,10],[0,10],[0,0]]]],"type":"MultiPolygon"},"properties":null,"type":"Feature"}],"type":"FeatureCollection"},"name":"square","published_date":1000}],"revision":1}"#;
+
+const TWO_POLICIES: &str =
+    r#"{"policies":[{"name":"cap","policy_id":"00000000-0000-4000-8000-000000000201","published_date":1000,"rules":[{"geographies":["00000000-0000-4000-8000-000000000101"],"maximum":1,"name":"cap","rule_id":"00000000-0000-4000-8000-000000000301","rule_type":"count"}],"start_date":1000},{"name":"next","policy_id":"00000000-0000-4000-8000-000000000202","provider_ids":["00000000-0000-4000-8000-0000000000a1"],"published_date":2000,"rules":[],"start_date":1000}],"revision":2}"#;
+
+const THE_NEXT: &str =
+    r#"{"policy":{"name":"next","policy_id":"00000000-0000-4000-8000-000000000202","provider_ids":["00000000-0000-4000-8000-0000000000a1"],"published_date":2000,"rules":[],"start_date":1000},"revision":2}"#;
+
+const THE_SQUARE: &str =
+    r#"{"geography":{"geography_id":"00000000-0000-4000-8000-000000000101","geography_json":{"features":[{"geometry":{"coordinates":[[[[0,0],[10,0],[10,10],[0,10],[0,0]]]],"type":"MultiPolygon"},"properties":null,"type":"Feature"}],"type":"FeatureCollection"},"name":"square","published_date":1000},"revision":1}"#;
+
+/// Lists of no, one and two documents, and single documents; a publication between them.
+const LISTS: [Exchange; 12] = [
+    (900, "city", Verb::Get, "/policies", "", NO_POLICIES),
+    (900, "alfa", Verb::Get, "/geographies", "", NO_GEOGRAPHIES),
+    (1000, "city", Verb::Put, SQUARE_DRAFT, SQUARE, NEW),
+    (1000, "city", Verb::Put, CAP_DRAFT, CAP, NEW),
+    (
+        1000,
+        "city",
+        Verb::Post,
+        "/publish",
+        PUBLISHED,
+        PUBLISHED_FIRST,
+    ),
+    (1000, "bravo", Verb::Get, "/policies", "", ONE_POLICY),
+    (1000, "alfa", Verb::Get, "/geographies", "", ONE_GEOGRAPHY),
+    (1000, "alfa", Verb::Get, SQUARE_SHOWN, "", THE_SQUARE),
+    (2000, "city", Verb::Put, NEXT_DRAFT, NEXT, NEW),
+    (
+        2000,
+        "city",
+        Verb::Post,
+        "/publish",
+        NEXT_NAMED,
+        PUBLISHED_NEXT,
+    ),
+    (2000, "alfa", Verb::Get, "/policies", "", TWO_POLICIES),
+    (2000, "alfa", Verb::Get, NEXT_SHOWN, "", THE_NEXT),
+];
+
+const PUBLISHED_NEXT: &str = r#"{"published_date":2000,"revision":2}"#;
+
+const SQUARE_SHOWN: &str = "/geographies/00000000-0000-4000-8000-000000000101";
+
+const NEXT_SHOWN: &str = "/policies/00000000-0000-4000-8000-000000000202";
+
+/// What is published is told as it was printed at its publication. With one growth refused, wherever it
+/// is, one answer is 503 `no_memory`, and the same request is then answered as if nothing had happened.
+#[test]
+fn lists_what_is_published(rt: HostRuntime) -> Result<(), Fail> {
+    let mut world = machine(rt.alloc())?;
+    for exchange in &LISTS {
+        let mut reply = asked(&mut world, exchange)?;
+        if reply.status() == 503 {
+            reply = asked(&mut world, exchange)?;
+        }
+        assert_eq!(rt; reply.status(), 200);
+        assert_eq!(rt; reply.body(), exchange.5.as_bytes());
+    }
+    let hidden = (2000, "bravo", Verb::Get, NEXT_SHOWN, "", "");
+    let mut reply = asked(&mut world, &hidden)?;
+    if reply.status() == 503 {
+        reply = asked(&mut world, &hidden)?;
+    }
+    assert_eq!(rt; reply.status(), 404);
+    Ok(())
+}
+
 /// All requests in one call. With one growth refused, wherever it is, the call is refused and the same
 /// call again answers them all; or one answer is 503 `no_memory`, those before it are as they should
 /// be, and a new machine answers all of them.

@@ -1,5 +1,5 @@
 use Rattle.std.proofs.Common.{◌≡◌, ◌≤◌, map, drop}
-use Rattle.mds_text.specs.View.{view}
+use Rattle.mds_reading.specs.Node.{node_view}
 use Rattle.mds_geography.specs.Reading.{features_of, most_positions}
 use Rattle.mds_geography.proofs.Fronts.{with_front}
 use Rattle.mds_geography.proofs.walk.features_of.Given as goal
@@ -7,5 +7,5 @@ use Rattle.mds_geography.proofs.walk.features_of.Given as goal
 abbrev pub invariant-loop-entry : goal.invariant-loop-entry
 invariant-loop-entry l = record {
   few : l.read ≤ most_positions;
-  whole : with_front l.polygons.items (features_of l.read (map view (drop l.entry-index l.entries))) ≡ features_of 0 (map view l.entries);
+  whole : with_front l.polygons.items (features_of l.read (map node_view (drop l.entry-index l.entries))) ≡ features_of 0 (map node_view l.entries);
 }

@@ -1,18 +1,48 @@
-use Rattle.std.proofs.Common.{Bor, ◌∙◌}
-use Rattle.rayon.proofs.ListFacts.{IfOk-then}
+use Rattle.std.proofs.Common.{◌≡◌, ◌<◌, ◌^◌, map, length, Bor, subst, sym, ap, ◌∙◌, arith}
+use Rattle.std.proofs.lemmas.List.{length-map}
 use Rattle.mds_policy.specs.Policy.{policy_document}
-use Rattle.mds_match.specs.Row.{row_of}
+use Rattle.mds_match.specs.Row.{Row, row_of}
 use Rattle.mds_match.specs.declared.vehicle.Vehicle.{Vehicle}
-use Rattle.mds_parallel.proofs.Firsts.{firsts_found}
+use Rattle.mds_verdict.specs.Gathered.{IsTally}
+use Rattle.mds_verdict.specs.Verdict.{verdicts}
+use Rattle.mds_verdict.proofs.Measures.{measures_fit, verdicts_at_most}
+use Rattle.mds_parallel.specs.Chunks.{AreTallies}
 use Rattle.mds_parallel.proofs.chunked.by_threads.Goals as goal
 
-pub judge_found-requires : goal.judge_found-requires
-judge_found-requires g c =
-    let polygons = g.P.Places.polygons c.args.places.now in
-    (polygons, c.deref.ensures.value ∙ c.in-Ok.ensures ∙ firsts_found (λ (v : Bor Vehicle). row_of v.now) c.in_ok-resolved.resolved (policy_document c.args.policy.now) polygons c.args.local c.in_ok-resolved.ensures c.args.vehicles.now)
+abbrev row : Bor Vehicle → Row
+row v = row_of v.now
 
-pub returns-in-Ok-clause-exact : goal.returns-in-Ok-clause-exact
-returns-in-Ok-clause-exact g c =
+pub tallies-requires-clause-resolved : goal.tallies-requires-clause-resolved
+tallies-requires-clause-resolved g c κs inside = (g.P.Places.polygons c.args.places.now, c.in_ok-resolved.ensures)
+
+pub joined-requires : goal.joined-requires
+joined-requires g c =
     let polygons = g.P.Places.polygons c.args.places.now in
-    IfOk-then c.judge_found.result _ _ c.judge_found.ensures.exact
-    (λ v exact. exact polygons (c.deref.ensures.value ∙ c.in-Ok.ensures ∙ firsts_found (λ (v : Bor Vehicle). row_of v.now) c.in_ok-resolved.resolved (policy_document c.args.policy.now) polygons c.args.local c.in_ok-resolved.ensures c.args.vehicles.now))
+    let policy = policy_document c.args.policy.now in
+    let made = c.in_ok-parts.ensures in
+    let few : length c.args.vehicles.now < 2 ^ 63 = omega arith in (
+      polygons,
+      made.0,
+      c.args.moment,
+      subst (AreTallies policy polygons made.0 c.args.local c.args.moment) (sym c.deref.ensures.value) (made.2 polygons c.in_ok-resolved.ensures),
+      omega (arith, few, ap length made.1, length-map c.args.vehicles.now row),
+    )
+
+pub returns-clause-exact : goal.returns-clause-exact
+returns-clause-exact g c =
+    let polygons = g.P.Places.polygons c.args.places.now in
+    let policy = policy_document c.args.policy.now in
+    let made = c.in_ok-parts.ensures in
+    c.verdicts.ensures policy polygons (map row c.args.vehicles.now) c.args.local c.args.moment
+    (subst (λ rows. IsTally c.in_ok-tally.tally policy polygons rows c.args.local c.args.moment) made.1
+    (c.in_ok-tally.ensures polygons made.0 c.args.moment
+    (subst (AreTallies policy polygons made.0 c.args.local c.args.moment) (sym c.deref.ensures.value) (made.2 polygons c.in_ok-resolved.ensures))))
+
+pub returns-clause-fits : goal.returns-clause-fits
+returns-clause-fits g c =
+    let few : length c.args.vehicles.now < 2 ^ 63 = omega arith in
+    let policy = policy_document c.args.policy.now in
+    let polygons = g.P.Places.polygons c.args.places.now in
+    let rows = map row c.args.vehicles.now in
+    measures_fit (verdicts policy polygons rows c.args.local c.args.moment) (length rows) (2 ^ 63) _ (returns-clause-exact g c) (verdicts_at_most policy polygons rows rows c.args.local c.args.moment)
+    (omega (arith, few, length-map c.args.vehicles.now row))

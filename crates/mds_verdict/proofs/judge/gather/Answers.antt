@@ -1,26 +1,32 @@
-use Rattle.std.proofs.Common.{◌<◌, ◌^◌, map, take, length, Bor, ap, ◌∙◌, arith}
-use Rattle.mds_policy.specs.Policy.{policy_document, rule_document}
+use Rattle.std.proofs.Common.{◌≡◌, ◌<◌, ◌≤◌, ◌^◌, map, take, length, Bor, subst, sym, ap, ◌∙◌, arith}
+use Rattle.std.proofs.lemmas.List.{length-map, length-take-le}
+use Rattle.mds_policy.specs.Policy.{policy_document}
 use Rattle.mds_match.specs.Row.{row_of}
 use Rattle.mds_match.specs.declared.vehicle.Vehicle.{Vehicle}
-use Rattle.mds_verdict.specs.Verdict.{verdict_document}
-use Rattle.mds_verdict.proofs.Counting.{number_within}
-use Rattle.mds_verdict.proofs.Measures.{gathered_of_none, length_held, measures_fit_so_far}
+use Rattle.mds_verdict.specs.Gathered.{IsTally}
+use Rattle.mds_verdict.proofs.Counting.{rows_more}
 use Rattle.mds_verdict.proofs.judge.gather.Goals as goal
 
 pub loop-vehicle-init : goal.loop-vehicle-init
-loop-vehicle-init g c =
-    gathered_of_none rule_document c.rules.result.now (policy_document c.args.policy.now) (g.P.Places.polygons c.args.places.now) c.args.local c.args.moment _ c.rules.ensures c.in_ok-held.ensures
+loop-vehicle-init g c = c.in_ok-tally.ensures (g.P.Places.polygons c.args.places.now) c.args.moment
 
-pub count-requires-clause-whole : goal.count-requires-clause-whole
-count-requires-clause-whole g c =
-    length_held (policy_document c.args.policy.now) (g.P.Places.polygons c.args.places.now) (map (λ (v : Bor Vehicle). row_of v.now) (take c.loop-vehicle.vehicle-index c.args.vehicles.now)) c.args.local c.args.moment c.deref_mut.result.now
-    (ap (map verdict_document) c.deref_mut.ensures.value ∙ c.loop-vehicle.invariant)
+pub count-requires : goal.count-requires
+count-requires g c =
+    let rows = map (λ (v : Bor Vehicle). row_of v.now) (take c.loop-vehicle.vehicle-index c.args.vehicles.now) in
+    let few : length c.args.vehicles.now < 2 ^ 63 = omega arith in (
+      g.P.Places.polygons c.args.places.now,
+      rows,
+      c.args.local,
+      c.first.ensures ∙ c.in_ok-resolved.ensures (row_of c.vehicle-item.result.now),
+      c.loop-vehicle.invariant,
+      omega (arith, few, length-map (take c.loop-vehicle.vehicle-index c.args.vehicles.now) (λ (v : Bor Vehicle). row_of v.now), length-take-le c.loop-vehicle.vehicle-index c.args.vehicles.now (omega arith)),
+    )
 
-pub count-requires-clause-few : goal.count-requires-clause-few
-count-requires-clause-few g c =
-    let few : length c.args.vehicles.now < 2 ^ 63 = omega arith in
-    measures_fit_so_far (λ (v : Bor Vehicle). row_of v.now) c.args.vehicles.now c.loop-vehicle.vehicle-index (policy_document c.args.policy.now) (g.P.Places.polygons c.args.places.now) c.args.local c.args.moment (2 ^ 63) c.deref_mut.result.now (ap (map verdict_document) c.deref_mut.ensures.value ∙ c.loop-vehicle.invariant) (omega arith) few
-
-pub count-requires-clause-within : goal.count-requires-clause-within
-count-requires-clause-within g c =
-    number_within (policy_document c.args.policy.now) (g.P.Places.polygons c.args.places.now) (row_of c.vehicle-item.result.now) c.args.local c.first.result (c.first.ensures ∙ c.in_ok-resolved.ensures (row_of c.vehicle-item.result.now))
+pub loop-vehicle-preserved : goal.loop-vehicle-preserved
+loop-vehicle-preserved g c =
+    let policy = policy_document c.args.policy.now in
+    let polygons = g.P.Places.polygons c.args.places.now in
+    let rows = map (λ (v : Bor Vehicle). row_of v.now) (take c.loop-vehicle.vehicle-index c.args.vehicles.now) in
+    subst (λ rs. IsTally c.count.new.self policy polygons rs c.args.local c.args.moment)
+    (sym (rows_more (λ (v : Bor Vehicle). row_of v.now) c.args.vehicles.now c.loop-vehicle.vehicle-index c.vehicle-item.result (omega arith) c.vehicle-item.is))
+    (c.in_ok-count.ensures polygons rows c.args.local (c.first.ensures ∙ c.in_ok-resolved.ensures (row_of c.vehicle-item.result.now)) c.loop-vehicle.invariant)

@@ -1,14 +1,25 @@
-use Rattle.std.proofs.Common.{map, codes, ap, ◌∙◌}
-use Rattle.mds_catalog.specs.Catalogue.{publications_of, lent_geography}
+use Rattle.std.proofs.Common.{◌≡◌, List, ℕ, map, length, codes, ap, ◌∙◌}
+use Rattle.mds_catalog.specs.Catalogue.{publications_of}
 use Rattle.mds_catalog.specs.Publication.{published_geographies}
-use Rattle.mds_machine.specs.Answer.{told}
-use Rattle.mds_machine.specs.Bodies.{list_json, revised_json}
+use Rattle.mds_request.specs.Reply.{success}
+use Rattle.mds_machine.specs.Bodies.{list_json}
 use Rattle.mds_machine.specs.Published.{geography_json}
+use Rattle.mds_world.specs.Texts.{list_text}
+use Rattle.mds_world.proofs.Joined.{list_is, geographies_printed, told_body}
 use Rattle.mds_world.proofs.published.geographies.Goals as goal
+
+pub ok-requires : goal.ok-requires
+ok-requires c =
+    let publications = publications_of c.args.catalogue.now in
+    let shown = published_geographies publications in
+    let body = told_body (codes "geographies") (list_text (map (λ t. t.now) c.deref.result.now)) c.in_ok-body.body.items (list_json (map geography_json shown)) c.revision.result (length publications) c.in_ok-body.ensures
+    (list_is (map (λ t. t.now) c.deref.result.now) (map geography_json shown) (ap (map (λ t. t.now)) c.deref.ensures.value ∙ c.in_ok-texts.ensures ∙ geographies_printed shown)) c.revision.ensures.count in
+    body.line
 
 pub returns : goal.returns
 returns c =
-    c.in_ok-reply.ensures
-    ∙ ap (λ v. told (revised_json (codes "geographies") v c.revision.result)) c.in_ok-tree.ensures
-    ∙ ap (λ gs. told (revised_json (codes "geographies") (list_json (map geography_json gs)) c.revision.result)) (ap (map lent_geography) c.deref.ensures.value ∙ c.in_ok-geographies.ensures)
-    ∙ ap (λ n. told (revised_json (codes "geographies") (list_json (map geography_json (published_geographies (publications_of c.args.catalogue.now)))) n)) c.revision.ensures.count
+    let publications = publications_of c.args.catalogue.now in
+    let shown = published_geographies publications in
+    let body = told_body (codes "geographies") (list_text (map (λ t. t.now) c.deref.result.now)) c.in_ok-body.body.items (list_json (map geography_json shown)) c.revision.result (length publications) c.in_ok-body.ensures
+    (list_is (map (λ t. t.now) c.deref.result.now) (map geography_json shown) (ap (map (λ t. t.now)) c.deref.ensures.value ∙ c.in_ok-texts.ensures ∙ geographies_printed shown)) c.revision.ensures.count in
+    c.ok.ensures ∙ ap success body.is

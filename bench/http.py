@@ -1,0 +1,339 @@
+"""Times mds_serve over loopback by wrk, and beside it nginx that gives static files of the same sizes, in the same run.
+
+Each measure is taken by turns, mds_serve and then nginx, in each round; the median of the rounds is printed with the least and the
+greatest. Last come the reads of operators while the author publishes 20 times a second, and the memory of idle connections.
+"""
+
+import argparse
+import contextlib
+import os
+import re
+import shutil
+import statistics
+import subprocess
+import sys
+import tempfile
+import threading
+import time
+
+import generate
+
+HERE = os.path.dirname(os.path.abspath(__file__))
+sys.path.append(os.path.join(HERE, "..", "tests"))
+
+from wire import Link, Server, free_port, request  # noqa: E402
+
+PROGRAM = os.path.join(HERE, "..", "crates", "mds_serve", "out", "mds_serve")
+CONNECTIONS = (32, 256)
+THREADS = 2
+ROUNDS, SECONDS = 3, 5
+SMALL, LARGE = 1_024, 102_400
+FLEET, RULES = 2_000, 8
+PUBLICATIONS, PUBLISHING_SECONDS, PUBLISHING_CONNECTIONS = 20, 10, 32
+IDLE = 1_000
+OPERATOR, OTHER = generate.token(0), generate.token(1)
+TICKS = os.sysconf("SC_CLK_TCK")
+
+NGINX = """
+daemon off;
+{user}
+worker_processes auto;
+pid {folder}/pid;
+error_log {folder}/error.log;
+events {{ worker_connections 4096; }}
+http {{
+    access_log off;
+    sendfile on;
+    tcp_nopush on;
+    keepalive_requests 1000000000;
+    open_file_cache max=100;
+    default_type application/json;
+    client_body_temp_path {folder}/temporary;
+    proxy_temp_path {folder}/temporary;
+    fastcgi_temp_path {folder}/temporary;
+    uwsgi_temp_path {folder}/temporary;
+    scgi_temp_path {folder}/temporary;
+    server {{ listen 127.0.0.1:{port} backlog=4096; root {folder}/files; }}
+}}
+"""
+
+REPORTS = """
+local threads, turn = 0, 0
+function setup(thread)
+    thread:set("number", threads)
+    threads = threads + 1
+end
+function request()
+    turn = turn + 1
+    local body = string.format(
+        '{"device_id":"00000000-0000-4000-8000-0004%%08x","vehicle_type":"scooter","propulsion_types":["electric"],'
+        .. '"vehicle_state":"available","event_types":["trip_end"],"timestamp":%%d,"location":{"lat":39.8,"lng":-86.1}}',
+        number * 1000 + turn %% 1000, %d + turn)
+    return wrk.format("POST", "/fleet/events", nil, body)
+end
+"""
+
+
+class Static:
+    """nginx with files."""
+
+    def __init__(self, folder):
+        self.folder, self.port = folder, free_port()
+        for name in ("files", "temporary"):
+            os.mkdir(os.path.join(folder, name))
+        path = os.path.join(folder, "nginx.conf")
+        with open(path, "w", encoding="ascii") as text:
+            # Where it would give up being root it couldn't read the folder.
+            user = "user root;" if os.geteuid() == 0 else ""
+            text.write(NGINX.format(folder=folder, port=self.port, user=user))
+        self.process = subprocess.Popen(["nginx", "-c", path, "-e", os.path.join(folder, "error.log")])
+        for _ in range(100):
+            with contextlib.suppress(OSError):
+                Link(self.port).socket.close()
+                return
+            time.sleep(0.1)
+        sys.exit("nginx doesn't listen")
+
+    def give(self, name, content):
+        with open(os.path.join(self.folder, "files", name), "wb") as out:
+            out.write(content)
+
+    def stop(self):
+        self.process.terminate()
+        self.process.wait()
+
+
+def processor_seconds(pid):
+    """The processor time of a process and of its children, user and system."""
+    seconds = 0
+    with contextlib.suppress(FileNotFoundError, ProcessLookupError):
+        with open(f"/proc/{pid}/stat", encoding="ascii") as text:
+            fields = text.read().rpartition(")")[2].split()
+        seconds = (int(fields[11]) + int(fields[12])) / TICKS
+        with open(f"/proc/{pid}/task/{pid}/children", encoding="ascii") as text:
+            seconds += sum(processor_seconds(int(child)) for child in text.read().split())
+    return seconds
+
+
+def resident(pid):
+    """The resident memory of a process, in bytes."""
+    with open(f"/proc/{pid}/status", encoding="ascii") as text:
+        return int(re.search(r"VmRSS:\s+(\d+) kB", text.read())[1]) * 1024
+
+
+class Load:
+    """What wrk measured of one target: requests a second, the median and the 99th percentile in seconds, processor time of a request."""
+
+    UNITS = {"us": 1e-6, "ms": 1e-3, "s": 1, "m": 60}
+
+    def __init__(self, pid, port, target, connections, seconds, token=OPERATOR, script=None):
+        command = ["wrk", "--latency", f"-t{THREADS}", f"-c{connections}", f"-d{seconds}s", "-H", f"authorization: Bearer {token}"]
+        command += ["-s", script] if script else []
+        before = processor_seconds(pid)
+        ran = subprocess.run(command + [f"http://127.0.0.1:{port}{target}"], capture_output=True, text=True, check=True)
+        used = processor_seconds(pid) - before
+        if "Non-2xx" in ran.stdout or "Socket errors" in ran.stdout:
+            sys.exit(f"{target}: not every answer is a success\n{ran.stdout}")
+        self.rate = float(re.search(r"Requests/sec:\s+([\d.]+)", ran.stdout)[1])
+        self.median, self.worst = (self.percentile(ran.stdout, it) for it in ("50", "99"))
+        self.processor = used / max(1, int(re.search(r"(\d+) requests in", ran.stdout)[1]))
+
+    def percentile(self, text, number):
+        value, unit = re.search(rf"\s{number}%\s+([\d.]+)(us|ms|s|m)", text).groups()
+        return float(value) * self.UNITS[unit]
+
+
+def send(link, line):
+    """Sends one line of generated input, which succeeds."""
+    _, token, method, target, body = (line.split(" ", 4) + [""])[:5]
+    link.send(request(method, target, token, body.encode()))
+    answer = link.answer()
+    if answer.status != 200:
+        sys.exit(f"{line[:160]} is answered {answer}")
+    return answer.body
+
+
+def serve(stack, program, lines):
+    """The server, with these lines answered."""
+    server = stack.enter_context(Server(program, (generate.config() + "\n").encode()))
+    with server.link() as link:
+        for line in lines:
+            send(link, line)
+    return server
+
+
+def districts(random):
+    """Eight districts, published."""
+    rings = generate.districts(random, RULES, 200, 0.2)
+    lines = [generate.put_geography(n, generate.geography(n, ring)) for n, ring in enumerate(rings)]
+    return lines + [generate.publish(range(RULES))]
+
+
+def policies(random, size):
+    """Published policies whose list has just this many bytes."""
+    lines, taken, number = [], len('{"policies":[],"revision":1}'), 0
+    while taken < size:
+        name, rules = "cap", 3 if size == SMALL else 6
+        text = generate.policy(random, number, rules, range(RULES), name=name)
+        served = len(text) + len(',"published_date":1700000000000') + (1 if number else 0)
+        if size - taken - served < 3_000:
+            # The last one, filled up by its name.
+            text = generate.policy(random, number, 1, range(RULES), name="")
+            served = len(text) + len(',"published_date":1700000000000') + (1 if number else 0)
+            text = text.replace('"name":""', '"name":"%s"' % ("x" * (size - taken - served)), 1)
+            served = size - taken
+        lines.append(generate.put_policy(number, text))
+        taken, number = taken + served, number + 1
+    return lines + [generate.publish([], range(number))]
+
+
+class Measure:
+    """One target of mds_serve, and the file of nginx that has its size."""
+
+    def __init__(self, label, server, target, static, bound, script=None, token=OPERATOR, reply=None):
+        self.label, self.server, self.target, self.bound = label, server, target, bound
+        self.static, self.script, self.token = static, script, token
+        if reply is None:
+            with server.link() as link:
+                reply = send(link, generate.get(target))
+        self.size, self.file = len(reply), f"/{len(os.listdir(static.folder + '/files'))}.json"
+        static.give(self.file[1:], reply)
+        self.loads = {}
+
+    def take(self, connections, seconds):
+        ours = Load(self.server.process.pid, self.server.port, self.target, connections, seconds, self.token, self.script)
+        other = Load(self.static.process.pid, self.static.port, self.file, connections, seconds)
+        self.loads.setdefault(connections, []).append((ours, other))
+        print(f"{self.label}, {connections}: {ours.rate:.0f} and {other.rate:.0f} requests a second", file=sys.stderr)
+
+    def tell(self):
+        """A row for each number of connections."""
+        for connections, pairs in self.loads.items():
+            ratio = spread([ours.rate / other.rate for ours, other in pairs], 1, "")
+            cells = [f"{self.label}, {self.size} bytes", str(connections)]
+            for loads in zip(*pairs):
+                cells.append(spread([it.rate for it in loads], 1, ""))
+                cells.append(f"{middle(loads, 'median', 1e3)} ms, {middle(loads, 'worst', 1e3)} ms")
+                cells.append(f"{middle(loads, 'processor', 1e6)} us")
+            print("| %s |" % " | ".join(cells + [ratio, *self.bound]))
+
+
+def middle(loads, name, scale):
+    return figure(statistics.median(getattr(it, name) for it in loads) * scale)
+
+
+def figure(value):
+    """Three digits that count."""
+    return "%.0f" % value if abs(value) >= 100 else "%.3g" % value
+
+
+def spread(values, scale, unit):
+    return "%s%s (%s to %s)" % (figure(statistics.median(values) * scale), unit, figure(min(values) * scale), figure(max(values) * scale))
+
+
+class Author(threading.Thread):
+    """Publishes a geography, so many times a second, until it is told to stop."""
+
+    def __init__(self, server, random):
+        super().__init__()
+        self.server, self.over, self.published = server, threading.Event(), 0
+        self.rings = generate.districts(random, 500, 20, 0.1)
+
+    def run(self):
+        begun = time.monotonic()
+        with self.server.link() as link:
+            for number, ring in enumerate(self.rings, 100):
+                if self.over.wait(max(0, begun + self.published / PUBLICATIONS - time.monotonic())):
+                    return
+                send(link, generate.put_geography(number, generate.geography(number, ring)))
+                send(link, generate.publish([number]))
+                self.published += 1
+
+
+def while_publishing(program, lines, rounds, seconds):
+    """The 99th percentile of operators' reads, idle and while the author publishes, in turns."""
+    pairs, published = [], 0
+    for _ in range(rounds):
+        with contextlib.ExitStack() as stack:
+            random = generate.Xorshift(generate.SEED)
+            server = serve(stack, program, lines)
+            idle = Load(server.process.pid, server.port, "/policies", PUBLISHING_CONNECTIONS, seconds)
+            author = Author(server, random)
+            author.start()
+            busy = Load(server.process.pid, server.port, "/policies", PUBLISHING_CONNECTIONS, seconds)
+            author.over.set()
+            author.join()
+        pairs.append((idle, busy))
+        published += author.published
+    print("\n| Measure | idle | while publishing | ratio | must | aim |\n|---|---|---|---|---|---|")
+    cells = [f"99th percentile of GET of a policy list, {PUBLISHING_CONNECTIONS} connections, {published / rounds / seconds:.1f} publications a second"]
+    cells += [spread([it.worst for it in loads], 1e3, " ms") for loads in zip(*pairs)]
+    cells.append(spread([busy.worst / idle.worst for idle, busy in pairs], 1, ""))
+    print("| %s | 2 | 1.2 |" % " | ".join(cells))
+    cells = ["requests a second meanwhile"] + [spread([it.rate for it in loads], 1, "") for loads in zip(*pairs)]
+    print("| %s | %s | | |" % (" | ".join(cells), spread([busy.rate / idle.rate for idle, busy in pairs], 1, "")))
+
+
+def idle_connections(program, lines):
+    """The memory of connections that asked once and are silent now."""
+    with contextlib.ExitStack() as stack:
+        server = serve(stack, program, lines)
+        before = resident(server.process.pid)
+        for _ in range(IDLE):
+            send(stack.enter_context(server.link()), generate.get("/policies"))
+        more = resident(server.process.pid) - before
+    print("\n| Measure | |\n|---|---|")
+    print(f"| memory of the server with a policy list of {SMALL} bytes | {before / 1e6:.1f} MB |")
+    print(f"| memory of {IDLE} idle connections | {more / 1e6:.1f} MB, {more / IDLE / 1024:.1f} KiB each |")
+
+
+def measures(stack, program, folder, static):
+    """All that is compared with nginx."""
+    random = generate.Xorshift(generate.SEED)
+    city = districts(random)
+    small = serve(stack, program, city + policies(random, SMALL))
+    large = serve(stack, program, city + policies(random, LARGE))
+    fleet = [generate.put_policy(0, generate.policy(random, 0, RULES, range(RULES))), generate.publish([], [0])]
+    judged = serve(stack, program, city + fleet + generate.fleet(random, FLEET))
+    script = os.path.join(folder, "reports.lua")
+    with open(script, "w", encoding="ascii") as text:
+        text.write(REPORTS % generate.START)
+    must = ("0.5", "0.8")
+    return [
+        Measure("GET of a policy list", small, "/policies", static, must),
+        Measure("GET of a policy list", large, "/policies", static, must),
+        Measure("POST of a report", small, "/fleet/events", static, ("", ""), script, OTHER, b'{"result":"changed"}'),
+        Measure(f"GET of compliance, {FLEET} vehicles, {RULES} rules", judged, "/compliance", static, ("", "")),
+    ]
+
+
+def main():
+    parser = argparse.ArgumentParser(description=__doc__)
+    parser.add_argument("--program", default=PROGRAM, help="the built mds_serve")
+    parser.add_argument("--rounds", type=int, default=ROUNDS)
+    parser.add_argument("--seconds", type=int, default=SECONDS, help="how long each measure takes")
+    options = parser.parse_args()
+    program = os.path.abspath(options.program)
+    if not shutil.which("wrk") or not shutil.which("nginx"):
+        sys.exit("the benchmark needs wrk and nginx")
+    with tempfile.TemporaryDirectory() as folder, contextlib.ExitStack() as stack:
+        static = Static(folder)
+        stack.callback(static.stop)
+        all_ = measures(stack, program, folder, static)
+        for number in range(options.rounds):
+            for measure in all_:
+                for connections in CONNECTIONS:
+                    measure.take(connections, options.seconds)
+            print("load of the machine after round %d: %.2f" % (number + 1, os.getloadavg()[0]))
+        columns = "requests a second | median, 99th percentile | processor time of a request"
+        print(f"\n| Measure | connections | mds_serve: {columns} | nginx: {columns} | requests, against nginx | must | aim |")
+        print("|---|---|" + "---|" * 9)
+        for measure in all_:
+            measure.tell()
+    lines = districts(generate.Xorshift(generate.SEED)) + policies(generate.Xorshift(generate.SEED), SMALL)
+    while_publishing(program, lines, options.rounds, PUBLISHING_SECONDS)
+    idle_connections(program, lines)
+
+
+if __name__ == "__main__":
+    main()

@@ -1,0 +1,93 @@
+//! Polygons with their edges by strips of latitude.
+ghost use Rattle.std.specs.Prelude.{◌≡◌, false, IfOk, IsTrue};
+ghost use Rattle.mds_geometry.specs.Area.{area_holds};
+ghost use Rattle.mds_geometry.specs.Grid.{AreClosed};
+ghost use Rattle.mds_geometry.specs.Strips.{edges_from};
+
+use crate::bounds::{Bounds, bounds_of};
+use crate::fit::scale_of;
+use crate::polygon::Polygon;
+use crate::position::Position;
+use crate::scale::Scale;
+use crate::strip::{Edge, Strip};
+use crate::strips::strips_of;
+use std::alloc::{AllocError, Global};
+use std::marker::Model;
+
+/// Several polygons with their bounds, and with their edges by strips of latitude. Contracts see the
+/// list of the polygons, each the list of its rings.
+#[derive(Drop)]
+pub(crate) struct Striped {
+    polygons: Vec<Polygon>,
+    bounds: Bounds,
+    scale: Scale,
+    strips: Vec<Strip>,
+}
+
+impl Model for Striped {
+    ghost use Rattle.std.specs.Prelude.{List};
+    ghost use Rattle.mds_geometry.specs.Strips.{IsIndexed};
+    ghost use Rattle.mds_geometry.specs.declared.position.Position.{Position};
+
+    ghost Value = { List (List (List Position)) };
+
+    ghost view = { λ a. a.polygons.items };
+
+    ghost invariant = { λ a. IsIndexed a.polygons.items a.bounds a.scale a.strips.items };
+}
+
+impl Striped {
+    /// The polygons, of which these are the edges. An edge has at most four places in the strips, on
+    /// the average.
+    ///
+    /// # Errors
+    ///
+    /// Memory ran out.
+    pub(crate) fn new(
+        alloc: Global,
+        polygons: Vec<Polygon>,
+        edges: &[Edge],
+    ) -> Result<Striped, AllocError>
+        requires { edges.now ≡ edges_from 0 polygons.items }
+        ensures value { IfOk result (λ striped. striped ≡ polygons.items) }
+        ensures linear { IfOk result (λ striped. AreClosed striped) }
+    {
+        let scale = scale_of(edges);
+        let strips = strips_of(alloc, &scale, edges)?;
+        let bounds = bounds_of(&polygons);
+        Ok(Striped {
+            polygons,
+            bounds,
+            scale,
+            strips,
+        })
+    }
+
+    /// The polygons in their order.
+    pub(crate) fn polygons(&self) -> &[Polygon]
+        ensures { result.now ≡ self.now }
+    {
+        self.polygons.as_slice()
+    }
+
+    /// Whether the position lies outside the bounds of the polygons, which hold nothing there.
+    pub(crate) fn excludes(&self, position: &Position) -> bool
+        ensures { IsTrue result → area_holds self.now position.now ≡ false }
+    {
+        if self.bounds.holds(position) {
+            return false;
+        }
+        true
+    }
+
+    /// Whether one of the polygons holds the position, by the edges of its strip.
+    pub(crate) fn holds(&self, position: Position) -> bool
+        ensures { result ≡ area_holds self.now position }
+    {
+        if self.excludes(&position) {
+            return false;
+        }
+        let strip = self.scale.strip_of(position.lat);
+        self.strips[strip].holds(&position)
+    }
+}

@@ -1,0 +1,2 @@
+mod Askers
+mod Seats

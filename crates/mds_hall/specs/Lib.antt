@@ -1,0 +1,6 @@
+pub mod Asker
+pub mod Asked
+pub mod Early
+pub mod Respond
+pub mod Response
+pub mod Turn

@@ -1,0 +1,17 @@
+//! HTTP requests at running desks: what request the parts of one are, and what each is answered, while
+//! others are.
+#![tactic(auto)]
+
+mod answering;
+mod asked;
+mod early;
+mod hall;
+mod response;
+#[cfg(test)]
+mod tests;
+mod turn;
+
+pub use answering::{respond, respond_with};
+pub use early::Arrived;
+pub use hall::Hall;
+pub use turn::desk_turn;

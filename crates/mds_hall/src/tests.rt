@@ -1,0 +1,160 @@
+//! Halls of two operators.
+ghost use Rattle.std.specs.Prelude.{◌≡◌};
+ghost use Rattle.mds_snapshot.specs.Opening.{book_of};
+
+use crate::{Arrived, Hall, respond};
+use bytes::Bytes;
+use futures::executor::block_on;
+use http::header::{AUTHORIZATION, CONTENT_TYPE};
+use http::request::Parts;
+use http::{HeaderValue, Method, Response, Uri};
+use http_body_util::{BodyExt, Full};
+use mds_request::Config;
+use mds_snapshot::{Blank, Naming, prepare};
+use mds_text::Moment;
+use std::alloc::{AllocError, AllocGlobal, Global};
+use std::marker::Brand;
+use std::process::Abort;
+use std::random::RandomSource;
+use std::sync::Wait;
+use std::test::Fail;
+use std::thread::Threads;
+
+mod early;
+mod session;
+
+const CONFIGURATION: &[u8] =
+    br#"{"author":"city","operators":[{"id":"00000000-0000-4000-8000-0000000000a1","limit":2,"token":"alfa"},{"id":"00000000-0000-4000-8000-0000000000b1","limit":2,"token":"bravo"}],"zone":"Z"}"#;
+
+const SQUARE: &str =
+    r#"{"geography_id":"00000000-0000-4000-8000-000000000101","name":"square","geography_json":{"type":"Polygon","coordinates":[[[0,0],[10,0],[10,10],[0,10],[0,0]]]}}"#;
+
+const CAP: &str =
+    r#"{"policy_id":"00000000-0000-4000-8000-000000000201","name":"cap","start_date":1000,"rules":[{"rule_id":"00000000-0000-4000-8000-000000000301","name":"cap","rule_type":"count","geographies":["00000000-0000-4000-8000-000000000101"],"maximum":1}]}"#;
+
+const BOTH: &str =
+    r#"{"geographies":["00000000-0000-4000-8000-000000000101"],"policies":["00000000-0000-4000-8000-000000000201"]}"#;
+
+const NEW: &str = r#"{"result":"new"}"#;
+
+const PUBLISHED: &str = r#"{"published_date":1000,"revision":1}"#;
+
+/// No vehicle is counted, at 2000.
+const NONE_COUNTED: &str =
+    r#"{"at":2000,"policies":[{"policy_id":"00000000-0000-4000-8000-000000000201","rules":[{"measure":0,"rule_id":"00000000-0000-4000-8000-000000000301","status":"ok"}]}],"revision":1,"version":2}"#;
+
+const TOKEN: &str = r#"{"error":"token"}"#;
+
+/// What tests ask of the runtime, besides that threads may share it.
+trait Host: Wait + Threads + RandomSource + AllocGlobal + Abort + Copy {}
+
+impl<R: Wait + Threads + RandomSource + AllocGlobal + Abort + Copy> Host for R {}
+
+/// What is done in a hall.
+#[derive(Clone, Copy)]
+enum Visit {
+    FirstQuestion,
+    EachForm,
+    EachArrival,
+    LargeAndUnknown,
+}
+
+fn visited<R: Host + Sync>(rt: &R, visit: Visit) -> Result<(), Fail> {
+    let alloc = rt.alloc();
+    let config = Config::read(alloc, CONFIGURATION)?;
+    let blank = prepare(alloc)?;
+    opened::<Brand, R>(rt, alloc, config, blank, visit)
+}
+
+fn opened<K: Naming, R: Host + Sync>(
+    rt: &R,
+    alloc: Global,
+    config: Config,
+    blank: Blank,
+    visit: Visit,
+) -> Result<(), Fail>
+    requires { book_of blank ≡ K.book }
+{
+    let hall = Hall::<K>::new(rt, alloc, config, blank)?;
+    let outcome = match visit {
+        Visit::FirstQuestion => session::first_question(rt, alloc, &hall),
+        Visit::EachForm => session::each_form(rt, alloc, &hall),
+        Visit::EachArrival => early::each_arrival(rt, alloc, &hall),
+        Visit::LargeAndUnknown => early::large_and_unknown(rt, alloc, &hall),
+    };
+    hall.finish(rt);
+    outcome
+}
+
+fn moment(at: i64) -> Result<Moment, Fail> {
+    Ok(Moment::new(at).ok_or("no moment")?)
+}
+
+/// A head with these credentials, if any.
+fn head(
+    alloc: Global,
+    method: Method,
+    target: &'static str,
+    credentials: Option<&str>,
+) -> Result<Parts, Fail> {
+    let mut parts = Parts::new(alloc);
+    parts.method = method;
+    parts.uri = Uri::from_static(target)?;
+    if let Some(credentials) = credentials {
+        let value = HeaderValue::from_str(alloc, credentials)?;
+        parts.headers.insert(AUTHORIZATION, value)?;
+    }
+    Ok(parts)
+}
+
+fn whole(body: &'static str) -> Arrived {
+    Arrived::Whole(Bytes::from_static(body.as_bytes()))
+}
+
+/// The response has this status and body, and says that it is JSON.
+fn assert_says<R: Host + Sync>(
+    rt: &R,
+    response: Result<Response<Full<Bytes>>, AllocError>,
+    status: u16,
+    body: &str,
+) -> Result<(), Fail> {
+    let response = response?;
+    assert_eq!(rt; response.status().as_u16(), status);
+    let kind = response
+        .headers()
+        .get(CONTENT_TYPE)
+        .ok_or("a content type")?;
+    assert_eq!(rt; kind.as_bytes(), b"application/json".as_slice());
+    let mut content = response.into_body();
+    let Some(Ok(frame)) = block_on(rt, content.frame())? else {
+        panic!(rt; "no body");
+    };
+    let data = frame.into_data().ok().ok_or("data")?;
+    assert_eq!(rt; data.as_slice(), body.as_bytes());
+    Ok(())
+}
+
+/// The author's requests that publish the policy and its square at 1000.
+fn set_up<K: Naming, R: Host + Sync>(rt: &R, alloc: Global, hall: &Hall<K>) -> Result<(), Fail> {
+    let steps = [
+        (
+            Method::PUT,
+            "/drafts/geographies/00000000-0000-4000-8000-000000000101",
+            SQUARE,
+            NEW,
+        ),
+        (
+            Method::PUT,
+            "/drafts/policies/00000000-0000-4000-8000-000000000201",
+            CAP,
+            NEW,
+        ),
+        (Method::POST, "/publish", BOTH, PUBLISHED),
+    ];
+    for (method, target, body, wanted) in steps {
+        let parts = head(alloc, method, target, Some("Bearer city"))?;
+        let response = respond(rt, alloc, &parts, whole(body), Some(moment(1000)?), hall);
+        assert_says(rt, response, 200, wanted)?;
+    }
+    Ok(())
+}

@@ -1,0 +1,51 @@
+//! A request at an operator's desk.
+ghost use Rattle.std.specs.Prelude.{option_copied};
+ghost use Rattle.mds_desk.specs.Desk.{state_of};
+ghost use Rattle.mds_hall.specs.Asked.{request_in};
+ghost use Rattle.mds_hall.specs.Turn.{Answers, IsTold};
+
+use crate::asked::request;
+use crate::response::response;
+use bytes::Bytes;
+use http::Response;
+use http::request::Parts;
+use http_body_util::Full;
+use mds_desk::{Desk, Gate};
+use mds_parallel::Chunked;
+use mds_snapshot::{Naming, Note};
+use mds_text::Moment;
+use std::alloc::{AllocError, Global};
+use std::thread::Threads;
+
+/// Tells a desk of a note, if there is one.
+fn tell<K: Naming>(desk: &mut Desk<K>, note: Option<&Note<K>>)
+    ensures { IsTold (state_of desk.old) (option_copied note.entry) (state_of desk.new) }
+{
+    if let Some(note) = note {
+        desk.learn(note);
+    }
+}
+
+/// Answers the HTTP request of this head and body at a desk: the desk learns the note, where there is one,
+/// answers the request, and the response says its reply. It waits for nobody; vehicles are judged by
+/// several threads where that is worth it.
+///
+/// # Errors
+///
+/// There was no memory for the response. The request may have been carried out.
+pub fn desk_turn<K: Naming, G: Gate, R: Threads + Sync + Copy>(
+    rt: &R,
+    alloc: Global,
+    parts: &Parts,
+    body: &[u8],
+    at: Moment,
+    desk: &mut Desk<K>,
+    note: Option<&Note<K>>,
+    gate: &mut G,
+) -> Result<Response<Full<Bytes>>, AllocError>
+    ensures { Answers (state_of desk.old) (option_copied note.entry) (request_in parts.now body.now at) result (state_of desk.new) }
+{
+    tell(desk, note);
+    let reply = desk.answer(&request(parts, body, at), gate, &Chunked(*rt));
+    response(alloc, &reply)
+}

@@ -1,0 +1,14 @@
+-- Tables of the rules that vehicles can meet.
+use Rattle.std.specs.Prelude.{List, All}
+use Rattle.mds_match.specs.declared.resolved.ResolvedPolicy.{ResolvedPolicy}
+use Rattle.mds_match.specs.Resolved.{Suffices}
+use Rattle.mds_parallel.specs.declared.table.Pair.{Pair}
+use Rattle.mds_parallel.specs.declared.table.Table.{Table}
+
+-- the first rule that vehicles of this pair meet is among its rules
+abbrev pub IsServed : ResolvedPolicy → Pair → Type 0
+IsServed resolved pair = Suffices resolved pair.vehicle_type pair.state pair.numbers.items
+
+-- so it is for each pair of the table
+abbrev pub IsTableOf : ResolvedPolicy → Table → Type 0
+IsTableOf resolved table = All (IsServed resolved) table.pairs.items

@@ -1,0 +1,584 @@
+#!/usr/bin/env python3
+"""Tries a built mds_serve over loopback, by raw sockets: good requests, broken ones and hostile ones.
+
+    http.py PROGRAM
+
+What is accepted as an answer stands in the protocol, and where a message is no HTTP in RFC 9110 and 9112: where these leave a
+choice, each of its sides is accepted. After each broken or hostile message the next request on a new connection is answered as if
+it hadn't come. The scripts of tests/replays are run too, those whose answers don't depend on when a request comes. Takes about 80
+seconds, since the deadlines are waited for. Prints what differs, and last 'N passed, M failed'; ends with 1 where one failed.
+"""
+
+import contextlib
+import json
+import os
+import re
+import resource
+import socket
+import subprocess
+import sys
+import threading
+import time
+from concurrent.futures import ThreadPoolExecutor
+
+from messages import BODIES, BODY_LIMIT, CLOSE, HEADS, METHOD, NEW, NO_POLICY, NO_ROUTE, REPORT, TOKEN, TOO_LARGE
+from messages import chunked, code, head, sized
+from wire import AUTHOR, FIRST, SECOND, SECONDS, Answer, Closed, Server, configuration, identifier, request
+
+HERE = os.path.dirname(os.path.abspath(__file__))
+
+LINE_LIMIT = 2_097_152
+CONNECTION_LIMIT = 4096
+HEAD_SECONDS, BODY_SECONDS, IDLE_SECONDS = 10, 30, 60
+EARLY, LATE = 2, 10  # how far from its deadline a connection may be closed, on a busy machine
+
+
+def told(server, sent, may_close):
+    """Sends what comes first on a connection: its answer or a close, and what comes behind."""
+    with server.link() as link:
+        link.send(sent)
+        try:
+            if may_close:
+                link.socket.settimeout(2)
+                link.more()
+        except Closed:
+            return CLOSE, b""
+        except TimeoutError:
+            # A server that waits for more has its right to; it is told that no more comes.
+            link.half_close()
+        link.socket.settimeout(SECONDS)
+        try:
+            answer = link.answer()
+        except Closed as end:
+            return (CLOSE, b"") if not end.args[0] else (f"a part of an answer, {end.args[0]!r}", b"")
+        return answer, link.rest()
+
+
+def is_accepted(answer, accepted):
+    """Whether it is one of them. A status alone is the framing's answer: the application has then looked at no document."""
+    if not isinstance(answer, Answer):
+        return answer == CLOSE and CLOSE in accepted
+    told = re.fullmatch(rb'{"error":"(\w+)"}', answer.body)
+    framing = not told or told[1] in (b"bad_body", b"too_large")
+    return any(
+        framing and answer.status == it if isinstance(it, int) else it != CLOSE and answer.is_by_the_server(*it) for it in accepted
+    )
+
+
+def first_on_a_connection(server, sent, accepted):
+    """It gets one of the accepted answers and then a close, and leaves nothing behind but a report that was taken."""
+    answer, behind = told(server, sent, CLOSE in accepted)
+    if not is_accepted(answer, accepted):
+        yield f"answered {answer}"
+    if behind:
+        yield f"behind the answer {answer} comes {behind[:80]!r}"
+    if isinstance(answer, Answer) and answer.is_by_the_server(*NEW):
+        removed = server.ask("DELETE", f"/fleet/vehicles/{identifier(4, 1)}")
+        if removed.status != 200:
+            yield f"what was reported is removed by {removed}"
+    yield from as_if_nothing_had_come(server)
+
+
+def as_if_nothing_had_come(server):
+    """The answers of a new server, on a new connection."""
+    for target, wanted in (("/fleet/vehicles", b'{"vehicles":[]}'), ("/policies", NO_POLICY[1])):
+        answer = server.ask("GET", target)
+        if not answer.is_by_the_server(200, wanted):
+            yield f"the next request, of {target}, is answered {answer}"
+
+
+# --- Whole exchanges -----------------------------------------------------------------------------------------------
+
+
+def many_on_one_connection(server):
+    """Requests are answered in order, on one connection, however they are cut."""
+    asked = [
+        (request("GET", "/policies"), NO_POLICY),
+        (request("POST", "/fleet/events", body=REPORT), NEW),
+        (request("POST", "/fleet/events", body=REPORT, token=SECOND), NEW),
+        (request("POST", "/fleet/events", body=REPORT), (200, b'{"result":"same"}')),
+        (request("GET", "/nowhere"), NO_ROUTE),
+        (request("POST", "/fleet/events", "nobody", b"{"), TOKEN),
+        (request("PUT", "/policies", body=b"{"), METHOD),
+        (request("DELETE", f"/fleet/vehicles/{identifier(4, 1)}"), (200, f'{{"removed":"{identifier(4, 1)}"}}'.encode())),
+        (request("DELETE", f"/fleet/vehicles/{identifier(4, 1)}", SECOND), (200, f'{{"removed":"{identifier(4, 1)}"}}'.encode())),
+    ]
+    whole = b"".join(sent for sent, _ in asked)
+    for size in (len(whole), 1000, 7, 1):
+        with server.link() as link:
+            sender = threading.Thread(target=lambda: [link.send(whole[it : it + size]) for it in range(0, len(whole), size)])
+            sender.start()
+            for number, (_, wanted) in enumerate(asked):
+                answer = link.answer()
+                if not answer.is_by_the_server(*wanted):
+                    yield f"in pieces of {size}, request {number} is answered {answer}"
+            sender.join()
+    yield from as_if_nothing_had_come(server)
+
+
+def a_thousand_at_once(server):
+    """A thousand requests are sent at once, and have a thousand answers."""
+    with server.link() as link:
+        sender = threading.Thread(target=link.send, args=(request("GET", "/policies") * 1000,))
+        sender.start()
+        answers = [link.answer() for _ in range(1000)]
+        sender.join()
+    yield from (f"answered {it}" for it in answers if not it.is_by_the_server(*NO_POLICY))
+
+
+def a_head_without_a_body(server):
+    """HEAD is a method that no route has; its answer has no body."""
+    with server.link() as link:
+        link.send(request("HEAD", "/policies") + request("GET", "/policies"))
+        answer, behind = link.answer("HEAD"), link.answer()
+    if (answer.status, answer.body) != (405, b"") or not behind.is_by_the_server(*NO_POLICY):
+        yield f"answered {answer}, and then {behind}"
+
+
+def a_body_that_is_awaited(server):
+    """Expect: 100-continue is met before the body comes, and what is refused then is refused."""
+    for length, wanted in ((len(REPORT), NEW), (BODY_LIMIT + 1, TOO_LARGE)):
+        body = REPORT.ljust(length)
+        with server.link() as link:
+            start, _, _ = request("POST", "/fleet/events", body=body, lines=["Expect: 100-continue"]).partition(b"\r\n\r\n")
+            link.send(start + b"\r\n\r\n")
+            answer = link.answer()
+            if answer.status == 100:
+                link.send(body)
+                answer = link.answer()
+            elif wanted == NEW:
+                yield f"a body that is awaited is answered {answer} at once"
+            if not answer.is_by_the_server(*wanted):
+                yield f"a body of {length} that was awaited is answered {answer}"
+    server.ask("DELETE", f"/fleet/vehicles/{identifier(4, 1)}")
+    with server.link() as link:
+        link.send(request("GET", "/policies", lines=["Expect: the-unexpected"]))
+        answer = link.answer()
+        if answer.status != 417 and not answer.is_by_the_server(*NO_POLICY):
+            yield f"another expectation is answered {answer}"
+    yield from as_if_nothing_had_come(server)
+
+
+def gone_without_a_word(server):
+    """Connections that are reset at any byte of a request leave nothing behind."""
+    whole = sized(REPORT)
+    for cut in range(0, len(whole) - 1, 5):
+        link = server.link()
+        link.send(whole[:cut])
+        link.reset()
+    yield from as_if_nothing_had_come(server)
+
+
+def who_never_reads(server):
+    """Who asks and asks and never reads holds up nobody, not even others with its own token."""
+    documents = [(f"/drafts/geographies/{identifier(1, n)}", large_geography(identifier(1, n))) for n in range(4)]
+    for target, document in documents:
+        if not server.ask("PUT", target, AUTHOR, document).is_by_the_server(*NEW):
+            yield "a large geography isn't drafted"
+    names = ",".join(f'"{identifier(1, n)}"' for n in range(4))
+    if server.ask("POST", "/publish", AUTHOR, f'{{"geographies":[{names}]}}'.encode()).status != 200:
+        yield "large geographies aren't published"
+    with contextlib.ExitStack() as stack:
+        for token in (FIRST, AUTHOR):
+            link = stack.enter_context(server.link(receive=4096))
+            link.socket.settimeout(1)
+            with contextlib.suppress(OSError):
+                link.socket.sendall(request("GET", "/geographies", token) * 2000)
+        for token in (FIRST, SECOND, AUTHOR) * 10:
+            begun = time.monotonic()
+            answer = server.ask("GET", "/policies", token)
+            if not answer.is_by_the_server(200, b'{"policies":[],"revision":1}') or time.monotonic() - begun > SECONDS:
+                yield f"{token} is answered {answer} after {time.monotonic() - begun:.1f} s"
+
+
+def large_geography(uuid):
+    """A ring of 20,000 positions."""
+    ring = ",".join(f"[{it * 0.001:.3f},{80 if it else 79}]" for it in range(19_999)) + ",[0.000,79]"
+    return f'{{"geography_id":"{uuid}","name":"large","geography_json":{{"type":"Polygon","coordinates":[[{ring}]]}}}}'.encode()
+
+
+def the_slow_and_the_others(server, patience):
+    """While 500 connections send a byte a second, 50 others get all their answers."""
+    first = b"GET /policies HTTP/1.1\r\nhost: x\r\nx-slow: " + b"a" * 200
+    for _ in range(500):
+        patience.add("500 heads that drip", server.link(), HEAD_SECONDS, HEAD_SECONDS, drip=first)
+
+    def asks(number):
+        own, found = identifier(0, number), []
+        with server.link() as link:
+            for _ in range(40):
+                link.send(request("GET", f"/policies/{own}", (FIRST, SECOND, AUTHOR)[number % 3]))
+                found.append(link.answer())
+        return [f"another connection is answered {it}" for it in found if not it.is_by_the_server(*code(404, "not_found"))]
+
+    begun = time.monotonic()
+    with ThreadPoolExecutor(50) as pool:
+        for found in pool.map(asks, range(50)):
+            yield from found[:1]
+    if time.monotonic() - begun > 2 * SECONDS:
+        yield f"50 others waited for {time.monotonic() - begun:.1f} s"
+
+
+class Patience(threading.Thread):
+    """Connections that have to be closed at a deadline, and some of them drip bytes meanwhile."""
+
+    def __init__(self):
+        super().__init__(daemon=True)
+        self.waiting, self.faults, self.added, self.over = [], {}, threading.Lock(), threading.Event()
+
+    def add(self, name, link, least, most, drip=b""):
+        """A connection that is to be closed after these seconds, with an answer or without."""
+        link.socket.setblocking(False)
+        with self.added:
+            self.faults.setdefault(name, [])
+            self.waiting.append([name, link, time.monotonic(), least - EARLY, most + LATE, list(drip), 0])
+
+    def run(self):
+        while not (self.over.is_set() and not self.waiting):
+            with self.added:
+                waiting = list(self.waiting)
+            for entry in waiting:
+                if self.is_settled(entry):
+                    entry[1].socket.close()
+                    with self.added:
+                        self.waiting.remove(entry)
+            time.sleep(0.1)
+
+    def is_settled(self, entry):
+        """Whether a connection was closed, or should have been; sends its next byte else."""
+        name, link, begun, least, most, drip, sent = entry
+        after = time.monotonic() - begun
+        try:
+            closed = not link.socket.recv(65536)
+        except BlockingIOError:
+            closed = False
+        except ConnectionError:
+            closed = True
+        if closed and after < least:
+            self.faults[name].append(f"closed after {after:.1f} s, before {least} s")
+        if not closed and after > most:
+            self.faults[name].append(f"not closed within {most} s")
+        if sent < len(drip) and after >= sent:
+            with contextlib.suppress(OSError):
+                link.socket.send(bytes(drip[sent : sent + 1]))
+            entry[6] += 1
+        return closed or after > most
+
+
+def deadlines(server, patience):
+    """Connections that miss each deadline."""
+    patience.add("a connection that says nothing", server.link(), HEAD_SECONDS, IDLE_SECONDS)
+    link = server.link()
+    link.send(head()[:30])
+    patience.add("a head that stops", link, HEAD_SECONDS, HEAD_SECONDS)
+    link = server.link()
+    link.send(sized(REPORT)[:-20])
+    patience.add("a body that stops", link, BODY_SECONDS, BODY_SECONDS)
+    link = server.link()
+    link.send(chunked(b""))
+    patience.add("chunks that drip", link, BODY_SECONDS, BODY_SECONDS, drip=b"40\r\n" + b" " * 60)
+    link = server.link()
+    link.send(request("GET", "/policies"))
+    answer = link.answer()
+    if not answer.is_by_the_server(*NO_POLICY):
+        yield f"answered {answer}"
+    patience.add("a connection that is idle", link, IDLE_SECONDS, IDLE_SECONDS)
+
+
+def a_slow_body_in_time(server):
+    """A body that takes longer than a head may, and comes within its own time, is taken."""
+    whole = sized(REPORT)
+    with server.link() as link:
+        link.socket.settimeout(HEAD_SECONDS + 3 * SECONDS)
+        link.send(whole[: -HEAD_SECONDS - 2])
+        for it in range(-HEAD_SECONDS - 2, 0):
+            time.sleep(1)
+            link.send(whole[it:][:1])
+        answer = link.answer()
+    if not answer.is_by_the_server(*NEW):
+        yield f"answered {answer}"
+
+
+def more_connections_than_may_be(program):
+    """One connection more than may be waits or is closed, and the server goes on."""
+    with Server(program) as server, contextlib.ExitStack() as stack:
+        held = []
+        for _ in range(CONNECTION_LIMIT):
+            held.append(stack.enter_context(server.link()))
+            held[-1].send(request("GET", "/policies"))
+        # Once it has an answer, a connection may be idle for long enough.
+        answers = [link.answer() for link in held]
+        wrong = [it for it in answers if not it.is_by_the_server(*NO_POLICY)]
+        yield from (f"one of {CONNECTION_LIMIT} connections is answered {it}" for it in wrong[:1])
+        with server.link() as over:
+            over.socket.settimeout(2)
+            over.send(request("GET", "/policies"))
+            try:
+                yield f"a connection over the limit is answered {over.answer()}"
+            except (Closed, TimeoutError):
+                pass
+        for link in held:
+            link.socket.close()
+        time.sleep(1)
+        answer = server.ask("GET", "/policies")
+        if not answer.is_by_the_server(*NO_POLICY):
+            yield f"afterwards a request is answered {answer}"
+
+
+def can_hold(count):
+    """Whether this process, and those that it starts, may have so many files open."""
+    _, most = resource.getrlimit(resource.RLIMIT_NOFILE)
+    if most != resource.RLIM_INFINITY and most < count:
+        return False
+    resource.setrlimit(resource.RLIMIT_NOFILE, (count, most))
+    return True
+
+
+# --- The program's ends --------------------------------------------------------------------------------------------
+
+
+def ended(program, arguments, given):
+    """Status, standard output and standard error of a run that ends by itself."""
+    ran = subprocess.run([program, *arguments], input=given, stdout=subprocess.PIPE, stderr=subprocess.PIPE, timeout=3 * SECONDS)
+    return ran.returncode, ran.stdout, ran.stderr
+
+
+ENDS = {
+    "no argument": ((), b"", 2, "serve: usage"),
+    "three arguments": (("127.0.0.1:0", "0", "0"), None, 2, "serve: usage"),
+    "connections that are no number": (("127.0.0.1:0", "x"), None, 2, "serve: usage"),
+    "connections with a sign": (("127.0.0.1:0", "-1"), None, 2, "serve: usage"),
+    "connections with a blank": (("127.0.0.1:0", " 1"), None, 2, "serve: usage"),
+    "connections of ten digits": (("127.0.0.1:0", "0000000000"), None, 2, "serve: usage"),
+    "empty connections": (("127.0.0.1:0", ""), None, 2, "serve: usage"),
+    "usage before the configuration": (("nowhere", "x"), b"{", 2, "serve: usage"),
+    "an empty input": (("127.0.0.1:0", "0"), b"", 2, "serve: bad configuration"),
+    "an empty first line": (("127.0.0.1:0", "0"), b"\n" + configuration(), 2, "serve: bad configuration"),
+    "a configuration that is cut off": (("127.0.0.1:0", "0"), configuration()[:60], 2, "serve: bad configuration"),
+    "a configuration over the limit of a line": (
+        ("127.0.0.1:0", "0"),
+        configuration().strip().ljust(LINE_LIMIT + 1) + b"\n",
+        2,
+        "serve: bad configuration",
+    ),
+    "the configuration before the address": (("nowhere", "0"), b"{", 2, "serve: bad configuration"),
+    "an address that is none": (("nowhere", "0"), None, 1, "serve: no listener"),
+    "an address without a port": (("127.0.0.1", "0"), None, 1, "serve: no listener"),
+    "an empty address": (("", "0"), None, 1, "serve: no listener"),
+    "an address of another machine": (("192.0.2.1:0", "0"), None, 1, "serve: no listener"),
+    "no connection": (("127.0.0.1:0", "0"), None, 0, None),
+    "no connection, nine digits": (("127.0.0.1:0", "000000000"), None, 0, None),
+    "a configuration without a line feed": (("127.0.0.1:0", "0"), configuration().strip(), 0, None),
+    "a configuration with CR LF": (("127.0.0.1:0", "0"), configuration().strip() + b"\r\n", 0, None),
+    "a configuration at the limit of a line": (("127.0.0.1:0", "0"), configuration().strip().ljust(LINE_LIMIT) + b"\n", 0, None),
+}
+
+
+def an_end(program, arguments, given, status, said):
+    wanted = (status, b"" if said else b"ready\n", f"{said}\n".encode() if said else b"")
+    found = ended(program, arguments, configuration() if given is None else given)
+    if found != wanted:
+        yield f"ends with {found}, not {wanted}"
+
+
+def an_address_that_is_taken(program):
+    with socket.socket() as other:
+        other.bind(("127.0.0.1", 0))
+        other.listen()
+        address = f"127.0.0.1:{other.getsockname()[1]}"
+        yield from an_end(program, (address, "0"), None, 1, "serve: no listener")
+
+
+def so_many_connections(program):
+    """It serves as many connections as it was told, and ends well."""
+    with Server(program, arguments=["3"]) as server:
+        for _ in range(2):
+            if not server.ask("GET", "/policies").is_by_the_server(*NO_POLICY):
+                yield "a connection isn't served"
+        if server.process.poll() is not None:
+            yield "it ends before its last connection"
+        server.ask("GET", "/policies")
+        with contextlib.suppress(subprocess.TimeoutExpired):
+            server.process.wait(SECONDS)
+        if (found := server.stop()) != (0, b"", b""):
+            yield f"ends with {found}"
+
+
+# --- Scripts -------------------------------------------------------------------------------------------------------
+
+
+def moments(node):
+    """The moments that a document holds."""
+    if isinstance(node, dict):
+        yield from (it for name, it in node.items() if name in ("start_date", "end_date", "timestamp") and isinstance(it, int))
+    for child in node.values() if isinstance(node, dict) else node if isinstance(node, list) else ():
+        yield from moments(child)
+
+
+def looks_at_time(node):
+    """Whether a document has a rule that looks at the time."""
+    if isinstance(node, dict):
+        return node.get("rule_type") == "time" or any(it in node for it in ("start_time", "end_time", "days")) or any(map(looks_at_time, node.values()))
+    return isinstance(node, list) and any(map(looks_at_time, node))
+
+
+def moments_matter(requests):
+    """Whether answers may depend on when the requests of a script come.
+
+    They do where its moments go back, where a report's timestamp is after its request, and, where compliance is asked for, where
+    a document's moment is after the request that brings it or a rule looks at the time.
+    """
+    asked, last = any(target.startswith(b"/compliance") for _, _, _, target, _ in requests), 0
+    for at, _, _, target, body in requests:
+        if at < last:
+            return True
+        last = at
+        try:
+            document = json.loads(body or b"null")
+        except ValueError:
+            continue
+        if (asked or target == b"/fleet/events") and any(it > at for it in moments(document)):
+            return True
+        if asked and looks_at_time(document):
+            return True
+    return False
+
+
+def script(name):
+    """The configuration of a script, its requests, their replies, and its status. Lines that are no request are left out."""
+    path = f"{HERE}/replays/{name}"
+    with open(f"{path}.in", "rb") as given, open(f"{path}.out", "rb") as wanted, open(f"{path}.status") as status:
+        first, _, rest = given.read().partition(b"\n")
+        replies = wanted.read().split(b"\n")[:-1]
+        lines = [it for it in (it.removesuffix(b"\r") for it in rest.split(b"\n")) if it]
+        pairs = [(it.split(b" ", 4) + [b""], reply) for it, reply in zip(lines, replies) if reply != b'400 {"error":"bad_line"}']
+        requests = [(int(it[0]), *it[1:5]) for it, _ in pairs]
+        return first + b"\n", requests, [reply for _, reply in pairs], int(status.read())
+
+
+def without_moments(reply):
+    """A reply whose moments of asking and publishing are left out, and those moments."""
+    found = re.compile(rb'"(at|published_date)":(\d+)')
+    return found.sub(rb'"\1":', reply), {(name, int(it)) for name, it in found.findall(reply)}
+
+
+def a_script(program, given, requests, replies):
+    """The answers by HTTP are those of the replay, but for the moments, which are now or a publication's."""
+    published = set()
+    with Server(program, given) as server, server.link() as link:
+        for number, ((_, token, method, target, body), wanted) in enumerate(zip(requests, replies)):
+            begun = time.time_ns() // 1_000_000
+            link.send(request(method.decode(), target.decode(), token.decode(), body))
+            answer = link.answer()
+            now = range(begun, time.time_ns() // 1_000_000 + 1)
+            text, found = without_moments(b"%d " % answer.status + answer.body)
+            if text != without_moments(wanted)[0] or answer.fields.get("content-type") != ["application/json"]:
+                yield f"request {number} is answered {answer}, not {wanted[:120]!r}"
+            if target == b"/publish":
+                published |= {it for _, it in found}
+            for name, it in found:
+                if it not in (published if name == b"published_date" and target != b"/publish" else now):
+                    yield f"request {number}, answered {answer}, has the moment {it}"
+
+
+def scripts(program):
+    """Each script that can be run, with its faults; and how many are left out."""
+    left = 0
+    for name in sorted({it.rsplit(".", 1)[0] for it in os.listdir(f"{HERE}/replays")}):
+        given, requests, replies, status = script(name)
+        if status:
+            yield name, an_end(program, ("127.0.0.1:0", "0"), given.strip(b"\n"), status, "serve: bad configuration")
+        elif moments_matter(requests):
+            left += 1
+        else:
+            yield name, a_script(program, given, requests, replies)
+    print(f"{left} scripts whose answers depend on their moments are left out")
+
+
+# --- All of it -----------------------------------------------------------------------------------------------------
+
+
+class Tried:
+    """What was tried, and what of it failed."""
+
+    def __init__(self):
+        self.passed = self.failed = 0
+
+    def one(self, name, found):
+        """Counts a test by its faults, or why they can't be told."""
+        faults = []
+        try:
+            faults.extend(found)
+        except (OSError, ValueError, Closed, subprocess.SubprocessError) as fault:
+            faults.append(repr(fault))
+        for fault in faults:
+            print(f"{name}: {fault}", flush=True)
+        self.passed += not faults
+        self.failed += bool(faults)
+
+
+def still_silent(server):
+    """A server that wasn't told to end is there, and has printed nothing but 'ready'."""
+    status, out, err = server.stop()
+    if (status, out, err) != (None, b"", b""):
+        yield f"status {status}, output {out[:200]!r}, standard error {err[:200]!r}"
+
+
+def messages(tried, server):
+    """What comes to a server that keeps nothing."""
+    for name, (sent, accepted) in (HEADS | BODIES).items():
+        tried.one(name, first_on_a_connection(server, sent, accepted))
+    for case in (many_on_one_connection, a_thousand_at_once, a_head_without_a_body, a_body_that_is_awaited, gone_without_a_word):
+        tried.one(case.__name__, case(server))
+
+
+def programs(tried, program):
+    """Runs of the program, each for itself."""
+    for name, (arguments, given, status, said) in ENDS.items():
+        tried.one(name, an_end(program, arguments, given, status, said))
+    for case in (an_address_that_is_taken, so_many_connections):
+        tried.one(case.__name__, case(program))
+    for name, found in scripts(program):
+        tried.one(name, found)
+    if can_hold(2 * CONNECTION_LIMIT):
+        tried.one("more_connections_than_may_be", more_connections_than_may_be(program))
+    else:
+        print(f"more_connections_than_may_be isn't tried: too few files may be open for {CONNECTION_LIMIT} connections")
+
+
+def everything(tried, program, stack):
+    """All tests. The deadlines are waited for while the others run."""
+    waited, plain, large = (stack.enter_context(Server(program, limit=limit)) for limit in (2, 2, 200))
+    patience = Patience()
+    patience.start()
+    tried.one("deadlines", deadlines(waited, patience))
+    tried.one("the_slow_and_the_others", the_slow_and_the_others(waited, patience))
+    messages(tried, plain)
+    programs(tried, program)
+    tried.one("who_never_reads", who_never_reads(large))
+    tried.one("a_slow_body_in_time", a_slow_body_in_time(large))
+    patience.over.set()
+    patience.join()
+    for name, faults in patience.faults.items():
+        tried.one(name, faults)
+    tried.one("as_if_nothing_had_come", as_if_nothing_had_come(waited))
+    for name, server in (("waited", waited), ("plain", plain), ("large", large)):
+        tried.one(f"still_silent, {name}", still_silent(server))
+
+
+def main(program):
+    tried = Tried()
+    try:
+        with contextlib.ExitStack() as stack:
+            everything(tried, program, stack)
+    except (OSError, ValueError) as fault:
+        print(fault)
+        tried.failed += 1
+    print(f"{tried.passed} passed, {tried.failed} failed")
+    return 1 if tried.failed else 0
+
+
+if __name__ == "__main__":
+    if len(sys.argv) != 2:
+        sys.exit("usage: http.py PROGRAM")
+    sys.exit(main(os.path.abspath(sys.argv[1])))
