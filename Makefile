@@ -1,13 +1,16 @@
 # demo   the main job on real input: a policy is published, a vehicle reported, compliance asked for
 # build  proves mds_replay with all that it stands on, and builds it
+# serve  the server on 127.0.0.1:8080 for the city of examples/city.json, with three lines to paste that ask it
 # test   the whole gate: every proof from nothing, the edits that must fail, the tests, the programs, the scripts
 # openapi  checks docs/openapi.yaml against the protocol and the scripts; not part of the gate (Debian's python3-yaml, python3-jsonschema)
 # bench  times mds_replay and mds_bench on generated input, and two programs in Rust beside them; not part of the gate (minutes)
+# stress  publishes 500 batches while 8 desks are asked, checks each reply against a replay, and tells times; not part of the gate (some seconds, once proved)
 
-.PHONY: demo build test openapi bench
+.PHONY: demo build serve test openapi bench stress
 
 PROGRAM := crates/mds_replay/out/mds_replay
 SCRIPT := examples/first-verdict.replay
+SERVER := crates/mds_serve/out/mds_serve
 
 # The proved program where it is built and no source is newer, else the sources before their proof.
 demo:
@@ -23,6 +26,13 @@ demo:
 build:
 	cd crates/mds_replay && rt run < stdin > /dev/null
 
+# The built server, made first where a source is newer; the lines publish, report and ask.
+serve:
+	@if [ ! -x $(SERVER) ] || [ -n "$$(find crates.txt crates -path '*/out' -prune -o -newer $(SERVER) \( -name '*.rt' -o -name crates.txt \) -print)" ]; then \
+		cd crates/mds_serve && rt run -- 127.0.0.1:0 0 < stdin > /dev/null; \
+	fi
+	@cat examples/serve.curl
+	@$(SERVER) 127.0.0.1:8080 < examples/city.json
 
 test:
 	@bash tests/gate
@@ -30,6 +40,9 @@ test:
 bench: build
 	cd crates/mds_bench && rt run < stdin > /dev/null
 	python3 -B bench/measure.py
+
+stress:
+	cd crates/mds_stress && rt run -- 500 8
 
 openapi:
 	/usr/bin/python3 -B tests/openapi.py docs/PROTOCOL.md

@@ -59,6 +59,7 @@ http {{
 
 REPORTS = """
 local threads, turn = 0, 0
+local first = %d + 10000000 * tonumber(os.getenv("LOAD"))
 function setup(thread)
     thread:set("number", threads)
     threads = threads + 1
@@ -68,7 +69,7 @@ function request()
     local body = string.format(
         '{"device_id":"00000000-0000-4000-8000-0004%%08x","vehicle_type":"scooter","propulsion_types":["electric"],'
         .. '"vehicle_state":"available","event_types":["trip_end"],"timestamp":%%d,"location":{"lat":39.8,"lng":-86.1}}',
-        number * 1000 + turn %% 1000, %d + turn)
+        number * 20000 + turn %% 20000, first + turn)
     return wrk.format("POST", "/fleet/events", nil, body)
 end
 """
@@ -125,12 +126,15 @@ class Load:
     """What wrk measured of one target: requests a second, the median and the 99th percentile in seconds, processor time of a request."""
 
     UNITS = {"us": 1e-6, "ms": 1e-3, "s": 1, "m": 60}
+    taken = 0
 
     def __init__(self, pid, port, target, connections, seconds, token=OPERATOR, script=None):
         command = ["wrk", "--latency", f"-t{THREADS}", f"-c{connections}", f"-d{seconds}s", "-H", f"authorization: Bearer {token}"]
         command += ["-s", script] if script else []
         before = processor_seconds(pid)
-        ran = subprocess.run(command + [f"http://127.0.0.1:{port}{target}"], capture_output=True, text=True, check=True)
+        Load.taken += 1  # a script's reports come after those of the loads before
+        environment = os.environ | {"LOAD": str(Load.taken)}
+        ran = subprocess.run(command + [f"http://127.0.0.1:{port}{target}"], capture_output=True, text=True, check=True, env=environment)
         used = processor_seconds(pid) - before
         if "Non-2xx" in ran.stdout or "Socket errors" in ran.stdout:
             sys.exit(f"{target}: not every answer is a success\n{ran.stdout}")

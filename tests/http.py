@@ -11,6 +11,7 @@ seconds, since the deadlines are waited for. Prints what differs, and last 'N pa
 
 import contextlib
 import json
+import math
 import os
 import re
 import resource
@@ -23,7 +24,7 @@ from concurrent.futures import ThreadPoolExecutor
 
 from messages import BODIES, BODY_LIMIT, CLOSE, HEADS, METHOD, NEW, NO_POLICY, NO_ROUTE, REPORT, TOKEN, TOO_LARGE
 from messages import chunked, code, head, sized
-from wire import AUTHOR, FIRST, SECOND, SECONDS, Answer, Closed, Server, configuration, identifier, request
+from wire import AUTHOR, FIRST, SECOND, SECONDS, Answer, Closed, Server, configuration, identifier, report, request
 
 HERE = os.path.dirname(os.path.abspath(__file__))
 
@@ -195,6 +196,63 @@ def large_geography(uuid):
     """A ring of 20,000 positions."""
     ring = ",".join(f"[{it * 0.001:.3f},{80 if it else 79}]" for it in range(19_999)) + ",[0.000,79]"
     return f'{{"geography_id":"{uuid}","name":"large","geography_json":{{"type":"Polygon","coordinates":[[{ring}]]}}}}'.encode()
+
+
+def on_a_circle(turn, east=0):
+    """The longitude and the latitude at this part of a turn around 5 degrees north and, but for what is given, 5 degrees east."""
+    return 5 + east + 4 * math.cos(2 * math.pi * turn), 5 + 4 * math.sin(2 * math.pi * turn)
+
+
+def what_makes_questions_long(server):
+    """Draws 16 rings of 15,000 positions that cross, publishes 8 policies of 64 rules over them, and reports 2,000 vehicles."""
+    rings = {}
+    for number in range(16):
+        positions = [on_a_circle(it / 15_000, number * 1e-6) for it in range(15_000)]
+        rings[identifier(1, number)] = ",".join(f"[{lng:.7f},{lat:.7f}]" for lng, lat in [*positions, positions[0]])
+    for name, ring in rings.items():
+        text = f'{{"geography_id":"{name}","name":"g","geography_json":{{"type":"Polygon","coordinates":[[{ring}]]}}}}'
+        yield server.ask("PUT", f"/drafts/geographies/{name}", AUTHOR, text.encode())
+    names, policies = list(rings), [identifier(2, number) for number in range(8)]
+    for number, policy in enumerate(policies):
+        rules = [
+            {"rule_id": identifier(3, 64 * number + it), "name": "r", "rule_type": "count", "maximum": 2_000}
+            | {"geographies": names[it % 16 :] + names[: it % 16]}
+            for it in range(64)
+        ]
+        text = json.dumps({"policy_id": policy, "name": "p", "start_date": 1000, "rules": rules})
+        yield server.ask("PUT", f"/drafts/policies/{policy}", AUTHOR, text.encode())
+    yield server.ask("POST", "/publish", AUTHOR, json.dumps({"geographies": names, "policies": policies}).encode())
+    with server.link() as link:
+        for number in range(2_000):
+            lng, lat = on_a_circle(number * 0.2705628)
+            text = report(number).replace(b'{"lat":5,"lng":5}', f'{{"lat":{lat:.7f},"lng":{lng:.7f}}}'.encode())
+            link.send(request("POST", "/fleet/events", body=text))
+            yield link.answer()
+
+
+def long_questions(server):
+    """While an operator asks what takes long, on one connection or on more than there are threads, others are answered."""
+    for answer in what_makes_questions_long(server):
+        if answer.status != 200:
+            yield f"what makes questions long is answered {answer}"
+    for count in (1, 2 * (os.cpu_count() or 1) + 4):
+        with contextlib.ExitStack() as stack:
+            links = [stack.enter_context(server.link()) for _ in range(count)]
+            begun, waited = time.monotonic(), []
+            for link in links:
+                link.socket.settimeout(12 * SECONDS)
+                link.send(request("GET", "/compliance"))
+            for token, status in ((SECOND, 200), (AUTHOR, 200), ("nobody", 401)):
+                asked = time.monotonic()
+                answer = server.ask("GET", "/policies", token)
+                waited.append(time.monotonic() - asked)
+                if answer.status != status:
+                    yield f"{token} is answered {answer}"
+            answers = [link.answer() for link in links]
+            took = time.monotonic() - begun
+        yield from (f"a long question is answered {it}" for it in answers if it.status != 200 or b'"ok"' not in it.body)
+        if max(waited) > took / 2:
+            yield f"beside {count} long questions, which take {took:.2f} s, others wait for {max(waited):.2f} s"
 
 
 def the_slow_and_the_others(server, patience):
@@ -548,7 +606,7 @@ def programs(tried, program):
 
 def everything(tried, program, stack):
     """All tests. The deadlines are waited for while the others run."""
-    waited, plain, large = (stack.enter_context(Server(program, limit=limit)) for limit in (2, 2, 200))
+    waited, plain, large, held = (stack.enter_context(Server(program, limit=limit)) for limit in (2, 2, 200, 2_000))
     patience = Patience()
     patience.start()
     tried.one("deadlines", deadlines(waited, patience))
@@ -557,12 +615,13 @@ def everything(tried, program, stack):
     programs(tried, program)
     tried.one("who_never_reads", who_never_reads(large))
     tried.one("a_slow_body_in_time", a_slow_body_in_time(large))
+    tried.one("long_questions", long_questions(held))
     patience.over.set()
     patience.join()
     for name, faults in patience.faults.items():
         tried.one(name, faults)
     tried.one("as_if_nothing_had_come", as_if_nothing_had_come(waited))
-    for name, server in (("waited", waited), ("plain", plain), ("large", large)):
+    for name, server in (("waited", waited), ("plain", plain), ("large", large), ("held", held)):
         tried.one(f"still_silent, {name}", still_silent(server))
 
 

@@ -1,5 +1,5 @@
 -- What holds published documents or drafts may cross threads: batches, catalogues, panes, publishers, drafts. A field's own
--- lemma stands in `TheSendSync` of its type, but for types that hold a tree.
+-- lemma stands in `TheSendSync` of its type.
 use denote.RattleType.{RattleType}
 use denote.Builtin.{Array}
 use denote.Param.Send.{IsSend, IsSync, sendable, view_send}
@@ -9,7 +9,7 @@ use Rattle.left_right.proofs.reader.Reader.TheSendSync as reader
 use Rattle.left_right.proofs.writer.Writer.TheSendSync as writer
 use Rattle.mds_text.proofs.id.Id.TheSendSync as id
 use Rattle.mds_text.proofs.moment.Moment.TheSendSync as moment
-use Rattle.mds_policy.proofs.rule.Rule.TheSendSync as rule
+use Rattle.mds_policy.proofs.policy.Policy.TheSendSync as policy
 use Rattle.mds_policy.specs.contracts.policy.Policy as Policy
 use Rattle.mds_geography.proofs.geography.Geography.TheSendSync as geography
 use Rattle.mds_drafts.specs.contracts.draft.Draft as Draft
@@ -34,23 +34,12 @@ use Rattle.mds_snapshot.specs.contracts.rule.FrontsProtocolShownArrayListed0.The
 use Rattle.mds_snapshot.specs.contracts.shown.Operation as Operation
 use Rattle.mds_snapshot.specs.contracts.shown.Shown as Shown
 use Rattle.mds_snapshot.specs.contracts.shown.ShownAbsorbOperation.TheImpl as absorb
-use Rattle.mds_desk.proofs.Trees.{tree_send, tree_sync}
 
 pub policy_send : IsSend Policy.the_row
-policy_send =
-    let r = rule.the_send in
-    let i = id.the_send in
-    let m = moment.the_send in
-    declared_send Policy.the_type
-    (tree_send, (i, (m, (search (sendable, crosses) depth 20, (search (sendable, crosses) depth 20, (search (sendable, crosses) depth 20, (search (sendable, crosses) depth 20, tt)))))))
+policy_send = policy.the_send
 
 pub policy_sync : IsSync Policy.the_row
-policy_sync =
-    let r = rule.the_sync in
-    let i = id.the_sync in
-    let m = moment.the_sync in
-    declared_sync Policy.the_type
-    (tree_sync, (i, (m, (search (sendable, crosses) depth 20, (search (sendable, crosses) depth 20, (search (sendable, crosses) depth 20, (search (sendable, crosses) depth 20, tt)))))))
+policy_sync = policy.the_sync
 
 pub batch_send : IsSend Batch.the_row
 batch_send =

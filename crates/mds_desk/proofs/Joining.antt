@@ -4,11 +4,10 @@ use Rattle.std.proofs.Common.{◌≡◌, ℕ, List, [], ◌∷◌, ◌++◌, Opt
 use Rattle.std.specs.List.{slice_get}
 use Rattle.std.proofs.lemmas.List.{map-append}
 use Rattle.mds_catalog.specs.Publication.{Publication}
-use Rattle.mds_fleet.specs.Books.{Rows}
 use Rattle.mds_request.specs.Configuration.{Configuration, Operator}
 use Rattle.mds_request.specs.Request.{Request}
 use Rattle.mds_request.specs.Reply.{Reply}
-use Rattle.mds_machine.specs.Step.{Exchange}
+use Rattle.mds_machine.specs.Step.{Exchange, new_state}
 use Rattle.mds_fronts.specs.Desks.{AreTurns}
 use Rattle.mds_fronts.specs.Fronts.{Turn, last_front, requests_in, replies_in}
 use Rattle.mds_fronts.specs.OneHistory.{AreItsTurns, HasServed}
@@ -100,8 +99,7 @@ room_takes_its_turns configuration history r becomes = room_turns (new_room conf
 
 module _ (configuration : Configuration) (history : List Exchange) (r : RoomState) (events : ℕ → List Event) (desks : ℕ → DeskState) (room : RoomBecomes (new_room configuration) history r) (are : (place : ℕ) (operator : Operator) → slice_get configuration.operators place ≡ Some operator → Becomes (new_desk configuration place) (events place) (desks place) × IsPrefix (desks place).known r.publications) where
   record Taken (place : ℕ) (operator : Operator) (turns : List Turn) : Type 0 where
-    rows : Rows
-    its : AreItsTurns configuration place operator turns rows
+    its : AreItsTurns configuration place operator turns (desks place).rows
     asks : requests_in turns ≡ asked_in (events place)
     tells : replies_in turns ≡ told_in (events place)
     within : IsPrefix (last_front [] turns) r.publications
@@ -112,7 +110,6 @@ module _ (configuration : Configuration) (history : List Exchange) (r : RoomStat
       let it = desk_takes_its_turns configuration place operator (events place) (desks place) found at.0 in (
         it.0,
         record {
-          rows = (desks place).rows;
           its = it.1;
           asks = it.2;
           tells = it.3;
@@ -138,11 +135,20 @@ module _ (configuration : Configuration) (history : List Exchange) (r : RoomStat
 pub is_one_history_of_all : IsOneHistoryOfAll
 is_one_history_of_all configuration history r events desks room are =
     let all = one_history configuration history r events desks room are in
+    let drawn : AreRoomTurns configuration ((new_state configuration).drafts, []) history (r.drafts, r.publications) =
+    room_takes_its_turns configuration history r room in
     let served : HasServed configuration history r.publications all.0 =
     record {
       drafts = r.drafts;
-      room = room_takes_its_turns configuration history r room;
-      desks = λ place operator found. let t = all.1 place operator found in (t.rows, t.its, t.within);
+      room = drawn;
+      desks = λ place operator found. let t = all.1 place operator found in ((desks place).rows, t.its, t.within);
     } in
-    let whole = is_one_history configuration history r.publications all.0 served in
-    (all.0, (λ place operator found. let t = all.1 place operator found in (t.asks, t.tells)), whole.0, whole.1, whole.2)
+    let whole = is_one_history configuration history r.publications all.0 served in (
+      all.0,
+      (λ place operator found. let t = all.1 place operator found in (t.its, t.asks, t.tells)),
+      whole.0,
+      whole.1,
+      whole.2,
+      whole.2.drafts r.drafts drawn,
+      (λ place operator found. whole.2.rows place operator (desks place).rows found (all.1 place operator found).its),
+    )

@@ -1,6 +1,7 @@
 mod Joining
 pub mod Crossing
+pub mod Desks
 pub mod Made
+pub mod Routing
 pub mod Running
-pub mod Trees
 pub mod Turning

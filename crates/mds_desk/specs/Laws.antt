@@ -65,7 +65,8 @@ RoomTakesItsTurns =
     → AreRoomTurns configuration ((new_state configuration).drafts, []) history (held_in r)
 
 -- The exchanges at a new room and what befell the new desk of each operator are one history of the machine, where all that
--- a desk knows is published at the room.
+-- a desk knows is published at the room. It is made of the turns that each desk took, and the state after it has the room's
+-- drafts and each desk's rows.
 abbrev pub IsOneHistoryOfAll : Type 0
 IsOneHistoryOfAll =
     (configuration : Configuration) (history : List Exchange) (r : RoomState) (events : ℕ → List Event) (desks : ℕ → DeskState)
@@ -74,5 +75,9 @@ IsOneHistoryOfAll =
     → Becomes (new_desk configuration place) (events place) (desks place) × IsPrefix (desks place).known r.publications)
     → (turns : ℕ → List Turn)
     × ((place : ℕ) (operator : Operator) → slice_get configuration.operators place ≡ Some operator
-    → (requests_in (turns place) ≡ asked_in (events place)) × (replies_in (turns place) ≡ told_in (events place)))
+    → AreItsTurns configuration place operator (turns place) (desks place).rows
+    × (requests_in (turns place) ≡ asked_in (events place)) × (replies_in (turns place) ≡ told_in (events place)))
     × (whole : List Exchange) × (after : State) × IsHistoryOfAll configuration history r.publications turns whole after
+    × (after.drafts ≡ r.drafts)
+    × ((place : ℕ) (operator : Operator) → slice_get configuration.operators place ≡ Some operator
+    → slice_get after.fleets place ≡ Some (desks place).rows)

@@ -16,6 +16,7 @@ use std::test::Fail;
 
 mod looks;
 mod memory;
+mod overlapping;
 mod sessions;
 
 const CONFIGURATION: &[u8] =
@@ -33,6 +34,8 @@ const BOTH: &str =
 const NEW: &str = r#"{"result":"new"}"#;
 
 const NO_MEMORY: &str = r#"{"error":"no_memory"}"#;
+
+const NO_SNAPSHOT: &str = r#"{"error":"no_snapshot"}"#;
 
 /// A moment, a token, a method, a target and a body; and the body of the success.
 type Exchange = (
@@ -151,6 +154,11 @@ const POLICY: Exchange = (
 
 /// What is done with a room and the desks of two operators, none of which has heard of anything.
 trait Scene {
+    ghost use Rattle.std.specs.Prelude.{⊤};
+
+    /// What it takes to play it.
+    ghost may_play: { Type 0 } = { ⊤ };
+
     /// Says whether it was played to its end: not so where memory ran out.
     fn play<K: Naming, R: Wait + Abort>(
         &self,
@@ -159,11 +167,14 @@ trait Scene {
         room: &mut AuthorRoom<K>,
         alfa: &mut Desk<K>,
         bravo: Desk<K>,
-    ) -> Result<bool, Fail>;
+    ) -> Result<bool, Fail>
+        requires ready { may_play };
 }
 
 /// Plays a scene on what is furnished for the configuration.
-fn stage<S: Scene, R: Wait + Abort>(rt: &R, alloc: Global, scene: &S) -> Result<bool, Fail> {
+fn stage<S: Scene, R: Wait + Abort>(rt: &R, alloc: Global, scene: &S) -> Result<bool, Fail>
+    requires { S.may_play }
+{
     let Ok(config) = Config::read(alloc, CONFIGURATION) else {
         return Ok(false);
     };
@@ -173,7 +184,7 @@ fn stage<S: Scene, R: Wait + Abort>(rt: &R, alloc: Global, scene: &S) -> Result<
     furnished::<Brand, S, R>(rt, alloc, config, blank, scene)
 }
 
-/// Plays a scene, and ends the room: its desks have nothing to show then.
+/// Plays a scene, and ends the room: a desk has nothing to show then.
 fn furnished<K: Naming, S: Scene, R: Wait + Abort>(
     rt: &R,
     alloc: Global,
@@ -181,19 +192,23 @@ fn furnished<K: Naming, S: Scene, R: Wait + Abort>(
     blank: Blank,
     scene: &S,
 ) -> Result<bool, Fail>
-    requires { book_of blank ≡ K.book }
+    requires named { book_of blank ≡ K.book }
+    requires ready { S.may_play }
 {
     match furnish::<K, R>(rt, alloc, config, blank) {
         Ok((mut room, mut desks)) => {
             assert_eq!(rt; desks.len(), 2);
-            let outcome = match (desks.pop(), desks.pop()) {
-                (Some(bravo), Some(mut alfa)) => {
-                    scene.play(rt, alloc, &mut room, &mut alfa, bravo)
-                }
-                _ => Err(Fail::from("two desks")),
+            let (Some(bravo), Some(mut alfa)) = (desks.pop(), desks.pop()) else {
+                room.finish(rt);
+                return Err(Fail::from("two desks"));
             };
+            let outcome = scene.play(rt, alloc, &mut room, &mut alfa, bravo);
             room.finish(rt);
-            outcome
+            let is_played = outcome?;
+            let reply = asked(&mut alfa, &nothing_published("alfa"))?;
+            assert_eq!(rt; reply.status(), 503);
+            assert_eq!(rt; reply.body(), NO_SNAPSHOT.as_bytes());
+            Ok(is_played)
         }
         Err(fault) => {
             assert!(rt; fault == OpenFault::NoMemory);

@@ -62,6 +62,7 @@ pub fn coordinate_of_node(value: &Node<'_>, field: Field, most: u8) -> Result<Un
 ///
 /// `BadNumber` for a text that is no number of at most 64 bytes with an exponent of at most three
 /// digits, and `OutOfRange` beyond `most` degrees.
+#[inline(always)]
 pub fn coordinate_of_text(number: &str, most: u8) -> Result<Units7, TextFault>
     requires { most ≤ most_longitude }
     ensures value { Gives text_cause (λ u. u) result (coordinate_of most Field.Coordinates (text number.now)) }

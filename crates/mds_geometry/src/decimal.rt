@@ -112,6 +112,7 @@ fn place_units(count: usize) -> Option<u64>
 
 /// The number that the digits in front of a text write, and how many they are; `None` where they are
 /// very many.
+#[inline(always)]
 fn front_digits(text: &[u8]) -> Option<(u64, usize)>
     ensures value { IfSome result (λ r. r.0 ≡ digits_value 10 (digits text.now)) }
     ensures count { IfSome result (λ r. r.1 ≡ prefix_len is_ascii_digit text.now) }

@@ -1,2 +1,3 @@
 mod Askers
+pub mod Halls
 mod Seats

@@ -12,30 +12,43 @@ use bytes::Bytes;
 use http::Response;
 use http::request::Parts;
 use http_body_util::Full;
+use mds_catalog::Catalogue;
 use mds_desk::{Gate, OpenGate};
 use mds_request::{Actor, Code, Reply};
 use mds_snapshot::Naming;
 use mds_text::Moment;
+use mds_verdict::Evaluator;
 use std::alloc::{AllocError, Global};
 use std::sync::Wait;
-use std::thread::Threads;
 
-/// Answers an HTTP request whose body has arrived, at this moment of the machine's clock.
+/// Answers an HTTP request whose body has arrived, at this moment of the machine's clock. Vehicles are
+/// judged by the evaluator.
 ///
 /// # Errors
 ///
 /// There was no memory for the response. The request may have been carried out.
-pub fn respond<K: Naming, R: Wait + Threads + Sync + Copy>(
+pub fn respond<K: Naming, R: Wait, E: Evaluator<Catalogue>>(
     rt: &R,
     alloc: Global,
     parts: &Parts,
     arrived: Arrived,
     at: Option<Moment>,
     hall: &Hall<K>,
+    evaluator: &E,
 ) -> Result<Response<Full<Bytes>>, AllocError>
+    requires { E.may_judge }
     ensures { IfOk result (Responds (configuration hall.now.config.value) parts.now arrived at) }
 {
-    respond_with(rt, alloc, parts, arrived, at, hall, &mut OpenGate)
+    respond_with(
+        rt,
+        alloc,
+        parts,
+        arrived,
+        at,
+        hall,
+        &mut OpenGate,
+        evaluator,
+    )
 }
 
 /// The same, and tells a gate of the look of an operator's request.
@@ -43,7 +56,7 @@ pub fn respond<K: Naming, R: Wait + Threads + Sync + Copy>(
 /// # Errors
 ///
 /// There was no memory for the response. The request may have been carried out.
-pub fn respond_with<K: Naming, R: Wait + Threads + Sync + Copy, G: Gate>(
+pub fn respond_with<K: Naming, R: Wait, G: Gate, E: Evaluator<Catalogue>>(
     rt: &R,
     alloc: Global,
     parts: &Parts,
@@ -51,23 +64,34 @@ pub fn respond_with<K: Naming, R: Wait + Threads + Sync + Copy, G: Gate>(
     at: Option<Moment>,
     hall: &Hall<K>,
     gate: &mut G,
+    evaluator: &E,
 ) -> Result<Response<Full<Bytes>>, AllocError>
+    requires { E.may_judge }
     ensures { IfOk result (Responds (configuration hall.now.config.value) parts.now arrived at) }
 {
     let (at, body) = match heard(arrived, at) {
         Ok(heard) => heard,
-        Err(code) => return response(alloc, &Reply::from(code)),
+        Err(code) => return response(alloc, Reply::from(code)),
     };
     match hall.asker(token(&parts.headers)) {
         Actor::Author => {
             let reply = hall.authored(rt, &request(parts, &body, at));
-            response(alloc, &reply)
+            response(alloc, reply)
         }
         Actor::Operator(place) => {
             let mut desk = hall.desk(place).lock(rt);
             let note = hall.note(rt);
-            desk_turn(rt, alloc, parts, &body, at, &mut desk, note.as_ref(), gate)
+            desk_turn(
+                alloc,
+                parts,
+                &body,
+                at,
+                &mut desk,
+                note.as_ref(),
+                gate,
+                evaluator,
+            )
         }
-        Actor::Nobody => response(alloc, &Reply::from(Code::Token)),
+        Actor::Nobody => response(alloc, Reply::from(Code::Token)),
     }
 }

@@ -14,14 +14,14 @@ use std::alloc::{AllocError, Global};
 /// # Errors
 ///
 /// Memory ran out.
-pub(crate) fn response(alloc: Global, reply: &Reply) -> Result<Response<Full<Bytes>>, AllocError>
-    ensures { IfOk result (λ response. Says response reply.now) }
+pub(crate) fn response(alloc: Global, reply: Reply) -> Result<Response<Full<Bytes>>, AllocError>
+    ensures { IfOk result (λ response. Says response reply) }
 {
-    let body = Bytes::copy_from_slice(alloc, reply.body())?;
     // Each reply's status has three digits.
     let Ok(status) = StatusCode::from_u16(reply.status()) else {
         return Err(AllocError);
     };
+    let body = Bytes::from_vec(reply.into_body(alloc)?)?;
     let mut response = Response::new(alloc, Full::new(body));
     *response.status_mut() = status;
     let json = HeaderValue::from_static("application/json");

@@ -9,6 +9,7 @@ use http::header::{AUTHORIZATION, CONTENT_TYPE};
 use http::request::Parts;
 use http::{HeaderValue, Method, Response, Uri};
 use http_body_util::{BodyExt, Full};
+use mds_parallel::Chunked;
 use mds_request::Config;
 use mds_snapshot::{Blank, Naming, prepare};
 use mds_text::Moment;
@@ -21,6 +22,7 @@ use std::test::Fail;
 use std::thread::Threads;
 
 mod early;
+mod overlapping;
 mod session;
 
 const CONFIGURATION: &[u8] =
@@ -53,10 +55,11 @@ impl<R: Wait + Threads + RandomSource + AllocGlobal + Abort + Copy> Host for R {
 /// What is done in a hall.
 #[derive(Clone, Copy)]
 enum Visit {
-    FirstQuestion,
+    OwnQuestions,
     EachForm,
     EachArrival,
     LargeAndUnknown,
+    BesideAHeldQuestion,
 }
 
 fn visited<R: Host + Sync>(rt: &R, visit: Visit) -> Result<(), Fail> {
@@ -66,7 +69,7 @@ fn visited<R: Host + Sync>(rt: &R, visit: Visit) -> Result<(), Fail> {
     opened::<Brand, R>(rt, alloc, config, blank, visit)
 }
 
-fn opened<K: Naming, R: Host + Sync>(
+fn opened<K: Naming + Send + Sync, R: Host + Sync>(
     rt: &R,
     alloc: Global,
     config: Config,
@@ -77,10 +80,11 @@ fn opened<K: Naming, R: Host + Sync>(
 {
     let hall = Hall::<K>::new(rt, alloc, config, blank)?;
     let outcome = match visit {
-        Visit::FirstQuestion => session::first_question(rt, alloc, &hall),
+        Visit::OwnQuestions => session::own_questions(rt, alloc, &hall),
         Visit::EachForm => session::each_form(rt, alloc, &hall),
         Visit::EachArrival => early::each_arrival(rt, alloc, &hall),
         Visit::LargeAndUnknown => early::large_and_unknown(rt, alloc, &hall),
+        Visit::BesideAHeldQuestion => overlapping::beside_a_held_question(rt, alloc, &hall),
     };
     hall.finish(rt);
     outcome
@@ -91,24 +95,42 @@ fn moment(at: i64) -> Result<Moment, Fail> {
 }
 
 /// A head with these credentials, if any.
+fn parts(
+    alloc: Global,
+    method: Method,
+    target: &'static str,
+    credentials: Option<&str>,
+) -> Option<Parts> {
+    let mut parts = Parts::new(alloc);
+    parts.method = method;
+    parts.uri = Uri::from_static(target).ok()?;
+    if let Some(credentials) = credentials {
+        let value = HeaderValue::from_str(alloc, credentials).ok()?;
+        parts.headers.insert(AUTHORIZATION, value).ok()?;
+    }
+    Some(parts)
+}
+
 fn head(
     alloc: Global,
     method: Method,
     target: &'static str,
     credentials: Option<&str>,
 ) -> Result<Parts, Fail> {
-    let mut parts = Parts::new(alloc);
-    parts.method = method;
-    parts.uri = Uri::from_static(target)?;
-    if let Some(credentials) = credentials {
-        let value = HeaderValue::from_str(alloc, credentials)?;
-        parts.headers.insert(AUTHORIZATION, value)?;
-    }
-    Ok(parts)
+    Ok(parts(alloc, method, target, credentials).ok_or("a head")?)
 }
 
 fn whole(body: &'static str) -> Arrived {
     Arrived::Whole(Bytes::from_static(body.as_bytes()))
+}
+
+/// The body of a response.
+fn body_of<R: Host>(rt: &R, response: Response<Full<Bytes>>) -> Option<Bytes> {
+    let mut body = response.into_body();
+    match block_on(rt, body.frame()) {
+        Ok(Some(Ok(frame))) => frame.into_data().ok(),
+        _ => None,
+    }
 }
 
 /// The response has this status and body, and says that it is JSON.
@@ -125,13 +147,21 @@ fn assert_says<R: Host + Sync>(
         .get(CONTENT_TYPE)
         .ok_or("a content type")?;
     assert_eq!(rt; kind.as_bytes(), b"application/json".as_slice());
-    let mut content = response.into_body();
-    let Some(Ok(frame)) = block_on(rt, content.frame())? else {
-        panic!(rt; "no body");
-    };
-    let data = frame.into_data().ok().ok_or("data")?;
-    assert_eq!(rt; data.as_slice(), body.as_bytes());
+    let said = body_of(rt, response).ok_or("a body")?;
+    assert_eq!(rt; said.as_slice(), body.as_bytes());
     Ok(())
+}
+
+/// Asks a hall whose vehicles are judged by several threads.
+fn ask<K: Naming, R: Host + Sync>(
+    rt: &R,
+    alloc: Global,
+    parts: &Parts,
+    arrived: Arrived,
+    at: Option<Moment>,
+    hall: &Hall<K>,
+) -> Result<Response<Full<Bytes>>, AllocError> {
+    respond(rt, alloc, parts, arrived, at, hall, &Chunked(*rt))
 }
 
 /// The author's requests that publish the policy and its square at 1000.
@@ -153,7 +183,7 @@ fn set_up<K: Naming, R: Host + Sync>(rt: &R, alloc: Global, hall: &Hall<K>) -> R
     ];
     for (method, target, body, wanted) in steps {
         let parts = head(alloc, method, target, Some("Bearer city"))?;
-        let response = respond(rt, alloc, &parts, whole(body), Some(moment(1000)?), hall);
+        let response = ask(rt, alloc, &parts, whole(body), Some(moment(1000)?), hall);
         assert_says(rt, response, 200, wanted)?;
     }
     Ok(())

@@ -10,12 +10,12 @@ use bytes::Bytes;
 use http::Response;
 use http::request::Parts;
 use http_body_util::Full;
+use mds_catalog::Catalogue;
 use mds_desk::{Desk, Gate};
-use mds_parallel::Chunked;
 use mds_snapshot::{Naming, Note};
 use mds_text::Moment;
+use mds_verdict::Evaluator;
 use std::alloc::{AllocError, Global};
-use std::thread::Threads;
 
 /// Tells a desk of a note, if there is one.
 fn tell<K: Naming>(desk: &mut Desk<K>, note: Option<&Note<K>>)
@@ -27,14 +27,13 @@ fn tell<K: Naming>(desk: &mut Desk<K>, note: Option<&Note<K>>)
 }
 
 /// Answers the HTTP request of this head and body at a desk: the desk learns the note, where there is one,
-/// answers the request, and the response says its reply. It waits for nobody; vehicles are judged by
-/// several threads where that is worth it.
+/// answers the request, and the response says its reply. It waits for nobody. Vehicles are judged by the
+/// evaluator.
 ///
 /// # Errors
 ///
 /// There was no memory for the response. The request may have been carried out.
-pub fn desk_turn<K: Naming, G: Gate, R: Threads + Sync + Copy>(
-    rt: &R,
+pub fn desk_turn<K: Naming, G: Gate, E: Evaluator<Catalogue>>(
     alloc: Global,
     parts: &Parts,
     body: &[u8],
@@ -42,10 +41,12 @@ pub fn desk_turn<K: Naming, G: Gate, R: Threads + Sync + Copy>(
     desk: &mut Desk<K>,
     note: Option<&Note<K>>,
     gate: &mut G,
+    evaluator: &E,
 ) -> Result<Response<Full<Bytes>>, AllocError>
+    requires { E.may_judge }
     ensures { Answers (state_of desk.old) (option_copied note.entry) (request_in parts.now body.now at) result (state_of desk.new) }
 {
     tell(desk, note);
-    let reply = desk.answer(&request(parts, body, at), gate, &Chunked(*rt));
-    response(alloc, &reply)
+    let reply = desk.answer(&request(parts, body, at), gate, evaluator);
+    response(alloc, reply)
 }

@@ -1,7 +1,8 @@
 -- A policy and its rules (MDS 2.0 Policy, policies and rules), and what the types of the program stand for.
-use Rattle.std.specs.Prelude.{ℕ, List, map, Option}
-use Rattle.mds_text.specs.Tree.{Json}
-use Rattle.mds_text.specs.View.{view}
+use Rattle.std.specs.Prelude.{ℕ, List, map, Option, Result, Ok, Err}
+use Rattle.mds_text.specs.Fault.{Fault}
+use Rattle.mds_text.specs.Reading.{read_text}
+use Rattle.mds_text.specs.Tree.{Json, null}
 use Rattle.mds_policy.specs.declared.rule.Kind.{Kind}
 use Rattle.mds_policy.specs.declared.rule.Bounds.{Bounds}
 use Rattle.mds_policy.specs.declared.rule.Window.{Window}
@@ -51,11 +52,20 @@ rule_document r =
       window = r.window;
     }
 
+-- the value that was read, and null where none was
+abbrev pub or_null : Result Json Fault → Json
+or_null (Ok tree) = tree
+or_null (Err fault) = null
+
+-- the value of a JSON text that reads as one
+unfoldable pub tree_of : List ℕ → Json
+tree_of bytes = or_null (read_text bytes)
+
 -- the document that a `Policy` of the program stands for
 abbrev pub policy_document : program'.Policy → Policy
 policy_document p =
     record {
-      tree = view p.tree;
+      tree = tree_of p.text.items;
       id = p.id;
       start = p.start;
       end = p.end;

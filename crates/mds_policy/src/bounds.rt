@@ -2,15 +2,16 @@
 ghost use Rattle.std.specs.Prelude.{◌≡◌, ◌≤◌, Ok, Some, unwrap_or};
 ghost use Rattle.mds_text.specs.Fault.{Gives, text_cause};
 ghost use Rattle.mds_text.specs.Fields.{bound_of, most_bound, optional_at};
-ghost use Rattle.mds_text.specs.View.{view};
+ghost use Rattle.mds_reading.specs.Node.{node_view};
 ghost use Rattle.mds_policy.specs.Reading.{bounds_of};
 
 use crate::rule::Bounds;
-use mds_text::{Field, TextFault, Tree, bool_at, bound_at};
+use mds_reading::{Node, bool_at, bound_at};
+use mds_text::{Field, TextFault};
 
 #[tactic(auto, unfolding(crate::specs::Reading::bounds_of))]
-pub(crate) fn bounds_of(rule: &Tree) -> Result<Bounds, TextFault>
-    ensures { Gives text_cause (λ b. b) result (bounds_of (view rule.now)) }
+pub(crate) fn bounds_of(rule: &Node<'_>) -> Result<Bounds, TextFault>
+    ensures { Gives text_cause (λ b. b) result (bounds_of (node_view rule.now)) }
 {
     let minimum = small_bound_at(rule, Field::Minimum)?;
     let maximum = small_bound_at(rule, Field::Maximum)?;
@@ -24,8 +25,8 @@ pub(crate) fn bounds_of(rule: &Tree) -> Result<Bounds, TextFault>
     })
 }
 
-fn small_bound_at(rule: &Tree, field: Field) -> Result<Option<u32>, TextFault>
-    ensures { Gives text_cause (λ b. b) result (optional_at bound_of (view rule.now) field) }
+fn small_bound_at(rule: &Node<'_>, field: Field) -> Result<Option<u32>, TextFault>
+    ensures { Gives text_cause (λ b. b) result (optional_at bound_of (node_view rule.now) field) }
 {
     match bound_at(rule, field)? {
         Some(bound) => Ok(Some(bound as u32)),

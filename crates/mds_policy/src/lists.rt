@@ -2,28 +2,29 @@
 ghost use Rattle.std.specs.Prelude.{◌≡◌, option_map};
 ghost use Rattle.mds_text.specs.Fault.{Gives, text_cause};
 ghost use Rattle.mds_text.specs.Fields.{id_of, token_of, list_each, or_empty};
-ghost use Rattle.mds_text.specs.View.{view};
+ghost use Rattle.mds_reading.specs.Node.{node_view};
 ghost use Rattle.mds_policy.specs.Reading.{optional_list};
 
-use mds_text::{Field, Id, TextFault, Token, Tree, ids_at, tokens_at};
+use mds_reading::{Node, ids_at, tokens_at};
+use mds_text::{Field, Id, TextFault, Token};
 use std::alloc::Global;
 
 pub(crate) fn optional_ids(
     alloc: Global,
-    document: &Tree,
+    document: &Node<'_>,
     field: Field,
 ) -> Result<Vec<Id>, TextFault>
-    ensures { Gives text_cause (λ v. v.items) result (optional_list (list_each id_of) (view document.now) field) }
+    ensures { Gives text_cause (λ v. v.items) result (optional_list (list_each id_of) (node_view document.now) field) }
 {
     Ok(or_empty(alloc, ids_at(alloc, document, field)?))
 }
 
 pub(crate) fn optional_tokens(
     alloc: Global,
-    document: &Tree,
+    document: &Node<'_>,
     field: Field,
 ) -> Result<Vec<Token>, TextFault>
-    ensures { Gives text_cause (λ v. v.items) result (optional_list (list_each token_of) (view document.now) field) }
+    ensures { Gives text_cause (λ v. v.items) result (optional_list (list_each token_of) (node_view document.now) field) }
 {
     Ok(or_empty(alloc, tokens_at(alloc, document, field)?))
 }

@@ -2,15 +2,15 @@ use crate::fault::PolicyFault;
 use crate::reading::policy_of;
 use crate::rule::Rule;
 use crate::served::dated;
-use mds_reading::read_counted;
-use mds_text::{Id, Moment, Tree, copy_tree};
+use mds_reading::{Source, read_tree};
+use mds_text::{Id, Moment, Tree};
 use std::alloc::{AllocError, Global};
 
-/// A policy (MDS 2.0 Policy, policies): the author's whole document, and beside it what the server
-/// reads of it.
+/// A policy (MDS 2.0 Policy, policies): the text of the author's whole document, and beside it what
+/// the server reads of it.
 #[derive(Drop)]
 pub struct Policy {
-    pub(crate) tree: Tree,
+    pub(crate) text: Vec<u8>,
     pub(crate) id: Id,
     pub(crate) start: Moment,
     pub(crate) end: Option<Moment>,
@@ -35,11 +35,12 @@ impl Policy {
     pub fn read(alloc: Global, text: &[u8]) -> Result<Policy, PolicyFault>
         ensures { Gives policy_cause policy_document result (read_policy text.now) }
     {
-        let (tree, quoted) = read_counted(alloc, text)?;
+        let mut source = Source::new(alloc);
+        let (tree, quoted) = source.read_counted(alloc, text)?;
         if quoted > 0 {
             return Err(PolicyFault::Decimal);
         }
-        policy_of(alloc, tree)
+        policy_of(alloc, text, &tree)
     }
 
     /// The policy's identifier.
@@ -85,11 +86,16 @@ impl Policy {
         &self.rules
     }
 
-    /// The author's document, every member as it was read.
-    pub fn tree(&self) -> &Tree
-        ensures { view result.now ≡ (policy_document self.now).tree }
+    /// The author's document, every member as it was read. It is read again from its text, and
+    /// the only error is want of memory.
+    #[tactic(auto, unfolding(crate::specs::Policy::tree_of))]
+    pub fn tree(&self, alloc: Global) -> Result<Tree, AllocError>
+        ensures { IfOk result (λ t. view t ≡ (policy_document self.now).tree) }
     {
-        &self.tree
+        match read_tree(alloc, &self.text) {
+            Ok(tree) => Ok(tree),
+            Err(_) => Err(AllocError),
+        }
     }
 
     /// The author's document, every member as it was read, with `published_date` set where a moment
@@ -98,9 +104,10 @@ impl Policy {
     pub fn served(&self, alloc: Global, published: Option<Moment>) -> Result<Tree, AllocError>
         ensures { IfOk result (λ t. view t ≡ served (policy_document self.now) published) }
     {
+        let tree = self.tree(alloc)?;
         match published {
-            Some(moment) => dated(alloc, &self.tree, moment),
-            None => copy_tree(alloc, &self.tree),
+            Some(moment) => dated(alloc, &tree, moment),
+            None => Ok(tree),
         }
     }
 }

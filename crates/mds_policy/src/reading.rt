@@ -1,8 +1,9 @@
 //! A policy and its rules, read line by line of their tables (MDS 2.0 Policy, policies and rules).
-ghost use Rattle.std.specs.Prelude.{◌≡◌, map};
+ghost use Rattle.std.specs.Prelude.{◌≡◌, map, Ok};
 ghost use Rattle.mds_text.specs.Fault.{Gives, text_cause};
 ghost use Rattle.mds_text.specs.Fields.{each};
-ghost use Rattle.mds_text.specs.View.{view};
+ghost use Rattle.mds_text.specs.Reading.{read_text};
+ghost use Rattle.mds_reading.specs.Node.{node_view};
 ghost use Rattle.mds_policy.specs.Fault.{policy_cause};
 ghost use Rattle.mds_policy.specs.Policy.{rule_document, policy_document};
 ghost use Rattle.mds_policy.specs.Reading.{few_rules, rule_of, policy_of};
@@ -15,20 +16,23 @@ use crate::policy::Policy;
 use crate::rule::Rule;
 use crate::states::states_at;
 use crate::window::window_of;
-use mds_text::{
-    Field, TextFault, Tree, document_of, moment_at, object_of, required_id, required_ids,
-    required_list, required_moment, required_text, required_token, text_at, token_at,
+use mds_reading::{
+    Node, document_of, moment_at, object_of, required_id, required_ids, required_list,
+    required_moment, required_text, required_token, text_at, token_at,
 };
+use mds_text::{Field, TextFault};
 use std::alloc::Global;
 
 /// The most rules of a policy.
 const MOST_RULES: usize = 64;
 
-#[tactic(auto, unfolding(crate::specs::Reading::policy_of))]
-pub(crate) fn policy_of(alloc: Global, tree: Tree) -> Result<Policy, PolicyFault>
-    ensures { Gives policy_cause policy_document result (policy_of (view tree)) }
+/// The policy of a text that reads as this document.
+#[tactic(auto, unfolding(crate::specs::Reading::policy_of, crate::specs::Policy::tree_of))]
+pub(crate) fn policy_of(alloc: Global, text: &[u8], tree: &Node<'_>) -> Result<Policy, PolicyFault>
+    requires { read_text text.now ≡ Ok (node_view tree.now) }
+    ensures { Gives policy_cause policy_document result (policy_of (node_view tree.now)) }
 {
-    let document = document_of(&tree)?;
+    let document = document_of(tree)?;
     let id = required_id(document, Field::PolicyId)?;
     required_text(document, Field::Name)?;
     text_at(document, Field::Description)?;
@@ -36,7 +40,8 @@ pub(crate) fn policy_of(alloc: Global, tree: Tree) -> Result<Policy, PolicyFault
     let end = moment_at(document, Field::EndDate)?;
     let providers = optional_ids(alloc, document, Field::ProviderIds)?;
     let previous = optional_ids(alloc, document, Field::PrevPolicies)?;
-    let entries = required_list(document, Field::Rules)?;
+    let list = required_list(alloc, document, Field::Rules)?;
+    let entries = list.as_slice();
     if entries.len() > MOST_RULES {
         return Err(PolicyFault::TooManyRules);
     }
@@ -48,12 +53,12 @@ pub(crate) fn policy_of(alloc: Global, tree: Tree) -> Result<Policy, PolicyFault
         providers,
         previous,
         rules,
-        tree,
+        text: text.to_vec(alloc)?,
     })
 }
 
-fn rules_of(alloc: Global, entries: &[Tree]) -> Result<Vec<Rule>, TextFault>
-    ensures { Gives text_cause (λ v. map rule_document v.items) result (each rule_of (map view entries.now)) }
+fn rules_of(alloc: Global, entries: &[Node<'_>]) -> Result<Vec<Rule>, TextFault>
+    ensures { Gives text_cause (λ v. map rule_document v.items) result (each rule_of (map node_view entries.now)) }
 {
     let mut rules = Vec::with_capacity(alloc, entries.len())?;
     for entry in entries {
@@ -63,8 +68,8 @@ fn rules_of(alloc: Global, entries: &[Tree]) -> Result<Vec<Rule>, TextFault>
 }
 
 #[tactic(auto, unfolding(crate::specs::Reading::rule_of))]
-fn rule_of(alloc: Global, entry: &Tree) -> Result<Rule, TextFault>
-    ensures { Gives text_cause rule_document result (rule_of (view entry.now)) }
+fn rule_of(alloc: Global, entry: &Node<'_>) -> Result<Rule, TextFault>
+    ensures { Gives text_cause rule_document result (rule_of (node_view entry.now)) }
 {
     let rule = object_of(entry, Field::Rules)?;
     let id = required_id(rule, Field::RuleId)?;

@@ -2,17 +2,18 @@
 ghost use Rattle.std.specs.Prelude.{◌≡◌, map, Ok, option_map};
 ghost use Rattle.mds_text.specs.Fault.{Gives, text_cause};
 ghost use Rattle.mds_text.specs.Tree.{members_of};
-ghost use Rattle.mds_text.specs.View.{view, member_view};
+ghost use Rattle.mds_reading.specs.Node.{node_view, node_member_view};
 ghost use Rattle.mds_policy.specs.Policy.{states_document};
 ghost use Rattle.mds_policy.specs.Reading.{events_of, state_of, states_of, states_member, optional_list};
 
 use crate::rule::StateEvents;
-use mds_text::{Field, Member, TextFault, Token, Tree, member_at, tokens_of};
+use mds_reading::{Node, NodeMember, member_at, tokens_of};
+use mds_text::{Field, TextFault, Token};
 use std::alloc::Global;
 
 /// The states of a rule, in the order of their names; none where the member is absent or null.
-pub(crate) fn states_at(alloc: Global, rule: &Tree) -> Result<Vec<StateEvents>, TextFault>
-    ensures { Gives text_cause (λ v. map states_document v.items) result (optional_list states_member (view rule.now) Field.States) }
+pub(crate) fn states_at(alloc: Global, rule: &Node<'_>) -> Result<Vec<StateEvents>, TextFault>
+    ensures { Gives text_cause (λ v. map states_document v.items) result (optional_list states_member (node_view rule.now) Field.States) }
 {
     match member_at(rule, Field::States)? {
         Some(value) => states_member(alloc, value),
@@ -20,17 +21,17 @@ pub(crate) fn states_at(alloc: Global, rule: &Tree) -> Result<Vec<StateEvents>, 
     }
 }
 
-fn states_member(alloc: Global, value: &Tree) -> Result<Vec<StateEvents>, TextFault>
-    ensures { Gives text_cause (λ v. map states_document v.items) result (states_member Field.States (view value.now)) }
+fn states_member(alloc: Global, value: &Node<'_>) -> Result<Vec<StateEvents>, TextFault>
+    ensures { Gives text_cause (λ v. map states_document v.items) result (states_member Field.States (node_view value.now)) }
 {
     match value {
-        Tree::Object(members) => states_of(alloc, members),
+        Node::Object(members) => states_of(alloc, members),
         _ => Err(TextFault::BadField(Field::States)),
     }
 }
 
-fn states_of(alloc: Global, members: &[Member]) -> Result<Vec<StateEvents>, TextFault>
-    ensures { Gives text_cause (λ v. map states_document v.items) result (states_of (members_of (map member_view members.now))) }
+fn states_of(alloc: Global, members: &[NodeMember<'_>]) -> Result<Vec<StateEvents>, TextFault>
+    ensures { Gives text_cause (λ v. map states_document v.items) result (states_of (members_of (map node_member_view members.now))) }
 {
     let mut states = Vec::with_capacity(alloc, members.len())?;
     for member in members {
@@ -39,21 +40,21 @@ fn states_of(alloc: Global, members: &[Member]) -> Result<Vec<StateEvents>, Text
     Ok(states)
 }
 
-fn state_of(alloc: Global, member: &Member) -> Result<StateEvents, TextFault>
-    ensures { Gives text_cause states_document result (state_of (member_view member.now).0 (member_view member.now).1) }
+fn state_of(alloc: Global, member: &NodeMember<'_>) -> Result<StateEvents, TextFault>
+    ensures { Gives text_cause states_document result (state_of (node_member_view member.now).0 (node_member_view member.now).1) }
 {
-    let state = Token::read(member.name.as_str()).ok_or(TextFault::BadField(Field::States))?;
+    let state = Token::read(member.name).ok_or(TextFault::BadField(Field::States))?;
     let events = events_of(alloc, &member.value)?;
     Ok(StateEvents { state, events })
 }
 
 /// The event types of a state: null counts as none, which means all.
-fn events_of(alloc: Global, value: &Tree) -> Result<Vec<Token>, TextFault>
-    ensures { Gives text_cause (λ v. v.items) result (events_of (view value.now)) }
+fn events_of(alloc: Global, value: &Node<'_>) -> Result<Vec<Token>, TextFault>
+    ensures { Gives text_cause (λ v. v.items) result (events_of (node_view value.now)) }
 {
     match value {
-        Tree::Null => Ok(Vec::new(alloc)),
-        Tree::List(_) => tokens_of(alloc, value, Field::States),
+        Node::Null => Ok(Vec::new(alloc)),
+        Node::List(_) | Node::Pair(_, _) => tokens_of(alloc, value, Field::States),
         _ => Err(TextFault::BadField(Field::States)),
     }
 }

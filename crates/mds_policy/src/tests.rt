@@ -306,7 +306,7 @@ fn serves_the_document(rt: HostRuntime) -> Result<(), Fail> {
     expect_served(&rt, alloc, &policy, None, draft.as_str())?;
     let published = format!(in alloc; "{before}\"published_date\":1000,{after}")?;
     expect_served(&rt, alloc, &policy, Moment::new(1000), published.as_str())?;
-    let printed = print_tree(alloc, policy.tree())?;
+    let printed = print_tree(alloc, &policy.tree(alloc)?)?;
     assert!(rt; printed.as_slice() == draft.as_bytes());
     Ok(())
 }
@@ -320,5 +320,17 @@ fn replaces_the_date_of_the_author(rt: HostRuntime) -> Result<(), Fail> {
         "{{\"name\":\"cap\",\"policy_id\":\"{P1}\",\"published_date\":7,\"rules\":[],\"start_date\":1000,\"zone\":{{}}}}"
     )?;
     expect_served(&rt, alloc, &read, Moment::new(7), published.as_str())?;
+    Ok(())
+}
+
+#[test]
+fn serves_what_the_text_reads_as(rt: HostRuntime) -> Result<(), Fail> {
+    let alloc = rt.alloc();
+    let text = policy(alloc, "", ",\"zone\" : 1,\n\"zone\":\"\\u0041\"")?;
+    let read = read(alloc, text.as_str())?;
+    let draft = format!(in alloc;
+        "{{\"name\":\"cap\",\"policy_id\":\"{P1}\",\"rules\":[],\"start_date\":1000,\"zone\":\"A\"}}"
+    )?;
+    expect_served(&rt, alloc, &read, None, draft.as_str())?;
     Ok(())
 }

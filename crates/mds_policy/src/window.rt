@@ -2,19 +2,20 @@
 ghost use Rattle.std.specs.Prelude.{◌≡◌, ◌+◌, ◌<◌, length, map, Ok, option_map};
 ghost use Rattle.mds_text.specs.Fault.{Gives, text_cause};
 ghost use Rattle.mds_text.specs.Fields.{each, optional_at, list_each};
-ghost use Rattle.mds_text.specs.View.{view};
+ghost use Rattle.mds_reading.specs.Node.{node_view};
 ghost use Rattle.mds_policy.specs.Reading.{digits_at, second_of_day, time_of_day, time_of, weekday_of, day_of, days_listed, optional_list, window_of};
 
 use crate::rule::Window;
-use mds_text::{Field, TextFault, Tree, list_at, member_at, text_of, two_digits};
+use mds_reading::{Node, entries_of, member_at, text_of};
+use mds_text::{Field, TextFault, two_digits};
 use std::alloc::Global;
 
 /// The last second of a day.
 const LAST_SECOND: u32 = 86_399;
 
 #[tactic(auto, unfolding(crate::specs::Reading::window_of))]
-pub(crate) fn window_of(alloc: Global, rule: &Tree) -> Result<Window, TextFault>
-    ensures { Gives text_cause (λ w. w) result (window_of (view rule.now)) }
+pub(crate) fn window_of(alloc: Global, rule: &Node<'_>) -> Result<Window, TextFault>
+    ensures { Gives text_cause (λ w. w) result (window_of (node_view rule.now)) }
 {
     let start = time_at(rule, Field::StartTime)?;
     let end = time_at(rule, Field::EndTime)?;
@@ -26,8 +27,8 @@ pub(crate) fn window_of(alloc: Global, rule: &Tree) -> Result<Window, TextFault>
     })
 }
 
-fn time_at(rule: &Tree, field: Field) -> Result<Option<u32>, TextFault>
-    ensures { Gives text_cause (option_map (λ s. s)) result (optional_at time_of (view rule.now) field) }
+fn time_at(rule: &Node<'_>, field: Field) -> Result<Option<u32>, TextFault>
+    ensures { Gives text_cause (option_map (λ s. s)) result (optional_at time_of (node_view rule.now) field) }
 {
     match member_at(rule, field)? {
         Some(value) => Ok(Some(time_of(value, field)?)),
@@ -35,8 +36,8 @@ fn time_at(rule: &Tree, field: Field) -> Result<Option<u32>, TextFault>
     }
 }
 
-fn time_of(value: &Tree, field: Field) -> Result<u32, TextFault>
-    ensures { Gives text_cause (λ s. s) result (time_of field (view value.now)) }
+fn time_of(value: &Node<'_>, field: Field) -> Result<u32, TextFault>
+    ensures { Gives text_cause (λ s. s) result (time_of field (node_view value.now)) }
 {
     let text = text_of(value, field)?;
     time_of_day(text.as_bytes()).ok_or(TextFault::BadField(field))
@@ -73,17 +74,20 @@ fn digits_at(text: &[u8], most: u8, place: usize) -> Option<u8>
     two_digits(text[place], text[place + 1], most)
 }
 
-fn days_at(alloc: Global, rule: &Tree) -> Result<Vec<u8>, TextFault>
-    ensures { Gives text_cause (λ v. v.items) result (optional_list (list_each day_of) (view rule.now) Field.Days) }
+fn days_at(alloc: Global, rule: &Node<'_>) -> Result<Vec<u8>, TextFault>
+    ensures { Gives text_cause (λ v. v.items) result (optional_list (list_each day_of) (node_view rule.now) Field.Days) }
 {
-    match list_at(rule, Field::Days)? {
-        Some(entries) => days_of(alloc, entries),
+    match member_at(rule, Field::Days)? {
+        Some(value) => {
+            let list = entries_of(alloc, value, Field::Days)?;
+            days_of(alloc, list.as_slice())
+        }
         None => Ok(Vec::new(alloc)),
     }
 }
 
-fn days_of(alloc: Global, entries: &[Tree]) -> Result<Vec<u8>, TextFault>
-    ensures { Gives text_cause (λ v. v.items) result (each (day_of Field.Days) (map view entries.now)) }
+fn days_of(alloc: Global, entries: &[Node<'_>]) -> Result<Vec<u8>, TextFault>
+    ensures { Gives text_cause (λ v. v.items) result (each (day_of Field.Days) (map node_view entries.now)) }
 {
     let mut days = Vec::with_capacity(alloc, entries.len())?;
     for entry in entries {
@@ -92,8 +96,8 @@ fn days_of(alloc: Global, entries: &[Tree]) -> Result<Vec<u8>, TextFault>
     Ok(days)
 }
 
-fn day_of(value: &Tree) -> Result<u8, TextFault>
-    ensures { Gives text_cause (λ d. d) result (day_of Field.Days (view value.now)) }
+fn day_of(value: &Node<'_>) -> Result<u8, TextFault>
+    ensures { Gives text_cause (λ d. d) result (day_of Field.Days (node_view value.now)) }
 {
     let text = text_of(value, Field::Days)?;
     weekday_of(text).ok_or(TextFault::BadField(Field::Days))

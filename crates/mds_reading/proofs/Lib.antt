@@ -10,5 +10,6 @@ mod Turns
 mod Wholes
 mod Placing
 mod Counted
-mod Nodes
+pub mod Nodes
 mod Lists
+mod Pointed

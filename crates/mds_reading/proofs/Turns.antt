@@ -1,12 +1,14 @@
 -- The grammar's loops, a turn at a time, under the conversion to data.
-use Rattle.std.proofs.Common.{◌≡◌, ℕ, zero, suc, ◌-◌, ◌<◌, ◌≤◌, List, [], ◌∷◌, ◌++◌, length, Option, Some, None, option_map, option_and_then, refl, ap, ◌∙◌}
-use Rattle.json.specs.Token.{Token}
+use Rattle.std.proofs.Common.{◌≡◌, ℕ, zero, suc, ◌-◌, ◌<◌, ◌≤◌, List, [], ◌∷◌, ◌++◌, length, Option, Some, None, option_map, option_and_then, true, cond, refl, ap, arith, ◌∙◌}
+use Rattle.json.specs.Token.{Token, number}
 use Rattle.json.specs.Json as json
-use Rattle.json.specs.Json.{Parse, parse_map, after_end_array, read_key, items_step, items, members, if_last}
-use Rattle.json.proofs.Grammar.{items_end, items_more, members_end, members_no_key, members_more}
-use Rattle.mds_text.specs.Tree.{Json as Data, list as array, object, Items, no_items, item, Members, no_members}
+use Rattle.json.specs.Json.{Parse, parse_map, after_end_array, read_key, items_step, items, members, if_last, value}
+use Rattle.json.proofs.Grammar.{value_is, items_end, items_more, members_end, members_no_key, members_more}
+use Rattle.mds_text.specs.Quoting.{is_quoted}
+use Rattle.mds_text.specs.Tree.{Json as Data, int, text, list as array, object, Items, no_items, item, Members, no_members}
 use Rattle.serde_json.specs.Read.{converted}
-use Rattle.mds_reading.specs.Direct.{put, tree_value, tree_items, tree_members}
+use Rattle.mds_reading.specs.Direct.{put, tree_value, tree_items, tree_members, tree_number, whole_number}
+use Rattle.mds_reading.specs.Gathered.{items_before}
 use Rattle.mds_text.specs.Tree.{items_of}
 
 abbrev pick : {A : Type 0} → A → Option A → A
@@ -96,10 +98,6 @@ module _ (p : Parse json.Json) where
 
 -- ---- a list that grows at its end
 
-abbrev pub items_before : List Data → Items → Items
-items_before [] rest = rest
-items_before (v ∷ vs) rest = item v (items_before vs rest)
-
 pub items_before-no_items : (vs : List Data) → items_before vs no_items ≡ items_of vs
 items_before-no_items [] = refl
 items_before-no_items (v ∷ vs) = ap (item v) (items_before-no_items vs)
@@ -115,3 +113,22 @@ one_more_item vs v (Some p) = ap (λ ds. Some (ds, p.1)) (items_push vs v p.0)
 pub none_before : (r : Option (Items × List Token)) → r ≡ parse_map (λ a. a) r
 none_before None = refl
 none_before (Some p) = refl
+
+-- ---- a decimal at the front
+
+decimal_value : (depth : ℕ) (s : List ℕ) (r : List Token) → is_quoted s ≡ true → converted tree_value (value depth (number s ∷ r)) ≡ Some (text s, r)
+decimal_value depth s r quoted =
+    let is : tree_number s ≡ Some (text s) = ap (λ b. cond b (Some (text s)) (option_map int (whole_number s))) quoted in
+    ap (converted tree_value) (value_is depth _) ∙ rw is refl
+
+pub decimal_read : (depth n : ℕ) (s : List ℕ) (ts r : List Token) → 0 < n → ts ≡ number s ∷ r → is_quoted s ≡ true
+    → converted tree_items (items (value depth) n ts) ≡ parse_map (item (text s)) (converted tree_items (items (value depth) (n - 1) r))
+decimal_read depth n s ts r some is quoted =
+    item_read (value depth) n ts r (text s) some (ap after_end_array is) (ap (λ ks. converted tree_value (value depth ks)) is ∙ decimal_value depth s r quoted)
+
+pub front_read : (depth : ℕ) (s : List ℕ) (ts r : List Token) → ts ≡ number s ∷ r → is_quoted s ≡ true
+    → converted tree_items (items (value depth) (length ts) ts) ≡ parse_map (items_before (text s ∷ [])) (converted tree_items (items (value depth) (length r) r))
+front_read depth s ts r is quoted =
+    let long : length ts ≡ length (number s ∷ r) = ap length is in
+    let rest : length ts - 1 ≡ length r = omega (arith, long) in
+    decimal_read depth (length ts) s ts r (omega (arith, long)) is quoted ∙ ap (λ n. parse_map (item (text s)) (converted tree_items (items (value depth) n r))) rest

@@ -1,18 +1,16 @@
 -- Plain whole numbers, by their digits.
-use Rattle.std.proofs.Common.{◌≡◌, ◌≢◌, ℕ, zero, suc, ◌^◌, ◌<◌, ◌≤◌, ℤ, pos, negsuc, neg_ℤ, ◌-ℤ◌, to_z, of_z, w64, List, [], ◌∷◌, length, get_or, slice_index, false, cond, Option, Some, option_map, option_and_then, Result, Ok, Err, refl, sym, ap, subst, ◌∙◌, arith, lt-ltb}
+use Rattle.std.proofs.Common.{◌≡◌, ◌≢◌, ℕ, zero, suc, ◌^◌, ◌<◌, ◌≤◌, ℤ, pos, negsuc, neg_ℤ, ◌-ℤ◌, to_z, of_z, w64, List, [], ◌∷◌, length, get_or, slice_index, false, cond, Some, option_map, option_and_then, Result, Ok, Err, refl, sym, ap, subst, ◌∙◌, arith, lt-ltb}
 use Rattle.std.proofs.lemmas.Fmt.{decimal-digits_value}
 use Rattle.std.proofs.lemmas.Str.Parse.{IsNumeralModel, parse_plain, digits_value_short}
-use Rattle.std.specs.Fmt.{decimal, signed_decimal}
+use Rattle.std.specs.Fmt.{decimal}
 use Rattle.std.proofs.lemmas.Int.{ints, to_z_pos}
 use Rattle.std.specs.Result.{OkIff}
 use Rattle.std.specs.Str.Parse.{AllDigits, ParsesUnsigned, digits_value}
-use Rattle.serde_json.specs.Data.{unsigned, negative}
-use Rattle.serde_json.specs.Read.{number_of}
 use Rattle.serde_json.proofs.Numbers.{number_of-decimal, number_of-negative}
 use Rattle.mds_text.specs.Fault.{bad_json}
 use Rattle.mds_text.specs.Quoting.{is_quoted}
 use Rattle.mds_text.specs.Reading.{plain_int}
-use Rattle.mds_text.specs.Tree.{Json, int, text}
+use Rattle.mds_text.specs.Tree.{int, text}
 use Rattle.mds_reading.specs.Direct.{ok_of, tree_number, whole_number}
 
 own : IsNumeralModel (AllDigits 10) (digits_value 10)

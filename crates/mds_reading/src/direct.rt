@@ -1,11 +1,12 @@
 //! From a text to a tree that lends from it. Of a text that is unusual nothing is said.
-ghost use Rattle.std.specs.Prelude.{◌≡◌, ◌+◌, ◌<◌, false, [], length, IfOk, OnOk, Ok, Some, map};
-ghost use Rattle.json.specs.Json.{value, items, members};
+ghost use Rattle.std.specs.Prelude.{◌≡◌, ℕ, ◌+◌, ◌<◌, ◌≤◌, ◌∷◌, true, false, [], length, IfOk, OnOk, MatchOption, Ok, Some, map};
+ghost use Rattle.json.specs.Json.{value, items, members, parse_map};
+ghost use Rattle.json.specs.Print.{IsNumber};
 ghost use Rattle.serde_json.specs.Read.{converted};
 ghost use Rattle.mds_text.specs.Quoting.{is_quoted, quoted_count};
 ghost use Rattle.mds_text.specs.Reading.{read_text};
 ghost use Rattle.mds_text.specs.Tree.{int, items_of, list, members_of, no_members};
-ghost use Rattle.mds_reading.specs.Gathered.{gathered};
+ghost use Rattle.mds_reading.specs.Gathered.{gathered, items_before};
 ghost use Rattle.mds_reading.specs.Node.{node_view, node_member_view};
 ghost use Rattle.mds_reading.specs.Direct.{tree_number, tree_value, tree_items, tree_members, quoted_in, quoted_one};
 ghost use Rattle.json.specs.Token as token;
@@ -13,6 +14,7 @@ ghost use Rattle.json.specs.Token as token;
 use crate::gathered::Gathered;
 use crate::members::put_member;
 use crate::node::{Node, NodeMember};
+use crate::point::{has_point, shows_decimal};
 use crate::stop::Stop;
 use crate::whole::whole_number;
 use json::{Reader, Scratch, Token};
@@ -36,7 +38,7 @@ pub(crate) fn read_direct<'a>(
     };
     let mut reader = Reader::new(text, scratch)?;
     let mut quoted = 0;
-    let tree = read(alloc, &mut reader, &mut quoted, MAX_DEPTH)?;
+    let tree = read(alloc, bytes, &mut reader, &mut quoted, MAX_DEPTH)?;
     if reader.next().is_some() {
         return Err(Stop::Unusual);
     }
@@ -44,8 +46,10 @@ pub(crate) fn read_direct<'a>(
 }
 
 #[cycle(read)]
+#[inline(always)]
 fn read<'a>(
     alloc: Global,
+    text: &[u8],
     reader: &mut Reader<'a>,
     quoted: &mut u64,
     depth: usize,
@@ -58,49 +62,119 @@ fn read<'a>(
         return Err(Stop::Unusual);
     };
     match token {
-        Token::String(text) => Ok(Node::Text(text)),
-        Token::Number(text) => Ok(read_number(text, quoted)?),
+        Token::String(string) => Ok(Node::Text(string)),
+        Token::Number(number) => Ok(read_number(number, quoted)?),
         Token::Bool(b) => Ok(Node::Bool(b)),
         Token::Null => Ok(Node::Null),
         Token::BeginArray => {
             if depth == 0 {
                 return Err(Stop::Unusual);
             }
-            let entries = read_items(alloc, reader, quoted, depth - 1)?;
-            Ok(entries.list(alloc)?)
+            Ok(read_list(alloc, text, reader, quoted, depth - 1)?)
         }
         Token::BeginObject => {
             if depth == 0 {
                 return Err(Stop::Unusual);
             }
-            Ok(Node::Object(read_members(alloc, reader, quoted, depth - 1)?))
+            Ok(Node::Object(read_members(alloc, text, reader, quoted, depth - 1)?))
         }
         Token::EndArray | Token::EndObject | Token::Key(_) | Token::Bad => Err(Stop::Unusual),
     }
 }
 
+/// The list that a bracket began. One of two decimals takes no memory.
 #[cycle(read)]
-fn read_items<'a>(
+fn read_list<'a>(
     alloc: Global,
+    text: &[u8],
     reader: &mut Reader<'a>,
     quoted: &mut u64,
     depth: usize,
-) -> Result<Gathered<'a>, Stop>
-    ensures ok { IfOk result (λ g. converted tree_items (items (value depth) (length reader.old) reader.old) ≡ Some (items_of (gathered g), reader.new)) }
+) -> Result<Node<'a>, Stop>
+    ensures ok { IfOk result (λ n. parse_map list (converted tree_items (items (value depth) (length reader.old) reader.old)) ≡ Some (node_view n, reader.new)) }
     ensures counted { OnOk result (quoted.new + quoted_in reader.new ≡ quoted.old + quoted_in reader.old) }
     ensures shorter { OnOk result (length reader.new < length reader.old) }
 {
-    let mut found = Gathered::Empty;
+    let front = read_front(text, reader, quoted)?;
+    if reader.take_end_array() {
+        return Ok(front.list(alloc)?);
+    }
+    let entries = read_items(alloc, text, reader, quoted, depth, front)?;
+    Ok(entries.list(alloc)?)
+}
+
+/// The decimals that a list begins with, two at most.
+#[inline(always)]
+fn read_front<'a>(
+    text: &[u8],
+    reader: &mut Reader<'a>,
+    quoted: &mut u64,
+) -> Result<Gathered<'a>, Stop>
+    ensures ok { IfOk result (λ g. (depth : ℕ) → converted tree_items (items (value depth) (length reader.old) reader.old)
+        ≡ parse_map (items_before (gathered g)) (converted tree_items (items (value depth) (length reader.new) reader.new))) }
+    ensures counted { OnOk result (quoted.new + quoted_in reader.new ≡ quoted.old + quoted_in reader.old) }
+    ensures shorter { OnOk result (length reader.new ≤ length reader.old) }
+{
+    let Some(first) = next_decimal(text, reader, quoted)? else {
+        return Ok(Gathered::Empty);
+    };
+    let Some(second) = next_decimal(text, reader, quoted)? else {
+        return Ok(Gathered::One(first));
+    };
+    Ok(Gathered::Two(first, second))
+}
+
+/// The decimal that comes next, where the text shows one.
+#[inline(always)]
+fn next_decimal<'a>(
+    text: &[u8],
+    reader: &mut Reader<'a>,
+    quoted: &mut u64,
+) -> Result<Option<&'a str>, Stop>
+    ensures { IfOk result (λ found. MatchOption found ((reader.new ≡ reader.old) × (quoted.new ≡ quoted.old))
+        (λ s. (reader.old ≡ token.number s.now ∷ reader.new) × (is_quoted s.now ≡ true) × (quoted.new ≡ quoted.old + 1))) }
+{
+    if !shows_decimal(text, reader.offset()) {
+        return Ok(None);
+    }
+    let Some(Token::Number(number)) = reader.next() else {
+        return Err(Stop::Unusual);
+    };
+    if !has_point(number.as_bytes()) {
+        return Err(Stop::Unusual);
+    }
+    *quoted = quoted.checked_add(1).ok_or(Stop::Unusual)?;
+    Ok(Some(number))
+}
+
+/// The entries of a list behind those that were found.
+#[cycle(read)]
+#[inline(never)]
+fn read_items<'a>(
+    alloc: Global,
+    text: &[u8],
+    reader: &mut Reader<'a>,
+    quoted: &mut u64,
+    depth: usize,
+    front: Gathered<'a>,
+) -> Result<Gathered<'a>, Stop>
+    ensures ok { IfOk result (λ g. parse_map (items_before (gathered front.entry)) (converted tree_items (items (value depth) (length reader.old) reader.old)) ≡ Some (items_of (gathered g), reader.new)) }
+    ensures counted { OnOk result (quoted.new + quoted_in reader.new ≡ quoted.old + quoted_in reader.old) }
+    ensures shorter { OnOk result (length reader.new < length reader.old) }
+{
+    let mut found = front;
     'items: while !reader.take_end_array() {
-        let item = read(alloc, reader, quoted, depth)?;
+        let item = read(alloc, text, reader, quoted, depth)?;
         found = found.with(alloc, item)?;
     }
     Ok(found)
 }
 
 #[cycle(read)]
+#[inline(never)]
 fn read_members<'a>(
     alloc: Global,
+    text: &[u8],
     reader: &mut Reader<'a>,
     quoted: &mut u64,
     depth: usize,
@@ -112,18 +186,20 @@ fn read_members<'a>(
 {
     let mut found = Vec::new(alloc);
     'members: while let Some(name) = reader.next_key()? {
-        let member = read(alloc, reader, quoted, depth)?;
+        let member = read(alloc, text, reader, quoted, depth)?;
         put_member(&mut found, name, member)?;
     }
     Ok(found)
 }
 
 /// A number: a text, which is counted, where it isn't plain.
+#[inline(always)]
 fn read_number<'a>(text: &'a str, quoted: &mut u64) -> Result<Node<'a>, Stop>
+    requires { IsNumber text.now }
     ensures value { IfOk result (λ n. tree_number text.now ≡ Some (node_view n)) }
     ensures counted { OnOk result (quoted.new ≡ quoted.old + quoted_one (token.number text.now)) }
 {
-    if is_quoted(text.as_bytes()) {
+    if has_point(text.as_bytes()) || is_quoted(text.as_bytes()) {
         *quoted = quoted.checked_add(1).ok_or(Stop::Unusual)?;
         return Ok(Node::Text(text));
     }

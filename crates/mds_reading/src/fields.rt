@@ -3,14 +3,18 @@
 ghost use Rattle.std.specs.Prelude.{◌≡◌, option_map, map};
 ghost use Rattle.mds_text.specs.Fault.{Gives, IsCaused, text_cause};
 ghost use Rattle.mds_text.specs.Fields.{find_member, member_at, optional_at, required_at, required_member, object_of, document_of};
-ghost use Rattle.mds_text.specs.Fields.{text_of, int_of, id_of, token_of, moment_of, list_of, list_each};
+ghost use Rattle.mds_text.specs.Fields.{text_of, bool_of, int_of, id_of, token_of, moment_of, bound_of, list_of, list_each};
+ghost use Rattle.mds_reading.specs.Entries.{entries_view};
 ghost use Rattle.mds_text.specs.Tree.{members_of};
 ghost use Rattle.mds_reading.specs.Node.{node_view, node_member_view};
 
-use crate::entries::entries_of;
+use crate::entries::{Entries, entries_of};
 use crate::node::{Node, NodeMember};
 use mds_text::{Field, Id, Moment, TextFault, Token};
 use std::alloc::Global;
+
+/// The greatest bound of a rule.
+const MOST_BOUND: i64 = 1_000_000_000;
 
 /// A document: an object. Anything else is the bad field `document`.
 pub fn document_of<'t, 'a>(tree: &'t Node<'a>) -> Result<&'t Node<'a>, TextFault>
@@ -60,12 +64,23 @@ fn find_member<'t, 'a>(members: &'t [NodeMember<'a>], name: &str) -> Option<&'t 
 }
 
 /// A text.
-fn text_of<'a>(value: &Node<'a>, field: Field) -> Result<&'a str, TextFault>
+pub fn text_of<'a>(value: &Node<'a>, field: Field) -> Result<&'a str, TextFault>
     ensures value { Gives text_cause (λ s. s.now) result (text_of field (node_view value.now)) }
     ensures memory { IsCaused result }
 {
     match value {
         Node::Text(text) => Ok(text),
+        _ => Err(TextFault::BadField(field)),
+    }
+}
+
+/// A truth value.
+fn bool_of(value: &Node<'_>, field: Field) -> Result<bool, TextFault>
+    ensures value { Gives text_cause (λ b. b) result (bool_of field (node_view value.now)) }
+    ensures memory { IsCaused result }
+{
+    match value {
+        Node::Bool(b) => Ok(*b),
         _ => Err(TextFault::BadField(field)),
     }
 }
@@ -108,8 +123,34 @@ fn int_of(value: &Node<'_>, field: Field) -> Result<i64, TextFault>
     }
 }
 
+/// A rule's bound: a whole number, `OutOfRange` below 0 or above 1,000,000,000.
+fn bound_of(value: &Node<'_>, field: Field) -> Result<u64, TextFault>
+    ensures value { Gives text_cause (λ bound. bound) result (bound_of field (node_view value.now)) }
+    ensures memory { IsCaused result }
+{
+    let bound = int_of(value, field)?;
+    if 0 <= bound && bound <= MOST_BOUND {
+        Ok(bound as u64)
+    } else {
+        Err(TextFault::OutOfRange)
+    }
+}
+
+/// A list of identifiers, read in order up to the first fault.
+fn ids_of(alloc: Global, value: &Node<'_>, field: Field) -> Result<Vec<Id>, TextFault>
+    ensures { Gives text_cause (λ v. v.items) result (list_each id_of field (node_view value.now)) }
+{
+    let list = entries_of(alloc, value, field)?;
+    let entries = list.as_slice();
+    let mut found = Vec::with_capacity(alloc, entries.len())?;
+    for entry in entries {
+        found.push(id_of(entry, field)?)?;
+    }
+    Ok(found)
+}
+
 /// A list of words of the vocabulary, read in order up to the first fault.
-fn tokens_of(alloc: Global, value: &Node<'_>, field: Field) -> Result<Vec<Token>, TextFault>
+pub fn tokens_of(alloc: Global, value: &Node<'_>, field: Field) -> Result<Vec<Token>, TextFault>
     ensures { Gives text_cause (λ v. v.items) result (list_each token_of field (node_view value.now)) }
 {
     let list = entries_of(alloc, value, field)?;
@@ -132,6 +173,17 @@ pub fn text_at<'a>(document: &Node<'a>, field: Field) -> Result<Option<&'a str>,
     }
 }
 
+/// An optional truth value.
+pub fn bool_at(document: &Node<'_>, field: Field) -> Result<Option<bool>, TextFault>
+    ensures value { Gives text_cause (option_map (λ b. b)) result (optional_at bool_of (node_view document.now) field) }
+    ensures memory { IsCaused result }
+{
+    match member_at(document, field)? {
+        Some(value) => Ok(Some(bool_of(value, field)?)),
+        None => Ok(None),
+    }
+}
+
 /// An optional identifier.
 fn id_at(document: &Node<'_>, field: Field) -> Result<Option<Id>, TextFault>
     ensures value { Gives text_cause (option_map (λ id. id)) result (optional_at id_of (node_view document.now) field) }
@@ -144,7 +196,7 @@ fn id_at(document: &Node<'_>, field: Field) -> Result<Option<Id>, TextFault>
 }
 
 /// An optional word of the vocabulary.
-fn token_at(document: &Node<'_>, field: Field) -> Result<Option<Token>, TextFault>
+pub fn token_at(document: &Node<'_>, field: Field) -> Result<Option<Token>, TextFault>
     ensures value { Gives text_cause (option_map (λ token. token)) result (optional_at token_of (node_view document.now) field) }
     ensures memory { IsCaused result }
 {
@@ -155,12 +207,37 @@ fn token_at(document: &Node<'_>, field: Field) -> Result<Option<Token>, TextFaul
 }
 
 /// An optional moment.
-fn moment_at(document: &Node<'_>, field: Field) -> Result<Option<Moment>, TextFault>
+pub fn moment_at(document: &Node<'_>, field: Field) -> Result<Option<Moment>, TextFault>
     ensures value { Gives text_cause (option_map (λ moment. moment)) result (optional_at moment_of (node_view document.now) field) }
     ensures memory { IsCaused result }
 {
     match member_at(document, field)? {
         Some(value) => Ok(Some(moment_of(value, field)?)),
+        None => Ok(None),
+    }
+}
+
+/// An optional bound.
+pub fn bound_at(document: &Node<'_>, field: Field) -> Result<Option<u64>, TextFault>
+    ensures value { Gives text_cause (option_map (λ bound. bound)) result (optional_at bound_of (node_view document.now) field) }
+    ensures memory { IsCaused result }
+{
+    match member_at(document, field)? {
+        Some(value) => Ok(Some(bound_of(value, field)?)),
+        None => Ok(None),
+    }
+}
+
+/// An optional list of identifiers.
+pub fn ids_at(
+    alloc: Global,
+    document: &Node<'_>,
+    field: Field,
+) -> Result<Option<Vec<Id>>, TextFault>
+    ensures { Gives text_cause (option_map (λ v. v.items)) result (optional_at (list_each id_of) (node_view document.now) field) }
+{
+    match member_at(document, field)? {
+        Some(value) => Ok(Some(ids_of(alloc, value, field)?)),
         None => Ok(None),
     }
 }
@@ -209,6 +286,27 @@ pub fn required_moment(document: &Node<'_>, field: Field) -> Result<Moment, Text
     ensures memory { IsCaused result }
 {
     moment_at(document, field)?.ok_or(TextFault::BadField(field))
+}
+
+/// A list that has to be there.
+pub fn required_list<'t, 'a>(
+    alloc: Global,
+    document: &'t Node<'a>,
+    field: Field,
+) -> Result<Entries<'t, 'a>, TextFault>
+    ensures { Gives text_cause (λ entries. entries_view entries) result (required_at list_of (node_view document.now) field) }
+{
+    match member_at(document, field)? {
+        Some(value) => Ok(entries_of(alloc, value, field)?),
+        None => Err(TextFault::BadField(field)),
+    }
+}
+
+/// A list of identifiers that has to be there.
+pub fn required_ids(alloc: Global, document: &Node<'_>, field: Field) -> Result<Vec<Id>, TextFault>
+    ensures { Gives text_cause (λ v. v.items) result (required_at (list_each id_of) (node_view document.now) field) }
+{
+    ids_at(alloc, document, field)?.ok_or(TextFault::BadField(field))
 }
 
 /// A member that has to be there, and isn't null.

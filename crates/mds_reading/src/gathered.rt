@@ -18,12 +18,17 @@ pub(crate) enum Gathered<'a> {
 
 impl<'a> Gathered<'a> {
     /// The entries with one more behind them.
+    #[inline(always)]
     pub(crate) fn with(self, alloc: Global, entry: Node<'a>) -> Result<Gathered<'a>, AllocError>
         ensures { IfOk result (λ more. gathered more ≡ gathered self.entry ++ node_view entry.entry ∷ []) }
     {
         match (self, entry) {
             (Gathered::Empty, Node::Text(first)) => Ok(Gathered::One(first)),
             (Gathered::One(first), Node::Text(second)) => Ok(Gathered::Two(first, second)),
+            (Gathered::Many(mut entries), entry) => {
+                entries.push(entry)?;
+                Ok(Gathered::Many(entries))
+            }
             (before, entry) => {
                 let mut entries = before.entries(alloc)?;
                 entries.push(entry)?;
@@ -33,6 +38,7 @@ impl<'a> Gathered<'a> {
     }
 
     /// The list of the entries.
+    #[inline(always)]
     pub(crate) fn list(self, alloc: Global) -> Result<Node<'a>, AllocError>
         ensures { IfOk result (λ node. node_view node ≡ list (items_of (gathered self.entry))) }
     {

@@ -1,5 +1,6 @@
-ghost use Rattle.std.specs.Prelude.{◌≡◌};
+ghost use Rattle.std.specs.Prelude.{◌≡◌, IfOk};
 ghost use Rattle.mds_text.specs.Fault.{Gives, text_cause};
+ghost use Rattle.mds_text.specs.Quoting.{quoted_count};
 ghost use Rattle.mds_text.specs.Reading.{read_text};
 ghost use Rattle.mds_reading.specs.Node.{node_view};
 
@@ -36,13 +37,31 @@ impl Source {
     pub fn read<'a>(&'a mut self, alloc: Global, bytes: &'a [u8]) -> Result<Node<'a>, TextFault>
         ensures { Gives text_cause (λ n. node_view n) result (read_text bytes.now) }
     {
+        let (node, _quoted) = self.read_counted(alloc, bytes)?;
+        Ok(node)
+    }
+
+    /// Reads a text as `read` does, and says how many of its numbers weren't plain.
+    ///
+    /// # Errors
+    ///
+    /// As those of `read`.
+    pub fn read_counted<'a>(
+        &'a mut self,
+        alloc: Global,
+        bytes: &'a [u8],
+    ) -> Result<(Node<'a>, u64), TextFault>
+        ensures tree { Gives text_cause (λ r. node_view r.0) result (read_text bytes.now) }
+        ensures quoted { IfOk result (λ r. r.1 ≡ quoted_count bytes.now) }
+    {
         let Source { scratch, tree } = self;
         match read_direct(alloc, { scratch }, bytes) {
-            Ok((node, _quoted)) => Ok(node),
+            Ok(read) => Ok(read),
             Err(Stop::NoMemory) => Err(TextFault::NoMemory),
             Err(Stop::Unusual) => {
-                *tree = mds_text::read_tree(alloc, bytes)?;
-                Ok(lend(alloc, tree)?)
+                let (read, quoted) = mds_text::read_counted(alloc, bytes)?;
+                *tree = read;
+                Ok((lend(alloc, tree)?, quoted))
             }
         }
     }

@@ -1,4 +1,5 @@
 use crate::code::Code;
+use std::alloc::{AllocError, Global};
 use std::marker::Model;
 
 /// What a reply says.
@@ -25,7 +26,7 @@ impl Model for Reply {
 }
 
 impl Reply {
-    ghost use Rattle.std.specs.Prelude.{◌≡◌, IsTrue};
+    ghost use Rattle.std.specs.Prelude.{◌≡◌, IfOk, IsTrue};
     ghost use Rattle.mds_request.specs.Reply.{is_line, success};
 
     /// What was asked is done: status 200 with this body, which has no line feed.
@@ -56,6 +57,20 @@ impl Reply {
         match &self.content {
             Content::Success(body) => body.as_slice(),
             Content::Refused(code) => code.body(),
+        }
+    }
+
+    /// The body itself: that of a success isn't copied.
+    ///
+    /// # Errors
+    ///
+    /// There was no memory for the body of a refusal.
+    pub fn into_body(self, alloc: Global) -> Result<Vec<u8>, AllocError>
+        ensures { IfOk result (λ body. body.items ≡ self.body) }
+    {
+        match self.content {
+            Content::Success(body) => Ok(body),
+            Content::Refused(code) => Vec::from_slice(alloc, code.body()),
         }
     }
 }

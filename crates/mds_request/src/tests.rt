@@ -222,11 +222,15 @@ fn replies(rt: HostRuntime) -> Result<(), Fail> {
     let refused = Reply::from(Code::NotPublished);
     assert_eq!(rt; refused.status(), 409);
     assert!(rt; refused.body() == b"{\"error\":\"not_published\"}".as_slice());
+    assert!(rt;
+        refused.into_body(alloc)?.as_slice() == b"{\"error\":\"not_published\"}".as_slice()
+    );
     let mut body = Vec::new(alloc);
     body.push(b'{')?;
     body.push(b'}')?;
     let done = Reply::ok(body);
     assert_eq!(rt; done.status(), 200);
     assert!(rt; done.body() == b"{}".as_slice());
+    assert!(rt; done.into_body(alloc)?.as_slice() == b"{}".as_slice());
     Ok(())
 }

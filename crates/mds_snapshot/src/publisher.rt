@@ -161,7 +161,7 @@ impl<K: Naming> Publisher<K> {
     }
 
     /// The same list, and no more publications.
-    fn closed(self) -> Publisher<K>
+    pub(crate) fn closed(self) -> Publisher<K>
         ensures { result ≡ record { publications = self.publications; is_open = false } }
     {
         let Self {

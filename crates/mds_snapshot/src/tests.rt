@@ -5,9 +5,9 @@ use crate::blank::{Blank, prepare};
 use crate::history::Naming;
 use crate::note::Note;
 use crate::opening::{OpenFault, open};
-use crate::pane::{Look, Pane};
+use crate::pane::Pane;
 use crate::publisher::Publisher;
-use mds_catalog::Batch;
+use mds_catalog::{Batch, Catalogue};
 use mds_geography::Geography;
 use mds_policy::Policy;
 use mds_text::{Id, Moment};
@@ -37,11 +37,19 @@ fn id(text: &str) -> Result<Id, Fail> {
     Ok(Id::read(text).ok_or("no identifier")?)
 }
 
-fn policy(alloc: Global, text: &[u8]) -> Option<Vec<Arc<Policy>>> {
+/// A batch of these geographies and of the policy of this text; none, memory ran out.
+fn batch(
+    alloc: Global,
+    at: i64,
+    geographies: Vec<Arc<Geography>>,
+    text: &[u8],
+) -> Option<Arc<Batch>> {
     let mut policies = Vec::new(alloc);
     let policy = Policy::read(alloc, text).ok()?;
     policies.push(Arc::new(alloc, policy).ok()?).ok()?;
-    Some(policies)
+    let moment = Moment::new(at)?;
+    let batch = Batch::new(alloc, moment, geographies, policies, Vec::new(alloc)).ok()?;
+    Arc::new(alloc, batch).ok()
 }
 
 /// The first policy with the square; none, memory ran out.
@@ -49,18 +57,16 @@ fn first(alloc: Global) -> Option<Arc<Batch>> {
     let mut geographies = Vec::new(alloc);
     let square = Geography::read(alloc, SQUARE).ok()?;
     geographies.push(Arc::new(alloc, square).ok()?).ok()?;
-    let moment = Moment::new(1000)?;
-    let policies = policy(alloc, CAP)?;
-    let batch = Batch::new(alloc, moment, geographies, policies, Vec::new(alloc)).ok()?;
-    Arc::new(alloc, batch).ok()
+    batch(alloc, 1000, geographies, CAP)
 }
 
 /// The policy that takes its place, a second later; none, memory ran out.
 fn second(alloc: Global) -> Option<Arc<Batch>> {
-    let moment = Moment::new(2000)?;
-    let policies = policy(alloc, NEXT)?;
-    let batch = Batch::new(alloc, moment, Vec::new(alloc), policies, Vec::new(alloc)).ok()?;
-    Arc::new(alloc, batch).ok()
+    batch(alloc, 2000, Vec::new(alloc), NEXT)
+}
+
+fn both(alloc: Global) -> Option<(Arc<Batch>, Arc<Batch>)> {
+    Some((first(alloc)?, second(alloc)?))
 }
 
 /// Publishes a batch that has to be lawful.
@@ -73,38 +79,52 @@ fn publish<K: Naming, R: Wait + Abort>(
     publisher.publish(rt, Arc::try_clone(batch)?)
 }
 
-/// What a pane shows: the revision, and whether both policies and the square are there.
-fn shown<K: Naming>(look: &Look<K>) -> Result<(u64, [bool; 3]), Fail> {
-    let catalogue = look.catalogue();
-    let there = [
-        catalogue.geography(id(G1)?).is_some(),
-        catalogue.policy(id(P1)?).is_some(),
-        catalogue.policy(id(P2)?).is_some(),
-    ];
-    Ok((catalogue.revision(), there))
+/// Shows the first so many batches: the square and the first policy, then the other policy.
+fn assert_front<R: Abort>(rt: &R, catalogue: &Catalogue, length: u64) -> Result<(), Fail> {
+    assert_eq!(rt; catalogue.revision(), length);
+    assert_eq!(rt; catalogue.geography(id(G1)?).is_some(), length >= 1);
+    assert_eq!(rt; catalogue.policy(id(P1)?).is_some(), length >= 1);
+    assert_eq!(rt; catalogue.policy(id(P2)?).is_some(), length >= 2);
+    Ok(())
 }
 
-fn looked<K: Naming>(pane: Pane<K>) -> Result<(Pane<K>, (u64, [bool; 3])), Fail> {
-    match pane.look() {
-        Ok(look) => {
-            let found = shown(&look)?;
-            Ok((look.leave(), found))
-        }
-        Err(_) => Err(Fail::from("not shown")),
-    }
+/// Looks, and leaves: so many batches have to be shown.
+fn shown<K: Naming, R: Abort>(rt: &R, pane: Pane<K>, length: u64) -> Result<Pane<K>, Fail> {
+    let Ok(look) = pane.look() else {
+        return Err(Fail::from("not shown"));
+    };
+    assert_front(rt, look.catalogue(), length)?;
+    Ok(look.leave())
+}
+
+/// Learns of so many batches: they have to be shown.
+fn told<K: Naming, R: Abort>(
+    rt: &R,
+    mut pane: Pane<K>,
+    note: &Note<K>,
+    length: u64,
+) -> Result<Pane<K>, Fail> {
+    pane.learn(note);
+    shown(rt, pane, length)
 }
 
 #[test]
 fn notes_reach_each_pane(rt: HostRuntime) -> Result<(), Fail> {
+    let batches = both(rt.alloc()).ok_or("batches")?;
     let blank = prepare(rt.alloc())?;
-    told::<Brand, _>(&rt, rt.alloc(), blank)
+    opened::<Brand, _>(&rt, rt.alloc(), blank, &batches)
 }
 
-fn told<K: Naming, R: Wait + Abort>(rt: &R, alloc: Global, blank: Blank) -> Result<(), Fail>
+fn opened<K: Naming, R: Wait + Abort>(
+    rt: &R,
+    alloc: Global,
+    blank: Blank,
+    batches: &(Arc<Batch>, Arc<Batch>),
+) -> Result<(), Fail>
     requires { book_of blank ≡ K.book }
 {
     let (mut publisher, panes) = open::<K, R>(rt, alloc, blank, 2)?;
-    let outcome = notes(rt, alloc, &mut publisher, panes);
+    let outcome = in_turn(rt, &mut publisher, panes, batches);
     publisher.finish(rt);
     let pane = outcome?;
     match pane.look() {
@@ -114,65 +134,74 @@ fn told<K: Naming, R: Wait + Abort>(rt: &R, alloc: Global, blank: Blank) -> Resu
     Ok(())
 }
 
-fn notes<K: Naming, R: Wait + Abort>(
-    rt: &R,
-    alloc: Global,
-    publisher: &mut Publisher<K>,
-    mut panes: Vec<Pane<K>>,
-) -> Result<Pane<K>, Fail> {
-    let none = (0, [false; 3]);
-    let one = (1, [true, true, false]);
-    let two = (2, [true; 3]);
-    let (mut left, found) = looked(panes.pop().ok_or("a pane")?)?;
-    assert!(rt; found == none);
-    let (mut right, found) = looked(panes.pop().ok_or("a pane")?)?;
-    assert!(rt; found == none && panes.pop().is_none());
-    let note = publish(rt, publisher, &first(alloc).ok_or("a batch")?)?;
-    left.learn(&note);
-    let (mut left, found) = looked(left)?;
-    assert!(rt; found == one);
-    right.learn(&note.again());
-    let (right, found) = looked(right)?;
-    assert!(rt; found == one);
-    let later = publish(rt, publisher, &second(alloc).ok_or("a batch")?)?;
-    left.learn(&later);
-    left.learn(&note);
-    let (_left, found) = looked(left)?;
-    assert!(rt; found == two);
-    let (right, found) = looked(right)?;
-    assert!(rt; found == two);
-    assert_eq!(rt; publisher.catalogue().revision(), 2);
-    Ok(right)
+/// A pane's first look: nothing is published.
+fn fresh<K: Naming, R: Abort>(rt: &R, panes: &mut Vec<Pane<K>>) -> Result<Pane<K>, Fail> {
+    let pane = panes.pop().ok_or("a pane")?;
+    shown(rt, pane, 0)
 }
 
-/// With one growth refused, wherever it is: what isn't opened wants memory, a publication is made at
-/// the first or the second call, and looks, notes and what is learnt want none.
+fn in_turn<K: Naming, R: Wait + Abort>(
+    rt: &R,
+    publisher: &mut Publisher<K>,
+    mut panes: Vec<Pane<K>>,
+    batches: &(Arc<Batch>, Arc<Batch>),
+) -> Result<Pane<K>, Fail> {
+    let left = fresh(rt, &mut panes)?;
+    let right = fresh(rt, &mut panes)?;
+    assert!(rt; panes.is_empty());
+    let note = publish(rt, publisher, &batches.0)?;
+    let right = told(rt, right, &note.again(), 1)?;
+    let left = told(rt, left, &note, 1)?;
+    told_late(rt, publisher, &batches.1, left, &note)?;
+    shown(rt, right, 2)
+}
+
+/// An older note takes nothing away from what a pane learnt.
+fn told_late<K: Naming, R: Wait + Abort>(
+    rt: &R,
+    publisher: &mut Publisher<K>,
+    batch: &Arc<Batch>,
+    mut pane: Pane<K>,
+    older: &Note<K>,
+) -> Result<(), Fail> {
+    pane.learn(&publish(rt, publisher, batch)?);
+    told(rt, pane, older, 2)?;
+    assert_front(rt, publisher.catalogue(), 2)
+}
+
+/// With one growth refused, wherever it is: what isn't opened wants memory; publications, notes, what is
+/// learnt and looks take none.
 #[test]
 fn survives_want_of_memory(rt: HostRuntime) -> Result<(), Fail> {
     let alloc = rt.alloc();
-    let batch = match first(alloc) {
-        Some(batch) => batch,
-        None => first(alloc).ok_or("a batch")?,
+    let batches = match both(alloc) {
+        Some(batches) => batches,
+        None => both(alloc).ok_or("batches")?,
     };
     let blank = match prepare(alloc) {
         Ok(blank) => blank,
         Err(_) => prepare(alloc)?,
     };
-    wanting::<Brand, _>(&rt, alloc, blank, &batch)
+    wanting::<Brand, _>(&rt, alloc, blank, &batches)
 }
 
 fn wanting<K: Naming, R: Wait + Abort>(
     rt: &R,
     alloc: Global,
     blank: Blank,
-    batch: &Arc<Batch>,
+    batches: &(Arc<Batch>, Arc<Batch>),
 ) -> Result<(), Fail>
     requires { book_of blank ≡ K.book }
 {
     match open::<K, R>(rt, alloc, blank, 64) {
         Ok((mut publisher, panes)) => {
-            let outcome = at_last(rt, &mut publisher, panes, batch);
-            publisher.finish(rt);
+            let pane = at_each_place(rt, &mut publisher, panes, &batches.0);
+            let mut closed = publisher.closed();
+            let outcome = match pane {
+                Ok(pane) => refused(rt, &mut closed, pane, &batches.1),
+                Err(fail) => Err(fail),
+            };
+            closed.finish(rt);
             outcome
         }
         Err(fault) => {
@@ -182,22 +211,33 @@ fn wanting<K: Naming, R: Wait + Abort>(
     }
 }
 
-fn at_last<K: Naming, R: Wait + Abort>(
+/// Publishes a batch, of which each pane learns. It gives one of them back.
+fn at_each_place<K: Naming, R: Wait + Abort>(
     rt: &R,
     publisher: &mut Publisher<K>,
-    panes: Vec<Pane<K>>,
+    mut panes: Vec<Pane<K>>,
+    batch: &Arc<Batch>,
+) -> Result<Pane<K>, Fail> {
+    assert_eq!(rt; panes.len(), 64);
+    let note = publish(rt, publisher, batch)?;
+    let kept = told(rt, panes.pop().ok_or("a pane")?, &note, 1)?;
+    for pane in panes {
+        told(rt, pane, &note.again(), 1)?;
+    }
+    assert_front(rt, publisher.catalogue(), 1)?;
+    Ok(kept)
+}
+
+/// A publisher that is closed refuses every batch, and keeps its list and its catalogue.
+fn refused<K: Naming, R: Wait + Abort>(
+    rt: &R,
+    closed: &mut Publisher<K>,
+    pane: Pane<K>,
     batch: &Arc<Batch>,
 ) -> Result<(), Fail> {
-    assert_eq!(rt; panes.len(), 64);
-    let note = match publish(rt, publisher, batch) {
-        Ok(note) => note,
-        Err(_) => publish(rt, publisher, batch)?,
-    };
-    for mut pane in panes {
-        pane.learn(&note.again());
-        let (_pane, found) = looked(pane)?;
-        assert!(rt; found == (1, [true, true, false]));
+    for _ in 0..2 {
+        assert!(rt; publish(rt, closed, batch).is_err());
     }
-    assert_eq!(rt; publisher.catalogue().revision(), 1);
-    Ok(())
+    shown(rt, pane, 1)?;
+    assert_front(rt, closed.catalogue(), 1)
 }

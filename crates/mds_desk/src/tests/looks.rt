@@ -2,9 +2,9 @@
 use super::*;
 use crate::Gate;
 
-const EMPTY: &str = r#"{"policies":[],"revision":0}"#;
+pub(super) const EMPTY: &str = r#"{"policies":[],"revision":0}"#;
 
-const POLICIES: Exchange = (
+pub(super) const POLICIES: Exchange = (
     1000,
     "alfa",
     Verb::Get,

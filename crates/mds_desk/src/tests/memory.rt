@@ -2,9 +2,14 @@
 //! memory, and what is asked once more is answered. Where nothing could be furnished, the scene is played
 //! again.
 use super::*;
+use mds_catalog::Catalogue;
+use mds_parallel::Chunked;
+use mds_verdict::Evaluator;
 
 /// Plays a scene; a second time where the first found no memory.
-fn stage_at_last<S: Scene, R: Wait + Abort>(rt: &R, alloc: Global, scene: &S) -> Result<(), Fail> {
+fn stage_at_last<S: Scene, R: Wait + Abort>(rt: &R, alloc: Global, scene: &S) -> Result<(), Fail>
+    requires { S.may_play }
+{
     if !stage(rt, alloc, scene)? {
         assert!(rt; stage(rt, alloc, scene)?);
     }
@@ -40,9 +45,33 @@ fn set_up_at_last<K: Naming, R: Wait + Abort>(
 
 const LINES: [Exchange; 4] = [REPORT_FIRST, WITHIN, REPORT_SECOND, EXCEEDED];
 
-struct Answering;
+/// A desk gives the exchange's reply, at the first or the second try.
+fn assert_answers_at_last<K: Naming, E: Evaluator<Catalogue>>(
+    rt: &impl Abort,
+    desk: &mut Desk<K>,
+    exchange: &Exchange,
+    evaluator: &E,
+) -> Result<(), Fail>
+    requires { E.may_judge }
+{
+    let request = request(moment(exchange)?, exchange);
+    let mut reply = desk.answer(&request, &mut OpenGate, evaluator);
+    if reply.status() == 503 {
+        assert_eq!(rt; reply.body(), NO_MEMORY.as_bytes());
+        reply = desk.answer(&request, &mut OpenGate, evaluator);
+    }
+    assert_success(rt, &reply, exchange);
+    Ok(())
+}
 
-impl Scene for Answering {
+#[derive(Clone, Copy)]
+struct Answering<'a, E> {
+    evaluator: &'a E,
+}
+
+impl<E: Evaluator<Catalogue>> Scene for Answering<'_, E> {
+    ghost may_play = { E.may_judge };
+
     fn play<K: Naming, R: Wait + Abort>(
         &self,
         rt: &R,
@@ -50,24 +79,16 @@ impl Scene for Answering {
         room: &mut AuthorRoom<K>,
         alfa: &mut Desk<K>,
         mut bravo: Desk<K>,
-    ) -> Result<bool, Fail> {
+    ) -> Result<bool, Fail>
+        requires { E.may_judge }
+    {
         let note = set_up_at_last(rt, room)?;
         alfa.learn(&note);
         bravo.learn(&note.again());
         for exchange in &LINES {
-            let mut reply = asked(alfa, exchange)?;
-            if reply.status() == 503 {
-                assert_eq!(rt; reply.body(), NO_MEMORY.as_bytes());
-                reply = asked(alfa, exchange)?;
-            }
-            assert_success(rt, &reply, exchange);
+            assert_answers_at_last(rt, alfa, exchange, self.evaluator)?;
         }
-        let mut reply = asked(&mut bravo, &none_counted("bravo"))?;
-        if reply.status() == 503 {
-            assert_eq!(rt; reply.body(), NO_MEMORY.as_bytes());
-            reply = asked(&mut bravo, &none_counted("bravo"))?;
-        }
-        assert_success(rt, &reply, &none_counted("bravo"));
+        assert_answers_at_last(rt, &mut bravo, &none_counted("bravo"), self.evaluator)?;
         Ok(true)
     }
 }
@@ -75,12 +96,24 @@ impl Scene for Answering {
 /// Drafts, a publication, what is learnt, reports and questions. Learning takes no memory.
 #[test]
 fn answers_or_wants_memory(rt: HostRuntime) -> Result<(), Fail> {
-    stage_at_last(&rt, rt.alloc(), &Answering)
+    stage_at_last(&rt, rt.alloc(), &Answering { evaluator: &Plain })
 }
 
-struct Running;
+/// The same by several threads.
+#[test]
+fn answers_by_threads_or_wants_memory(rt: HostRuntime) -> Result<(), Fail> {
+    let evaluator = &Chunked(&rt);
+    stage_at_last(&rt, rt.alloc(), &Answering { evaluator })
+}
 
-impl Scene for Running {
+#[derive(Clone, Copy)]
+struct Running<'a, E> {
+    evaluator: &'a E,
+}
+
+impl<E: Evaluator<Catalogue>> Scene for Running<'_, E> {
+    ghost may_play = { E.may_judge };
+
     fn play<K: Naming, R: Wait + Abort>(
         &self,
         rt: &R,
@@ -88,7 +121,9 @@ impl Scene for Running {
         room: &mut AuthorRoom<K>,
         alfa: &mut Desk<K>,
         _bravo: Desk<K>,
-    ) -> Result<bool, Fail> {
+    ) -> Result<bool, Fail>
+        requires { E.may_judge }
+    {
         let note = set_up_at_last(rt, room)?;
         alfa.learn(&note);
         let [first, second, third, fourth] = &LINES;
@@ -98,9 +133,9 @@ impl Scene for Running {
             request(moment(third)?, third),
             request(moment(fourth)?, fourth),
         ];
-        let replies = match alfa.run(&requests, &mut OpenGate, &Plain) {
+        let replies = match alfa.run(&requests, &mut OpenGate, self.evaluator) {
             Ok(replies) => replies,
-            Err(_) => alfa.run(&requests, &mut OpenGate, &Plain)?,
+            Err(_) => alfa.run(&requests, &mut OpenGate, self.evaluator)?,
         };
         assert_eq!(rt; replies.len(), 4);
         for (reply, exchange) in replies.iter().zip(&LINES) {
@@ -118,5 +153,12 @@ impl Scene for Running {
 /// all; where one reply is 503 `no_memory`, those before it are as they should be.
 #[test]
 fn runs_or_wants_memory(rt: HostRuntime) -> Result<(), Fail> {
-    stage_at_last(&rt, rt.alloc(), &Running)
+    stage_at_last(&rt, rt.alloc(), &Running { evaluator: &Plain })
+}
+
+/// The same by several threads.
+#[test]
+fn runs_by_threads_or_wants_memory(rt: HostRuntime) -> Result<(), Fail> {
+    let evaluator = &Chunked(&rt);
+    stage_at_last(&rt, rt.alloc(), &Running { evaluator })
 }

@@ -11,13 +11,13 @@ pub(super) fn each_arrival<K: Naming, R: Host + Sync>(
 ) -> Result<(), Fail> {
     let parts = head(alloc, Method::GET, "/compliance", Some("Bearer alfa"))?;
     let at = Some(moment(2000)?);
-    let broken = respond(rt, alloc, &parts, Arrived::Broken, at, hall);
+    let broken = ask(rt, alloc, &parts, Arrived::Broken, at, hall);
     assert_says(rt, broken, 400, r#"{"error":"bad_body"}"#)?;
-    let timeless = respond(rt, alloc, &parts, Arrived::Broken, None, hall);
+    let timeless = ask(rt, alloc, &parts, Arrived::Broken, None, hall);
     assert_says(rt, timeless, 503, r#"{"error":"clock"}"#)?;
-    let long = respond(rt, alloc, &parts, Arrived::TooLong, at, hall);
+    let long = ask(rt, alloc, &parts, Arrived::TooLong, at, hall);
     assert_says(rt, long, 413, TOO_LARGE)?;
-    let unkept = respond(rt, alloc, &parts, Arrived::NoMemory, at, hall);
+    let unkept = ask(rt, alloc, &parts, Arrived::NoMemory, at, hall);
     assert_says(rt, unkept, 503, r#"{"error":"no_memory"}"#)
 }
 
@@ -35,15 +35,10 @@ pub(super) fn large_and_unknown<K: Naming, R: Host + Sync>(
     let at = Some(moment(2000)?);
     let spaces = vec![in alloc; b' '; MOST_BODY]?;
     let most = Arrived::Whole(Bytes::copy_from_slice(alloc, &spaces)?);
-    assert_says(rt, respond(rt, alloc, &parts, most, at, hall), 401, TOKEN)?;
+    assert_says(rt, ask(rt, alloc, &parts, most, at, hall), 401, TOKEN)?;
     let spaces = vec![in alloc; b' '; MOST_BODY + 1]?;
     let more = Arrived::Whole(Bytes::copy_from_slice(alloc, &spaces)?);
-    assert_says(
-        rt,
-        respond(rt, alloc, &parts, more, at, hall),
-        413,
-        TOO_LARGE,
-    )
+    assert_says(rt, ask(rt, alloc, &parts, more, at, hall), 413, TOO_LARGE)
 }
 
 #[test]

@@ -9,32 +9,43 @@ use mds_desk::{AuthorRoom, Desk, OpenGate, furnish};
 use mds_request::{Request, Verb};
 use mds_snapshot::Note;
 
-pub(super) fn first_question<K: Naming, R: Host + Sync>(
+/// A vehicle in the square.
+const VEHICLE: &str =
+    r#"{"device_id":"00000000-0000-4000-8000-000000000401","vehicle_type":"scooter","vehicle_state":"available","timestamp":1500,"location":{"lat":5,"lng":5}}"#;
+
+/// One vehicle is counted, at 2000.
+const ONE_COUNTED: &str =
+    r#"{"at":2000,"policies":[{"policy_id":"00000000-0000-4000-8000-000000000201","rules":[{"measure":1,"rule_id":"00000000-0000-4000-8000-000000000301","status":"ok"}]}],"revision":1,"version":2}"#;
+
+/// Alfa has a vehicle in the square, and bravo has none.
+pub(super) fn own_questions<K: Naming, R: Host + Sync>(
     rt: &R,
     alloc: Global,
     hall: &Hall<K>,
 ) -> Result<(), Fail> {
     set_up(rt, alloc, hall)?;
-    let at = Some(moment(2000)?);
-    let asked = head(alloc, Method::GET, "/compliance", Some("Bearer alfa"))?;
-    assert_says(
-        rt,
-        respond(rt, alloc, &asked, whole(""), at, hall),
-        200,
-        NONE_COUNTED,
-    )?;
+    let steps = [
+        (Method::POST, "/fleet/events", "Bearer alfa", VEHICLE, NEW),
+        (Method::GET, "/compliance", "Bearer alfa", "", ONE_COUNTED),
+        (Method::GET, "/compliance", "Bearer bravo", "", NONE_COUNTED),
+    ];
+    for (method, target, credentials, body, wanted) in steps {
+        let asked = head(alloc, method, target, Some(credentials))?;
+        let response = ask(rt, alloc, &asked, whole(body), Some(moment(2000)?), hall);
+        assert_says(rt, response, 200, wanted)?;
+    }
     let unknown = head(alloc, Method::GET, "/compliance", None)?;
     assert_says(
         rt,
-        respond(rt, alloc, &unknown, whole(""), at, hall),
+        ask(rt, alloc, &unknown, whole(""), Some(moment(2000)?), hall),
         401,
         TOKEN,
     )
 }
 
 #[test]
-fn answers_a_first_question(rt: HostRuntime) -> Result<(), Fail> {
-    visited(&rt, Visit::FirstQuestion)
+fn counts_the_vehicles_of_who_asks(rt: HostRuntime) -> Result<(), Fail> {
+    visited(&rt, Visit::OwnQuestions)
 }
 
 /// Credentials, and whether they are alfa's.
@@ -62,7 +73,7 @@ pub(super) fn each_form<K: Naming, R: Host + Sync>(
             "/fleet/vehicles?all",
             Some(*credentials),
         )?;
-        let response = respond(rt, alloc, &parts, whole(""), at, hall);
+        let response = ask(rt, alloc, &parts, whole(""), at, hall);
         if *known {
             assert_says(rt, response, 200, r#"{"vehicles":[]}"#)?;
         } else {
@@ -72,12 +83,7 @@ pub(super) fn each_form<K: Naming, R: Host + Sync>(
     let mut twice = head(alloc, Method::GET, "/fleet/vehicles", Some("Bearer alfa"))?;
     let again = HeaderValue::from_static("Bearer alfa");
     twice.headers.append(AUTHORIZATION, again)?;
-    assert_says(
-        rt,
-        respond(rt, alloc, &twice, whole(""), at, hall),
-        401,
-        TOKEN,
-    )
+    assert_says(rt, ask(rt, alloc, &twice, whole(""), at, hall), 401, TOKEN)
 }
 
 #[test]
@@ -147,9 +153,27 @@ fn two_questions<K: Naming, R: Host + Sync>(
     let note = published(rt, room)?;
     let at = moment(2000)?;
     let mut parts = head(alloc, Method::GET, "/compliance", Some("Bearer alfa"))?;
-    let first = desk_turn(rt, alloc, &parts, b"", at, desk, Some(&note), &mut OpenGate);
+    let first = desk_turn(
+        alloc,
+        &parts,
+        b"",
+        at,
+        desk,
+        Some(&note),
+        &mut OpenGate,
+        &Chunked(*rt),
+    );
     assert_says(rt, first, 200, NONE_COUNTED)?;
     parts.headers = HeaderMap::new(alloc);
-    let second = desk_turn(rt, alloc, &parts, b"", at, desk, Some(&note), &mut OpenGate);
+    let second = desk_turn(
+        alloc,
+        &parts,
+        b"",
+        at,
+        desk,
+        Some(&note),
+        &mut OpenGate,
+        &Chunked(*rt),
+    );
     assert_says(rt, second, 401, TOKEN)
 }

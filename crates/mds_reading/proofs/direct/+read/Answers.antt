@@ -5,24 +5,24 @@ use Rattle.json.specs.Reads.{token_of}
 use Rattle.json.proofs.Grammar.{value_is, value-begin_array, value-begin_object, read_key-shorter}
 use Rattle.serde_json.specs.Read.{converted}
 use Rattle.mds_text.specs.Tree.{list, object, members_of}
-use Rattle.mds_reading.specs.Gathered.{gathered}
+use Rattle.mds_reading.specs.Gathered.{gathered, items_before}
 use Rattle.mds_reading.specs.Node.{node_view, node_member_view}
 use Rattle.mds_reading.proofs.Nodes.{node-Null, node-Bool, node-Text, node-Object}
 use Rattle.mds_reading.specs.Direct.{tree_value, tree_items, tree_members, quoted_in}
-use Rattle.mds_reading.proofs.Turns.{converted-array, converted-object, member_read, members_over, item_read, items_over, items_before, items_before-no_items, one_more_item, none_before}
+use Rattle.mds_reading.proofs.Turns.{converted-array, converted-object, member_read, members_over, item_read, items_over, items_before-no_items, one_more_item}
 use Rattle.mds_reading.proofs.Counted.{key_taken}
 use Rattle.mds_reading.proofs.direct.+read.Goals as goal
 
 pub read-returns-in-String-clause-ok : goal.read-returns-in-String-clause-ok
 read-returns-in-String-clause-ok t c =
     let first : c.args.reader.now ≡ token_of c.in-Some.token ∷ c.next.new.self = grind arith in
-    let is : c.args.reader.now ≡ Token.string c.in-String.text.now ∷ c.next.new.self = grind (arith, first) in
-    ap (converted tree_value) (ap (value c.args.depth) is ∙ value_is c.args.depth _) ∙ ap (λ d. Some (d, c.next.new.self)) (sym (node-Text c.in-String.text))
+    let is : c.args.reader.now ≡ Token.string c.in-String.string.now ∷ c.next.new.self = grind (arith, first) in
+    ap (converted tree_value) (ap (value c.args.depth) is ∙ value_is c.args.depth _) ∙ ap (λ d. Some (d, c.next.new.self)) (sym (node-Text c.in-String.string))
 
 pub read-returns-in_ok-read_number-in-Number-clause-ok : goal.read-returns-in_ok-read_number-in-Number-clause-ok
 read-returns-in_ok-read_number-in-Number-clause-ok t c =
     let first : c.args.reader.now ≡ token_of c.in-Some.token ∷ c.next.new.self = grind arith in
-    let is : c.args.reader.now ≡ Token.number c.in-Number.text.now ∷ c.next.new.self = grind (arith, first) in
+    let is : c.args.reader.now ≡ Token.number c.in-Number.number.now ∷ c.next.new.self = grind (arith, first) in
     ap (converted tree_value) (ap (value c.args.depth) is ∙ value_is c.args.depth _) ∙ rw c.in_ok-read_number-in-Number.ensures.value
 
 pub read-returns-in-Bool-clause-ok : goal.read-returns-in-Bool-clause-ok
@@ -37,16 +37,31 @@ read-returns-in-Null-clause-ok t c =
     let is : c.args.reader.now ≡ Token.null ∷ c.next.new.self = grind (arith, first) in
     ap (converted tree_value) (ap (value c.args.depth) is ∙ value_is c.args.depth _) ∙ ap (λ d. Some (d, c.next.new.self)) (sym node-Null)
 
-pub read-returns-in_ok-list-in-BeginArray-clause-ok : goal.read-returns-in_ok-list-in-BeginArray-clause-ok
-read-returns-in_ok-list-in-BeginArray-clause-ok t c =
+pub read-returns-in_ok-read_list-in-BeginArray-clause-ok : goal.read-returns-in_ok-read_list-in-BeginArray-clause-ok
+read-returns-in_ok-read_list-in-BeginArray-clause-ok t c =
     let first : c.args.reader.now ≡ token_of c.in-Some.token ∷ c.next.new.self = grind arith in
     let opened = ap (converted tree_value) (ap (value c.args.depth) (first ∙ ap (λ k. token_of k ∷ c.next.new.self) c.in-BeginArray.is) ∙ value-begin_array c.args.depth c.next.new.self (omega arith)) ∙ converted-array (items (value (c.args.depth - 1)) (length c.next.new.self) c.next.new.self) in
-    opened ∙ ap (parse_map list) c.in_ok-entries-in-BeginArray.ensures.ok ∙ ap (λ d. Some (d, c.read_items.new.reader)) (sym c.in_ok-list-in-BeginArray.ensures)
+    opened ∙ c.in_ok-read_list-in-BeginArray.ensures.ok
+
+pub read_list-returns-then-take_end_array-clause-ok : goal.read_list-returns-then-take_end_array-clause-ok
+read_list-returns-then-take_end_array-clause-ok t c =
+    let p = value c.args.depth in
+    let ts = c.read_front.new.reader in
+    let r = c.take_end_array.new.self in
+    let before = items_before (gathered c.in_ok-front.front) in
+    let ended : after_end_array ts ≡ Some r = grind arith in
+    let over = items_over p (length ts) ts r (omega arith) ended in
+    ap (parse_map list) (c.in_ok-front.ensures.ok c.args.depth ∙ ap (parse_map before) over ∙ ap (λ ds. Some (ds, r)) (items_before-no_items (gathered c.in_ok-front.front)))
+    ∙ ap (λ d. Some (d, r)) (sym c.in_ok-list.ensures)
+
+pub read_list-returns-clause-ok : goal.read_list-returns-clause-ok
+read_list-returns-clause-ok t c =
+    let found = c.in_ok-front.ensures.ok c.args.depth ∙ ap (λ ts. parse_map (items_before (gathered c.in_ok-front.front)) (converted tree_items (items (value c.args.depth) (length ts) ts))) (grind arith) ∙ c.in_ok-entries.ensures.ok in
+    ap (parse_map list) found ∙ ap (λ d. Some (d, c.read_items.new.reader)) (sym c.in_ok-list-2.ensures)
 
 pub read_items-items-init : goal.read_items-items-init
 read_items-items-init t c =
-    let all = converted tree_items (items (value c.args.depth) (length c.args.reader.now) c.args.reader.now) in
-    (length c.args.reader.now, omega arith, none_before all, omega arith, refl)
+    (length c.args.reader.now, omega arith, refl, omega arith, refl)
 
 pub read_items-items-preserved : goal.read_items-items-preserved
 read_items-items-preserved t c =

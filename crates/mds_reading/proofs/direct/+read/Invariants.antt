@@ -2,25 +2,27 @@ use Rattle.std.proofs.Common.{◌≡◌, ℕ, ◌+◌, ◌*◌, ◌≤◌, lengt
 use Rattle.json.specs.Json.{items, members, value, parse_map}
 use Rattle.serde_json.specs.Read.{converted}
 use Rattle.mds_text.specs.Tree.{members_of, no_members}
-use Rattle.mds_reading.specs.Gathered.{gathered}
+use Rattle.mds_reading.specs.Gathered.{gathered, items_before}
 use Rattle.mds_reading.specs.Node.{node_member_view}
 use Rattle.mds_reading.specs.Direct.{tree_items, tree_members, quoted_in}
-use Rattle.mds_reading.proofs.Turns.{items_before}
 use Rattle.mds_reading.proofs.direct.+read.Given as goal
 
 abbrev pub decreases-read : goal.decreases-read
-decreases-read l = 2 * l.depth
+decreases-read l = 3 * l.depth
+
+abbrev pub decreases-read_list : goal.decreases-read_list
+decreases-read_list l = 3 * l.depth + 2
 
 abbrev pub decreases-read_items : goal.decreases-read_items
-decreases-read_items l = 2 * l.depth + 1
+decreases-read_items l = 3 * l.depth + 1
 
 abbrev pub decreases-read_members : goal.decreases-read_members
-decreases-read_members l = 2 * l.depth + 1
+decreases-read_members l = 3 * l.depth + 1
 
 abbrev pub invariant-read_items-items : goal.invariant-read_items-items
 invariant-read_items-items l =
     (n : ℕ) × (length l.reader ≤ n)
-    × (converted tree_items (items (value l.depth) (length l.initial.reader) l.initial.reader) ≡ parse_map (items_before (gathered l.found)) (converted tree_items (items (value l.depth) n l.reader)))
+    × (parse_map (items_before (gathered l.fn.front)) (converted tree_items (items (value l.depth) (length l.initial.reader) l.initial.reader)) ≡ parse_map (items_before (gathered l.found)) (converted tree_items (items (value l.depth) n l.reader)))
     × (length l.reader ≤ length l.initial.reader)
     × (l.quoted + quoted_in l.reader ≡ l.initial.quoted + quoted_in l.initial.reader)
 

@@ -2,5 +2,5 @@ use Rattle.mds_snapshot.specs.Opening.{book_of}
 use Rattle.mds_snapshot.proofs.tests.notes_reach_each_pane.Given as goal
 
 -- the book of what was just prepared
-abbrev pub ghosts-told : goal.ghosts-told
-ghosts-told g a = record { book = book_of a.blank }
+abbrev pub ghosts-opened : goal.ghosts-opened
+ghosts-opened g a = record { book = book_of a.blank }

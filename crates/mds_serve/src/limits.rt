@@ -1,0 +1,24 @@
+//! What the server takes from a connection at most. A head has at most 64 KiB, which is the framing's own
+//! limit, and a body `mds_request::MOST_BODY` bytes.
+
+/// The most connections at once. One more is closed.
+pub const MOST_CONNECTIONS: usize = 4_096;
+
+/// How long a head may take to come, from its first byte. A connection whose head is late is closed.
+pub const HEAD_SECONDS: u64 = 10;
+
+/// How long a body may take to come, after its head. A connection whose body is late is closed.
+pub const BODY_SECONDS: u64 = 30;
+
+/// How long a connection may be idle. It is closed then.
+pub const IDLE_SECONDS: u64 = 60;
+
+/// How long no connection is accepted after one couldn't be.
+pub const ACCEPT_PAUSE_MILLIS: u64 = 20;
+
+/// The fewest threads that serve connections. There are as many as processors, and at least one more than may
+/// ask: so many may be answered at once.
+pub const FEWEST_WORKERS: usize = 2;
+
+/// The most bytes of the configuration's line.
+pub const MOST_LINE: usize = 2_097_152;

@@ -1,0 +1,74 @@
+//! Whose turn it is: each who may ask has a queue of its own, so that no two threads answer one at once.
+ghost use Rattle.std.specs.Prelude.{IfSome};
+ghost use Rattle.tokio.specs.Locks.{CanAcquire};
+
+use http::HeaderMap;
+use http::header::AUTHORIZATION;
+use mds_request::Config;
+use std::alloc::{AllocError, Global};
+use std::sync::Arc;
+use tokio::sync::{AcquireOwned, Semaphore};
+
+/// How many bytes `Bearer` and one space are.
+const SCHEME: usize = 7;
+
+/// The queue of who has this access token.
+#[derive(Drop)]
+struct Queue {
+    token: String,
+    turns: Arc<Semaphore>,
+}
+
+/// A queue for the author and for each operator.
+#[derive(Drop)]
+pub struct Queues {
+    queues: Vec<Queue>,
+}
+
+impl Queue {
+    fn new(alloc: Global, token: &str) -> Result<Queue, AllocError> {
+        Ok(Queue {
+            token: String::from_str(alloc, token)?,
+            turns: Arc::new(alloc, Semaphore::new(alloc, 1)?)?,
+        })
+    }
+}
+
+impl Queues {
+    /// The queues of a configuration, in each of which nobody waits.
+    ///
+    /// # Errors
+    ///
+    /// Memory ran out.
+    pub fn new(alloc: Global, config: &Config) -> Result<Queues, AllocError> {
+        let operators = config.operators();
+        let mut queues = Vec::with_capacity(alloc, operators.len() + 1)?;
+        queues.push(Queue::new(alloc, config.author())?)?;
+        for operator in operators {
+            queues.push(Queue::new(alloc, operator.token.as_str())?)?;
+        }
+        Ok(Queues { queues })
+    }
+
+    /// So many threads that nobody waits for another's answer: one for each queue, and one for those who have
+    /// none.
+    pub fn threads(&self) -> usize {
+        self.queues.len().saturating_add(1)
+    }
+
+    /// A place in the queue of whose access token a head carries; none, where it is nobody's. A head that
+    /// carries it in a wrong form waits with the others, and is then refused.
+    pub fn place(&self, headers: &HeaderMap) -> Option<AcquireOwned>
+        ensures { IfSome result CanAcquire }
+    {
+        let (_scheme, token) = headers
+            .get(AUTHORIZATION)?
+            .as_bytes()
+            .split_at_checked(SCHEME)?;
+        let queue = self
+            .queues
+            .iter()
+            .find(|queue| queue.token.as_bytes() == token)?;
+        Some(Semaphore::acquire_owned(Arc::try_clone(&queue.turns).ok()?))
+    }
+}

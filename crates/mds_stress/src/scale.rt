@@ -1,0 +1,58 @@
+//! How much is asked.
+use crate::fault::Fault;
+use std::alloc::AllocGlobal;
+use std::env::{self, Env};
+
+/// The most publications.
+const MOST_PUBLICATIONS: u32 = 500;
+
+/// The most desks.
+const MOST_DESKS: u32 = 64;
+
+/// How much is asked.
+#[derive(Clone, Copy)]
+pub struct Scale {
+    /// How many times the author publishes.
+    pub publications: u32,
+    /// How many desks are asked.
+    pub desks: u32,
+    /// The most requests of a desk while the author publishes.
+    pub most_requests: u32,
+    /// The requests of a desk afterwards.
+    pub idle_requests: u32,
+    /// Whether what differs from run to run is told.
+    pub tells_times: bool,
+}
+
+/// A few of each.
+const SMALL: Scale = Scale {
+    publications: 3,
+    desks: 2,
+    most_requests: 2_000,
+    idle_requests: 10,
+    tells_times: false,
+};
+
+impl Scale {
+    /// The scale that the arguments name.
+    pub fn of_arguments<R: Env + AllocGlobal>(rt: &R) -> Result<Scale, Fault> {
+        let mut words = env::args(rt)?;
+        let _program = words.next();
+        match (words.next(), words.next()) {
+            (None, None) => Ok(SMALL),
+            (publications, desks) => Ok(Scale {
+                publications: number(publications, MOST_PUBLICATIONS)?,
+                desks: number(desks, MOST_DESKS)?,
+                most_requests: 200_000,
+                idle_requests: 5_000,
+                tells_times: true,
+            }),
+        }
+    }
+}
+
+fn number(word: Option<String>, most: u32) -> Result<u32, Fault> {
+    word.and_then(|word| word.parse().ok())
+        .filter(|number| *number <= most)
+        .ok_or(Fault::BadUse)
+}
