@@ -75,6 +75,21 @@ end
 """
 
 
+# Each request is by the next operator.
+IN_TURN = """
+local requests, turn = {}, 0
+function init()
+    for token in string.gmatch("%s", "%%S+") do
+        table.insert(requests, wrk.format("GET", nil, { ["authorization"] = "Bearer " .. token }))
+    end
+end
+function request()
+    turn = turn %% #requests + 1
+    return requests[turn]
+end
+"""
+
+
 class Static:
     """nginx with files."""
 
@@ -194,9 +209,9 @@ def policies(random, size):
 class Measure:
     """One target of mds_serve, and the file of nginx that has its size."""
 
-    def __init__(self, label, server, target, static, bound, script=None, token=OPERATOR, reply=None):
+    def __init__(self, label, server, target, static, bound, script=None, token=OPERATOR, reply=None, other_script=None):
         self.label, self.server, self.target, self.bound = label, server, target, bound
-        self.static, self.script, self.token = static, script, token
+        self.static, self.script, self.token, self.other_script = static, script, token, other_script
         if reply is None:
             with server.link() as link:
                 reply = send(link, generate.get(target))
@@ -206,7 +221,7 @@ class Measure:
 
     def take(self, connections, seconds):
         ours = Load(self.server.process.pid, self.server.port, self.target, connections, seconds, self.token, self.script)
-        other = Load(self.static.process.pid, self.static.port, self.file, connections, seconds)
+        other = Load(self.static.process.pid, self.static.port, self.file, connections, seconds, script=self.other_script)
         self.loads.setdefault(connections, []).append((ours, other))
         print(f"{self.label}, {connections}: {ours.rate:.0f} and {other.rate:.0f} requests a second", file=sys.stderr)
 
@@ -299,14 +314,18 @@ def measures(stack, program, folder, static):
     large = serve(stack, program, city + policies(random, LARGE))
     fleet = [generate.put_policy(0, generate.policy(random, 0, RULES, range(RULES))), generate.publish([], [0])]
     judged = serve(stack, program, city + fleet + generate.fleet(random, FLEET))
-    script = os.path.join(folder, "reports.lua")
-    with open(script, "w", encoding="ascii") as text:
+    reports, in_turn = os.path.join(folder, "reports.lua"), os.path.join(folder, "in_turn.lua")
+    with open(reports, "w", encoding="ascii") as text:
         text.write(REPORTS % generate.START)
+    with open(in_turn, "w", encoding="ascii") as text:
+        text.write(IN_TURN % " ".join(generate.token(it) for it in range(generate.OPERATORS)))
     must = ("0.5", "0.8")
     return [
-        Measure("GET of a policy list", small, "/policies", static, must),
-        Measure("GET of a policy list", large, "/policies", static, must),
-        Measure("POST of a report", small, "/fleet/events", static, ("", ""), script, OTHER, b'{"result":"changed"}'),
+        Measure("GET of a policy list by one operator", small, "/policies", static, must),
+        Measure("GET of a policy list by one operator", large, "/policies", static, must),
+        Measure(f"GET of a policy list by {generate.OPERATORS} operators in turn", small, "/policies", static, must, in_turn, other_script=in_turn),
+        Measure(f"GET of a policy list by {generate.OPERATORS} operators in turn", large, "/policies", static, must, in_turn, other_script=in_turn),
+        Measure("POST of a report", small, "/fleet/events", static, ("", ""), reports, OTHER, b'{"result":"changed"}'),
         Measure(f"GET of compliance, {FLEET} vehicles, {RULES} rules", judged, "/compliance", static, ("", "")),
     ]
 

@@ -1,8 +1,10 @@
 -- What the position of the first such byte says of the bytes before and behind it.
-use Rattle.std.proofs.Common.{◌≡◌, ℕ, ◌+◌, ◌≤◌, Bool, true, false, not, cond, ◌||◌, List, [], ◌∷◌, length, take, drop, Some, None, position, ltb, refl, sym, ap, ◌∙◌, add_comm, add-one, arith}
+use Rattle.std.proofs.Common.{◌≡◌, ℕ, ◌+◌, ◌≤◌, Bool, true, false, not, cond, ◌||◌, List, [], ◌∷◌, length, take, drop, Option, Some, None, position, ltb, refl, sym, ap, ◌∙◌, add_comm, add-one, arith}
 use Rattle.std.specs.List.{position_or_len, prefix_len, before_first, after_first, list_any}
 use Rattle.std.proofs.lemmas.Option.{cond_some}
-use Rattle.std.proofs.lemmas.Bool.{ltb-false}
+use Rattle.std.proofs.lemmas.Bool.{ltb-false, lt-ltb, le-ltb}
+use Rattle.std.proofs.lemmas.List.Sums.{position_or_len_is}
+use Rattle.memchr.specs.Find.{IsFirstByte}
 use Rattle.std.proofs.lemmas.List.{take_all, drop_all}
 
 -- an option made by a test is nothing only where the test failed
@@ -43,3 +45,16 @@ none_before_step p x xs false e h =
 pub none_before : {X : Type 0} (p : X → Bool) (xs : List X) → list_any p (before_first p xs) ≡ false
 none_before p [] = refl
 none_before p (x ∷ xs) = none_before_step p x xs (p x) refl (none_before p xs)
+
+untrue : (b : Bool) → ¬ (b ≡ true) → b ≡ false
+untrue true h = absurd (h refl)
+untrue false h = refl
+
+-- the first byte that passes stands at the position of the first that does
+pub first_is_position : (p : ℕ → Bool) (xs : List ℕ) (found : Option ℕ) → IsFirstByte p xs found → found ≡ position p xs
+first_is_position p xs None h =
+    let at : position_or_len p xs ≡ length xs = position_or_len_is p xs (length xs) 0 (omega arith) (λ k low. untrue _ (h k (omega arith) low)) (λ low. absurd (omega (arith, low))) in
+    sym (ap (λ n. cond (ltb n (length xs)) (Some n) None) at ∙ ap (λ b. cond b (Some (length xs)) None) (le-ltb (length xs) (length xs) (omega arith)))
+first_is_position p xs (Some i) h =
+    let at : position_or_len p xs ≡ i = position_or_len_is p xs i 0 (omega (arith, h.0.high)) (λ k low. untrue _ (h.0.before k (omega arith) low)) (λ _. h.1) in
+    sym (ap (λ n. cond (ltb n (length xs)) (Some n) None) at ∙ ap (λ b. cond b (Some i) None) (lt-ltb i (length xs) h.0.high))

@@ -4,6 +4,7 @@ ghost use Rattle.std.specs.Io.BufRead.{ends_with_byte, strip_last};
 ghost use Rattle.mds_replay.specs.LineReading.{Gathers};
 
 use crate::lines::Found;
+use memchr::memchr;
 
 /// The most bytes of a line, its end not counted.
 pub const LINE_LIMIT: usize = 2_097_152;
@@ -108,5 +109,5 @@ fn found(line: &[u8]) -> Found
 pub fn position_of(bytes: &[u8], wanted: u8) -> Option<usize>
     ensures { result ≡ position (λ byte. byte == wanted) bytes.now }
 {
-    bytes.iter().position(|byte| *byte == wanted)
+    memchr(wanted, bytes)
 }

@@ -1,3 +1,1 @@
 mod Counts
-mod Receptions
-mod Turned

@@ -3,10 +3,12 @@ ghost use Rattle.std.specs.Prelude.{◌≡◌};
 ghost use Rattle.mds_serve.specs.Input.{without_end};
 
 use crate::fault::ServeFault;
-use crate::limits::MOST_LINE;
 use mds_request::Config;
 use std::alloc::Global;
 use std::io::{BufRead, ErrorKind, Read};
+
+/// The most bytes of the configuration's line.
+const MOST_LINE: usize = 2_097_152;
 
 /// The bytes of a line without its end: a line feed, and one carriage return before it.
 fn without_end(line: &[u8]) -> &[u8]

@@ -2,21 +2,12 @@
 //! requests are answered until so many connections are over.
 #![tactic(auto)]
 
-mod admission;
 mod arguments;
 mod configuration;
-mod door;
 mod fault;
-mod limits;
-mod moments;
-mod paced;
-mod queues;
-mod reception;
 mod running;
-mod serving;
 #[cfg(test)]
 mod tests;
-mod watch;
 
 use running::run;
 use std::process::ExitCode;

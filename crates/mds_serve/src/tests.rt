@@ -2,9 +2,7 @@
 ghost use Rattle.std.specs.Prelude.{◌≡◌};
 ghost use Rattle.mds_snapshot.specs.Opening.{book_of};
 
-use crate::moments::Moments;
-use crate::queues::Queues;
-use crate::running::{bound, serve};
+use mds_doors::{Moments, Queues, bound, serve};
 use mds_hall::Hall;
 use mds_request::Config;
 use mds_snapshot::{Blank, Naming, prepare};

@@ -38,19 +38,18 @@ fn entered<I: Drop, A: Drop, C: Clock + Drop>(
 }
 
 /// Serves each connection in a task of its own, until no more come.
-pub fn serve_all<R, S, I, A, C, T>(
+pub fn serve_all<R, S, I, A, T>(
     rt: &R,
     runtime: &mut Runtime,
     http: Builder<T>,
     sockets: S,
-    house: Arc<House<A, C>>,
+    house: Arc<House<A, R>>,
 ) -> io::Result<()>
 where
-    R: Wait + Threads + Clock + RandomSource + AllocGlobal + Sync,
+    R: Wait + Threads + Clock + RandomSource + AllocGlobal + Send + Sync + Drop,
     S: Stream<Item = I>,
     I: AsyncRead + AsyncWrite + Send,
     A: Answers + Send + Sync,
-    C: Clock + Send + Sync + Drop,
     T: Timer + Send,
     requires sockets { S.can_poll sockets }
     requires ready { A.may_answer }

@@ -2,8 +2,8 @@ use denote.Exit.{no}
 use denote.Param.{param, copied}
 use denote.Param.Send.{param_send, param_sync, arg_send, arg_sync}
 use Rattle.mds_parallel.proofs.chunked.Chunked.TheSendSync as chunked
-use Rattle.mds_serve.proofs.Receptions.{reception_send, reception_sync}
-use Rattle.mds_serve.proofs.running.serve.Goals as goal
+use Rattle.mds_doors.proofs.Receptions.{reception_send, reception_sync}
+use Rattle.mds_doors.proofs.hosting.serve.Goals as goal
 
 pub serve_all-served-requires-send-A : goal.serve_all-served-requires-send-A
 serve_all-served-requires-send-A g c κs within =

@@ -1,7 +1,8 @@
-//! Whose turn it is: each who may ask has a queue of its own, so that no two threads answer one at once.
+//! Whose turn it is. Short answers to one who asks are given side by side, a long one alone.
 ghost use Rattle.std.specs.Prelude.{IfSome};
 ghost use Rattle.tokio.specs.Locks.{CanAcquire};
 
+use crate::limits::MOST_SHORT;
 use http::HeaderMap;
 use http::header::AUTHORIZATION;
 use mds_request::Config;
@@ -16,6 +17,7 @@ const SCHEME: usize = 7;
 #[derive(Drop)]
 struct Queue {
     token: String,
+    /// A short answer takes one permit, a long one takes all.
     turns: Arc<Semaphore>,
 }
 
@@ -29,7 +31,7 @@ impl Queue {
     fn new(alloc: Global, token: &str) -> Result<Queue, AllocError> {
         Ok(Queue {
             token: String::from_str(alloc, token)?,
-            turns: Arc::new(alloc, Semaphore::new(alloc, 1)?)?,
+            turns: Arc::new(alloc, Semaphore::new(alloc, MOST_SHORT as usize)?)?,
         })
     }
 }
@@ -58,7 +60,7 @@ impl Queues {
 
     /// A place in the queue of whose access token a head carries; none, where it is nobody's. A head that
     /// carries it in a wrong form waits with the others, and is then refused.
-    pub fn place(&self, headers: &HeaderMap) -> Option<AcquireOwned>
+    pub fn place(&self, headers: &HeaderMap, is_long: bool) -> Option<AcquireOwned>
         ensures { IfSome result CanAcquire }
     {
         let (_scheme, token) = headers
@@ -69,6 +71,8 @@ impl Queues {
             .queues
             .iter()
             .find(|queue| queue.token.as_bytes() == token)?;
-        Some(Semaphore::acquire_owned(Arc::try_clone(&queue.turns).ok()?))
+        let turns = Arc::try_clone(&queue.turns).ok()?;
+        let permits = if is_long { MOST_SHORT } else { 1 };
+        Some(Semaphore::acquire_many_owned(turns, permits))
     }
 }

@@ -6,7 +6,7 @@ use denote.Param.SendFields.{as_row_send, as_row_sync, declared_send, declared_s
 use Rattle.std.proofs.Crossing.{send, sync}
 use Rattle.mds_snapshot.specs.declared.history.Naming.{Ghosts}
 use Rattle.mds_hall.proofs.Halls.{hall_send, hall_sync}
-use Rattle.mds_serve.specs.contracts.reception.Reception as Reception
+use Rattle.mds_doors.specs.contracts.reception.Reception as Reception
 
 module _ (K R E M : RattleType) (g : Ghosts K.Denot) where
   pub reception_send : IsSend R → IsSend E → IsSend M → IsSend (Reception.the_row K R E M g)

@@ -4,7 +4,7 @@ ghost use Rattle.std.specs.Prelude.{◌≡◌, None, IsSome, IfSome};
 ghost use Rattle.futures.specs.Task.{Keeps};
 ghost use Rattle.tokio.specs.Locks.{CanAcquire};
 
-use crate::limits::BODY_SECONDS;
+use crate::limits::{BODY_SECONDS, SMALL_BODY};
 use crate::paced::Pace;
 use crate::queues::Queues;
 use crate::watch::Bell;
@@ -147,11 +147,12 @@ impl<A: Answers, C: Clock + Drop, I: Drop> Exchange<A, C, I> {
         ensures turn { IfSome self.new.turn CanAcquire }
     {
         self.body = None;
-        self.arrived = Some(arrived);
+        let is_long = is_long(&self.parts, &arrived);
         self.turn = match &self.house {
-            Some(house) => house.queues.place(&self.parts.headers),
+            Some(house) => house.queues.place(&self.parts.headers, is_long),
             None => None,
         };
+        self.arrived = Some(arrived);
     }
 
     /// Answers the request, and ends the exchange.
@@ -161,15 +162,15 @@ impl<A: Answers, C: Clock + Drop, I: Drop> Exchange<A, C, I> {
         if let Some(pace) = self.pace.take() {
             pace.fetch_add(1, Ordering::SeqCst);
         }
+        let (Some(house), Some(arrived)) = (self.house.take(), self.arrived.take()) else {
+            return Err(AllocError);
+        };
         if let Some(bell) = self.bell.take()
-            && !is_brief(&self.parts)
+            && is_long(&self.parts, &arrived)
         {
             bell.ring();
         }
-        match (self.house.take(), self.arrived.take()) {
-            (Some(house), Some(arrived)) => house.answers.answer(&self.parts, arrived),
-            _ => Err(AllocError),
-        }
+        house.answers.answer(&self.parts, arrived)
     }
 }
 
@@ -200,13 +201,21 @@ impl<A: Answers, C: Clock + Drop, I: Drop> Future for Exchange<A, C, I> {
     }
 }
 
-/// Whether the answer can't take long: what is published lies ready, and a report is one entry of a fleet.
-fn is_brief(parts: &Parts) -> bool {
+/// Whether the answer may take long. What is published lies ready, and a report is one entry of a fleet.
+fn is_long(parts: &Parts, arrived: &Arrived) -> bool {
     let path = parts.uri.path().as_bytes();
     match parts.method.as_str() {
-        "GET" => path.starts_with(b"/policies") || path.starts_with(b"/geographies"),
-        "POST" => path.starts_with(b"/fleet/events"),
-        _ => false,
+        "GET" => !path.starts_with(b"/policies") && !path.starts_with(b"/geographies"),
+        "POST" => !path.starts_with(b"/fleet/events") || is_large(arrived),
+        _ => true,
+    }
+}
+
+/// Whether there is more to read than what a report needs.
+fn is_large(arrived: &Arrived) -> bool {
+    match arrived {
+        Arrived::Whole(body) => body.len() > SMALL_BODY,
+        Arrived::Broken | Arrived::TooLong | Arrived::NoMemory => false,
     }
 }
 

@@ -20,5 +20,8 @@ pub const ACCEPT_PAUSE_MILLIS: u64 = 20;
 /// ask: so many may be answered at once.
 pub const FEWEST_WORKERS: usize = 2;
 
-/// The most bytes of the configuration's line.
-pub const MOST_LINE: usize = 2_097_152;
+/// The most short answers that one who asks is given at once.
+pub const MOST_SHORT: u32 = 4_096;
+
+/// The most bytes of a report whose answer counts as short.
+pub const SMALL_BODY: usize = 16_384;

@@ -1,0 +1,2 @@
+mod Receptions
+mod Turned

@@ -1,0 +1,101 @@
+//! A hall is served over a listener, and ended.
+ghost use Rattle.std.specs.Prelude.{◌<◌};
+
+use crate::admission::Admission;
+use crate::door::House;
+use crate::limits::FEWEST_WORKERS;
+use crate::moments::Moments;
+use crate::queues::Queues;
+use crate::reception::Reception;
+use crate::serving::serve_all;
+use futures::StreamExt;
+use hyper::rt::TokioTimer;
+use hyper::server::conn::http1::Builder;
+use mds_hall::Hall;
+use mds_parallel::Chunked;
+use mds_snapshot::Naming;
+use std::alloc::AllocGlobal;
+use std::hash::RandomState;
+use std::net::{Net, ToSocketAddrs};
+use std::random::RandomSource;
+use std::sync::{Arc, Wait};
+use std::thread::Threads;
+use std::time::Clock;
+use std::{io, thread};
+use tokio::net::TcpListener;
+use tokio::reactor;
+use tokio::runtime::Runtime;
+
+/// How many threads serve those of these queues: as many as processors, and a thread for each answer that may
+/// take long and for one more.
+pub fn workers<R: Threads>(rt: &R, queues: &Queues) -> usize
+    ensures { 0 < result }
+{
+    let processors = thread::available_parallelism(rt).map_or(FEWEST_WORKERS, |n| n.get());
+    processors.max(queues.threads()).max(FEWEST_WORKERS)
+}
+
+/// A listener at the first address of that name that it takes.
+///
+/// # Errors
+///
+/// The name stands for no address, or none of them can be listened to.
+pub fn bound<N: Net>(net: &N, address: &str, reactor: &reactor::Handle) -> io::Result<TcpListener> {
+    for address in address.to_socket_addrs(net)? {
+        if let Ok(listener) = TcpListener::bind(net, address, reactor) {
+            return Ok(listener);
+        }
+    }
+    Err(io::ErrorKind::AddrNotAvailable.into())
+}
+
+/// Serves so many connections of a listener, or all, and ends the hall.
+///
+/// # Errors
+///
+/// The server couldn't be started, or what waits for events failed.
+pub fn serve<K: Naming + Send + Sync, R, M: Moments + Send + Sync>(
+    rt: &R,
+    runtime: &mut Runtime,
+    listener: TcpListener,
+    hall: Hall<K>,
+    queues: Queues,
+    moments: M,
+    connections: Option<usize>,
+) -> io::Result<()>
+where
+    R: Wait + Threads + Clock + RandomSource + AllocGlobal + Sync + Send + Copy + Drop,
+{
+    let timers = runtime.handle().time().clone()?;
+    let pauses = timers.clone()?;
+    let mut http = Builder::new(rt.alloc(), RandomState::new(rt)?).timer(TokioTimer::new(
+        *rt,
+        timers.clone()?,
+    ));
+    http.header_read_timeout(None);
+    let house = Arc::new(
+        rt.alloc(),
+        House {
+            alloc: rt.alloc(),
+            answers: Reception {
+                rt: *rt,
+                alloc: rt.alloc(),
+                hall,
+                evaluator: Chunked(*rt),
+                moments,
+            },
+            queues,
+            clock: *rt,
+            timers,
+        },
+    )?;
+    let sockets = listener
+        .incoming()
+        .take(connections.unwrap_or(usize::MAX))
+        .filter_map(|accepted| Admission::new(accepted, rt, &pauses));
+    let served = serve_all(rt, runtime, http, sockets, Arc::try_clone(&house)?);
+    if let Some(house) = Arc::into_inner(house) {
+        house.answers.hall.finish(rt);
+    }
+    served
+}
