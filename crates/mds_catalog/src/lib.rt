@@ -19,6 +19,3 @@ pub use catalogue::{Catalogue, MOST_GEOGRAPHIES, MOST_POLICIES, MOST_PUBLICATION
 pub use distinct::are_distinct;
 pub use force::is_meant_for;
 pub use published::Published;
-
-#[cfg(test)]
-mod tests;

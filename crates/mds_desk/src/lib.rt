@@ -8,8 +8,6 @@ mod furnishing;
 mod gate;
 pub mod laws;
 mod operator;
-#[cfg(test)]
-mod tests;
 
 pub use author::AuthorRoom;
 pub use desk::Desk;

@@ -16,7 +16,7 @@ impl Draft {
     ghost use Rattle.mds_drafts.specs.Drafts.{is_of, kind_of, id_of};
 
     /// The document's kind.
-    pub(crate) fn kind(&self) -> DraftKind
+    pub fn kind(&self) -> DraftKind
         ensures { result ≡ kind_of (document_of self.now) }
     {
         match self {

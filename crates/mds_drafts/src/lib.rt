@@ -10,6 +10,3 @@ pub use draft::Draft;
 pub use drafts::{Drafts, MOST_DRAFTS, NoDraft, Put, PutFault};
 pub use list::PublishList;
 pub use publish::PublishFault;
-
-#[cfg(test)]
-mod tests;

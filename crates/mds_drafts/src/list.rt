@@ -53,7 +53,7 @@ impl PublishList {
     }
 
     /// Whether no identifier is named.
-    pub(crate) fn is_empty(&self) -> bool
+    pub fn is_empty(&self) -> bool
         ensures { result ≡ names_nothing (named_of self.now) }
     {
         self.geographies.is_empty() && self.policies.is_empty() && self.withdraw.is_empty()

@@ -9,6 +9,3 @@ mod report;
 
 pub use book::{Absent, Book, BookFault, Taken};
 pub use report::Report;
-
-#[cfg(test)]
-mod tests;

@@ -8,6 +8,3 @@ mod walk;
 
 pub use fault::GeoFault;
 pub use geography::Geography;
-
-#[cfg(test)]
-mod tests;

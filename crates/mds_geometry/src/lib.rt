@@ -30,10 +30,3 @@ pub use coordinate::{
 pub use polygon::Polygon;
 pub use position::Position;
 pub use ring::{Ring, RingFault};
-
-#[cfg(test)]
-mod area_tests;
-#[cfg(test)]
-mod coordinate_tests;
-#[cfg(test)]
-mod tests;

@@ -7,8 +7,6 @@ mod asked;
 mod early;
 mod hall;
 mod response;
-#[cfg(test)]
-mod tests;
 mod turn;
 
 pub use answering::{respond, respond_with};

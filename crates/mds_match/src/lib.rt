@@ -18,6 +18,3 @@ pub use resolved::ResolvedPolicy;
 pub use vehicle::{MOST_VEHICLES, Vehicle};
 pub use window::open_at;
 pub use zone::{Zone, ZoneFault};
-
-#[cfg(test)]
-mod tests;

@@ -66,12 +66,12 @@ impl<R: Threads + Sync, P: Places> Evaluator<P> for Chunked<R> {
     }
 }
 
-/// The verdicts on a policy's rules, whatever the work.
+/// The verdicts on a policy's rules by threads, however little the work; the same as those of one thread.
 ///
 /// # Errors
 ///
 /// Memory ran out.
-pub(crate) fn by_threads<R: Threads + Sync, P: Places>(
+pub fn by_threads<R: Threads + Sync, P: Places>(
     rt: &R,
     alloc: Global,
     policy: &Policy,

@@ -4,7 +4,4 @@
 mod chunked;
 mod table;
 
-pub use chunked::Chunked;
-
-#[cfg(test)]
-mod tests;
+pub use chunked::{Chunked, by_threads};

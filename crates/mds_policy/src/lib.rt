@@ -2,8 +2,6 @@
 #![tactic(auto)]
 
 mod bounds;
-#[cfg(test)]
-mod decimal_tests;
 mod fault;
 mod kind;
 mod lists;
@@ -12,8 +10,6 @@ mod reading;
 mod rule;
 mod served;
 mod states;
-#[cfg(test)]
-mod tests;
 mod window;
 
 pub use fault::PolicyFault;

@@ -23,6 +23,3 @@ pub use fields::{
 pub use node::{Node, NodeMember};
 pub use read::{read_counted, read_tree};
 pub use source::Source;
-
-#[cfg(test)]
-mod tests;

@@ -2,23 +2,9 @@
 //! one answer line goes out for each request.
 #![tactic(auto)]
 
-mod cut;
-mod ends;
-mod fault;
-mod gather;
-mod laws;
-mod lines;
-mod machine;
-mod replay;
-mod run;
-#[cfg(test)]
-mod tests;
-mod world;
-mod write;
-
+use mds_lines::run;
 use mds_verdict::Plain;
 use mds_world::World;
-use run::run;
 use std::io;
 use std::process::ExitCode;
 

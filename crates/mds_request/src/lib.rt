@@ -18,6 +18,3 @@ pub use fault::ConfigFault;
 pub use reply::Reply;
 pub use request::{Request, Verb};
 pub use routes::Routes;
-
-#[cfg(test)]
-mod tests;

@@ -6,8 +6,6 @@ mod arguments;
 mod configuration;
 mod fault;
 mod running;
-#[cfg(test)]
-mod tests;
 
 use running::run;
 use std::process::ExitCode;

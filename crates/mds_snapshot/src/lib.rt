@@ -17,6 +17,3 @@ pub use note::Note;
 pub use opening::{OpenFault, READER_PLACES, open};
 pub use pane::{Look, NotShown, Pane};
 pub use publisher::Publisher;
-
-#[cfg(test)]
-mod tests;

@@ -160,8 +160,8 @@ impl<K: Naming> Publisher<K> {
         self.exchanged(rt, batch, own, after)
     }
 
-    /// The same list, and no more publications.
-    pub(crate) fn closed(self) -> Publisher<K>
+    /// The same list and catalogue, and no more publications: each further one is refused.
+    pub fn closed(self) -> Publisher<K>
         ensures { result ≡ record { publications = self.publications; is_open = false } }
     {
         let Self {

@@ -41,8 +41,3 @@ pub use read::{read_counted, read_tree};
 pub use token::Token;
 pub use tree::{Member, Tree};
 pub use units::Units7;
-
-#[cfg(test)]
-mod number_tests;
-#[cfg(test)]
-mod tests;

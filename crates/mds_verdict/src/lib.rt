@@ -13,6 +13,3 @@ pub use evaluator::{Evaluator, Plain};
 pub use report::report_tree;
 pub use tally::Tally;
 pub use verdict::{MOST_DEVICES, RuleVerdict, Status};
-
-#[cfg(test)]
-mod tests;

@@ -8,8 +8,6 @@ mod compliance;
 mod denied;
 mod operator;
 mod published;
-#[cfg(test)]
-mod tests;
 mod texts;
 mod world;
 

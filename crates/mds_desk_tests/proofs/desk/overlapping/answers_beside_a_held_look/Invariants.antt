@@ -1,0 +1,6 @@
+use Rattle.mds_snapshot.specs.Opening.{book_of}
+use Rattle.mds_desk_tests.proofs.desk.overlapping.answers_beside_a_held_look.Given as goal
+
+-- the book of what was just prepared
+abbrev pub ghosts-overlapped : goal.ghosts-overlapped
+ghosts-overlapped g a = record { book = book_of a.blank }

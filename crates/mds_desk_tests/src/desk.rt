@@ -1,0 +1,323 @@
+//! Scenes for a room and two desks: worked scripts, looks about a publication, and the same with one
+//! growth refused wherever it is.
+ghost use Rattle.std.specs.Prelude.{◌≡◌};
+ghost use Rattle.mds_snapshot.specs.Opening.{book_of};
+
+use crate::city::{BOTH, CAP, CONFIGURATION, NEW, SQUARE};
+use mds_desk::{AuthorRoom, Desk, OpenGate, furnish};
+use mds_request::{Config, Reply, Request, Verb};
+use mds_snapshot::{Blank, Naming, Note, OpenFault, prepare};
+use mds_text::Moment;
+use mds_verdict::Plain;
+use std::alloc::Global;
+use std::marker::Brand;
+use std::process::Abort;
+use std::sync::Wait;
+use std::test::Fail;
+
+mod looks;
+mod memory;
+mod overlapping;
+mod sessions;
+
+const NO_MEMORY: &str = r#"{"error":"no_memory"}"#;
+
+const NO_SNAPSHOT: &str = r#"{"error":"no_snapshot"}"#;
+
+/// A request at a moment, and the body of its success.
+#[derive(Clone, Copy)]
+struct Exchange {
+    at: i64,
+    token: &'static str,
+    verb: Verb,
+    target: &'static str,
+    body: &'static str,
+    success: &'static str,
+}
+
+const PUT_SQUARE: &Exchange = &Exchange {
+    at: 1000,
+    token: "city",
+    verb: Verb::Put,
+    target: "/drafts/geographies/00000000-0000-4000-8000-000000000101",
+    body: SQUARE,
+    success: NEW,
+};
+
+const PUT_CAP: &Exchange = &Exchange {
+    at: 1000,
+    token: "city",
+    verb: Verb::Put,
+    target: "/drafts/policies/00000000-0000-4000-8000-000000000201",
+    body: CAP,
+    success: NEW,
+};
+
+/// Both documents are put.
+const DRAFTS: &[&Exchange] = &[PUT_SQUARE, PUT_CAP];
+
+const PUBLISH: &Exchange = &Exchange {
+    at: 1000,
+    token: "city",
+    verb: Verb::Post,
+    target: "/publish",
+    body: BOTH,
+    success: r#"{"published_date":1000,"revision":1}"#,
+};
+
+const REPORT_FIRST: &Exchange = &Exchange {
+    at: 2000,
+    token: "alfa",
+    verb: Verb::Post,
+    target: "/fleet/events",
+    body: r#"{"device_id":"00000000-0000-4000-8000-000000000401","vehicle_type":"scooter","propulsion_types":["electric"],"vehicle_state":"available","event_types":["trip_end"],"timestamp":2000,"location":{"lat":5,"lng":5}}"#,
+    success: NEW,
+};
+
+const WITHIN: &Exchange = &Exchange {
+    at: 2000,
+    token: "alfa",
+    verb: Verb::Get,
+    target: "/compliance",
+    body: "",
+    success: r#"{"at":2000,"policies":[{"policy_id":"00000000-0000-4000-8000-000000000201","rules":[{"measure":1,"rule_id":"00000000-0000-4000-8000-000000000301","status":"ok"}]}],"revision":1,"version":2}"#,
+};
+
+const REPORT_SECOND: &Exchange = &Exchange {
+    at: 2001,
+    token: "alfa",
+    verb: Verb::Post,
+    target: "/fleet/events",
+    body: r#"{"device_id":"00000000-0000-4000-8000-000000000402","vehicle_type":"scooter","propulsion_types":["electric"],"vehicle_state":"available","event_types":["trip_end"],"timestamp":2001,"location":{"lat":5,"lng":5}}"#,
+    success: NEW,
+};
+
+const EXCEEDED: &Exchange = &Exchange {
+    at: 2001,
+    token: "alfa",
+    verb: Verb::Get,
+    target: "/compliance",
+    body: "",
+    success: r#"{"at":2001,"policies":[{"policy_id":"00000000-0000-4000-8000-000000000201","rules":[{"devices":["00000000-0000-4000-8000-000000000401","00000000-0000-4000-8000-000000000402"],"measure":2,"rule_id":"00000000-0000-4000-8000-000000000301","status":"violated"}]}],"revision":1,"version":2}"#,
+};
+
+/// One vehicle is reported, and then another.
+const LINES: &[&Exchange; 4] = &[REPORT_FIRST, WITHIN, REPORT_SECOND, EXCEEDED];
+
+/// What is answered where no vehicle is counted, at 2000.
+const NONE_COUNTED: &str =
+    r#"{"at":2000,"policies":[{"policy_id":"00000000-0000-4000-8000-000000000201","rules":[{"measure":0,"rule_id":"00000000-0000-4000-8000-000000000301","status":"ok"}]}],"revision":1,"version":2}"#;
+
+const NONE_FOR_ALFA: &Exchange = &Exchange {
+    at: 2000,
+    token: "alfa",
+    verb: Verb::Get,
+    target: "/compliance",
+    body: "",
+    success: NONE_COUNTED,
+};
+
+const NONE_FOR_BRAVO: &Exchange = &Exchange {
+    at: 2000,
+    token: "bravo",
+    verb: Verb::Get,
+    target: "/compliance",
+    body: "",
+    success: NONE_COUNTED,
+};
+
+/// What is answered where nothing is published, at 2000.
+const NOTHING_PUBLISHED: &str = r#"{"at":2000,"policies":[],"revision":0,"version":2}"#;
+
+const NOTHING_FOR_ALFA: &Exchange = &Exchange {
+    at: 2000,
+    token: "alfa",
+    verb: Verb::Get,
+    target: "/compliance",
+    body: "",
+    success: NOTHING_PUBLISHED,
+};
+
+const NOTHING_FOR_BRAVO: &Exchange = &Exchange {
+    at: 2000,
+    token: "bravo",
+    verb: Verb::Get,
+    target: "/compliance",
+    body: "",
+    success: NOTHING_PUBLISHED,
+};
+
+const GEOGRAPHIES: &Exchange = &Exchange {
+    at: 1000,
+    token: "alfa",
+    verb: Verb::Get,
+    target: "/geographies",
+    body: "",
+    success: r#"{"geographies":[{"geography_id":"00000000-0000-4000-8000-000000000101","geography_json":{"features":[{"geometry":{"coordinates":[[[[0,0],[10,0],[10,10],[0,10],[0,0]]]],"type":"MultiPolygon"},"properties":null,"type":"Feature"}],"type":"FeatureCollection"},"name":"square","published_date":1000}],"revision":1}"#,
+};
+
+const POLICY: &Exchange = &Exchange {
+    at: 1000,
+    token: "alfa",
+    verb: Verb::Get,
+    target: "/policies/00000000-0000-4000-8000-000000000201",
+    body: "",
+    success: r#"{"policy":{"name":"cap","policy_id":"00000000-0000-4000-8000-000000000201","published_date":1000,"rules":[{"geographies":["00000000-0000-4000-8000-000000000101"],"maximum":1,"name":"cap","rule_id":"00000000-0000-4000-8000-000000000301","rule_type":"count"}],"start_date":1000},"revision":1}"#,
+};
+
+/// What is done with a room and the desks of two operators, none of which has heard of anything.
+trait Scene {
+    ghost use Rattle.std.specs.Prelude.{⊤};
+
+    /// What it takes to play it.
+    ghost may_play: { Type 0 } = { ⊤ };
+
+    /// Says whether it was played to its end: not so where memory ran out.
+    fn play<K: Naming, R: Wait + Abort>(
+        &self,
+        rt: &R,
+        alloc: Global,
+        room: &mut AuthorRoom<K>,
+        alfa: &mut Desk<K>,
+        bravo: Desk<K>,
+    ) -> Result<bool, Fail>
+        requires ready { may_play };
+}
+
+/// Plays a scene on what is furnished for the configuration.
+fn stage<S: Scene, R: Wait + Abort>(rt: &R, alloc: Global, scene: &S) -> Result<bool, Fail>
+    requires { S.may_play }
+{
+    let Ok(config) = Config::read(alloc, CONFIGURATION) else {
+        return Ok(false);
+    };
+    let Ok(blank) = prepare(alloc) else {
+        return Ok(false);
+    };
+    furnished::<Brand, S, R>(rt, alloc, config, blank, scene)
+}
+
+/// Plays a scene, and ends the room: a desk has nothing to show then.
+fn furnished<K: Naming, S: Scene, R: Wait + Abort>(
+    rt: &R,
+    alloc: Global,
+    config: Config,
+    blank: Blank,
+    scene: &S,
+) -> Result<bool, Fail>
+    requires named { book_of blank ≡ K.book }
+    requires ready { S.may_play }
+{
+    match furnish::<K, R>(rt, alloc, config, blank) {
+        Ok((mut room, mut desks)) => {
+            assert_eq!(rt; desks.len(), 2);
+            let (Some(bravo), Some(mut alfa)) = (desks.pop(), desks.pop()) else {
+                room.finish(rt);
+                return Err(Fail::from("two desks"));
+            };
+            let outcome = scene.play(rt, alloc, &mut room, &mut alfa, bravo);
+            room.finish(rt);
+            let is_played = outcome?;
+            let reply = asked(rt, &mut alfa, NOTHING_FOR_ALFA);
+            assert_refused(rt, &reply, 503, NO_SNAPSHOT);
+            Ok(is_played)
+        }
+        Err(fault) => {
+            assert!(rt; fault == OpenFault::NoMemory);
+            Ok(false)
+        }
+    }
+}
+
+fn moment(rt: &impl Abort, exchange: &Exchange) -> Moment {
+    Moment::new(exchange.at).expect(rt, "a moment")
+}
+
+fn request(at: Moment, exchange: &Exchange) -> Request<'_> {
+    Request {
+        at,
+        token: exchange.token.as_bytes(),
+        verb: exchange.verb,
+        target: exchange.target.as_bytes(),
+        body: exchange.body.as_bytes(),
+    }
+}
+
+fn asked<K: Naming>(rt: &impl Abort, desk: &mut Desk<K>, exchange: &Exchange) -> Reply {
+    let request = request(moment(rt, exchange), exchange);
+    desk.answer(&request, &mut OpenGate, &Plain)
+}
+
+/// This is the exchange's reply.
+fn assert_success(rt: &impl Abort, reply: &Reply, exchange: &Exchange) {
+    assert_eq!(rt; reply.status(), 200);
+    assert_eq!(rt; reply.body(), exchange.success.as_bytes());
+}
+
+/// This reply is no success, and says so.
+fn assert_refused(rt: &impl Abort, reply: &Reply, status: u16, body: &str) {
+    assert_eq!(rt; reply.status(), status);
+    assert_eq!(rt; reply.body(), body.as_bytes());
+}
+
+/// The desk gives the exchange's reply.
+fn assert_answers<K: Naming>(rt: &impl Abort, desk: &mut Desk<K>, exchange: &Exchange) {
+    let reply = asked(rt, desk, exchange);
+    assert_success(rt, &reply, exchange);
+}
+
+/// The desk gives the reply of each exchange.
+fn assert_answers_each<K: Naming>(rt: &impl Abort, desk: &mut Desk<K>, exchanges: &[&Exchange]) {
+    for exchange in exchanges {
+        assert_answers(rt, desk, exchange);
+    }
+}
+
+/// The requests of two exchanges.
+fn two_requests<'a>(rt: &impl Abort, exchanges: &'a [&'a Exchange; 2]) -> [Request<'a>; 2] {
+    let [first, second] = exchanges;
+    [
+        request(moment(rt, first), first),
+        request(moment(rt, second), second),
+    ]
+}
+
+/// These are the exchanges' replies.
+fn assert_successes(rt: &impl Abort, replies: &[Reply], exchanges: &[&Exchange]) {
+    for (reply, exchange) in replies.iter().zip(exchanges) {
+        assert_success(rt, reply, exchange);
+    }
+}
+
+/// What the author's room answers to an exchange's request.
+fn room_turn<K: Naming, R: Wait + Abort>(
+    rt: &R,
+    room: &mut AuthorRoom<K>,
+    exchange: &Exchange,
+) -> (Reply, Option<Note<K>>) {
+    room.answer(rt, &request(moment(rt, exchange), exchange))
+}
+
+/// The room gives the exchange's reply, and perhaps a note.
+fn room_answers<K: Naming, R: Wait + Abort>(
+    rt: &R,
+    room: &mut AuthorRoom<K>,
+    exchange: &Exchange,
+) -> Option<Note<K>> {
+    let (reply, note) = room_turn(rt, room, exchange);
+    assert_success(rt, &reply, exchange);
+    note
+}
+
+/// Puts both documents, of which no note comes.
+fn draft<K: Naming, R: Wait + Abort>(rt: &R, room: &mut AuthorRoom<K>) {
+    for exchange in DRAFTS {
+        assert!(rt; room_answers(rt, room, exchange).is_none());
+    }
+}
+
+/// Puts both documents and publishes them.
+fn set_up<K: Naming, R: Wait + Abort>(rt: &R, room: &mut AuthorRoom<K>) -> Note<K> {
+    draft(rt, room);
+    room_answers(rt, room, PUBLISH).expect(rt, "a note")
+}

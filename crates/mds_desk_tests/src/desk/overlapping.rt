@@ -1,0 +1,272 @@
+//! Desks and the room in threads that overlap: one waits for what another does, within a limit.
+ghost use Rattle.std.specs.Prelude.{◌≡◌};
+ghost use Rattle.mds_snapshot.specs.Opening.{book_of};
+
+use super::looks::{EMPTY, POLICIES};
+use super::*;
+use mds_desk::Gate;
+use std::sync::atomic::{AtomicBool, Ordering};
+use std::thread::{Threads, join, yield_now};
+
+/// The most turns of a wait for another thread. A wait that meets it fails the test.
+const MOST_TURNS: u32 = 50_000_000;
+
+/// Waits for a flag, and says whether it was set within the limit.
+fn is_set_in_time(flag: &AtomicBool) -> bool {
+    for _ in 0..MOST_TURNS {
+        if flag.load(Ordering::SeqCst) {
+            return true;
+        }
+        yield_now();
+    }
+    false
+}
+
+/// What one thread tells another.
+#[derive(Drop)]
+struct Signals {
+    /// A desk has looked.
+    looked: AtomicBool,
+    /// Another desk has answered.
+    answered: AtomicBool,
+}
+
+impl Signals {
+    fn new() -> Signals {
+        Signals {
+            looked: AtomicBool::new(false),
+            answered: AtomicBool::new(false),
+        }
+    }
+}
+
+/// What is done in a thread of its own.
+trait Errand {
+    type Outcome;
+
+    fn run(self) -> Self::Outcome;
+}
+
+/// Runs an errand in a thread of its own, and does something else meanwhile.
+fn beside<R: Threads, E: Errand<Outcome = A> + Send + Drop, A: Send, B, F: FnOnce() -> B>(
+    rt: &R,
+    errand: E,
+    meanwhile: F,
+) -> (A, B)
+    requires { F.pre meanwhile }
+{
+    join(rt, move || -> A { errand.run() }, meanwhile)
+}
+
+/// Holds a look until the other desk has answered, and knows whether it did so in time.
+#[derive(Drop)]
+struct Holding<'a> {
+    signals: &'a Signals,
+    in_time: bool,
+}
+
+impl Gate for Holding<'_> {
+    fn held(&mut self) {
+        self.signals.looked.store(true, Ordering::SeqCst);
+        self.in_time = is_set_in_time(&self.signals.answered);
+    }
+}
+
+/// A desk whose look is held until another desk has answered.
+#[derive(Drop)]
+struct HeldDesk<'a, K: Naming> {
+    desk: &'a mut Desk<K>,
+    signals: &'a Signals,
+}
+
+impl<K: Naming> Errand for HeldDesk<'_, K> {
+    type Outcome = Option<Reply>;
+
+    /// The reply, where the other desk answered while this one's look was held.
+    fn run(self) -> Option<Reply> {
+        let exchange = NONE_FOR_ALFA;
+        let request = request(Moment::new(exchange.at)?, exchange);
+        let mut gate = Holding {
+            signals: self.signals,
+            in_time: false,
+        };
+        let reply = self.desk.answer(&request, &mut gate, &Plain);
+        if gate.in_time { Some(reply) } else { None }
+    }
+}
+
+/// The reply, asked for once the other desk's look is held.
+fn answered_meanwhile<K: Naming>(desk: &mut Desk<K>, signals: &Signals) -> Option<Reply> {
+    if !is_set_in_time(&signals.looked) {
+        return None;
+    }
+    let exchange = NONE_FOR_BRAVO;
+    let request = request(Moment::new(exchange.at)?, exchange);
+    let reply = desk.answer(&request, &mut OpenGate, &Plain);
+    signals.answered.store(true, Ordering::SeqCst);
+    Some(reply)
+}
+
+fn two_desks<K: Naming + Send + Sync, R: Threads + Wait + Abort>(
+    rt: &R,
+    room: &mut AuthorRoom<K>,
+    alfa: &mut Desk<K>,
+    bravo: &mut Desk<K>,
+) {
+    let note = set_up(rt, room);
+    alfa.learn(&note);
+    bravo.learn(&note);
+    let signals = Signals::new();
+    let held = HeldDesk {
+        desk: alfa,
+        signals: &signals,
+    };
+    let (first, second) = beside(rt, held, || answered_meanwhile(bravo, &signals));
+    assert_success(rt, &first.expect(rt, "alfa in time"), NONE_FOR_ALFA);
+    assert_success(rt, &second.expect(rt, "bravo in time"), NONE_FOR_BRAVO);
+}
+
+/// Lets the author publish at its first call.
+#[derive(Drop)]
+struct Starting<'a> {
+    signals: &'a Signals,
+}
+
+impl Gate for Starting<'_> {
+    fn held(&mut self) {
+        self.signals.looked.store(true, Ordering::SeqCst);
+    }
+}
+
+/// A desk that answers three requests while the author publishes.
+#[derive(Drop)]
+struct RunningDesk<'a, K: Naming> {
+    desk: &'a mut Desk<K>,
+    signals: &'a Signals,
+}
+
+impl<K: Naming> Errand for RunningDesk<'_, K> {
+    type Outcome = Option<[u64; 3]>;
+
+    /// The revisions of the replies, each of which lists just what is published at it.
+    fn run(self) -> Option<[u64; 3]> {
+        let moment = Moment::new(POLICIES.at)?;
+        let requests = [
+            request(moment, POLICIES),
+            request(moment, POLICIES),
+            request(moment, POLICIES),
+        ];
+        let mut gate = Starting {
+            signals: self.signals,
+        };
+        let replies = self.desk.run(&requests, &mut gate, &Plain).ok()?;
+        match replies.as_slice() {
+            [first, second, third] => Some([listed(first)?, listed(second)?, listed(third)?]),
+            _ => None,
+        }
+    }
+}
+
+/// The revision of a reply that lists just what is published at it.
+fn listed(reply: &Reply) -> Option<u64> {
+    match reply.body() {
+        _ if reply.status() != 200 => None,
+        body if body == EMPTY.as_bytes() => Some(0),
+        body if body == POLICIES.success.as_bytes() => Some(1),
+        _ => None,
+    }
+}
+
+/// Publishes once the desk has looked.
+fn published_meanwhile<K: Naming, R: Wait>(
+    rt: &R,
+    room: &mut AuthorRoom<K>,
+    signals: &Signals,
+) -> Option<(Reply, Note<K>)> {
+    if !is_set_in_time(&signals.looked) {
+        return None;
+    }
+    let (reply, note) = room.answer(rt, &request(Moment::new(PUBLISH.at)?, PUBLISH));
+    Some((reply, note?))
+}
+
+/// The revisions of a run, while the author publishes in this thread.
+fn published_beside<K: Naming + Send + Sync, R: Threads + Wait>(
+    rt: &R,
+    room: &mut AuthorRoom<K>,
+    desk: &mut Desk<K>,
+) -> (Option<[u64; 3]>, Option<(Reply, Note<K>)>) {
+    let signals = Signals::new();
+    let running = RunningDesk {
+        desk,
+        signals: &signals,
+    };
+    beside(rt, running, || published_meanwhile(rt, room, &signals))
+}
+
+fn publication_between<K: Naming + Send + Sync, R: Threads + Wait + Abort>(
+    rt: &R,
+    room: &mut AuthorRoom<K>,
+    alfa: &mut Desk<K>,
+) {
+    draft(rt, room);
+    let (revisions, published) = published_beside(rt, room, alfa);
+    let [first, second, third] = revisions.expect(rt, "three replies");
+    assert_eq!(rt; first, 0);
+    assert!(rt; second <= third);
+    let (reply, note) = published.expect(rt, "a publication in time");
+    assert_success(rt, &reply, PUBLISH);
+    alfa.learn(&note);
+    assert_answers(rt, alfa, POLICIES);
+}
+
+/// What two threads do with a room and its desks.
+#[derive(Clone, Copy)]
+enum Overlap {
+    TwoDesks,
+    PublicationBetweenLooks,
+}
+
+/// Has it done with what is furnished for the configuration.
+fn overlapped<K: Naming + Send + Sync, R: Threads + Wait + Abort>(
+    rt: &R,
+    alloc: Global,
+    config: Config,
+    blank: Blank,
+    overlap: Overlap,
+) -> Result<(), Fail>
+    requires { book_of blank ≡ K.book }
+{
+    let (mut room, mut desks) = furnish::<K, R>(rt, alloc, config, blank)?;
+    let outcome = match (desks.pop(), desks.pop()) {
+        (Some(mut bravo), Some(mut alfa)) => match overlap {
+            Overlap::TwoDesks => Ok(two_desks(rt, &mut room, &mut alfa, &mut bravo)),
+            Overlap::PublicationBetweenLooks => Ok(publication_between(rt, &mut room, &mut alfa)),
+        },
+        _ => Err(Fail::from("two desks")),
+    };
+    room.finish(rt);
+    outcome
+}
+
+/// One desk answers while another's look is held.
+#[test]
+fn answers_beside_a_held_look(rt: HostRuntime) -> Result<(), Fail> {
+    let config = Config::read(rt.alloc(), CONFIGURATION)?;
+    let blank = prepare(rt.alloc())?;
+    overlapped::<Brand, _>(&rt, rt.alloc(), config, blank, Overlap::TwoDesks)
+}
+
+/// The author publishes while a desk answers a run of requests.
+#[test]
+fn a_publication_between_the_looks_of_a_run(rt: HostRuntime) -> Result<(), Fail> {
+    let config = Config::read(rt.alloc(), CONFIGURATION)?;
+    let blank = prepare(rt.alloc())?;
+    overlapped::<Brand, _>(
+        &rt,
+        rt.alloc(),
+        config,
+        blank,
+        Overlap::PublicationBetweenLooks,
+    )
+}

@@ -1,0 +1,12 @@
+//! Tests of what is shown to threads: snapshots, desks, halls. They use public items alone, and stand here so that their proof
+//! doesn't prove those crates again.
+#![tactic(auto)]
+
+#[cfg(test)]
+mod city;
+#[cfg(test)]
+mod desk;
+#[cfg(test)]
+mod hall;
+#[cfg(test)]
+mod snapshot;

@@ -1,0 +1,238 @@
+ghost use Rattle.std.specs.Prelude.{◌≡◌};
+ghost use Rattle.mds_snapshot.specs.Opening.{book_of};
+
+use mds_catalog::{Batch, Catalogue};
+use mds_geography::Geography;
+use mds_policy::Policy;
+use mds_snapshot::{Blank, Naming, Note, OpenFault, Pane, Publisher, open, prepare};
+use mds_text::{Id, Moment};
+use std::alloc::{AllocError, Global};
+use std::marker::Brand;
+use std::process::Abort;
+use std::sync::{Arc, Wait};
+use std::test::Fail;
+
+const G1: &str = "00000000-0000-4000-8000-000000000101";
+
+const P1: &str = "00000000-0000-4000-8000-000000000201";
+
+const P2: &str = "00000000-0000-4000-8000-000000000202";
+
+/// A policy on the square, and another that takes its place.
+const CAP: &[u8] =
+    br#"{"policy_id":"00000000-0000-4000-8000-000000000201","name":"cap","start_date":1000,"rules":[{"rule_id":"00000000-0000-4000-8000-000000000301","name":"cap","rule_type":"count","geographies":["00000000-0000-4000-8000-000000000101"],"maximum":1}]}"#;
+
+const NEXT: &[u8] =
+    br#"{"policy_id":"00000000-0000-4000-8000-000000000202","name":"next","start_date":86401000,"prev_policies":["00000000-0000-4000-8000-000000000201"],"rules":[{"rule_id":"00000000-0000-4000-8000-000000000302","name":"cap","rule_type":"count","geographies":["00000000-0000-4000-8000-000000000101"],"maximum":1}]}"#;
+
+const SQUARE: &[u8] =
+    br#"{"geography_id":"00000000-0000-4000-8000-000000000101","name":"square","geography_json":{"type":"Polygon","coordinates":[[[0,0],[10,0],[10,10],[0,10],[0,0]]]}}"#;
+
+fn id(text: &str) -> Result<Id, Fail> {
+    Ok(Id::read(text).ok_or("no identifier")?)
+}
+
+/// A batch of these geographies and of the policy of this text; none, memory ran out.
+fn batch(
+    alloc: Global,
+    at: i64,
+    geographies: Vec<Arc<Geography>>,
+    text: &[u8],
+) -> Option<Arc<Batch>> {
+    let mut policies = Vec::new(alloc);
+    let policy = Policy::read(alloc, text).ok()?;
+    policies.push(Arc::new(alloc, policy).ok()?).ok()?;
+    let moment = Moment::new(at)?;
+    let batch = Batch::new(alloc, moment, geographies, policies, Vec::new(alloc)).ok()?;
+    Arc::new(alloc, batch).ok()
+}
+
+/// The first policy with the square; none, memory ran out.
+fn first(alloc: Global) -> Option<Arc<Batch>> {
+    let mut geographies = Vec::new(alloc);
+    let square = Geography::read(alloc, SQUARE).ok()?;
+    geographies.push(Arc::new(alloc, square).ok()?).ok()?;
+    batch(alloc, 1000, geographies, CAP)
+}
+
+/// The policy that takes its place, a second later; none, memory ran out.
+fn second(alloc: Global) -> Option<Arc<Batch>> {
+    batch(alloc, 2000, Vec::new(alloc), NEXT)
+}
+
+fn both(alloc: Global) -> Option<(Arc<Batch>, Arc<Batch>)> {
+    Some((first(alloc)?, second(alloc)?))
+}
+
+/// Publishes a batch that has to be lawful.
+fn publish<K: Naming, R: Wait + Abort>(
+    rt: &R,
+    publisher: &mut Publisher<K>,
+    batch: &Arc<Batch>,
+) -> Result<Note<K>, AllocError> {
+    assert!(rt; publisher.catalogue().lawful(batch));
+    publisher.publish(rt, Arc::try_clone(batch)?)
+}
+
+/// Shows the first so many batches: the square and the first policy, then the other policy.
+fn assert_front<R: Abort>(rt: &R, catalogue: &Catalogue, length: u64) -> Result<(), Fail> {
+    assert_eq!(rt; catalogue.revision(), length);
+    assert_eq!(rt; catalogue.geography(id(G1)?).is_some(), length >= 1);
+    assert_eq!(rt; catalogue.policy(id(P1)?).is_some(), length >= 1);
+    assert_eq!(rt; catalogue.policy(id(P2)?).is_some(), length >= 2);
+    Ok(())
+}
+
+/// Looks, and leaves: so many batches have to be shown.
+fn shown<K: Naming, R: Abort>(rt: &R, pane: Pane<K>, length: u64) -> Result<Pane<K>, Fail> {
+    let Ok(look) = pane.look() else {
+        return Err(Fail::from("not shown"));
+    };
+    assert_front(rt, look.catalogue(), length)?;
+    Ok(look.leave())
+}
+
+/// Learns of so many batches: they have to be shown.
+fn told<K: Naming, R: Abort>(
+    rt: &R,
+    mut pane: Pane<K>,
+    note: &Note<K>,
+    length: u64,
+) -> Result<Pane<K>, Fail> {
+    pane.learn(note);
+    shown(rt, pane, length)
+}
+
+#[test]
+fn notes_reach_each_pane(rt: HostRuntime) -> Result<(), Fail> {
+    let batches = both(rt.alloc()).ok_or("batches")?;
+    let blank = prepare(rt.alloc())?;
+    opened::<Brand, _>(&rt, rt.alloc(), blank, &batches)
+}
+
+fn opened<K: Naming, R: Wait + Abort>(
+    rt: &R,
+    alloc: Global,
+    blank: Blank,
+    batches: &(Arc<Batch>, Arc<Batch>),
+) -> Result<(), Fail>
+    requires { book_of blank ≡ K.book }
+{
+    let (mut publisher, panes) = open::<K, R>(rt, alloc, blank, 2)?;
+    let outcome = in_turn(rt, &mut publisher, panes, batches);
+    publisher.finish(rt);
+    let pane = outcome?;
+    match pane.look() {
+        Ok(_) => panic!(rt; "shown after the end"),
+        Err(gone) => drop(gone.pane),
+    }
+    Ok(())
+}
+
+/// A pane's first look: nothing is published.
+fn fresh<K: Naming, R: Abort>(rt: &R, panes: &mut Vec<Pane<K>>) -> Result<Pane<K>, Fail> {
+    let pane = panes.pop().ok_or("a pane")?;
+    shown(rt, pane, 0)
+}
+
+fn in_turn<K: Naming, R: Wait + Abort>(
+    rt: &R,
+    publisher: &mut Publisher<K>,
+    mut panes: Vec<Pane<K>>,
+    batches: &(Arc<Batch>, Arc<Batch>),
+) -> Result<Pane<K>, Fail> {
+    let left = fresh(rt, &mut panes)?;
+    let right = fresh(rt, &mut panes)?;
+    assert!(rt; panes.is_empty());
+    let note = publish(rt, publisher, &batches.0)?;
+    let right = told(rt, right, &note.again(), 1)?;
+    let left = told(rt, left, &note, 1)?;
+    told_late(rt, publisher, &batches.1, left, &note)?;
+    shown(rt, right, 2)
+}
+
+/// An older note takes nothing away from what a pane learnt.
+fn told_late<K: Naming, R: Wait + Abort>(
+    rt: &R,
+    publisher: &mut Publisher<K>,
+    batch: &Arc<Batch>,
+    mut pane: Pane<K>,
+    older: &Note<K>,
+) -> Result<(), Fail> {
+    pane.learn(&publish(rt, publisher, batch)?);
+    told(rt, pane, older, 2)?;
+    assert_front(rt, publisher.catalogue(), 2)
+}
+
+/// With one growth refused, wherever it is: what isn't opened wants memory; publications, notes, what is
+/// learnt and looks take none.
+#[test]
+fn survives_want_of_memory(rt: HostRuntime) -> Result<(), Fail> {
+    let alloc = rt.alloc();
+    let batches = match both(alloc) {
+        Some(batches) => batches,
+        None => both(alloc).ok_or("batches")?,
+    };
+    let blank = match prepare(alloc) {
+        Ok(blank) => blank,
+        Err(_) => prepare(alloc)?,
+    };
+    wanting::<Brand, _>(&rt, alloc, blank, &batches)
+}
+
+fn wanting<K: Naming, R: Wait + Abort>(
+    rt: &R,
+    alloc: Global,
+    blank: Blank,
+    batches: &(Arc<Batch>, Arc<Batch>),
+) -> Result<(), Fail>
+    requires { book_of blank ≡ K.book }
+{
+    match open::<K, R>(rt, alloc, blank, 64) {
+        Ok((mut publisher, panes)) => {
+            let pane = at_each_place(rt, &mut publisher, panes, &batches.0);
+            let mut closed = publisher.closed();
+            let outcome = match pane {
+                Ok(pane) => refused(rt, &mut closed, pane, &batches.1),
+                Err(fail) => Err(fail),
+            };
+            closed.finish(rt);
+            outcome
+        }
+        Err(fault) => {
+            assert!(rt; fault == OpenFault::NoMemory);
+            Ok(())
+        }
+    }
+}
+
+/// Publishes a batch, of which each pane learns. It gives one of them back.
+fn at_each_place<K: Naming, R: Wait + Abort>(
+    rt: &R,
+    publisher: &mut Publisher<K>,
+    mut panes: Vec<Pane<K>>,
+    batch: &Arc<Batch>,
+) -> Result<Pane<K>, Fail> {
+    assert_eq!(rt; panes.len(), 64);
+    let note = publish(rt, publisher, batch)?;
+    let kept = told(rt, panes.pop().ok_or("a pane")?, &note, 1)?;
+    for pane in panes {
+        told(rt, pane, &note.again(), 1)?;
+    }
+    assert_front(rt, publisher.catalogue(), 1)?;
+    Ok(kept)
+}
+
+/// A publisher that is closed refuses every batch, and keeps its list and its catalogue.
+fn refused<K: Naming, R: Wait + Abort>(
+    rt: &R,
+    closed: &mut Publisher<K>,
+    pane: Pane<K>,
+    batch: &Arc<Batch>,
+) -> Result<(), Fail> {
+    for _ in 0..2 {
+        assert!(rt; publish(rt, closed, batch).is_err());
+    }
+    shown(rt, pane, 1)?;
+    assert_front(rt, closed.catalogue(), 1)
+}

@@ -1,0 +1,363 @@
+use mds_reading::{
+    Node, Source, document_of, entries_of, member_at, object_of, read_counted, read_tree,
+    required_id, required_member, required_moment, required_text, required_token, text_at,
+    tokens_at,
+};
+use mds_text::{Field, Id, TextFault, Tree, print_tree};
+use std::alloc::Global;
+use std::process::Abort;
+use std::test::Fail;
+
+/// The first example of RFC 8259, section 13.
+const IMAGE: &str =
+    "{ \"Image\": { \"Width\":  800, \"Height\": 600, \"Title\":  \"View from 15th Floor\",
+    \"Thumbnail\": { \"Url\":    \"http://www.example.com/image/481989943\", \"Height\": 125,
+    \"Width\":  100 }, \"Animated\" : false, \"IDs\": [116, 943, 234, 38793] } }";
+
+/// The same, compact and with names in byte order.
+const COMPACT: &str = "{\"Image\":{\"Animated\":false,\"Height\":600,\"IDs\":[116,943,234,38793],\
+    \"Thumbnail\":{\"Height\":125,\"Url\":\"http://www.example.com/image/481989943\",\"Width\":100},\
+    \"Title\":\"View from 15th Floor\",\"Width\":800}}";
+
+/// Asserts what a text is read as, printed, and how many of its numbers aren't plain; `read_counted` of
+/// the crate below says the same.
+fn expect_read(
+    rt: &impl Abort,
+    alloc: Global,
+    text: &str,
+    want: &str,
+    count: u64,
+) -> Result<(), Fail> {
+    let (tree, quoted) = read_counted(alloc, text.as_bytes())?;
+    let printed = print_tree(alloc, &tree)?;
+    assert!(rt; printed.as_slice() == want.as_bytes(), "{text}");
+    assert_eq!(rt; quoted, count, "{text}");
+    let (tree, quoted) = mds_text::read_counted(alloc, text.as_bytes())?;
+    let printed = print_tree(alloc, &tree)?;
+    assert!(rt; printed.as_slice() == want.as_bytes(), "{text}");
+    assert_eq!(rt; quoted, count, "{text}");
+    Ok(())
+}
+
+/// Whether the text is no JSON.
+fn is_bad_json(alloc: Global, text: &[u8]) -> bool {
+    matches!(read_tree(alloc, text), Err(TextFault::BadJson))
+}
+
+/// A text, what is printed of it, and how many of its numbers aren't plain.
+struct ReadCase {
+    text: &'static str,
+    want: &'static str,
+    count: u64,
+}
+
+const TEXTS: &[ReadCase] = &[
+    ReadCase {
+        text: IMAGE,
+        want: COMPACT,
+        count: 0,
+    },
+    ReadCase {
+        text: " [ ] ",
+        want: "[]",
+        count: 0,
+    },
+    ReadCase {
+        text: "{}",
+        want: "{}",
+        count: 0,
+    },
+    ReadCase {
+        text: r#"[null,true,false,"x",[[]],{"a":{}}]"#,
+        want: r#"[null,true,false,"x",[[]],{"a":{}}]"#,
+        count: 0,
+    },
+    ReadCase {
+        text: "\"\\u000b\\/\\t\\\\\\\"\\u20ac\"",
+        want: "\"\\u000b/\\t\\\\\\\"\u{20ac}\"",
+        count: 0,
+    },
+    ReadCase {
+        text: "\"1.5\"",
+        want: "\"1.5\"",
+        count: 0,
+    },
+    ReadCase {
+        text: "-12",
+        want: "-12",
+        count: 0,
+    },
+    ReadCase {
+        text: " 1.50 ",
+        want: "\"1.50\"",
+        count: 1,
+    },
+    ReadCase {
+        text: "[-0,0,1e5,1E5,0.0,-7]",
+        want: r#"["-0",0,"1e5","1E5","0.0",-7]"#,
+        count: 4,
+    },
+    ReadCase {
+        text: "[123456789012345678,-999999999999999999,1234567890123456789]",
+        want: r#"[123456789012345678,-999999999999999999,"1234567890123456789"]"#,
+        count: 1,
+    },
+    ReadCase {
+        text: r#"{"a":-0,"b":[1.50,12]}"#,
+        want: r#"{"a":"-0","b":["1.50",12]}"#,
+        count: 2,
+    },
+];
+
+#[test]
+fn texts_are_read(rt: HostRuntime) -> Result<(), Fail> {
+    let alloc = rt.alloc();
+    for case in TEXTS {
+        expect_read(&rt, alloc, case.text, case.want, case.count)?;
+    }
+    Ok(())
+}
+
+const NAMES: &[ReadCase] = &[
+    ReadCase {
+        text: r#"{"ab":1,"a":2,"":3,"B":4,"é":5,"b":6}"#,
+        want: r#"{"":3,"B":4,"a":2,"ab":1,"b":6,"é":5}"#,
+        count: 0,
+    },
+    ReadCase {
+        text: r#"{"b":1.5,"a":2,"b":[3]}"#,
+        want: r#"{"a":2,"b":[3]}"#,
+        count: 1,
+    },
+    ReadCase {
+        text: r#"{"\u0061":1,"a":2}"#,
+        want: r#"{"a":2}"#,
+        count: 0,
+    },
+    ReadCase {
+        text: r#"[{"a":1},{"a":2}]"#,
+        want: r#"[{"a":1},{"a":2}]"#,
+        count: 0,
+    },
+    ReadCase {
+        text: "{1.5:2}",
+        want: r#"{"1.5":2}"#,
+        count: 1,
+    },
+];
+
+/// Names stand in byte order, and of equal ones the last is kept.
+#[test]
+fn names_are_ordered(rt: HostRuntime) -> Result<(), Fail> {
+    let alloc = rt.alloc();
+    for case in NAMES {
+        expect_read(&rt, alloc, case.text, case.want, case.count)?;
+    }
+    Ok(())
+}
+
+/// An object of the names of two of these digits, in their order.
+fn hundred(alloc: Global, digits: &[&str], mark: &str) -> Result<String, Fail> {
+    let mut text = String::from_str(alloc, "{\"\":0")?;
+    for tens in digits {
+        for ones in digits {
+            text.push_str(&format!(in alloc; ",\"{tens}{ones}\":{mark}{ones}.5{mark}")?)?;
+        }
+    }
+    text.push_str("}")?;
+    Ok(text)
+}
+
+const FALLING: &[&str] = &["9", "8", "7", "6", "5", "4", "3", "2", "1", "0"];
+
+const RISING: &[&str] = &["0", "1", "2", "3", "4", "5", "6", "7", "8", "9"];
+
+#[test]
+fn hundred_names_are_ordered(rt: HostRuntime) -> Result<(), Fail> {
+    let alloc = rt.alloc();
+    let text = hundred(alloc, FALLING, "")?;
+    let want = hundred(alloc, RISING, "\"")?;
+    expect_read(&rt, alloc, text.as_str(), want.as_str(), 100)
+}
+
+const NO_JSON: &[&[u8]] = &[
+    b"{",
+    b"",
+    b"01",
+    b"\"\xff\"",
+    b"[1] 2",
+    b"[01]",
+    b"1.5.2",
+    b"-",
+    b"+1",
+    b"{1:2}",
+    b"1.5 2",
+    b"[1,]",
+    b"{\"a\":1,}",
+    b"{\"a\" 1}",
+    b"[\"\\ud800\"]",
+];
+
+#[test]
+fn what_is_no_json_is_refused(rt: HostRuntime) -> Result<(), Fail> {
+    let alloc = rt.alloc();
+    for text in NO_JSON {
+        assert!(rt; is_bad_json(alloc, text));
+    }
+    Ok(())
+}
+
+/// So many opening brackets, and as many closing ones.
+fn nested(alloc: Global, levels: usize) -> Result<Vec<u8>, Fail> {
+    let mut text = Vec::new(alloc);
+    for _ in 0..levels {
+        text.push(b'[')?;
+    }
+    for _ in 0..levels {
+        text.push(b']')?;
+    }
+    Ok(text)
+}
+
+#[test]
+fn nesting(rt: HostRuntime) -> Result<(), Fail> {
+    let alloc = rt.alloc();
+    assert!(rt; read_tree(alloc, &nested(alloc, 127)?).is_ok());
+    assert!(rt; is_bad_json(alloc, &nested(alloc, 128)?));
+    Ok(())
+}
+
+/// The tree of a text, read once more where there was no memory.
+fn read_again(rt: &impl Abort, alloc: Global, text: &str) -> Result<Tree, TextFault> {
+    match read_tree(alloc, text.as_bytes()) {
+        Ok(tree) => Ok(tree),
+        Err(TextFault::NoMemory) => read_tree(alloc, text.as_bytes()),
+        Err(fault) => panic!(rt; "{fault}"),
+    }
+}
+
+const MIXED: &str = r#"{"b":[1.5,-2,"\n"],"a":{},"c":true}"#;
+
+const MIXED_PRINTED: &str = r#"{"a":{},"b":["1.5",-2,"\n"],"c":true}"#;
+
+/// With one growth refused, wherever it is, a text is read or there is no memory; then it is read.
+#[test]
+fn reads_or_wants_memory(rt: HostRuntime) -> Result<(), Fail> {
+    let alloc = rt.alloc();
+    let tree = read_again(&rt, alloc, MIXED)?;
+    let printed = match print_tree(alloc, &tree) {
+        Ok(printed) => printed,
+        Err(_) => print_tree(alloc, &tree)?,
+    };
+    assert!(rt; printed.as_slice() == MIXED_PRINTED.as_bytes());
+    Ok(())
+}
+
+/// A document with a member of each kind.
+const DOCUMENT: &str =
+    "{\"name\":\"c\\u0061p\",\"device_id\":\"919108f7-52d1-4320-9bac-f847db4148a8\",\
+    \"timestamp\":7,\"vehicle_type\":\"scooter\",\"description\":null,\"location\":{\"lat\":1},\
+    \"event_types\":[\"trip_start\",\"trip_end\"],\"propulsion_types\":[\"electric\"],\
+    \"coordinates\":[-122.4,37.7],\"features\":[1,2.5]}";
+
+/// The identifier of the document's device.
+const DEVICE: &str = "919108f7-52d1-4320-9bac-f847db4148a8";
+
+/// Whether the node is this text.
+fn is_text(node: &Node<'_>, want: &str) -> bool {
+    match node {
+        Node::Text(text) => *text == want,
+        _ => false,
+    }
+}
+
+/// Asserts that these are the texts of the entries.
+fn expect_texts(rt: &impl Abort, entries: &[Node<'_>], first: &str, second: &str) {
+    let [one, two] = entries else {
+        panic!(rt; "two entries")
+    };
+    assert!(rt; is_text(one, first) && is_text(two, second));
+}
+
+/// The document's name, its identifier, moment and token, and what it hasn't.
+fn expect_values(rt: &impl Abort, document: &Node<'_>) -> Result<(), TextFault> {
+    assert_eq!(rt; required_text(document, Field::Name)?, "cap");
+    assert!(rt; text_at(document, Field::Description)?.is_none());
+    assert!(rt; member_at(document, Field::Id)?.is_none());
+    let device = Id::read(DEVICE);
+    assert!(rt; Some(required_id(document, Field::DeviceId)?) == device);
+    assert_eq!(rt; required_moment(document, Field::Timestamp)?.get(), 7);
+    let vehicle_type = required_token(document, Field::VehicleType)?;
+    assert_eq!(rt; vehicle_type.as_str(), "scooter");
+    Ok(())
+}
+
+/// The document's event types and its location.
+fn expect_events(rt: &impl Abort, alloc: Global, document: &Node<'_>) -> Result<(), TextFault> {
+    let events = tokens_at(alloc, document, Field::EventTypes)?;
+    let [start, end] = events.as_deref().unwrap_or(&[]) else {
+        panic!(rt; "two tokens")
+    };
+    assert!(rt; start.as_str() == "trip_start" && end.as_str() == "trip_end");
+    let location = required_member(document, Field::Location)?;
+    assert!(rt; object_of(location, Field::Location).is_ok());
+    Ok(())
+}
+
+/// The document's coordinates, which are a pair, and its features.
+fn expect_lists(rt: &impl Abort, alloc: Global, document: &Node<'_>) -> Result<(), TextFault> {
+    let position = required_member(document, Field::Coordinates)?;
+    assert!(rt; matches!(position, Node::Pair(_, _)));
+    let numbers = entries_of(alloc, position, Field::Coordinates)?;
+    expect_texts(rt, numbers.as_slice(), "-122.4", "37.7");
+    let features = required_member(document, Field::Features)?;
+    let entries = entries_of(alloc, features, Field::Features)?;
+    let [whole, fraction] = entries.as_slice() else {
+        panic!(rt; "two entries")
+    };
+    assert!(rt; matches!(whole, Node::Int(1)) && is_text(fraction, "2.5"));
+    Ok(())
+}
+
+#[test]
+fn members_are_read(rt: HostRuntime) -> Result<(), Fail> {
+    let alloc = rt.alloc();
+    let mut source = Source::new(alloc);
+    let tree = source.read(alloc, DOCUMENT.as_bytes())?;
+    let document = document_of(&tree)?;
+    expect_values(&rt, document)?;
+    expect_events(&rt, alloc, document)?;
+    expect_lists(&rt, alloc, document)?;
+    Ok(())
+}
+
+/// What a source reads, once more where there was no memory: its name and the texts of its position.
+fn expect_source(rt: &impl Abort, alloc: Global, text: &str) -> Result<(), TextFault> {
+    let mut source = Source::new(alloc);
+    let tree = source.read(alloc, text.as_bytes())?;
+    let document = document_of(&tree)?;
+    assert_eq!(rt; required_text(document, Field::Name)?, "cap");
+    let position = required_member(document, Field::Coordinates)?;
+    let numbers = entries_of(alloc, position, Field::Coordinates)?;
+    expect_texts(rt, numbers.as_slice(), "1.5", "-0");
+    Ok(())
+}
+
+/// A name and a position, once with an escape and once with a name before.
+const LENT: &[&str] = &[
+    "{\"name\":\"c\\u0061p\",\"coordinates\":[1.5,-0]}",
+    "{\"name\":1,\"coordinates\":[1.5,-0],\"name\":\"cap\"}",
+];
+
+/// With one growth refused, wherever it is, a text is lent or there is no memory; then it is lent.
+#[test]
+fn lends_or_wants_memory(rt: HostRuntime) -> Result<(), Fail> {
+    let alloc = rt.alloc();
+    for text in LENT {
+        match expect_source(&rt, alloc, text) {
+            Err(TextFault::NoMemory) => expect_source(&rt, alloc, text)?,
+            answer => answer?,
+        }
+    }
+    Ok(())
+}

@@ -1,0 +1,5 @@
+use Rattle.mds_lines.proofs.Histories.{gives_histories}
+use Rattle.mds_lines.proofs.laws.gives_histories.Goals as goal
+
+pub returns : goal.returns
+returns c = gives_histories

@@ -1,0 +1,138 @@
+//! The two ends of a replay: where its bytes come from, and where they go.
+ghost use Rattle.std.specs.Prelude.{◌≡◌, ℕ, ◌+◌, ◌-◌, ◌^◌, ◌<◌, ◌≤◌, List, Option, length, IfOk};
+ghost use Rattle.std.specs.Io.Buffered.{writer_contents};
+ghost use Rattle.std.specs.Io.KnownBytes.{Keeps, ReadConsumes, WriteAppends};
+ghost use Rattle.mds_lines.specs.Ends.{read_failures, write_failures};
+
+use std::alloc::{AllocError, Global};
+use std::io::{BufWriter, Read, Write};
+
+/// A read or a write that failed.
+#[derive(Clone, Copy, Debug, PartialEq, Eq)]
+pub struct Failed;
+
+/// Where bytes come from, in pieces of any size.
+pub trait Source {
+    /// The bytes that reads will give from here on, where they are known.
+    ghost remaining: { Self → Option (List ℕ) };
+
+    /// How many reads have failed so far.
+    ghost failures: { Self → ℕ };
+
+    /// Puts some of the next bytes into the buffer's front, and gives how many. No byte into a
+    /// buffer that isn't empty is the end of the input. A failed read takes no byte.
+    fn read(&mut self, buffer: &mut [u8]) -> Result<usize, Failed>
+        requires countable { failures self.old < 2 ^ 64 - 1 }
+        ensures bound { IfOk result (λ n. n ≤ length buffer.new) }
+        ensures bytes { ReadConsumes (remaining self.old) (remaining self.new) result buffer.new }
+        ensures counted { failures self.new ≡ failures self.old + read_failures result };
+}
+
+/// Where bytes go, in pieces of any size.
+pub trait Sink {
+    /// The bytes written so far, where they are known.
+    ghost contents: { Self → Option (List ℕ) };
+
+    /// How many writes have failed so far; a write that took no byte is one of them.
+    ghost failures: { Self → ℕ };
+
+    /// Takes some of the bytes from their front, and gives how many. A failed write takes none.
+    fn write(&mut self, bytes: &[u8]) -> Result<usize, Failed>
+        requires countable { failures self.old < 2 ^ 64 - 1 }
+        ensures bound { IfOk result (λ n. n ≤ length bytes.now) }
+        ensures bytes { WriteAppends (contents self.old) (contents self.new) result bytes.now }
+        ensures counted { failures self.new ≡ failures self.old + write_failures result };
+}
+
+/// Any reader of the standard library as a source.
+#[derive(Drop)]
+pub struct FromReader<R> {
+    reader: R,
+    failures: u64,
+}
+
+impl<R: Read> FromReader<R> {
+    /// The source of this reader's bytes.
+    pub fn new(reader: R) -> Self
+        ensures bytes { ⟦<FromReader<R> as Source>⟧.remaining result ≡ R.remaining reader }
+        ensures fresh { ⟦<FromReader<R> as Source>⟧.failures result ≡ 0 }
+    {
+        FromReader {
+            reader,
+            failures: 0,
+        }
+    }
+}
+
+impl<R: Read> Source for FromReader<R> {
+    ghost remaining = { λ s. R.remaining s.reader };
+
+    ghost failures = { λ s. s.failures };
+
+    fn read(&mut self, buffer: &mut [u8]) -> Result<usize, Failed> {
+        match self.reader.read(buffer) {
+            Ok(n) => Ok(n),
+            Err(_) => {
+                self.failures += 1;
+                Err(Failed)
+            }
+        }
+    }
+}
+
+/// Any writer of the standard library as a sink, which keeps a few kilobytes before it sends them on.
+#[derive(Drop)]
+pub struct ToWriter<W: Write + Drop> {
+    writer: BufWriter<W>,
+    failures: u64,
+}
+
+impl<W: Write + Drop> ToWriter<W> {
+    /// The sink whose bytes go to this writer. The only error is want of memory.
+    pub fn new(alloc: Global, writer: W) -> Result<Self, AllocError>
+        ensures bytes { IfOk result (λ s. Keeps (W.contents writer) (⟦<ToWriter<W> as Sink>⟧.contents s)) }
+        ensures fresh { IfOk result (λ s. ⟦<ToWriter<W> as Sink>⟧.failures s ≡ 0) }
+    {
+        match BufWriter::new(alloc, writer) {
+            Ok(writer) => Ok(ToWriter {
+                writer,
+                failures: 0,
+            }),
+            Err(_) => Err(AllocError),
+        }
+    }
+
+    /// Sends on what is kept, and gives the writer back. The error is a write that failed.
+    pub fn finish(mut self) -> Result<W, Failed>
+        ensures { IfOk result (λ writer. Keeps (⟦<ToWriter<W> as Sink>⟧.contents self) (W.contents writer)) }
+    {
+        if self.writer.flush().is_err() {
+            return Err(Failed);
+        }
+        match self.writer.into_inner() {
+            Ok(writer) => Ok(writer),
+            Err(_) => Err(Failed),
+        }
+    }
+}
+
+impl<W: Write + Drop> Sink for ToWriter<W> {
+    ghost contents = { λ s. writer_contents W.contents s.writer };
+
+    ghost failures = { λ s. s.failures };
+
+    fn write(&mut self, bytes: &[u8]) -> Result<usize, Failed> {
+        match self.writer.write(bytes) {
+            Ok(n) => {
+                if n == 0 {
+                    self.failures += 1;
+                }
+                Ok(n)
+            }
+            Err(_) => {
+                self.failures += 1;
+                Err(Failed)
+            }
+        }
+    }
+}

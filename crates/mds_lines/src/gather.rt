@@ -1,0 +1,113 @@
+//! The bytes of one line, gathered from pieces of the input.
+ghost use Rattle.std.specs.Prelude.{◌≡◌, ◌==◌, ◌+◌, ◌<◌, ◌≤◌, ◌++◌, position, take, length, nat_lt, if◌then◌else◌, vec_len, vec_capacity};
+ghost use Rattle.std.specs.Io.BufRead.{ends_with_byte, strip_last};
+ghost use Rattle.mds_lines.specs.LineReading.{Gathers};
+
+use crate::lines::Found;
+use memchr::memchr;
+
+/// The most bytes of a line, its end not counted.
+pub const LINE_LIMIT: usize = 2_097_152;
+
+/// How many bytes of a line are kept: one that is cut off there is over the limit, even if its last
+/// byte is a carriage return that is dropped.
+pub const KEPT_LIMIT: usize = LINE_LIMIT + 2;
+
+/// Adds the bytes before the first line feed to the line, and gives how many bytes they and the
+/// line feed are. Without a line feed all bytes are added, and the answer is `None`.
+pub fn gather(line: &mut Vec<u8>, bytes: &[u8]) -> Option<usize>
+    requires short { vec_len line.old ≤ KEPT_LIMIT }
+    requires reserved { KEPT_LIMIT ≤ vec_capacity line.old }
+    ensures gathers { Gathers line.old.items bytes.now result line.new.items }
+    ensures short { vec_len line.new ≤ KEPT_LIMIT }
+    ensures reserved { KEPT_LIMIT ≤ vec_capacity line.new }
+{
+    match position_of(bytes, b'\n') {
+        Some(at) => {
+            keep(line, &bytes[..at]);
+            Some(at + 1)
+        }
+        None => {
+            keep(line, bytes);
+            None
+        }
+    }
+}
+
+/// Adds as many of the bytes as there is room for.
+fn keep(line: &mut Vec<u8>, bytes: &[u8])
+    requires short { vec_len line.old ≤ KEPT_LIMIT }
+    requires reserved { KEPT_LIMIT ≤ vec_capacity line.old }
+    ensures items { line.new.items ≡ take KEPT_LIMIT (line.old.items ++ bytes.now) }
+    ensures short { vec_len line.new ≤ KEPT_LIMIT }
+    ensures reserved { KEPT_LIMIT ≤ vec_capacity line.new }
+{
+    let room = KEPT_LIMIT - line.len();
+    let count = bytes.len().min(room);
+    append(line, &bytes[..count]);
+}
+
+/// Adds bytes that there is room for, so that no memory is asked for.
+fn append(line: &mut Vec<u8>, bytes: &[u8])
+    requires { vec_len line.old + length bytes.now ≤ vec_capacity line.old }
+    ensures items { line.new.items ≡ line.old.items ++ bytes.now }
+    ensures capacity { vec_capacity line.old ≤ vec_capacity line.new }
+{
+    let _ = line.extend_from_slice(bytes);
+}
+
+/// Ends a line at a line feed: drops a carriage return at its end, and looks at its length.
+pub fn close(line: &mut Vec<u8>) -> Found
+    requires short { vec_len line.old ≤ KEPT_LIMIT }
+    requires reserved { KEPT_LIMIT ≤ vec_capacity line.old }
+    ensures line { line.new.items ≡ strip_last 13 line.old.items }
+    ensures found { result ≡ (if nat_lt LINE_LIMIT (length line.new.items) then Found.TooLong else Found.Line) }
+    ensures short { vec_len line.new ≤ KEPT_LIMIT }
+    ensures reserved { KEPT_LIMIT ≤ vec_capacity line.new }
+{
+    if ends_with_return(line) {
+        line.pop();
+    }
+    found(line)
+}
+
+/// Whether the last byte is a carriage return.
+fn ends_with_return(line: &[u8]) -> bool
+    ensures { result ≡ ends_with_byte 13 line.now }
+{
+    match line.last() {
+        Some(byte) => *byte == b'\r',
+        None => false,
+    }
+}
+
+/// Ends the last line, which no line feed ends.
+pub fn close_last(line: &mut Vec<u8>) -> Found
+    requires { vec_len line.old ≤ KEPT_LIMIT }
+    ensures found { result ≡ (if length line.old.items == 0 then Found.End else (if nat_lt LINE_LIMIT (length line.old.items) then Found.TooLong else Found.Line)) }
+    ensures same { line.new ≡ line.old }
+{
+    if line.is_empty() {
+        Found::End
+    } else {
+        found(line)
+    }
+}
+
+/// A line, or one over the limit.
+fn found(line: &[u8]) -> Found
+    ensures { result ≡ (if nat_lt LINE_LIMIT (length line.now) then Found.TooLong else Found.Line) }
+{
+    if line.len() > LINE_LIMIT {
+        Found::TooLong
+    } else {
+        Found::Line
+    }
+}
+
+/// Where the first such byte stands.
+pub fn position_of(bytes: &[u8], wanted: u8) -> Option<usize>
+    ensures { result ≡ position (λ byte. byte == wanted) bytes.now }
+{
+    memchr(wanted, bytes)
+}

@@ -1,0 +1,31 @@
+//! A replay from a reader of the standard library to a writer.
+ghost use Rattle.std.specs.Prelude.{◌≡◌, ◌≤◌, length, IfOk, IfSome, IsErrOf, OnOk};
+ghost use Rattle.mds_lines.specs.Answering.{Answered, IsUnconfigured};
+ghost use Rattle.mds_lines.specs.declared.lines.TheConstants.{INPUT_LIMIT};
+
+use crate::ends::{FromReader, ToWriter};
+use crate::fault::ReplayFault;
+use crate::machine::Machine;
+use crate::replay::replay;
+use std::alloc::Global;
+use std::io::{Read, Write};
+
+/// Replays what is read to what is written, and gives the writer back once all answers have gone out
+/// to it. A write that fails, also the last one, is the fault `Write`.
+pub fn run<M: Machine, R: Read + Drop, W: Write + Drop>(
+    alloc: Global,
+    reader: R,
+    writer: W,
+) -> Result<W, ReplayFault>
+    ensures answered { IfOk result (λ written. Answered M.begins M.step (R.remaining reader) (W.contents writer) (W.contents written)) }
+    ensures limited { OnOk result (IfSome (R.remaining reader) (λ input. length input ≤ INPUT_LIMIT)) }
+    ensures bad_config { IsErrOf result ReplayFault.BadConfig → IfSome (R.remaining reader) IsUnconfigured }
+{
+    let mut source = FromReader::new(reader);
+    let mut sink = ToWriter::new(alloc, writer)?;
+    replay::<M, _, _>(alloc, &mut source, &mut sink)?;
+    match sink.finish() {
+        Ok(written) => Ok(written),
+        Err(_) => Err(ReplayFault::Write),
+    }
+}

@@ -1,5 +1,0 @@
-use Rattle.mds_replay.proofs.Histories.{isolates_operators}
-use Rattle.mds_replay.proofs.laws.isolates_operators.Goals as goal
-
-pub returns : goal.returns
-returns c = isolates_operators c.begins_keyed.ensures c.is_isolated_throughout.ensures

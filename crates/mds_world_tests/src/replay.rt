@@ -1,0 +1,273 @@
+//! A whole script, read and written in small pieces, and with a read, a write or a growth that fails.
+use mds_lines::{ReplayFault, run};
+use mds_verdict::Plain;
+use mds_world::World;
+use std::alloc::Global;
+use std::io::{self, ErrorKind, Read, Write};
+use std::process::Abort;
+use std::test::Fail;
+
+/// A configuration of two operators.
+const CONFIGURATION: &[u8] =
+    br#"{"author":"city","operators":[{"id":"00000000-0000-4000-8000-0000000000a1","limit":2,"token":"alfa"},{"id":"00000000-0000-4000-8000-0000000000b1","limit":2,"token":"bravo"}],"zone":"Z"}"#;
+
+/// At most one vehicle in a square: a first one is reported, then a second.
+const CAP: &[u8] =
+    br#"{"author":"city","operators":[{"id":"00000000-0000-4000-8000-0000000000a1","limit":2,"token":"alfa"},{"id":"00000000-0000-4000-8000-0000000000b1","limit":2,"token":"bravo"}],"zone":"Z"}
+1000 city PUT /drafts/geographies/00000000-0000-4000-8000-000000000101 {"geography_id":"00000000-0000-4000-8000-000000000101","name":"square","geography_json":{"type":"Polygon","coordinates":[[[0,0],[10,0],[10,10],[0,10],[0,0]]]}}
+1000 city PUT /drafts/policies/00000000-0000-4000-8000-000000000201 {"policy_id":"00000000-0000-4000-8000-000000000201","name":"cap","start_date":1000,"rules":[{"rule_id":"00000000-0000-4000-8000-000000000301","name":"cap","rule_type":"count","geographies":["00000000-0000-4000-8000-000000000101"],"maximum":1}]}
+1000 city POST /publish {"geographies":["00000000-0000-4000-8000-000000000101"],"policies":["00000000-0000-4000-8000-000000000201"]}
+2000 alfa POST /fleet/events {"device_id":"00000000-0000-4000-8000-000000000401","vehicle_type":"scooter","propulsion_types":["electric"],"vehicle_state":"available","event_types":["trip_end"],"timestamp":2000,"location":{"lat":5,"lng":5}}
+2000 alfa GET /compliance
+2001 alfa POST /fleet/events {"device_id":"00000000-0000-4000-8000-000000000402","vehicle_type":"scooter","propulsion_types":["electric"],"vehicle_state":"available","event_types":["trip_end"],"timestamp":2001,"location":{"lat":5,"lng":5}}
+2001 alfa GET /compliance
+"#;
+
+const CAP_ANSWERS: &[u8] = br#"200 {"result":"new"}
+200 {"result":"new"}
+200 {"published_date":1000,"revision":1}
+200 {"result":"new"}
+200 {"at":2000,"policies":[{"policy_id":"00000000-0000-4000-8000-000000000201","rules":[{"measure":1,"rule_id":"00000000-0000-4000-8000-000000000301","status":"ok"}]}],"revision":1,"version":2}
+200 {"result":"new"}
+200 {"at":2001,"policies":[{"policy_id":"00000000-0000-4000-8000-000000000201","rules":[{"devices":["00000000-0000-4000-8000-000000000401","00000000-0000-4000-8000-000000000402"],"measure":2,"rule_id":"00000000-0000-4000-8000-000000000301","status":"violated"}]}],"revision":1,"version":2}
+"#;
+
+/// Bytes that come few at a time, and one read that fails.
+#[derive(Drop)]
+struct Pieces<'a> {
+    rest: &'a [u8],
+    size: usize,
+    // how many reads go well before the one that fails
+    sound: Option<usize>,
+}
+
+impl Read for Pieces<'_> {
+    fn read(&mut self, buffer: &mut [u8]) -> io::Result<usize> {
+        match self.sound {
+            Some(0) => {
+                self.sound = None;
+                return Err(io::Error::from(ErrorKind::Other));
+            }
+            Some(sound) => self.sound = Some(sound - 1),
+            None => {}
+        }
+        let count = self.rest.len().min(buffer.len()).min(self.size);
+        let (front, rest) = self.rest.split_at(count);
+        buffer[..count].copy_from_slice(front);
+        self.rest = rest;
+        Ok(count)
+    }
+}
+
+/// Keeps what is written, few bytes at a time, until a write or a flush fails.
+#[derive(Drop)]
+struct Drip {
+    written: Vec<u8>,
+    size: usize,
+    // how many writes go well before those that fail
+    sound: usize,
+    flushes: bool,
+}
+
+impl Drip {
+    fn new(alloc: Global, size: usize, sound: usize) -> Drip {
+        Drip {
+            written: Vec::new(alloc),
+            size,
+            sound,
+            flushes: true,
+        }
+    }
+}
+
+impl Write for Drip {
+    fn write(&mut self, bytes: &[u8]) -> io::Result<usize> {
+        if self.sound == 0 {
+            return Err(io::Error::from(ErrorKind::Other));
+        }
+        self.sound -= 1;
+        let count = bytes.len().min(self.size);
+        self.written.extend_from_slice(&bytes[..count])?;
+        Ok(count)
+    }
+
+    fn flush(&mut self) -> io::Result<()> {
+        if self.flushes {
+            Ok(())
+        } else {
+            Err(io::Error::from(ErrorKind::Other))
+        }
+    }
+}
+
+/// What is written for a script.
+fn replayed(alloc: Global, script: &[u8]) -> Result<Vec<u8>, ReplayFault> {
+    run::<World<Plain>, _, _>(alloc, script, Vec::new(alloc))
+}
+
+/// The bytes of both, one after the other.
+fn joined(alloc: Global, front: &[u8], back: &[u8]) -> Result<Vec<u8>, Fail> {
+    let mut bytes = Vec::new(alloc);
+    bytes.extend_from_slice(front)?;
+    bytes.extend_from_slice(back)?;
+    Ok(bytes)
+}
+
+/// The script has these answers.
+fn has_answers(alloc: Global, rt: &impl Abort, script: &[u8], answers: &[u8]) {
+    match replayed(alloc, script) {
+        Ok(written) => assert_eq!(rt; written.as_slice(), answers),
+        Err(fault) => panic!(rt; "{}", fault.message()),
+    }
+}
+
+/// The replay ends with this fault.
+fn has_fault(rt: &impl Abort, ended: Result<(), ReplayFault>, fault: ReplayFault) {
+    assert_eq!(rt; ended, Err(fault));
+}
+
+/// The script's first line is no configuration.
+fn has_no_configuration(alloc: Global, rt: &impl Abort, script: &[u8]) {
+    has_fault(
+        rt,
+        replayed(alloc, script).map(drop),
+        ReplayFault::BadConfig,
+    );
+}
+
+#[test]
+fn wants_a_configuration(rt: HostRuntime) -> Result<(), Fail> {
+    let alloc = rt.alloc();
+    has_no_configuration(alloc, &rt, b"");
+    has_no_configuration(alloc, &rt, b"{}\n");
+    has_no_configuration(alloc, &rt, &CONFIGURATION[..40]);
+    // an empty first line isn't skipped
+    let blank = joined(alloc, b"\n", CAP)?;
+    has_no_configuration(alloc, &rt, &blank);
+    Ok(())
+}
+
+const NO_VEHICLES: &[u8] = b"200 {\"vehicles\":[]}\n";
+
+const BAD_LINE: &[u8] = b"400 {\"error\":\"bad_line\"}\n";
+
+const NO_ROUTE: &[u8] = b"404 {\"error\":\"no_route\"}\n";
+
+/// What stands behind the configuration, and what is answered.
+const LINES: &[(&[u8], &[u8])] = &[
+    // a carriage return before the line feed is dropped, and so is a line that is empty then
+    (b"\n1 alfa GET /fleet/vehicles\r\n\r\n\n", NO_VEHICLES),
+    // a last line without a line feed counts, and keeps its carriage return
+    (b"\n1 alfa GET /fleet/vehicles", NO_VEHICLES),
+    (b"\n1 alfa GET /fleet/vehicles\r", NO_ROUTE),
+    // a fourth space with nothing behind it
+    (b"\n1 alfa GET /fleet/vehicles \n", NO_VEHICLES),
+    // leading zeros of the moment; fourteen digits are too many, and 2100 is too late
+    (b"\n0000000000001 alfa GET /fleet/vehicles\n", NO_VEHICLES),
+    (b"\n00000000000001 alfa GET /fleet/vehicles\n", BAD_LINE),
+    (b"\n4102444800000 alfa GET /fleet/vehicles\n", BAD_LINE),
+    (b"\n1  GET /fleet/vehicles\n", BAD_LINE),
+    (b"\n1 alfa GET\n", BAD_LINE),
+    (b"\n-1 alfa GET /fleet/vehicles\n", BAD_LINE),
+];
+
+#[test]
+fn cuts_lines(rt: HostRuntime) -> Result<(), Fail> {
+    for (line, answer) in LINES {
+        let script = joined(rt.alloc(), CONFIGURATION, line)?;
+        has_answers(rt.alloc(), &rt, &script, answer);
+    }
+    Ok(())
+}
+
+const SIZES: &[usize] = &[1, 2, 7, 1000];
+
+#[test]
+fn takes_pieces_of_any_size(rt: HostRuntime) -> Result<(), Fail> {
+    for size in SIZES {
+        let source = Pieces {
+            rest: CAP,
+            size: *size,
+            sound: None,
+        };
+        let mut sink = Drip::new(rt.alloc(), *size, usize::MAX);
+        let ended = run::<World<Plain>, _, _>(rt.alloc(), source, &mut sink).map(drop);
+        assert_eq!(rt; ended, Ok(()));
+        assert_eq!(rt; sink.written.as_slice(), CAP_ANSWERS);
+    }
+    Ok(())
+}
+
+/// One read fails, and those after it would go well: what was written is the front of the answers.
+#[test]
+fn stops_at_a_failed_read(rt: HostRuntime) -> Result<(), Fail> {
+    for sound in 0..=CAP.len().div_ceil(100) {
+        let source = Pieces {
+            rest: CAP,
+            size: 100,
+            sound: Some(sound),
+        };
+        let mut sink = Drip::new(rt.alloc(), 1000, usize::MAX);
+        let ended = run::<World<Plain>, _, _>(rt.alloc(), source, &mut sink).map(drop);
+        has_fault(&rt, ended, ReplayFault::Read);
+        assert!(rt;
+            CAP_ANSWERS.starts_with(&sink.written),
+            "after {sound} reads"
+        );
+    }
+    Ok(())
+}
+
+#[test]
+fn stops_at_a_failed_write(rt: HostRuntime) -> Result<(), Fail> {
+    for sound in 0..CAP_ANSWERS.len().div_ceil(40) {
+        let mut sink = Drip::new(rt.alloc(), 40, sound);
+        let ended = run::<World<Plain>, _, _>(rt.alloc(), CAP, &mut sink).map(drop);
+        has_fault(&rt, ended, ReplayFault::Write);
+        assert!(rt;
+            CAP_ANSWERS.starts_with(&sink.written),
+            "after {sound} writes"
+        );
+    }
+    Ok(())
+}
+
+#[test]
+fn tells_a_failed_flush(rt: HostRuntime) -> Result<(), Fail> {
+    let mut sink = Drip::new(rt.alloc(), 1000, usize::MAX);
+    sink.flushes = false;
+    let ended = run::<World<Plain>, _, _>(rt.alloc(), CAP, &mut sink).map(drop);
+    has_fault(&rt, ended, ReplayFault::Write);
+    Ok(())
+}
+
+const NO_MEMORY: &[u8] = b"503 {\"error\":\"no_memory\"}\n";
+
+/// The lines are the answers, or the front of them and then one that tells of no memory.
+fn assert_answers_or_front(rt: &impl Abort, written: &[u8]) {
+    let mut lines = written.split_inclusive(|byte| *byte == b'\n');
+    for answer in CAP_ANSWERS.split_inclusive(|byte| *byte == b'\n') {
+        match lines.next() {
+            Some(line) if line == answer => {}
+            Some(line) => {
+                assert_eq!(rt; line, NO_MEMORY);
+                return;
+            }
+            None => panic!(rt; "an answer is missing"),
+        }
+    }
+    assert!(rt; lines.next().is_none());
+}
+
+/// With one growth refused, wherever it is: either nothing is written, or one answer is 503 and
+/// those before it are as ever.
+#[test]
+fn survives_want_of_memory(rt: HostRuntime) -> Result<(), Fail> {
+    match replayed(rt.alloc(), CAP) {
+        Ok(written) => assert_answers_or_front(&rt, &written),
+        // the vector that is written to finds no memory
+        Err(ReplayFault::NoMemory | ReplayFault::Write) => {}
+        Err(fault) => panic!(rt; "{}", fault.message()),
+    }
+    Ok(())
+}

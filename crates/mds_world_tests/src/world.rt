@@ -1,0 +1,523 @@
+//! Verdicts and withdrawals, asked of the machine and of its parts, also with one growth refused
+//! wherever it is.
+use crate::square::instant;
+use mds_catalog::Catalogue;
+use mds_drafts::Drafts;
+use mds_fleet::Book;
+use mds_request::{AuthorCall, Config, OperatorCall, Reply, Request, Verb};
+use mds_text::{DraftKind, Id};
+use mds_verdict::Plain;
+use mds_world::{AuthorAct, World, author_step, operator_step};
+use std::alloc::Global;
+use std::process::Abort;
+use std::test::Fail;
+
+const CONFIGURATION: &[u8] =
+    br#"{"author":"city","operators":[{"id":"00000000-0000-4000-8000-0000000000a1","limit":2,"token":"alfa"},{"id":"00000000-0000-4000-8000-0000000000b1","limit":2,"token":"bravo"}],"zone":"Z"}"#;
+
+const SQUARE: &str =
+    r#"{"geography_id":"00000000-0000-4000-8000-000000000101","name":"square","geography_json":{"type":"Polygon","coordinates":[[[0,0],[10,0],[10,10],[0,10],[0,0]]]}}"#;
+
+const CAP: &str =
+    r#"{"policy_id":"00000000-0000-4000-8000-000000000201","name":"cap","start_date":1000,"rules":[{"rule_id":"00000000-0000-4000-8000-000000000301","name":"cap","rule_type":"count","geographies":["00000000-0000-4000-8000-000000000101"],"maximum":1}]}"#;
+
+const PUBLISHED: &str =
+    r#"{"geographies":["00000000-0000-4000-8000-000000000101"],"policies":["00000000-0000-4000-8000-000000000201"]}"#;
+
+const FIRST_REPORT: &str =
+    r#"{"device_id":"00000000-0000-4000-8000-000000000401","vehicle_type":"scooter","propulsion_types":["electric"],"vehicle_state":"available","event_types":["trip_end"],"timestamp":2000,"location":{"lat":5,"lng":5}}"#;
+
+const SECOND_REPORT: &str =
+    r#"{"device_id":"00000000-0000-4000-8000-000000000402","vehicle_type":"scooter","propulsion_types":["electric"],"vehicle_state":"available","event_types":["trip_end"],"timestamp":2001,"location":{"lat":5,"lng":5}}"#;
+
+const WITHDRAWN: &str = r#"{"withdraw":["00000000-0000-4000-8000-000000000201"]}"#;
+
+const NO_MEMORY: &str = r#"{"error":"no_memory"}"#;
+
+const NEW: &str = r#"{"result":"new"}"#;
+
+const WITHIN: &str =
+    r#"{"at":2000,"policies":[{"policy_id":"00000000-0000-4000-8000-000000000201","rules":[{"measure":1,"rule_id":"00000000-0000-4000-8000-000000000301","status":"ok"}]}],"revision":1,"version":2}"#;
+
+const EXCEEDED: &str =
+    r#"{"at":2001,"policies":[{"policy_id":"00000000-0000-4000-8000-000000000201","rules":[{"devices":["00000000-0000-4000-8000-000000000401","00000000-0000-4000-8000-000000000402"],"measure":2,"rule_id":"00000000-0000-4000-8000-000000000301","status":"violated"}]}],"revision":1,"version":2}"#;
+
+const BEFORE_THE_WITHDRAWAL: &str =
+    r#"{"at":2999,"policy":{"policy_id":"00000000-0000-4000-8000-000000000201","rules":[{"devices":["00000000-0000-4000-8000-000000000401","00000000-0000-4000-8000-000000000402"],"measure":2,"rule_id":"00000000-0000-4000-8000-000000000301","status":"violated"}]},"revision":2,"version":2}"#;
+
+const AFTER_THE_WITHDRAWAL: &str = r#"{"at":3000,"policies":[],"revision":2,"version":2}"#;
+
+/// A request at a moment, and the body of its success.
+#[derive(Clone, Copy)]
+struct Exchange {
+    at: i64,
+    token: &'static str,
+    verb: Verb,
+    target: &'static str,
+    body: &'static str,
+    success: &'static str,
+}
+
+const SQUARE_DRAFT: &str = "/drafts/geographies/00000000-0000-4000-8000-000000000101";
+
+const CAP_DRAFT: &str = "/drafts/policies/00000000-0000-4000-8000-000000000201";
+
+const PUBLISHED_FIRST: &str = r#"{"published_date":1000,"revision":1}"#;
+
+const PUBLISHED_SECOND: &str = r#"{"published_date":3000,"revision":2}"#;
+
+const CAP_COMPLIANCE: &str = "/compliance/00000000-0000-4000-8000-000000000201";
+
+const SQUARE_PUT: Exchange = Exchange {
+    at: 1000,
+    token: "city",
+    verb: Verb::Put,
+    target: SQUARE_DRAFT,
+    body: SQUARE,
+    success: NEW,
+};
+
+const FIRST_REPORTED: Exchange = Exchange {
+    at: 2000,
+    token: "alfa",
+    verb: Verb::Post,
+    target: "/fleet/events",
+    body: FIRST_REPORT,
+    success: NEW,
+};
+
+const EXCHANGES: &[Exchange] = &[
+    SQUARE_PUT,
+    Exchange {
+        at: 1000,
+        token: "city",
+        verb: Verb::Put,
+        target: CAP_DRAFT,
+        body: CAP,
+        success: NEW,
+    },
+    Exchange {
+        at: 1000,
+        token: "city",
+        verb: Verb::Post,
+        target: "/publish",
+        body: PUBLISHED,
+        success: PUBLISHED_FIRST,
+    },
+    FIRST_REPORTED,
+    Exchange {
+        at: 2000,
+        token: "alfa",
+        verb: Verb::Get,
+        target: "/compliance",
+        body: "",
+        success: WITHIN,
+    },
+    Exchange {
+        at: 2001,
+        token: "alfa",
+        verb: Verb::Post,
+        target: "/fleet/events",
+        body: SECOND_REPORT,
+        success: NEW,
+    },
+    Exchange {
+        at: 2001,
+        token: "alfa",
+        verb: Verb::Get,
+        target: "/compliance",
+        body: "",
+        success: EXCEEDED,
+    },
+    Exchange {
+        at: 3000,
+        token: "city",
+        verb: Verb::Post,
+        target: "/publish",
+        body: WITHDRAWN,
+        success: PUBLISHED_SECOND,
+    },
+    Exchange {
+        at: 2999,
+        token: "alfa",
+        verb: Verb::Get,
+        target: CAP_COMPLIANCE,
+        body: "",
+        success: BEFORE_THE_WITHDRAWAL,
+    },
+    Exchange {
+        at: 3000,
+        token: "alfa",
+        verb: Verb::Get,
+        target: "/compliance",
+        body: "",
+        success: AFTER_THE_WITHDRAWAL,
+    },
+];
+
+/// A configuration; a second try where the first found no memory.
+fn config(alloc: Global) -> Result<Config, Fail> {
+    match Config::read(alloc, CONFIGURATION) {
+        Ok(config) => Ok(config),
+        Err(_) => Ok(Config::read(alloc, CONFIGURATION)?),
+    }
+}
+
+/// A machine of the configuration; a second try where the first found no memory.
+fn machine(alloc: Global) -> Result<World<Plain>, Fail> {
+    match World::new(alloc, config(alloc)?, Plain) {
+        Ok(world) => Ok(world),
+        Err(_) => Ok(World::new(alloc, config(alloc)?, Plain)?),
+    }
+}
+
+fn request<'a>(rt: &impl Abort, exchange: &'a Exchange) -> Request<'a> {
+    Request {
+        at: instant(rt, exchange.at),
+        token: exchange.token.as_bytes(),
+        verb: exchange.verb,
+        target: exchange.target.as_bytes(),
+        body: exchange.body.as_bytes(),
+    }
+}
+
+fn asked(rt: &impl Abort, world: &mut World<Plain>, exchange: &Exchange) -> Reply {
+    world.answer(&request(rt, exchange))
+}
+
+/// The replies to the requests; a second call where the first found no memory.
+fn run(world: &mut World<Plain>, requests: &[Request<'_>]) -> Result<Vec<Reply>, Fail> {
+    match world.run(requests) {
+        Ok(replies) => Ok(replies),
+        Err(_) => Ok(world.run(requests)?),
+    }
+}
+
+/// These are the replies to the first requests.
+fn assert_successes(rt: &impl Abort, replies: &[Reply]) {
+    for (reply, exchange) in replies.iter().zip(EXCHANGES) {
+        assert_eq!(rt; reply.status(), 200);
+        assert_eq!(rt; reply.body(), exchange.success.as_bytes());
+    }
+}
+
+/// With one growth refused, wherever it is, one answer is 503 `no_memory`; the same request is then
+/// answered as if nothing had happened, and so are all others.
+#[test]
+fn answers_or_wants_memory(rt: HostRuntime) -> Result<(), Fail> {
+    let mut world = machine(rt.alloc())?;
+    for exchange in EXCHANGES {
+        let mut reply = asked(&rt, &mut world, exchange);
+        if reply.status() == 503 {
+            assert_eq!(rt; reply.body(), NO_MEMORY.as_bytes());
+            reply = asked(&rt, &mut world, exchange);
+        }
+        assert_eq!(rt; reply.status(), 200);
+        assert_eq!(rt; reply.body(), exchange.success.as_bytes());
+    }
+    Ok(())
+}
+
+const NEXT: &str =
+    r#"{"policy_id":"00000000-0000-4000-8000-000000000202","name":"next","start_date":1000,"published_date":5,"provider_ids":["00000000-0000-4000-8000-0000000000a1"],"rules":[]}"#;
+
+const NEXT_DRAFT: &str = "/drafts/policies/00000000-0000-4000-8000-000000000202";
+
+const NEXT_NAMED: &str = r#"{"policies":["00000000-0000-4000-8000-000000000202"]}"#;
+
+const NO_POLICIES: &str = r#"{"policies":[],"revision":0}"#;
+
+const NO_GEOGRAPHIES: &str = r#"{"geographies":[],"revision":0}"#;
+
+const ONE_POLICY: &str =
+    r#"{"policies":[{"name":"cap","policy_id":"00000000-0000-4000-8000-000000000201","published_date":1000,"rules":[{"geographies":["00000000-0000-4000-8000-000000000101"],"maximum":1,"name":"cap","rule_id":"00000000-0000-4000-8000-000000000301","rule_type":"count"}],"start_date":1000}],"revision":1}"#;
+
+const ONE_GEOGRAPHY: &str =
+    r#"{"geographies":[{"geography_id":"00000000-0000-4000-8000-000000000101","geography_json":{"features":[{"geometry":{"coordinates":[[[[0,0],[10,0],[10,10],[0,10],[0,0]]]],"type":"MultiPolygon"},"properties":null,"type":"Feature"}],"type":"FeatureCollection"},"name":"square","published_date":1000}],"revision":1}"#;
+
+const TWO_POLICIES: &str =
+    r#"{"policies":[{"name":"cap","policy_id":"00000000-0000-4000-8000-000000000201","published_date":1000,"rules":[{"geographies":["00000000-0000-4000-8000-000000000101"],"maximum":1,"name":"cap","rule_id":"00000000-0000-4000-8000-000000000301","rule_type":"count"}],"start_date":1000},{"name":"next","policy_id":"00000000-0000-4000-8000-000000000202","provider_ids":["00000000-0000-4000-8000-0000000000a1"],"published_date":2000,"rules":[],"start_date":1000}],"revision":2}"#;
+
+const THE_NEXT: &str =
+    r#"{"policy":{"name":"next","policy_id":"00000000-0000-4000-8000-000000000202","provider_ids":["00000000-0000-4000-8000-0000000000a1"],"published_date":2000,"rules":[],"start_date":1000},"revision":2}"#;
+
+const THE_SQUARE: &str =
+    r#"{"geography":{"geography_id":"00000000-0000-4000-8000-000000000101","geography_json":{"features":[{"geometry":{"coordinates":[[[[0,0],[10,0],[10,10],[0,10],[0,0]]]],"type":"MultiPolygon"},"properties":null,"type":"Feature"}],"type":"FeatureCollection"},"name":"square","published_date":1000},"revision":1}"#;
+
+/// Lists of no, one and two documents, and single documents; a publication between them.
+const LISTS: &[Exchange] = &[
+    Exchange {
+        at: 900,
+        token: "city",
+        verb: Verb::Get,
+        target: "/policies",
+        body: "",
+        success: NO_POLICIES,
+    },
+    Exchange {
+        at: 900,
+        token: "alfa",
+        verb: Verb::Get,
+        target: "/geographies",
+        body: "",
+        success: NO_GEOGRAPHIES,
+    },
+    Exchange {
+        at: 1000,
+        token: "city",
+        verb: Verb::Put,
+        target: SQUARE_DRAFT,
+        body: SQUARE,
+        success: NEW,
+    },
+    Exchange {
+        at: 1000,
+        token: "city",
+        verb: Verb::Put,
+        target: CAP_DRAFT,
+        body: CAP,
+        success: NEW,
+    },
+    Exchange {
+        at: 1000,
+        token: "city",
+        verb: Verb::Post,
+        target: "/publish",
+        body: PUBLISHED,
+        success: PUBLISHED_FIRST,
+    },
+    Exchange {
+        at: 1000,
+        token: "bravo",
+        verb: Verb::Get,
+        target: "/policies",
+        body: "",
+        success: ONE_POLICY,
+    },
+    Exchange {
+        at: 1000,
+        token: "alfa",
+        verb: Verb::Get,
+        target: "/geographies",
+        body: "",
+        success: ONE_GEOGRAPHY,
+    },
+    Exchange {
+        at: 1000,
+        token: "alfa",
+        verb: Verb::Get,
+        target: SQUARE_SHOWN,
+        body: "",
+        success: THE_SQUARE,
+    },
+    Exchange {
+        at: 2000,
+        token: "city",
+        verb: Verb::Put,
+        target: NEXT_DRAFT,
+        body: NEXT,
+        success: NEW,
+    },
+    Exchange {
+        at: 2000,
+        token: "city",
+        verb: Verb::Post,
+        target: "/publish",
+        body: NEXT_NAMED,
+        success: PUBLISHED_NEXT,
+    },
+    Exchange {
+        at: 2000,
+        token: "alfa",
+        verb: Verb::Get,
+        target: "/policies",
+        body: "",
+        success: TWO_POLICIES,
+    },
+    Exchange {
+        at: 2000,
+        token: "alfa",
+        verb: Verb::Get,
+        target: NEXT_SHOWN,
+        body: "",
+        success: THE_NEXT,
+    },
+];
+
+const PUBLISHED_NEXT: &str = r#"{"published_date":2000,"revision":2}"#;
+
+const SQUARE_SHOWN: &str = "/geographies/00000000-0000-4000-8000-000000000101";
+
+const NEXT_SHOWN: &str = "/policies/00000000-0000-4000-8000-000000000202";
+
+/// A policy that isn't meant for the operator.
+const HIDDEN: Exchange = Exchange {
+    at: 2000,
+    token: "bravo",
+    verb: Verb::Get,
+    target: NEXT_SHOWN,
+    body: "",
+    success: "",
+};
+
+/// What is published is told as it was printed at its publication. With one growth refused, wherever it
+/// is, one answer is 503 `no_memory`, and the same request is then answered as if nothing had happened.
+#[test]
+fn lists_what_is_published(rt: HostRuntime) -> Result<(), Fail> {
+    let mut world = machine(rt.alloc())?;
+    for exchange in LISTS {
+        let mut reply = asked(&rt, &mut world, exchange);
+        if reply.status() == 503 {
+            reply = asked(&rt, &mut world, exchange);
+        }
+        assert_eq!(rt; reply.status(), 200);
+        assert_eq!(rt; reply.body(), exchange.success.as_bytes());
+    }
+    let mut reply = asked(&rt, &mut world, &HIDDEN);
+    if reply.status() == 503 {
+        reply = asked(&rt, &mut world, &HIDDEN);
+    }
+    assert_eq!(rt; reply.status(), 404);
+    Ok(())
+}
+
+/// Room for all requests; a second try where the first found no memory.
+fn room<'a>(alloc: Global) -> Result<Vec<Request<'a>>, Fail> {
+    match Vec::with_capacity(alloc, EXCHANGES.len()) {
+        Ok(room) => Ok(room),
+        Err(_) => Ok(Vec::with_capacity(alloc, EXCHANGES.len())?),
+    }
+}
+
+fn all_requests<'a>(
+    rt: &impl Abort,
+    alloc: Global,
+    exchanges: &'a [Exchange],
+) -> Result<Vec<Request<'a>>, Fail> {
+    let mut requests = room(alloc)?;
+    for exchange in exchanges {
+        match requests.push(request(rt, exchange)) {
+            Ok(()) => {}
+            Err(_) => return Err(Fail::from("room for all requests")),
+        }
+    }
+    Ok(requests)
+}
+
+/// All requests in one call. With one growth refused, wherever it is, the call is refused and the same
+/// call again answers them all; or one answer is 503 `no_memory`, those before it are as they should
+/// be, and a new machine answers all of them.
+#[test]
+fn runs_or_wants_memory(rt: HostRuntime) -> Result<(), Fail> {
+    let requests = all_requests(&rt, rt.alloc(), EXCHANGES)?;
+    let mut replies = run(&mut machine(rt.alloc())?, &requests)?;
+    if let Some(place) = replies.iter().position(|reply| reply.status() == 503) {
+        assert_eq!(rt; replies[place].body(), NO_MEMORY.as_bytes());
+        assert_successes(&rt, &replies[..place]);
+        replies = run(&mut machine(rt.alloc())?, &requests)?;
+    }
+    assert_eq!(rt; replies.len(), EXCHANGES.len());
+    assert_successes(&rt, &replies);
+    Ok(())
+}
+
+/// An empty catalogue; a second try where the first found no memory.
+fn catalogue(alloc: Global) -> Result<Catalogue, Fail> {
+    match Catalogue::with_room(alloc) {
+        Ok(catalogue) => Ok(catalogue),
+        Err(_) => Ok(Catalogue::with_room(alloc)?),
+    }
+}
+
+/// An operator's call, over a book alone: with one growth refused it is 503 `no_memory`, and the same
+/// call then takes the report.
+#[test]
+fn operator_step_reports(rt: HostRuntime) -> Result<(), Fail> {
+    let alloc = rt.alloc();
+    let config = config(alloc)?;
+    let catalogue = catalogue(alloc)?;
+    let operators = config.operators();
+    if operators.is_empty() {
+        return Err(Fail::from("no operator"));
+    }
+    let mut book = Book::new(alloc, operators[0].limit as u32);
+    let request = request(&rt, &FIRST_REPORTED);
+    let call = OperatorCall::Report;
+    let mut reply = operator_step(
+        alloc, &mut book, &catalogue, &config, 0, &call, &request, &Plain,
+    );
+    if reply.status() == 503 {
+        assert_eq!(rt; book.len(), 0);
+        reply = operator_step(
+            alloc, &mut book, &catalogue, &config, 0, &call, &request, &Plain,
+        );
+    }
+    assert_eq!(rt; reply.body(), NEW.as_bytes());
+    assert_eq!(rt; book.len(), 1);
+    Ok(())
+}
+
+/// The act of the author; a second try where the first found no memory.
+fn acted(
+    rt: &impl Abort,
+    alloc: Global,
+    drafts: &mut Drafts,
+    catalogue: &Catalogue,
+    call: &AuthorCall,
+    exchange: &Exchange,
+) -> AuthorAct {
+    let request = request(rt, exchange);
+    match author_step(alloc, drafts, catalogue, call, &request) {
+        AuthorAct::Answer(reply) => {
+            if reply.status() == 503 {
+                author_step(alloc, drafts, catalogue, call, &request)
+            } else {
+                AuthorAct::Answer(reply)
+            }
+        }
+        act => act,
+    }
+}
+
+const SQUARE_NAMED: &str = r#"{"geographies":["00000000-0000-4000-8000-000000000101"]}"#;
+
+const SQUARE_PUBLISHED: Exchange = Exchange {
+    at: 1000,
+    token: "city",
+    verb: Verb::Post,
+    target: "/publish",
+    body: SQUARE_NAMED,
+    success: PUBLISHED_FIRST,
+};
+
+/// A draft that is put is answered; a publication of it is handed on with its reply, and the draft is
+/// there still.
+#[test]
+fn author_step_publishes(rt: HostRuntime) -> Result<(), Fail> {
+    let alloc = rt.alloc();
+    let catalogue = catalogue(alloc)?;
+    let mut drafts = Drafts::new(alloc);
+    let id = Id::read("00000000-0000-4000-8000-000000000101").ok_or("no identifier")?;
+    let put = AuthorCall::PutDraft(DraftKind::Geography, id);
+    match acted(&rt, alloc, &mut drafts, &catalogue, &put, &SQUARE_PUT) {
+        AuthorAct::Answer(reply) => assert_eq!(rt; reply.body(), NEW.as_bytes()),
+        AuthorAct::Publish(_, _) => return Err(Fail::from("a draft is published as it is put")),
+    }
+    let publish = AuthorCall::Publish;
+    match acted(
+        &rt,
+        alloc,
+        &mut drafts,
+        &catalogue,
+        &publish,
+        &SQUARE_PUBLISHED,
+    ) {
+        AuthorAct::Publish(batch, reply) => {
+            assert_eq!(rt; batch.geographies.len(), 1);
+            assert_eq!(rt; reply.body(), PUBLISHED_FIRST.as_bytes());
+            assert!(rt; drafts.get(DraftKind::Geography, id).is_some());
+        }
+        AuthorAct::Answer(_) => return Err(Fail::from("nothing is published")),
+    }
+    Ok(())
+}
