@@ -9,7 +9,7 @@ use mds_request::{Config, Reply, Request, Verb};
 use mds_snapshot::{Blank, Naming, Note, OpenFault, prepare};
 use mds_text::Moment;
 use mds_verdict::Plain;
-use std::alloc::Global;
+use std::alloc::{AllocError, Global};
 use std::marker::Brand;
 use std::process::Abort;
 use std::sync::Wait;
@@ -179,8 +179,8 @@ trait Scene {
         alloc: Global,
         room: &mut AuthorRoom<K>,
         alfa: &mut Desk<K>,
-        bravo: Desk<K>,
-    ) -> Result<bool, Fail>
+        bravo: &mut Desk<K>,
+    ) -> Result<bool, AllocError>
         requires ready { may_play };
 }
 
@@ -194,7 +194,15 @@ fn stage<S: Scene, R: Wait + Abort>(rt: &R, alloc: Global, scene: &S) -> Result<
     let Ok(blank) = prepare(alloc) else {
         return Ok(false);
     };
-    furnished::<Brand, S, R>(rt, alloc, config, blank, scene)
+    Ok(furnished::<Brand, S, R>(rt, alloc, config, blank, scene)?)
+}
+
+/// The desks of two operators.
+fn two<K: Naming>(rt: &impl Abort, mut desks: Vec<Desk<K>>) -> (Desk<K>, Desk<K>) {
+    assert!(rt; desks.len() == 2);
+    let bravo = desks.pop().expect(rt, "bravo's desk");
+    let alfa = desks.pop().expect(rt, "alfa's desk");
+    (alfa, bravo)
 }
 
 /// Plays a scene, and ends the room: a desk has nothing to show then.
@@ -204,29 +212,30 @@ fn furnished<K: Naming, S: Scene, R: Wait + Abort>(
     config: Config,
     blank: Blank,
     scene: &S,
-) -> Result<bool, Fail>
+) -> Result<bool, AllocError>
     requires named { book_of blank ≡ K.book }
     requires ready { S.may_play }
 {
     match furnish::<K, R>(rt, alloc, config, blank) {
-        Ok((mut room, mut desks)) => {
-            assert_eq!(rt; desks.len(), 2);
-            let (Some(bravo), Some(mut alfa)) = (desks.pop(), desks.pop()) else {
-                room.finish(rt);
-                return Err(Fail::from("two desks"));
-            };
-            let outcome = scene.play(rt, alloc, &mut room, &mut alfa, bravo);
+        Ok((mut room, desks)) => {
+            let (mut alfa, mut bravo) = two(rt, desks);
+            let outcome = scene.play(rt, alloc, &mut room, &mut alfa, &mut bravo);
+            drop(bravo);
             room.finish(rt);
-            let is_played = outcome?;
-            let reply = asked(rt, &mut alfa, NOTHING_FOR_ALFA);
-            assert_refused(rt, &reply, 503, NO_SNAPSHOT);
-            Ok(is_played)
+            assert_ended(rt, &mut alfa);
+            outcome
         }
         Err(fault) => {
             assert!(rt; fault == OpenFault::NoMemory);
             Ok(false)
         }
     }
+}
+
+/// The room of this desk is ended.
+fn assert_ended<K: Naming>(rt: &impl Abort, desk: &mut Desk<K>) {
+    let reply = asked(rt, desk, NOTHING_FOR_ALFA);
+    assert_refused(rt, &reply, 503, NO_SNAPSHOT);
 }
 
 fn moment(rt: &impl Abort, exchange: &Exchange) -> Moment {
@@ -248,16 +257,20 @@ fn asked<K: Naming>(rt: &impl Abort, desk: &mut Desk<K>, exchange: &Exchange) ->
     desk.answer(&request, &mut OpenGate, &Plain)
 }
 
+/// Whether the reply has this status and body.
+fn is_reply(reply: &Reply, status: u16, body: &str) -> bool {
+    reply.status() == status && reply.body() == body.as_bytes()
+}
+
 /// This is the exchange's reply.
 fn assert_success(rt: &impl Abort, reply: &Reply, exchange: &Exchange) {
-    assert_eq!(rt; reply.status(), 200);
-    assert_eq!(rt; reply.body(), exchange.success.as_bytes());
+    let is_success = is_reply(reply, 200, exchange.success);
+    assert!(rt; is_success, "no {} at {}", exchange.success, exchange.at);
 }
 
 /// This reply is no success, and says so.
 fn assert_refused(rt: &impl Abort, reply: &Reply, status: u16, body: &str) {
-    assert_eq!(rt; reply.status(), status);
-    assert_eq!(rt; reply.body(), body.as_bytes());
+    assert!(rt; is_reply(reply, status, body), "no {body}");
 }
 
 /// The desk gives the exchange's reply.
@@ -284,6 +297,7 @@ fn two_requests<'a>(rt: &impl Abort, exchanges: &'a [&'a Exchange; 2]) -> [Reque
 
 /// These are the exchanges' replies.
 fn assert_successes(rt: &impl Abort, replies: &[Reply], exchanges: &[&Exchange]) {
+    assert!(rt; replies.len() == exchanges.len());
     for (reply, exchange) in replies.iter().zip(exchanges) {
         assert_success(rt, reply, exchange);
     }
@@ -309,6 +323,17 @@ fn room_answers<K: Naming, R: Wait + Abort>(
     note
 }
 
+/// What the room gave is a refusal, without a note.
+fn assert_unnoted<K: Naming>(
+    rt: &impl Abort,
+    given: &(Reply, Option<Note<K>>),
+    status: u16,
+    body: &str,
+) {
+    assert_refused(rt, &given.0, status, body);
+    assert!(rt; given.1.is_none());
+}
+
 /// Puts both documents, of which no note comes.
 fn draft<K: Naming, R: Wait + Abort>(rt: &R, room: &mut AuthorRoom<K>) {
     for exchange in DRAFTS {
@@ -317,7 +342,12 @@ fn draft<K: Naming, R: Wait + Abort>(rt: &R, room: &mut AuthorRoom<K>) {
 }
 
 /// Puts both documents and publishes them.
-fn set_up<K: Naming, R: Wait + Abort>(rt: &R, room: &mut AuthorRoom<K>) -> Note<K> {
+pub(crate) fn set_up<K: Naming, R: Wait + Abort>(rt: &R, room: &mut AuthorRoom<K>) -> Note<K> {
     draft(rt, room);
     room_answers(rt, room, PUBLISH).expect(rt, "a note")
+}
+
+/// The same, of which a desk learns.
+fn set_up_for<K: Naming, R: Wait + Abort>(rt: &R, room: &mut AuthorRoom<K>, desk: &mut Desk<K>) {
+    desk.learn(&set_up(rt, room));
 }

@@ -10,3 +10,5 @@ mod desk;
 mod hall;
 #[cfg(test)]
 mod snapshot;
+#[cfg(test)]
+mod waiting;

@@ -28,36 +28,47 @@ const NEXT: &[u8] =
 const SQUARE: &[u8] =
     br#"{"geography_id":"00000000-0000-4000-8000-000000000101","name":"square","geography_json":{"type":"Polygon","coordinates":[[[0,0],[10,0],[10,10],[0,10],[0,0]]]}}"#;
 
-fn id(text: &str) -> Result<Id, Fail> {
-    Ok(Id::read(text).ok_or("no identifier")?)
+fn id(rt: &impl Abort, text: &str) -> Id {
+    Id::read(text).expect(rt, "an identifier")
 }
 
-/// A batch of these geographies and of the policy of this text; none, memory ran out.
+/// The square alone; none, memory ran out.
+fn geographies(alloc: Global) -> Option<Vec<Arc<Geography>>> {
+    let square = Geography::read(alloc, SQUARE).ok()?;
+    let square = Arc::new(alloc, square).ok()?;
+    vec![in alloc; square].ok()
+}
+
+/// The policy of this text alone; none, memory ran out.
+fn policies(alloc: Global, text: &[u8]) -> Option<Vec<Arc<Policy>>> {
+    let policy = Policy::read(alloc, text).ok()?;
+    let policy = Arc::new(alloc, policy).ok()?;
+    vec![in alloc; policy].ok()
+}
+
+/// A batch of these documents; none, memory ran out.
 fn batch(
     alloc: Global,
-    at: i64,
+    at: Moment,
     geographies: Vec<Arc<Geography>>,
-    text: &[u8],
+    policies: Vec<Arc<Policy>>,
 ) -> Option<Arc<Batch>> {
-    let mut policies = Vec::new(alloc);
-    let policy = Policy::read(alloc, text).ok()?;
-    policies.push(Arc::new(alloc, policy).ok()?).ok()?;
-    let moment = Moment::new(at)?;
-    let batch = Batch::new(alloc, moment, geographies, policies, Vec::new(alloc)).ok()?;
+    let batch = Batch::new(alloc, at, geographies, policies, Vec::new(alloc)).ok()?;
     Arc::new(alloc, batch).ok()
 }
 
 /// The first policy with the square; none, memory ran out.
 fn first(alloc: Global) -> Option<Arc<Batch>> {
-    let mut geographies = Vec::new(alloc);
-    let square = Geography::read(alloc, SQUARE).ok()?;
-    geographies.push(Arc::new(alloc, square).ok()?).ok()?;
-    batch(alloc, 1000, geographies, CAP)
+    let at = Moment::new(1000)?;
+    let policies = policies(alloc, CAP)?;
+    batch(alloc, at, geographies(alloc)?, policies)
 }
 
 /// The policy that takes its place, a second later; none, memory ran out.
 fn second(alloc: Global) -> Option<Arc<Batch>> {
-    batch(alloc, 2000, Vec::new(alloc), NEXT)
+    let at = Moment::new(2000)?;
+    let policies = policies(alloc, NEXT)?;
+    batch(alloc, at, Vec::new(alloc), policies)
 }
 
 fn both(alloc: Global) -> Option<(Arc<Batch>, Arc<Batch>)> {
@@ -74,65 +85,60 @@ fn publish<K: Naming, R: Wait + Abort>(
     publisher.publish(rt, Arc::try_clone(batch)?)
 }
 
+/// Publishes a batch that has to be lawful, which takes no memory.
+fn published<K: Naming, R: Wait + Abort>(
+    rt: &R,
+    publisher: &mut Publisher<K>,
+    batch: &Arc<Batch>,
+) -> Note<K> {
+    publish(rt, publisher, batch).expect(rt, "a note")
+}
+
 /// Shows the first so many batches: the square and the first policy, then the other policy.
-fn assert_front<R: Abort>(rt: &R, catalogue: &Catalogue, length: u64) -> Result<(), Fail> {
-    assert_eq!(rt; catalogue.revision(), length);
-    assert_eq!(rt; catalogue.geography(id(G1)?).is_some(), length >= 1);
-    assert_eq!(rt; catalogue.policy(id(P1)?).is_some(), length >= 1);
-    assert_eq!(rt; catalogue.policy(id(P2)?).is_some(), length >= 2);
-    Ok(())
+fn assert_front(rt: &impl Abort, catalogue: &Catalogue, length: u64) {
+    assert!(rt; catalogue.revision() == length);
+    assert!(rt; catalogue.geography(id(rt, G1)).is_some() == (length >= 1));
+    assert!(rt; catalogue.policy(id(rt, P1)).is_some() == (length >= 1));
+    assert!(rt; catalogue.policy(id(rt, P2)).is_some() == (length >= 2));
 }
 
 /// Looks, and leaves: so many batches have to be shown.
-fn shown<K: Naming, R: Abort>(rt: &R, pane: Pane<K>, length: u64) -> Result<Pane<K>, Fail> {
-    let Ok(look) = pane.look() else {
-        return Err(Fail::from("not shown"));
-    };
-    assert_front(rt, look.catalogue(), length)?;
-    Ok(look.leave())
+fn shown<K: Naming>(rt: &impl Abort, pane: Pane<K>, length: u64) -> Pane<K> {
+    match pane.look() {
+        Ok(look) => {
+            assert_front(rt, look.catalogue(), length);
+            look.leave()
+        }
+        Err(_) => panic!(rt; "not shown"),
+    }
 }
 
 /// Learns of so many batches: they have to be shown.
-fn told<K: Naming, R: Abort>(
-    rt: &R,
-    mut pane: Pane<K>,
-    note: &Note<K>,
-    length: u64,
-) -> Result<Pane<K>, Fail> {
+fn told<K: Naming>(rt: &impl Abort, mut pane: Pane<K>, note: &Note<K>, length: u64) -> Pane<K> {
     pane.learn(note);
     shown(rt, pane, length)
 }
 
 #[test]
 fn notes_reach_each_pane(rt: HostRuntime) -> Result<(), Fail> {
-    let batches = both(rt.alloc()).ok_or("batches")?;
     let blank = prepare(rt.alloc())?;
-    opened::<Brand, _>(&rt, rt.alloc(), blank, &batches)
+    opened::<Brand, _>(&rt, rt.alloc(), blank)
 }
 
-fn opened<K: Naming, R: Wait + Abort>(
-    rt: &R,
-    alloc: Global,
-    blank: Blank,
-    batches: &(Arc<Batch>, Arc<Batch>),
-) -> Result<(), Fail>
+fn opened<K: Naming, R: Wait + Abort>(rt: &R, alloc: Global, blank: Blank) -> Result<(), Fail>
     requires { book_of blank ≡ K.book }
 {
     let (mut publisher, panes) = open::<K, R>(rt, alloc, blank, 2)?;
-    let outcome = in_turn(rt, &mut publisher, panes, batches);
+    let batches = both(alloc).expect(rt, "batches");
+    let pane = in_turn(rt, &mut publisher, panes, &batches);
     publisher.finish(rt);
-    let pane = outcome?;
-    match pane.look() {
-        Ok(_) => panic!(rt; "shown after the end"),
-        Err(gone) => drop(gone.pane),
-    }
+    assert!(rt; pane.look().is_err());
     Ok(())
 }
 
 /// A pane's first look: nothing is published.
-fn fresh<K: Naming, R: Abort>(rt: &R, panes: &mut Vec<Pane<K>>) -> Result<Pane<K>, Fail> {
-    let pane = panes.pop().ok_or("a pane")?;
-    shown(rt, pane, 0)
+fn fresh<K: Naming>(rt: &impl Abort, panes: &mut Vec<Pane<K>>) -> Pane<K> {
+    shown(rt, panes.pop().expect(rt, "a pane"), 0)
 }
 
 fn in_turn<K: Naming, R: Wait + Abort>(
@@ -140,14 +146,14 @@ fn in_turn<K: Naming, R: Wait + Abort>(
     publisher: &mut Publisher<K>,
     mut panes: Vec<Pane<K>>,
     batches: &(Arc<Batch>, Arc<Batch>),
-) -> Result<Pane<K>, Fail> {
-    let left = fresh(rt, &mut panes)?;
-    let right = fresh(rt, &mut panes)?;
-    assert!(rt; panes.is_empty());
-    let note = publish(rt, publisher, &batches.0)?;
-    let right = told(rt, right, &note.again(), 1)?;
-    let left = told(rt, left, &note, 1)?;
-    told_late(rt, publisher, &batches.1, left, &note)?;
+) -> Pane<K> {
+    assert!(rt; panes.len() == 2);
+    let left = fresh(rt, &mut panes);
+    let right = fresh(rt, &mut panes);
+    let note = published(rt, publisher, &batches.0);
+    let right = told(rt, right, &note.again(), 1);
+    let left = told(rt, left, &note, 1);
+    told_late(rt, publisher, &batches.1, left, &note);
     shown(rt, right, 2)
 }
 
@@ -158,10 +164,10 @@ fn told_late<K: Naming, R: Wait + Abort>(
     batch: &Arc<Batch>,
     mut pane: Pane<K>,
     older: &Note<K>,
-) -> Result<(), Fail> {
-    pane.learn(&publish(rt, publisher, batch)?);
-    told(rt, pane, older, 2)?;
-    assert_front(rt, publisher.catalogue(), 2)
+) {
+    pane.learn(&published(rt, publisher, batch));
+    told(rt, pane, older, 2);
+    assert_front(rt, publisher.catalogue(), 2);
 }
 
 /// With one growth refused, wherever it is: what isn't opened wants memory; publications, notes, what is
@@ -173,11 +179,21 @@ fn survives_want_of_memory(rt: HostRuntime) -> Result<(), Fail> {
         Some(batches) => batches,
         None => both(alloc).ok_or("batches")?,
     };
+    prepared(&rt, alloc, &batches)
+}
+
+/// Prepares, at the first or the second try, and opens that.
+fn prepared<R: Wait + Abort>(
+    rt: &R,
+    alloc: Global,
+    batches: &(Arc<Batch>, Arc<Batch>),
+) -> Result<(), Fail> {
     let blank = match prepare(alloc) {
         Ok(blank) => blank,
         Err(_) => prepare(alloc)?,
     };
-    wanting::<Brand, _>(&rt, alloc, blank, &batches)
+    wanting::<Brand, R>(rt, alloc, blank, batches);
+    Ok(())
 }
 
 fn wanting<K: Naming, R: Wait + Abort>(
@@ -185,24 +201,17 @@ fn wanting<K: Naming, R: Wait + Abort>(
     alloc: Global,
     blank: Blank,
     batches: &(Arc<Batch>, Arc<Batch>),
-) -> Result<(), Fail>
+)
     requires { book_of blank ≡ K.book }
 {
     match open::<K, R>(rt, alloc, blank, 64) {
         Ok((mut publisher, panes)) => {
             let pane = at_each_place(rt, &mut publisher, panes, &batches.0);
             let mut closed = publisher.closed();
-            let outcome = match pane {
-                Ok(pane) => refused(rt, &mut closed, pane, &batches.1),
-                Err(fail) => Err(fail),
-            };
+            refused(rt, &mut closed, pane, &batches.1);
             closed.finish(rt);
-            outcome
         }
-        Err(fault) => {
-            assert!(rt; fault == OpenFault::NoMemory);
-            Ok(())
-        }
+        Err(fault) => assert!(rt; fault == OpenFault::NoMemory),
     }
 }
 
@@ -212,15 +221,15 @@ fn at_each_place<K: Naming, R: Wait + Abort>(
     publisher: &mut Publisher<K>,
     mut panes: Vec<Pane<K>>,
     batch: &Arc<Batch>,
-) -> Result<Pane<K>, Fail> {
-    assert_eq!(rt; panes.len(), 64);
-    let note = publish(rt, publisher, batch)?;
-    let kept = told(rt, panes.pop().ok_or("a pane")?, &note, 1)?;
+) -> Pane<K> {
+    assert!(rt; panes.len() == 64);
+    let note = published(rt, publisher, batch);
+    let kept = told(rt, panes.pop().expect(rt, "a pane"), &note, 1);
     for pane in panes {
-        told(rt, pane, &note.again(), 1)?;
+        told(rt, pane, &note.again(), 1);
     }
-    assert_front(rt, publisher.catalogue(), 1)?;
-    Ok(kept)
+    assert_front(rt, publisher.catalogue(), 1);
+    kept
 }
 
 /// A publisher that is closed refuses every batch, and keeps its list and its catalogue.
@@ -229,10 +238,10 @@ fn refused<K: Naming, R: Wait + Abort>(
     closed: &mut Publisher<K>,
     pane: Pane<K>,
     batch: &Arc<Batch>,
-) -> Result<(), Fail> {
+) {
     for _ in 0..2 {
         assert!(rt; publish(rt, closed, batch).is_err());
     }
-    shown(rt, pane, 1)?;
-    assert_front(rt, closed.catalogue(), 1)
+    shown(rt, pane, 1);
+    assert_front(rt, closed.catalogue(), 1);
 }

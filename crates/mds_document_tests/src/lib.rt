@@ -9,6 +9,8 @@ mod coordinate;
 #[cfg(test)]
 mod decimal;
 #[cfg(test)]
+mod fields;
+#[cfg(test)]
 mod geography;
 #[cfg(test)]
 mod number;

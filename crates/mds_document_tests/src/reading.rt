@@ -3,8 +3,8 @@ use mds_reading::{
     required_id, required_member, required_moment, required_text, required_token, text_at,
     tokens_at,
 };
-use mds_text::{Field, Id, TextFault, Tree, print_tree};
-use std::alloc::Global;
+use mds_text::{Field, Id, TextFault, Token, Tree, print_tree};
+use std::alloc::{AllocError, Global};
 use std::process::Abort;
 use std::test::Fail;
 
@@ -19,24 +19,54 @@ const COMPACT: &str = "{\"Image\":{\"Animated\":false,\"Height\":600,\"IDs\":[11
     \"Thumbnail\":{\"Height\":125,\"Url\":\"http://www.example.com/image/481989943\",\"Width\":100},\
     \"Title\":\"View from 15th Floor\",\"Width\":800}}";
 
-/// Asserts what a text is read as, printed, and how many of its numbers aren't plain; `read_counted` of
-/// the crate below says the same.
+/// Asserts what a tree is printed as.
+fn expect_printed(
+    rt: &impl Abort,
+    alloc: Global,
+    tree: &Tree,
+    want: &str,
+) -> Result<(), AllocError> {
+    let printed = print_tree(alloc, tree)?;
+    assert!(rt; printed.as_slice() == want.as_bytes());
+    Ok(())
+}
+
+/// Asserts what a text is read as, printed, and how many of its numbers aren't plain.
+fn expect_read_here(
+    rt: &impl Abort,
+    alloc: Global,
+    text: &str,
+    want: &str,
+    count: u64,
+) -> Result<(), TextFault> {
+    let (tree, quoted) = read_counted(alloc, text.as_bytes())?;
+    assert!(rt; quoted == count, "{text}");
+    Ok(expect_printed(rt, alloc, &tree, want)?)
+}
+
+/// The same of `read_counted` of the crate below.
+fn expect_read_below(
+    rt: &impl Abort,
+    alloc: Global,
+    text: &str,
+    want: &str,
+    count: u64,
+) -> Result<(), TextFault> {
+    let (tree, quoted) = mds_text::read_counted(alloc, text.as_bytes())?;
+    assert!(rt; quoted == count, "{text}");
+    Ok(expect_printed(rt, alloc, &tree, want)?)
+}
+
+/// Asserts what a text is read as by either crate.
 fn expect_read(
     rt: &impl Abort,
     alloc: Global,
     text: &str,
     want: &str,
     count: u64,
-) -> Result<(), Fail> {
-    let (tree, quoted) = read_counted(alloc, text.as_bytes())?;
-    let printed = print_tree(alloc, &tree)?;
-    assert!(rt; printed.as_slice() == want.as_bytes(), "{text}");
-    assert_eq!(rt; quoted, count, "{text}");
-    let (tree, quoted) = mds_text::read_counted(alloc, text.as_bytes())?;
-    let printed = print_tree(alloc, &tree)?;
-    assert!(rt; printed.as_slice() == want.as_bytes(), "{text}");
-    assert_eq!(rt; quoted, count, "{text}");
-    Ok(())
+) -> Result<(), TextFault> {
+    expect_read_here(rt, alloc, text, want, count)?;
+    expect_read_below(rt, alloc, text, want, count)
 }
 
 /// Whether the text is no JSON.
@@ -156,15 +186,28 @@ fn names_are_ordered(rt: HostRuntime) -> Result<(), Fail> {
     Ok(())
 }
 
-/// An object of the names of two of these digits, in their order.
-fn hundred(alloc: Global, digits: &[&str], mark: &str) -> Result<String, Fail> {
-    let mut text = String::from_str(alloc, "{\"\":0")?;
+/// Adds a member of this name of two digits to an object: the second digit and a half.
+fn add_half(text: &mut String, tens: &str, ones: &str, mark: &str) -> Result<(), AllocError> {
+    for piece in [",\"", tens, ones, "\":", mark, ones, ".5", mark] {
+        text.push_str(piece)?;
+    }
+    Ok(())
+}
+
+/// Adds the members of all names of two of these digits, in their order.
+fn add_hundred(text: &mut String, digits: &[&str], mark: &str) -> Result<(), AllocError> {
     for tens in digits {
         for ones in digits {
-            text.push_str(&format!(in alloc; ",\"{tens}{ones}\":{mark}{ones}.5{mark}")?)?;
+            add_half(text, tens, ones, mark)?;
         }
     }
-    text.push_str("}")?;
+    text.push_str("}")
+}
+
+/// An object of the names of two of these digits, in their order.
+fn hundred(alloc: Global, digits: &[&str], mark: &str) -> Result<String, AllocError> {
+    let mut text = String::from_str(alloc, "{\"\":0")?;
+    add_hundred(&mut text, digits, mark)?;
     Ok(text)
 }
 
@@ -177,7 +220,8 @@ fn hundred_names_are_ordered(rt: HostRuntime) -> Result<(), Fail> {
     let alloc = rt.alloc();
     let text = hundred(alloc, FALLING, "")?;
     let want = hundred(alloc, RISING, "\"")?;
-    expect_read(&rt, alloc, text.as_str(), want.as_str(), 100)
+    expect_read(&rt, alloc, text.as_str(), want.as_str(), 100)?;
+    Ok(())
 }
 
 const NO_JSON: &[&[u8]] = &[
@@ -271,76 +315,139 @@ fn is_text(node: &Node<'_>, want: &str) -> bool {
     }
 }
 
-/// Asserts that these are the texts of the entries.
-fn expect_texts(rt: &impl Abort, entries: &[Node<'_>], first: &str, second: &str) {
-    let [one, two] = entries else {
-        panic!(rt; "two entries")
-    };
-    assert!(rt; is_text(one, first) && is_text(two, second));
+/// Whether these are the texts of the entries.
+fn are_texts(entries: &[Node<'_>], first: &str, second: &str) -> bool {
+    match entries {
+        [one, two] => is_text(one, first) && is_text(two, second),
+        _ => false,
+    }
 }
 
-/// The document's name, its identifier, moment and token, and what it hasn't.
-fn expect_values(rt: &impl Abort, document: &Node<'_>) -> Result<(), TextFault> {
-    assert_eq!(rt; required_text(document, Field::Name)?, "cap");
-    assert!(rt; text_at(document, Field::Description)?.is_none());
-    assert!(rt; member_at(document, Field::Id)?.is_none());
-    let device = Id::read(DEVICE);
-    assert!(rt; Some(required_id(document, Field::DeviceId)?) == device);
-    assert_eq!(rt; required_moment(document, Field::Timestamp)?.get(), 7);
-    let vehicle_type = required_token(document, Field::VehicleType)?;
-    assert_eq!(rt; vehicle_type.as_str(), "scooter");
+/// The document's texts, and what it hasn't.
+fn expect_names(rt: &impl Abort, document: &Node<'_>) -> Result<(), TextFault> {
+    let name = required_text(document, Field::Name)?;
+    assert!(rt; name == "cap");
+    let description = text_at(document, Field::Description)?;
+    assert!(rt; description.is_none());
+    let id = member_at(document, Field::Id)?;
+    assert!(rt; id.is_none());
     Ok(())
 }
 
-/// The document's event types and its location.
-fn expect_events(rt: &impl Abort, alloc: Global, document: &Node<'_>) -> Result<(), TextFault> {
-    let events = tokens_at(alloc, document, Field::EventTypes)?;
-    let [start, end] = events.as_deref().unwrap_or(&[]) else {
-        panic!(rt; "two tokens")
-    };
-    assert!(rt; start.as_str() == "trip_start" && end.as_str() == "trip_end");
+/// The document's identifier, moment and token.
+fn expect_values(rt: &impl Abort, document: &Node<'_>) -> Result<(), TextFault> {
+    let device = required_id(document, Field::DeviceId)?;
+    assert!(rt; Id::read(DEVICE) == Some(device));
+    let timestamp = required_moment(document, Field::Timestamp)?;
+    assert!(rt; timestamp.get() == 7);
+    let vehicle_type = required_token(document, Field::VehicleType)?;
+    assert!(rt; vehicle_type.as_str() == "scooter");
+    Ok(())
+}
+
+/// The document's location.
+fn expect_location(rt: &impl Abort, document: &Node<'_>) -> Result<(), TextFault> {
     let location = required_member(document, Field::Location)?;
     assert!(rt; object_of(location, Field::Location).is_ok());
     Ok(())
 }
 
-/// The document's coordinates, which are a pair, and its features.
-fn expect_lists(rt: &impl Abort, alloc: Global, document: &Node<'_>) -> Result<(), TextFault> {
+/// Whether these are the document's event types.
+fn are_events(events: &[Token]) -> bool {
+    match events {
+        [start, end] => start.as_str() == "trip_start" && end.as_str() == "trip_end",
+        _ => false,
+    }
+}
+
+/// The document's event types.
+fn expect_events(rt: &impl Abort, alloc: Global, document: &Node<'_>) -> Result<(), TextFault> {
+    let events = tokens_at(alloc, document, Field::EventTypes)?;
+    assert!(rt; events.as_deref().is_some_and(are_events));
+    Ok(())
+}
+
+/// The document's coordinates, which are a pair.
+fn expect_pair(rt: &impl Abort, alloc: Global, document: &Node<'_>) -> Result<(), TextFault> {
     let position = required_member(document, Field::Coordinates)?;
     assert!(rt; matches!(position, Node::Pair(_, _)));
     let numbers = entries_of(alloc, position, Field::Coordinates)?;
-    expect_texts(rt, numbers.as_slice(), "-122.4", "37.7");
+    assert!(rt; are_texts(numbers.as_slice(), "-122.4", "37.7"));
+    Ok(())
+}
+
+/// Whether these are 1 and the text of 2.5.
+fn are_features(entries: &[Node<'_>]) -> bool {
+    match entries {
+        [whole, fraction] => matches!(whole, Node::Int(1)) && is_text(fraction, "2.5"),
+        _ => false,
+    }
+}
+
+/// The document's features.
+fn expect_features(rt: &impl Abort, alloc: Global, document: &Node<'_>) -> Result<(), TextFault> {
     let features = required_member(document, Field::Features)?;
     let entries = entries_of(alloc, features, Field::Features)?;
-    let [whole, fraction] = entries.as_slice() else {
-        panic!(rt; "two entries")
-    };
-    assert!(rt; matches!(whole, Node::Int(1)) && is_text(fraction, "2.5"));
+    assert!(rt; are_features(entries.as_slice()));
     Ok(())
+}
+
+/// The members of the document.
+fn expect_members(rt: &impl Abort, alloc: Global, tree: &Node<'_>) -> Result<(), TextFault> {
+    let document = document_of(tree)?;
+    expect_names(rt, document)?;
+    expect_values(rt, document)?;
+    expect_location(rt, document)?;
+    expect_events(rt, alloc, document)?;
+    expect_pair(rt, alloc, document)?;
+    expect_features(rt, alloc, document)
+}
+
+/// The members of the document, as a source lends them.
+fn expect_lent(rt: &impl Abort, alloc: Global, source: &mut Source) -> Result<(), TextFault> {
+    let tree = source.read(alloc, DOCUMENT.as_bytes())?;
+    expect_members(rt, alloc, &tree)
 }
 
 #[test]
 fn members_are_read(rt: HostRuntime) -> Result<(), Fail> {
     let alloc = rt.alloc();
     let mut source = Source::new(alloc);
-    let tree = source.read(alloc, DOCUMENT.as_bytes())?;
-    let document = document_of(&tree)?;
-    expect_values(&rt, document)?;
-    expect_events(&rt, alloc, document)?;
-    expect_lists(&rt, alloc, document)?;
+    expect_lent(&rt, alloc, &mut source)?;
     Ok(())
 }
 
-/// What a source reads, once more where there was no memory: its name and the texts of its position.
-fn expect_source(rt: &impl Abort, alloc: Global, text: &str) -> Result<(), TextFault> {
-    let mut source = Source::new(alloc);
-    let tree = source.read(alloc, text.as_bytes())?;
-    let document = document_of(&tree)?;
-    assert_eq!(rt; required_text(document, Field::Name)?, "cap");
+/// The document's position: its texts.
+fn expect_position(rt: &impl Abort, alloc: Global, document: &Node<'_>) -> Result<(), TextFault> {
     let position = required_member(document, Field::Coordinates)?;
     let numbers = entries_of(alloc, position, Field::Coordinates)?;
-    expect_texts(rt, numbers.as_slice(), "1.5", "-0");
+    assert!(rt; are_texts(numbers.as_slice(), "1.5", "-0"));
     Ok(())
+}
+
+/// The document's name and its position.
+fn expect_place(rt: &impl Abort, alloc: Global, tree: &Node<'_>) -> Result<(), TextFault> {
+    let document = document_of(tree)?;
+    let name = required_text(document, Field::Name)?;
+    assert!(rt; name == "cap");
+    expect_position(rt, alloc, document)
+}
+
+/// What a source reads: its name and the texts of its position.
+fn expect_read_by(
+    rt: &impl Abort,
+    alloc: Global,
+    source: &mut Source,
+    text: &str,
+) -> Result<(), TextFault> {
+    let tree = source.read(alloc, text.as_bytes())?;
+    expect_place(rt, alloc, &tree)
+}
+
+/// What a new source reads.
+fn expect_source(rt: &impl Abort, alloc: Global, text: &str) -> Result<(), TextFault> {
+    let mut source = Source::new(alloc);
+    expect_read_by(rt, alloc, &mut source, text)
 }
 
 /// A name and a position, once with an escape and once with a name before.

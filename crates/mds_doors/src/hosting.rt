@@ -7,7 +7,7 @@ use crate::limits::FEWEST_WORKERS;
 use crate::moments::Moments;
 use crate::queues::Queues;
 use crate::reception::Reception;
-use crate::serving::serve_all;
+use crate::serving::{Seating, serve_all};
 use futures::StreamExt;
 use hyper::rt::TokioTimer;
 use hyper::server::conn::http1::Builder;
@@ -25,6 +25,7 @@ use std::{io, thread};
 use tokio::net::TcpListener;
 use tokio::reactor;
 use tokio::runtime::Runtime;
+use tokio::time::Handle;
 
 /// How many threads serve those of these queues: as many as processors, and a thread for each answer that may
 /// take long and for one more.
@@ -49,6 +50,31 @@ pub fn bound<N: Net>(net: &N, address: &str, reactor: &reactor::Handle) -> io::R
     Err(io::ErrorKind::AddrNotAvailable.into())
 }
 
+/// What connections need beside their hall.
+#[derive(Drop)]
+struct Fittings<R> {
+    timers: Handle,
+    pauses: Handle,
+    http: Builder<TokioTimer<R>>,
+    seating: Seating,
+}
+
+impl<R: Clock + RandomSource + AllocGlobal + Copy> Fittings<R> {
+    fn new(rt: &R, runtime: &Runtime) -> io::Result<Fittings<R>> {
+        let timers = runtime.handle().time().clone()?;
+        let pauses = timers.clone()?;
+        let timer = TokioTimer::new(*rt, timers.clone()?);
+        let mut http = Builder::new(rt.alloc(), RandomState::new(rt)?).timer(timer);
+        http.header_read_timeout(None);
+        Ok(Fittings {
+            timers,
+            pauses,
+            http,
+            seating: Seating::new(rt.alloc())?,
+        })
+    }
+}
+
 /// Serves so many connections of a listener, or all, and ends the hall.
 ///
 /// # Errors
@@ -66,13 +92,12 @@ pub fn serve<K: Naming + Send + Sync, R, M: Moments + Send + Sync>(
 where
     R: Wait + Threads + Clock + RandomSource + AllocGlobal + Sync + Send + Copy + Drop,
 {
-    let timers = runtime.handle().time().clone()?;
-    let pauses = timers.clone()?;
-    let mut http = Builder::new(rt.alloc(), RandomState::new(rt)?).timer(TokioTimer::new(
-        *rt,
-        timers.clone()?,
-    ));
-    http.header_read_timeout(None);
+    let Fittings {
+        timers,
+        pauses,
+        http,
+        seating,
+    } = Fittings::new(rt, runtime)?;
     let house = Arc::new(
         rt.alloc(),
         House {
@@ -89,11 +114,12 @@ where
             timers,
         },
     )?;
+    let shared = Arc::try_clone(&house)?;
     let sockets = listener
         .incoming()
         .take(connections.unwrap_or(usize::MAX))
         .filter_map(|accepted| Admission::new(accepted, rt, &pauses));
-    let served = serve_all(rt, runtime, http, sockets, Arc::try_clone(&house)?);
+    let served = serve_all(rt, runtime, http, sockets, shared, seating);
     if let Some(house) = Arc::into_inner(house) {
         house.answers.hall.finish(rt);
     }

@@ -2,12 +2,12 @@
 use crate::door::{Answers, Door, House};
 use crate::limits::MOST_CONNECTIONS;
 use crate::paced::{Pace, Paced};
-use crate::watch::{Bell, watched};
+use crate::watch::{Bell, Watch, watched};
 use futures::future::Either;
 use futures::{FutureExt, Stream, StreamExt, future, stream};
 use hyper::rt::Timer;
 use hyper::server::conn::http1::Builder;
-use std::alloc::AllocGlobal;
+use std::alloc::{AllocError, AllocGlobal, Global};
 use std::io;
 use std::random::RandomSource;
 use std::sync::{Arc, Wait};
@@ -15,6 +15,28 @@ use std::thread::Threads;
 use std::time::Clock;
 use tokio::io::{AsyncRead, AsyncWrite};
 use tokio::runtime::Runtime;
+
+/// What counts connections, the bell that all of them have, and its watch.
+#[derive(Drop)]
+pub struct Seating {
+    seats: Arc<()>,
+    bell: Arc<Bell>,
+    watch: Watch,
+}
+
+impl Seating {
+    /// A seating of no connection.
+    ///
+    /// # Errors
+    ///
+    /// Memory ran out.
+    pub fn new(alloc: Global) -> Result<Seating, AllocError> {
+        let seats = Arc::new(alloc, ())?;
+        let (bell, watch) = watched(alloc)?;
+        let bell = Arc::new(alloc, bell)?;
+        Ok(Seating { seats, bell, watch })
+    }
+}
 
 /// One more connection, paced, and its door; none, where as many are served as may be.
 fn entered<I: Drop, A: Drop, C: Clock + Drop>(
@@ -44,6 +66,7 @@ pub fn serve_all<R, S, I, A, T>(
     http: Builder<T>,
     sockets: S,
     house: Arc<House<A, R>>,
+    seating: Seating,
 ) -> io::Result<()>
 where
     R: Wait + Threads + Clock + RandomSource + AllocGlobal + Send + Sync + Drop,
@@ -54,9 +77,11 @@ where
     requires sockets { S.can_poll sockets }
     requires ready { A.may_answer }
 {
-    let seats = Arc::new(rt.alloc(), ())?;
-    let (bell, mut watch) = watched(rt.alloc())?;
-    let bell = Arc::new(rt.alloc(), bell)?;
+    let Seating {
+        seats,
+        bell,
+        mut watch,
+    } = seating;
     let entries = sockets.filter_map(move |io| {
         future::ready(entered(io, &house, &bell, &seats).map(Some))
     });

@@ -17,6 +17,7 @@ use std::sync::Wait;
 use std::test::Fail;
 use std::thread::{Threads, join};
 use std::time::Clock;
+use tokio::net::TcpListener;
 use tokio::runtime::Runtime;
 
 const CONFIGURATION: &[u8] =
@@ -30,7 +31,7 @@ struct Exchange {
     answer: &'static str,
 }
 
-const EXCHANGES: [Exchange; 4] = [
+const EXCHANGES: &[Exchange] = &[
     Exchange {
         line: "PUT /drafts/geographies/00000000-0000-4000-8000-000000000101",
         token: "city",
@@ -104,14 +105,59 @@ fn is_answered(alloc: Global, asked: &mut Asked) -> io::Result<bool> {
 }
 
 /// Asks one after the other, each once the one before is answered.
-fn are_answered(alloc: Global, mut all: [Asked; 4]) -> bool {
+fn are_answered(alloc: Global, mut clients: Vec<Asked>) -> bool {
     let mut wanted = true;
-    for asked in &mut all {
+    for asked in &mut clients {
         wanted &= matches!(is_answered(alloc, asked), Ok(true));
     }
     wanted
 }
 
+/// A connection for each exchange.
+fn clients_of<R: Net<Stream = TcpStream> + AllocGlobal>(
+    rt: &R,
+    address: SocketAddr,
+) -> io::Result<Vec<Asked>> {
+    let mut clients = Vec::with_capacity(rt.alloc(), EXCHANGES.len())?;
+    for exchange in EXCHANGES {
+        clients.push(connected(rt, address, exchange)?)?;
+    }
+    Ok(clients)
+}
+
+/// What waits for events, where the server listens, and who asks there.
+#[derive(Drop)]
+struct Scene {
+    runtime: Runtime,
+    listener: TcpListener,
+    clients: Vec<Asked>,
+}
+
+/// A listener on a free port, and its clients.
+fn listening<R: Net<Stream = TcpStream> + AllocGlobal>(
+    rt: &R,
+    runtime: &Runtime,
+) -> io::Result<(TcpListener, Vec<Asked>)> {
+    let listener = bound(rt, "127.0.0.1:0", runtime.handle().reactor())?;
+    let address = listener.local_addr()?;
+    let clients = clients_of(rt, address)?;
+    Ok((listener, clients))
+}
+
+fn scene_of<R>(rt: &R) -> io::Result<Scene>
+where
+    R: Clock + Net<Stream = TcpStream> + RandomSource + AllocGlobal,
+{
+    let runtime = Runtime::with_worker_threads(rt, 2)?;
+    let (listener, clients) = listening(rt, &runtime)?;
+    Ok(Scene {
+        runtime,
+        listener,
+        clients,
+    })
+}
+
+/// A hall is made once all else is there, so that what fails before has none to end.
 fn served<K: Naming + Send + Sync, R>(rt: &R, config: Config, blank: Blank) -> Result<(), Fail>
 where
     R: Wait
@@ -127,28 +173,47 @@ where
         + Drop,
     requires { book_of blank ≡ K.book }
 {
+    let moment = Moment::new(2000).expect(rt, "a moment");
+    let scene = scene_of(rt)?;
     let queues = Queues::new(rt.alloc(), &config)?;
     let hall = Hall::<K>::new(rt, rt.alloc(), config, blank)?;
-    let mut runtime = Runtime::with_worker_threads(rt, 2)?;
-    let listener = bound(rt, "127.0.0.1:0", runtime.handle().reactor())?;
-    let address = listener.local_addr()?;
-    let [geography, policy, publication, compliance] = &EXCHANGES;
-    let all = [
-        connected(rt, address, geography)?,
-        connected(rt, address, policy)?,
-        connected(rt, address, publication)?,
-        connected(rt, address, compliance)?,
-    ];
-    let moments = Standing(Moment::new(2000).ok_or("a moment")?);
-    let alloc = rt.alloc();
-    let (wanted, served) = join(
-        rt,
-        move || are_answered(alloc, all),
-        || serve(rt, &mut runtime, listener, hall, queues, moments, Some(4)),
-    );
+    let (wanted, served) = both(rt, scene, hall, queues, Standing(moment));
     served?;
     assert!(rt; wanted);
     Ok(())
+}
+
+/// Asks, and serves meanwhile.
+fn both<K: Naming + Send + Sync, R>(
+    rt: &R,
+    scene: Scene,
+    hall: Hall<K>,
+    queues: Queues,
+    moments: Standing,
+) -> (bool, io::Result<()>)
+where
+    R: Wait
+        + Threads
+        + Clock
+        + Net<Stream = TcpStream>
+        + RandomSource
+        + AllocGlobal
+        + Sync
+        + Send
+        + Copy
+        + Drop,
+{
+    let Scene {
+        mut runtime,
+        listener,
+        clients,
+    } = scene;
+    let alloc = rt.alloc();
+    join(
+        rt,
+        move || are_answered(alloc, clients),
+        || serve(rt, &mut runtime, listener, hall, queues, moments, Some(4)),
+    )
 }
 
 /// A policy is published, and an operator asks for compliance.

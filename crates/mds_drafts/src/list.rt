@@ -1,12 +1,12 @@
 ghost use Rattle.std.specs.Prelude.{◌≡◌, true, IfOk};
 ghost use Rattle.mds_text.specs.Fault.{Gives, text_cause};
-ghost use Rattle.mds_text.specs.View.{view};
+ghost use Rattle.mds_reading.specs.Node.{node_view};
 ghost use Rattle.mds_catalog.specs.Publication.{are_distinct};
 ghost use Rattle.mds_drafts.specs.Named.{distinct_ids_at};
 
 use mds_catalog::are_distinct;
-use mds_reading::read_tree;
-use mds_text::{Field, Id, TextFault, Tree, document_of, ids_at};
+use mds_reading::{Node, Source, document_of, ids_at};
+use mds_text::{Field, Id, TextFault};
 use std::alloc::Global;
 
 /// The identifiers of the drafts that are to be published and of the published policies that are to be
@@ -34,12 +34,13 @@ impl PublishList {
     pub fn read(alloc: Global, text: &[u8]) -> Result<PublishList, TextFault>
         ensures { Gives text_cause named_of result (read_publish_list text.now) }
     {
-        let tree = read_tree(alloc, text)?;
+        let mut source = Source::new(alloc);
+        let tree = source.read(alloc, text)?;
         PublishList::from_tree(alloc, &tree)
     }
 
-    fn from_tree(alloc: Global, tree: &Tree) -> Result<PublishList, TextFault>
-        ensures { Gives text_cause named_of result (publish_list_of (view tree.now)) }
+    fn from_tree(alloc: Global, tree: &Node<'_>) -> Result<PublishList, TextFault>
+        ensures { Gives text_cause named_of result (publish_list_of (node_view tree.now)) }
     {
         let document = document_of(tree)?;
         let geographies = distinct_ids_at(alloc, document, Field::Geographies)?;
@@ -61,8 +62,8 @@ impl PublishList {
 }
 
 /// An optional list of identifiers without repeats.
-fn distinct_ids_at(alloc: Global, document: &Tree, field: Field) -> Result<Vec<Id>, TextFault>
-    ensures value { Gives text_cause (λ v. v.items) result (distinct_ids_at (view document.now) field) }
+fn distinct_ids_at(alloc: Global, document: &Node<'_>, field: Field) -> Result<Vec<Id>, TextFault>
+    ensures value { Gives text_cause (λ v. v.items) result (distinct_ids_at (node_view document.now) field) }
     ensures differ { IfOk result (λ v. are_distinct v.items ≡ true) }
 {
     let ids = match ids_at(alloc, document, field)? {

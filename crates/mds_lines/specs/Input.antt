@@ -2,6 +2,7 @@
 use Rattle.std.specs.Prelude.{ℕ, Bool, false, ◌&&◌, ◌==◌, List, [], ◌∷◌, length, drop, get_or, filter, nat_lt, if◌then◌else◌, ◌+◌, ◌-◌, ◌*◌, nat_le, fold, Option, Some, None}
 use Rattle.std.specs.List.{list_all, before_first, after_first, onto_first}
 use Rattle.std.specs.Char.{is_ascii_digit}
+use Rattle.std.specs.Io.BufRead.{ends_with_byte, strip_last}
 use Rattle.mds_text.specs.Fields.{last_moment}
 use Rattle.mds_request.specs.Request.{Request, verb_of}
 
@@ -21,6 +22,10 @@ lines [] = []
 lines (byte ∷ bytes) =
     if byte == 10 then [] ∷ lines bytes
     else (if (byte == 13) && feeds bytes then lines bytes else onto_first byte (lines bytes))
+
+-- a line without its end: a line feed (10), and one carriage return (13) before it
+abbrev pub without_end : List ℕ → List ℕ
+without_end line = if ends_with_byte 10 line then strip_last 13 (strip_last 10 line) else line
 
 -- there is a byte
 abbrev pub is_filled : List ℕ → Bool

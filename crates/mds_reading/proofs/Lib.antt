@@ -11,5 +11,5 @@ mod Wholes
 mod Placing
 mod Counted
 pub mod Nodes
-mod Lists
+pub mod Lists
 mod Pointed

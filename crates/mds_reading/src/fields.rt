@@ -1,5 +1,6 @@
-//! The members of a document that lends, by the general readings of a tree's. Absent and null members
-//! are `None`; a document that is no object, and a member of another kind, is a bad field of that name.
+//! The members of a document by their general readings. Each takes a document and a member's name.
+//! Absent and null members are `None`; a document that is no object, and a member of another kind,
+//! is a bad field of that name.
 ghost use Rattle.std.specs.Prelude.{◌≡◌, option_map, map};
 ghost use Rattle.mds_text.specs.Fault.{Gives, IsCaused, text_cause};
 ghost use Rattle.mds_text.specs.Fields.{find_member, member_at, optional_at, required_at, required_member, object_of, document_of};
@@ -113,7 +114,7 @@ fn moment_of(value: &Node<'_>, field: Field) -> Result<Moment, TextFault>
 }
 
 /// A plain whole number. Any other value is a bad field of this name.
-fn int_of(value: &Node<'_>, field: Field) -> Result<i64, TextFault>
+pub fn int_of(value: &Node<'_>, field: Field) -> Result<i64, TextFault>
     ensures value { Gives text_cause (λ z. z) result (int_of field (node_view value.now)) }
     ensures memory { IsCaused result }
 {
@@ -185,7 +186,7 @@ pub fn bool_at(document: &Node<'_>, field: Field) -> Result<Option<bool>, TextFa
 }
 
 /// An optional identifier.
-fn id_at(document: &Node<'_>, field: Field) -> Result<Option<Id>, TextFault>
+pub fn id_at(document: &Node<'_>, field: Field) -> Result<Option<Id>, TextFault>
     ensures value { Gives text_cause (option_map (λ id. id)) result (optional_at id_of (node_view document.now) field) }
     ensures memory { IsCaused result }
 {
@@ -224,6 +225,20 @@ pub fn bound_at(document: &Node<'_>, field: Field) -> Result<Option<u64>, TextFa
 {
     match member_at(document, field)? {
         Some(value) => Ok(Some(bound_of(value, field)?)),
+        None => Ok(None),
+    }
+}
+
+/// An optional list.
+pub fn list_at<'t, 'a>(
+    alloc: Global,
+    document: &'t Node<'a>,
+    field: Field,
+) -> Result<Option<Entries<'t, 'a>>, TextFault>
+    ensures { Gives text_cause (option_map (λ entries. entries_view entries)) result (optional_at list_of (node_view document.now) field) }
+{
+    match member_at(document, field)? {
+        Some(value) => Ok(Some(entries_of(alloc, value, field)?)),
         None => Ok(None),
     }
 }
@@ -296,10 +311,7 @@ pub fn required_list<'t, 'a>(
 ) -> Result<Entries<'t, 'a>, TextFault>
     ensures { Gives text_cause (λ entries. entries_view entries) result (required_at list_of (node_view document.now) field) }
 {
-    match member_at(document, field)? {
-        Some(value) => Ok(entries_of(alloc, value, field)?),
-        None => Err(TextFault::BadField(field)),
-    }
+    list_at(alloc, document, field)?.ok_or(TextFault::BadField(field))
 }
 
 /// A list of identifiers that has to be there.

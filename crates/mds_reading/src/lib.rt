@@ -16,9 +16,9 @@ mod whole;
 
 pub use entries::{Entries, entries_of};
 pub use fields::{
-    bool_at, bound_at, document_of, ids_at, member_at, moment_at, object_of, required_id,
-    required_ids, required_list, required_member, required_moment, required_text, required_token,
-    text_at, text_of, token_at, tokens_at, tokens_of,
+    bool_at, bound_at, document_of, id_at, ids_at, int_of, list_at, member_at, moment_at,
+    object_of, required_id, required_ids, required_list, required_member, required_moment,
+    required_text, required_token, text_at, text_of, token_at, tokens_at, tokens_of,
 };
 pub use node::{Node, NodeMember};
 pub use read::{read_counted, read_tree};

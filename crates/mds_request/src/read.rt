@@ -3,7 +3,7 @@ ghost use Rattle.std.specs.Prelude.{◌≡◌, ◌≤◌, map, vec_len, length, 
 ghost use Rattle.std.specs.List.{list_all};
 ghost use Rattle.mds_text.specs.Fault.{Gives, text_cause};
 ghost use Rattle.mds_text.specs.Fields.{each};
-ghost use Rattle.mds_text.specs.View.{view};
+ghost use Rattle.mds_reading.specs.Node.{node_view};
 ghost use Rattle.mds_match.specs.declared.vehicle.TheConstants.{MOST_VEHICLES};
 ghost use Rattle.mds_request.specs.declared.config.TheConstants.{MOST_OPERATORS};
 ghost use Rattle.mds_request.specs.Configuration.{configuration, operator, is_access_byte, is_access_token, access_of, access_at, limit_at, operator_of, operators_at, zone_at, configuration_of, read_configuration};
@@ -13,23 +13,24 @@ use crate::config::{Config, MOST_OPERATORS, MOST_TOKEN, Operator};
 use crate::fault::ConfigFault;
 use crate::lookup::are_alike;
 use mds_match::{MOST_VEHICLES, Zone};
-use mds_reading::read_tree;
-use mds_text::{
-    Field, TextFault, Tree, document_of, int_of, object_of, required_id, required_list,
-    required_member, required_text, text_of,
+use mds_reading::{
+    Node, Source, document_of, int_of, object_of, required_id, required_list, required_member,
+    required_text, text_of,
 };
+use mds_text::{Field, TextFault};
 use std::alloc::Global;
 
 /// The configuration that a text is. Want of memory may be told as a fault of the text.
 pub(crate) fn config_from(alloc: Global, text: &[u8]) -> Result<Config, ConfigFault>
     ensures { Gives config_cause configuration result (read_configuration text.now) }
 {
-    let tree = read_tree(alloc, text)?;
+    let mut source = Source::new(alloc);
+    let tree = source.read(alloc, text)?;
     config_of(alloc, &tree)
 }
 
-fn config_of(alloc: Global, tree: &Tree) -> Result<Config, ConfigFault>
-    ensures { Gives config_cause configuration result (configuration_of (view tree.now)) }
+fn config_of(alloc: Global, tree: &Node<'_>) -> Result<Config, ConfigFault>
+    ensures { Gives config_cause configuration result (configuration_of (node_view tree.now)) }
 {
     let document = document_of(tree)?;
     let author = access_at(document, Field::Author)?;
@@ -47,15 +48,15 @@ fn config_of(alloc: Global, tree: &Tree) -> Result<Config, ConfigFault>
 }
 
 /// An access token that has to be there.
-fn access_at<'a>(document: &'a Tree, field: Field) -> Result<&'a str, TextFault>
-    ensures { Gives text_cause (λ s. s.now) result (access_at (view document.now) field) }
+fn access_at<'a>(document: &Node<'a>, field: Field) -> Result<&'a str, TextFault>
+    ensures { Gives text_cause (λ s. s.now) result (access_at (node_view document.now) field) }
 {
     access_of(required_member(document, field)?, field)
 }
 
 /// 1 to 64 letters, digits, `-` and `_`.
-fn access_of<'a>(value: &'a Tree, field: Field) -> Result<&'a str, TextFault>
-    ensures { Gives text_cause (λ s. s.now) result (access_of field (view value.now)) }
+fn access_of<'a>(value: &Node<'a>, field: Field) -> Result<&'a str, TextFault>
+    ensures { Gives text_cause (λ s. s.now) result (access_of field (node_view value.now)) }
 {
     let text = text_of(value, field)?;
     if is_access_token(text.as_bytes()) {
@@ -84,11 +85,12 @@ fn is_access_byte(byte: u8) -> bool
 }
 
 /// The operators that have to be there.
-fn operators_at(alloc: Global, document: &Tree) -> Result<Vec<Operator>, ConfigFault>
-    ensures reading { Gives config_cause (λ v. map operator v.items) result (operators_at (view document.now)) }
+fn operators_at(alloc: Global, document: &Node<'_>) -> Result<Vec<Operator>, ConfigFault>
+    ensures reading { Gives config_cause (λ v. map operator v.items) result (operators_at (node_view document.now)) }
     ensures few { IfOk result (λ v. vec_len v ≤ MOST_OPERATORS) }
 {
-    let entries = required_list(document, Field::Operators)?;
+    let list = required_list(alloc, document, Field::Operators)?;
+    let entries = list.as_slice();
     if entries.len() > MOST_OPERATORS {
         return Err(ConfigFault::TooManyOperators);
     }
@@ -97,8 +99,8 @@ fn operators_at(alloc: Global, document: &Tree) -> Result<Vec<Operator>, ConfigF
 }
 
 /// Each operator in its order, up to the first fault.
-fn operators_of(alloc: Global, entries: &[Tree]) -> Result<Vec<Operator>, TextFault>
-    ensures reading { Gives text_cause (λ v. map operator v.items) result (each operator_of (map view entries.now)) }
+fn operators_of(alloc: Global, entries: &[Node<'_>]) -> Result<Vec<Operator>, TextFault>
+    ensures reading { Gives text_cause (λ v. map operator v.items) result (each operator_of (map node_view entries.now)) }
     ensures count { IfOk result (λ v. vec_len v ≡ length entries.now) }
 {
     let mut operators = Vec::with_capacity(alloc, entries.len())?;
@@ -108,8 +110,8 @@ fn operators_of(alloc: Global, entries: &[Tree]) -> Result<Vec<Operator>, TextFa
     Ok(operators)
 }
 
-fn operator_of(alloc: Global, value: &Tree) -> Result<Operator, TextFault>
-    ensures { Gives text_cause operator result (operator_of (view value.now)) }
+fn operator_of(alloc: Global, value: &Node<'_>) -> Result<Operator, TextFault>
+    ensures { Gives text_cause operator result (operator_of (node_view value.now)) }
 {
     let entry = object_of(value, Field::Operators)?;
     let id = required_id(entry, Field::Id)?;
@@ -120,8 +122,8 @@ fn operator_of(alloc: Global, value: &Tree) -> Result<Operator, TextFault>
 }
 
 /// From 1 to `MOST_VEHICLES`.
-fn limit_at(entry: &Tree) -> Result<usize, TextFault>
-    ensures reading { Gives text_cause (λ n. n) result (limit_at (view entry.now)) }
+fn limit_at(entry: &Node<'_>) -> Result<usize, TextFault>
+    ensures reading { Gives text_cause (λ n. n) result (limit_at (node_view entry.now)) }
     ensures least { IfOk result (λ n. 1 ≤ n) }
     ensures most { IfOk result (λ n. n ≤ MOST_VEHICLES) }
 {
@@ -134,8 +136,8 @@ fn limit_at(entry: &Tree) -> Result<usize, TextFault>
 }
 
 /// The time zone that has to be there.
-fn zone_at(document: &Tree) -> Result<Zone, ConfigFault>
-    ensures { Gives config_cause (λ z. z) result (zone_at (view document.now)) }
+fn zone_at(document: &Node<'_>) -> Result<Zone, ConfigFault>
+    ensures { Gives config_cause (λ z. z) result (zone_at (node_view document.now)) }
 {
     let zone = Zone::read(required_text(document, Field::Zone)?)?;
     Ok(zone)

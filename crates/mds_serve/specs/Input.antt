@@ -1,9 +1,8 @@
--- What the program is given: a number of connections as an argument, and a line on standard input.
+-- What the program is given: a number of connections as an argument.
 use Rattle.std.specs.Prelude.{ℕ, List, Option, Some, None, Bool, ◌&&◌, length, nat_lt, nat_le, if◌then◌else◌}
 use Rattle.std.specs.List.{list_all}
 use Rattle.std.specs.Char.{is_ascii_digit}
 use Rattle.std.specs.Str.Parse.{digits_value}
-use Rattle.std.specs.Io.BufRead.{ends_with_byte, strip_last}
 
 abbrev pub are_digits : List ℕ → Bool
 are_digits bytes = list_all is_ascii_digit bytes
@@ -15,7 +14,3 @@ is_count word = nat_lt 0 (length word) && nat_le (length word) 9 && are_digits w
 -- the number of connections that a word names
 abbrev pub count_in : List ℕ → Option ℕ
 count_in word = if is_count word then Some (digits_value 10 word) else None
-
--- a line without its end: a line feed (10), and one carriage return (13) before it
-abbrev pub without_end : List ℕ → List ℕ
-without_end line = if ends_with_byte 10 line then strip_last 13 (strip_last 10 line) else line

@@ -7,16 +7,12 @@
 #![tactic(auto)]
 
 mod asking;
-mod comparing;
 mod fault;
 mod replay;
 mod scale;
 mod scene;
 mod script;
 mod telling;
-#[cfg(test)]
-mod tests;
-mod times;
 
 use std::process::ExitCode;
 

@@ -1,9 +1,9 @@
 //! The check of a desk's replies.
 use crate::asking::Told;
-use crate::comparing::first_difference;
 use crate::fault::Fault;
 use crate::scale::Scale;
 use crate::script::{configuration, publication, question};
+use mds_measures::{first_difference, revision_in};
 use mds_request::Reply;
 use mds_verdict::Plain;
 use mds_world::World;
@@ -47,12 +47,4 @@ fn publish(alloc: Global, world: &mut World<Plain>, number: u32) -> Result<(), F
         }
     }
     Ok(())
-}
-
-/// The number of publications of which a reply's body tells.
-pub fn revision_in(body: &[u8]) -> Option<u32> {
-    let text = str::from_utf8(body).ok()?;
-    let (_, behind) = text.split_once("\"revision\":")?;
-    let (digits, _) = behind.split_once(',')?;
-    digits.parse().ok()
 }

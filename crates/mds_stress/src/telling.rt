@@ -2,7 +2,7 @@
 use crate::asking::Told;
 use crate::fault::Fault;
 use crate::scale::Scale;
-use crate::times::Spread;
+use mds_measures::Spread;
 use std::alloc::Global;
 use std::io::Print;
 

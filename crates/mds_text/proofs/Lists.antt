@@ -1,8 +1,5 @@
 -- A list whose entries are read one after another.
-use Rattle.std.proofs.Common.{◌≡◌, ℕ, ◌+◌, ◌<◌, List, [], ◌∷◌, ◌++◌, length, map, drop, get_or, Result, Ok, Err, refl, sym, ap, ◌∙◌, append_assoc}
-use Rattle.std.proofs.lemmas.List.{drop_more}
-use Rattle.mds_text.specs.View.{view}
-use Rattle.mds_text.specs.declared.tree.Tree.{Tree}
+use Rattle.std.proofs.Common.{◌≡◌, List, [], ◌∷◌, ◌++◌, Result, Ok, Err, refl, sym, ap, ◌∙◌, append_assoc}
 use Rattle.mds_text.specs.Fault.{Fault, ◌>>=◌}
 use Rattle.mds_text.specs.Fields.{each}
 use Rattle.mds_text.specs.Tree.{Json}
@@ -28,11 +25,3 @@ with_front-push read done t ts a is = push_front done a (each read ts) ∙ ap (�
 pub with_front-fault : {A : Type 0} (read : Json → Result A Fault) (done : List A) (t : Json) (ts : List Json) (fault : Fault) → read t ≡ Err fault
     → with_front done (each read (t ∷ ts)) ≡ Err fault
 with_front-fault read done t ts fault is = ap (λ r. with_front done (r >>= λ b. each read ts >>= λ rest. Ok (b ∷ rest))) is
-
--- one turn of a loop over a list that reads its entries
-pub with_front-turn : {A : Type 0} (read : Json → Result A Fault) (xs : List Tree) (i : ℕ) (x : Tree) (done more : List A) (a : A) → i < length xs → x ≡ get_or xs i x → read (view x) ≡ Ok a → more ≡ done ++ a ∷ []
-    → with_front more (each read (map view (drop (i + 1) xs))) ≡ with_front done (each read (map view (drop i xs)))
-with_front-turn read xs i x done more a within here is grown =
-    ap (λ found. with_front found (each read (map view (drop (i + 1) xs)))) grown
-    ∙ with_front-push read done (view x) (map view (drop (i + 1) xs)) a is
-    ∙ sym (ap (λ ts. with_front done (each read (map view ts))) (drop_more xs i x within ∙ ap (λ y. y ∷ drop (i + 1) xs) (sym here)))

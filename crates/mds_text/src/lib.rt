@@ -5,7 +5,6 @@ mod degrees;
 mod draft_kind;
 mod fault;
 mod field;
-mod fields;
 mod id;
 pub mod laws;
 mod make;
@@ -22,12 +21,6 @@ pub use degrees::units_of;
 pub use draft_kind::DraftKind;
 pub use fault::{NumberFault, TextFault};
 pub use field::Field;
-pub use fields::{
-    bool_at, bound_at, bound_of, document_of, id_at, id_of, ids_at, int_of, list_at, list_of,
-    member_at, moment_at, moment_of, object_of, required_id, required_ids, required_list,
-    required_member, required_moment, required_text, required_token, text_at, text_of, token_at,
-    token_of, tokens_at, tokens_of,
-};
 pub use id::Id;
 pub use make::{
     add_member, bool_tree, copy_members, copy_tree, id_tree, int_tree, list_tree, object_tree,

@@ -1,16 +1,13 @@
 ghost use Rattle.std.specs.Prelude.{◌<◌, ◌≤◌};
 
-use crate::square::{id, instant, known, moment};
-use mds_catalog::{Batch, Catalogue, are_distinct, is_meant_for};
+use crate::square::{instant, joined, known, position};
+use mds_catalog::{Batch, Catalogue, Published, are_distinct, is_meant_for};
 use mds_geography::Geography;
-use mds_geometry::Position;
 use mds_match::Places;
 use mds_policy::Policy;
-use mds_text::{Id, Units7};
 use std::alloc::Global;
 use std::process::Abort;
 use std::sync::Arc;
-use std::test::Fail;
 
 const G1: &str = "00000000-0000-4000-8000-000000000101";
 
@@ -33,71 +30,86 @@ const SQUARE: &[u8] =
     br#"{"geography_id":"00000000-0000-4000-8000-000000000101","name":"square","geography_json":{"type":"Polygon","coordinates":[[[0,0],[10,0],[10,10],[0,10],[0,0]]]}}"#;
 
 /// From 0 to 10 degrees.
-fn square(alloc: Global) -> Result<Vec<Arc<Geography>>, Fail> {
-    let square = Geography::read(alloc, SQUARE)?;
-    let mut geographies = Vec::new(alloc);
-    geographies.push(Arc::new(alloc, square)?)?;
-    Ok(geographies)
+fn square(rt: &impl Abort, alloc: Global) -> Vec<Arc<Geography>> {
+    let square = Geography::read(alloc, SQUARE).expect(rt, "a geography");
+    let share = Arc::new(alloc, square).expect(rt, "memory");
+    vec![in alloc; share].expect(rt, "memory")
 }
 
-fn policies(alloc: Global, texts: &[&[u8]]) -> Result<Vec<Arc<Policy>>, Fail> {
+/// The policy of a text, as batches share it.
+fn shared(rt: &impl Abort, alloc: Global, text: &[u8]) -> Arc<Policy> {
+    let policy = Policy::read(alloc, text).expect(rt, "a policy");
+    Arc::new(alloc, policy).expect(rt, "memory")
+}
+
+fn policies(rt: &impl Abort, alloc: Global, texts: &[&[u8]]) -> Vec<Arc<Policy>> {
     let mut policies = Vec::new(alloc);
     for text in texts {
-        policies.push(Arc::new(alloc, Policy::read(alloc, text)?)?)?;
+        policies.push(shared(rt, alloc, text)).expect(rt, "memory");
     }
-    Ok(policies)
+    policies
 }
 
 /// The policies of these texts, with the square.
-fn whole(alloc: Global, texts: &[&[u8]]) -> Result<Batch, Fail> {
-    Ok(Batch::new(
+fn whole(rt: &impl Abort, alloc: Global, texts: &[&[u8]]) -> Batch {
+    let geographies = square(rt, alloc);
+    let policies = policies(rt, alloc, texts);
+    let made = Batch::new(
         alloc,
-        moment(1000)?,
-        square(alloc)?,
-        policies(alloc, texts)?,
+        instant(rt, 1000),
+        geographies,
+        policies,
         Vec::new(alloc),
-    )?)
+    );
+    made.expect(rt, "memory")
 }
 
 /// The policies of these texts alone, a second later.
-fn alone(alloc: Global, texts: &[&[u8]]) -> Result<Batch, Fail> {
-    of_policies(alloc, 2000, policies(alloc, texts)?)
+fn alone(rt: &impl Abort, alloc: Global, texts: &[&[u8]]) -> Batch {
+    of_policies(rt, alloc, 2000, policies(rt, alloc, texts))
 }
 
 /// These policies alone, at a moment.
-fn of_policies(alloc: Global, at: i64, policies: Vec<Arc<Policy>>) -> Result<Batch, Fail> {
-    Ok(Batch::new(
-        alloc,
-        moment(at)?,
-        Vec::new(alloc),
-        policies,
-        Vec::new(alloc),
-    )?)
+fn of_policies(rt: &impl Abort, alloc: Global, at: i64, policies: Vec<Arc<Policy>>) -> Batch {
+    let none = Vec::new(alloc);
+    let made = Batch::new(alloc, instant(rt, at), none, policies, Vec::new(alloc));
+    made.expect(rt, "memory")
 }
 
 /// The withdrawal of the policy of this identifier at a moment.
-fn withdrawal(alloc: Global, text: &str, at: i64) -> Result<Batch, Fail> {
-    let mut withdrawn = Vec::new(alloc);
-    withdrawn.push(id(text)?)?;
-    Ok(Batch::new(
-        alloc,
-        moment(at)?,
-        Vec::new(alloc),
-        Vec::new(alloc),
-        withdrawn,
-    )?)
+fn withdrawal(rt: &impl Abort, alloc: Global, text: &str, at: i64) -> Batch {
+    let withdrawn = vec![in alloc; known(rt, text)].expect(rt, "memory");
+    let none = Vec::new(alloc);
+    let made = Batch::new(alloc, instant(rt, at), none, Vec::new(alloc), withdrawn);
+    made.expect(rt, "memory")
 }
 
-/// The first policy with the square, and a second later the one that takes its place.
-fn published(alloc: Global, rt: &impl Abort) -> Result<Catalogue, Fail> {
-    let mut catalogue = Catalogue::with_room(alloc)?;
-    let first = whole(alloc, &[CAP])?;
+/// Publishes a batch.
+fn adopt(rt: &impl Abort, alloc: Global, catalogue: &mut Catalogue, batch: Batch) {
+    catalogue.adopt(Arc::new(alloc, batch).expect(rt, "memory"));
+}
+
+/// Publishes a batch if it is lawful.
+fn absorb(rt: &impl Abort, alloc: Global, catalogue: &mut Catalogue, batch: Batch) {
+    let share = Arc::new(alloc, batch).expect(rt, "memory");
+    catalogue.absorb(&share).expect(rt, "memory");
+}
+
+/// Publishes the first policy with the square, and a second later the one that takes its place.
+fn publish(rt: &impl Abort, alloc: Global, catalogue: &mut Catalogue) {
+    let first = whole(rt, alloc, &[CAP]);
     assert!(rt; catalogue.lawful(&first));
-    catalogue.absorb(&Arc::new(alloc, first)?)?;
-    assert_eq!(rt; catalogue.revision(), 1);
-    catalogue.adopt(Arc::new(alloc, alone(alloc, &[NEXT])?)?);
-    assert_eq!(rt; catalogue.revision(), 2);
-    Ok(catalogue)
+    absorb(rt, alloc, catalogue, first);
+    assert!(rt; catalogue.revision() == 1);
+    adopt(rt, alloc, catalogue, alone(rt, alloc, &[NEXT]));
+    assert!(rt; catalogue.revision() == 2);
+}
+
+/// A catalogue of both policies and of the square.
+fn published(rt: &impl Abort, alloc: Global) -> Catalogue {
+    let mut catalogue = Catalogue::with_room(alloc).expect(rt, "memory");
+    publish(rt, alloc, &mut catalogue);
+    catalogue
 }
 
 /// An operator, a moment, and the policy in force.
@@ -110,57 +122,94 @@ const IN_FORCE: &[(&str, i64, Option<&str>)] = &[
     (OB, 86_401_000, None),
 ];
 
-#[test]
-fn takes_its_place_at_its_start(rt: HostRuntime) -> Result<(), Fail> {
-    let catalogue = published(rt.alloc(), &rt)?;
-    for (operator, at, wanted) in IN_FORCE {
-        let lent = catalogue.in_force(rt.alloc(), known(&rt, operator), instant(&rt, *at))?;
-        assert!(rt; lent.len() <= 1, "at {at}");
-        let found = lent.first().map(|policy| policy.document.id());
-        let wanted = match wanted {
-            Some(name) => Some(known(&rt, name)),
-            None => None,
-        };
-        assert!(rt; found == wanted, "at {at}");
+/// Whether these are the one policy of this identifier, or none where none is named.
+fn are_wanted(rt: &impl Abort, lent: &[Published<'_, Policy>], wanted: Option<&str>) -> bool {
+    match (lent, wanted) {
+        ([], None) => true,
+        ([policy], Some(name)) => policy.document.id() == known(rt, name),
+        _ => false,
     }
-    Ok(())
+}
+
+/// Whether this policy is in force for an operator at a moment, and no other.
+fn is_alone_in_force(
+    rt: &impl Abort,
+    alloc: Global,
+    catalogue: &Catalogue,
+    asked: (&str, i64),
+    wanted: Option<&str>,
+) -> bool {
+    let (operator, at) = asked;
+    let lent = catalogue.in_force(alloc, known(rt, operator), instant(rt, at));
+    are_wanted(rt, &lent.expect(rt, "memory"), wanted)
 }
 
 #[test]
-fn lends_the_published(rt: HostRuntime) -> Result<(), Fail> {
-    let alloc = rt.alloc();
-    let catalogue = published(alloc, &rt)?;
-    lends_two_policies(&rt, alloc, &catalogue)?;
-    lends_one_geography(&rt, alloc, &catalogue)?;
+fn takes_its_place_at_its_start(rt: HostRuntime) {
+    let catalogue = published(&rt, rt.alloc());
+    for (operator, at, wanted) in IN_FORCE {
+        let asked = (*operator, *at);
+        assert!(rt;
+            is_alone_in_force(&rt, rt.alloc(), &catalogue, asked, *wanted),
+            "at {at}"
+        );
+    }
+}
+
+#[test]
+fn lends_the_published(rt: HostRuntime) {
+    let catalogue = published(&rt, rt.alloc());
+    lends_two_policies(&rt, rt.alloc(), &catalogue);
+    lends_one_geography(&rt, rt.alloc(), &catalogue);
     assert!(rt; catalogue.policy(known(&rt, P2)).is_some());
     assert!(rt; catalogue.policy(known(&rt, G1)).is_none());
     assert!(rt; catalogue.geography(known(&rt, G1)).is_some());
     assert!(rt; catalogue.geography(known(&rt, P1)).is_none());
-    Ok(())
 }
 
-fn lends_two_policies(rt: &impl Abort, alloc: Global, catalogue: &Catalogue) -> Result<(), Fail> {
-    assert_eq!(rt; catalogue.policies(alloc, Some(known(rt, OA)))?.len(), 2);
-    assert_eq!(rt; catalogue.policies(alloc, Some(known(rt, OB)))?.len(), 1);
-    let policies = catalogue.policies(alloc, None)?;
-    let [cap, next] = policies.as_slice() else {
-        panic!(rt; "two policies")
-    };
-    assert!(rt; cap.document.id() == known(rt, P1) && cap.moment == instant(rt, 1000));
-    assert!(rt; next.document.id() == known(rt, P2) && next.moment == instant(rt, 2000));
-    assert!(rt;
-        is_meant_for(next.document, known(rt, OA)) && !is_meant_for(next.document, known(rt, OB))
-    );
-    Ok(())
+/// How many policies are meant for an operator.
+fn count_for(rt: &impl Abort, alloc: Global, catalogue: &Catalogue, operator: &str) -> usize {
+    let policies = catalogue.policies(alloc, Some(known(rt, operator)));
+    policies.expect(rt, "memory").len()
 }
 
-fn lends_one_geography(rt: &impl Abort, alloc: Global, catalogue: &Catalogue) -> Result<(), Fail> {
-    let geographies = catalogue.geographies(alloc)?;
-    let [square] = geographies.as_slice() else {
-        panic!(rt; "one geography")
-    };
-    assert!(rt; square.document.id() == known(rt, G1) && square.moment == instant(rt, 1000));
-    Ok(())
+/// Whether these are the first policy and the one that takes its place.
+fn are_both(rt: &impl Abort, policies: &[Published<'_, Policy>]) -> bool {
+    match policies {
+        [cap, next] => is_cap(rt, cap) && is_next(rt, next),
+        _ => false,
+    }
+}
+
+fn is_cap(rt: &impl Abort, policy: &Published<'_, Policy>) -> bool {
+    policy.document.id() == known(rt, P1) && policy.moment == instant(rt, 1000)
+}
+
+fn is_next(rt: &impl Abort, policy: &Published<'_, Policy>) -> bool {
+    policy.document.id() == known(rt, P2)
+        && policy.moment == instant(rt, 2000)
+        && is_meant_for(policy.document, known(rt, OA))
+        && !is_meant_for(policy.document, known(rt, OB))
+}
+
+fn lends_two_policies(rt: &impl Abort, alloc: Global, catalogue: &Catalogue) {
+    assert!(rt; count_for(rt, alloc, catalogue, OA) == 2);
+    assert!(rt; count_for(rt, alloc, catalogue, OB) == 1);
+    let policies = catalogue.policies(alloc, None).expect(rt, "memory");
+    assert!(rt; are_both(rt, policies.as_slice()));
+}
+
+/// Whether this is the square alone.
+fn is_square(rt: &impl Abort, geographies: &[Published<'_, Geography>]) -> bool {
+    match geographies {
+        [square] => square.document.id() == known(rt, G1) && square.moment == instant(rt, 1000),
+        _ => false,
+    }
+}
+
+fn lends_one_geography(rt: &impl Abort, alloc: Global, catalogue: &Catalogue) {
+    let geographies = catalogue.geographies(alloc).expect(rt, "memory");
+    assert!(rt; is_square(rt, geographies.as_slice()));
 }
 
 /// The texts of the square, of the first policy and of the one that takes its place, as they are served.
@@ -173,207 +222,193 @@ const CAP_SERVED: &str =
 const NEXT_SERVED: &str =
     r#"{"name":"next","policy_id":"00000000-0000-4000-8000-000000000202","prev_policies":["00000000-0000-4000-8000-000000000201"],"provider_ids":["00000000-0000-4000-8000-0000000000a1"],"published_date":2000,"rules":[{"geographies":["00000000-0000-4000-8000-000000000101"],"maximum":1,"name":"cap","rule_id":"00000000-0000-4000-8000-000000000302","rule_type":"count"}],"start_date":86401000}"#;
 
+fn lends_no_texts(rt: &impl Abort, alloc: Global) {
+    let none = Catalogue::with_room(alloc).expect(rt, "memory");
+    let policies = none.policy_texts(alloc, None);
+    assert!(rt; policies.expect(rt, "memory").is_empty());
+    let geographies = none.geography_texts(alloc);
+    assert!(rt; geographies.expect(rt, "memory").is_empty());
+}
+
 #[test]
-fn lends_texts(rt: HostRuntime) -> Result<(), Fail> {
-    let alloc = rt.alloc();
-    let none = Catalogue::with_room(alloc)?;
-    assert!(rt; none.policy_texts(alloc, None)?.is_empty());
-    assert!(rt; none.geography_texts(alloc)?.is_empty());
-    let catalogue = published(alloc, &rt)?;
-    lends_policy_texts(&rt, alloc, &catalogue)?;
-    lends_geography_texts(&rt, alloc, &catalogue)?;
-    lends_single_texts(&rt, &catalogue)
+fn lends_texts(rt: HostRuntime) {
+    lends_no_texts(&rt, rt.alloc());
+    let catalogue = published(&rt, rt.alloc());
+    lends_policy_texts(&rt, rt.alloc(), &catalogue);
+    lends_geography_texts(&rt, rt.alloc(), &catalogue);
+    lends_single_texts(&rt, &catalogue);
 }
 
-fn lends_policy_texts(rt: &impl Abort, alloc: Global, catalogue: &Catalogue) -> Result<(), Fail> {
-    let to_first = catalogue.policy_texts(alloc, Some(known(rt, OA)))?;
-    assert_eq!(rt; to_first.len(), 2);
-    let to_second = catalogue.policy_texts(alloc, Some(known(rt, OB)))?;
-    let [cap] = to_second.as_slice() else {
-        panic!(rt; "one text")
-    };
-    assert_eq!(rt; *cap, CAP_SERVED.as_bytes());
-    lends_both_texts(rt, alloc, catalogue)
+/// Whether this text is lent alone.
+fn is_alone(texts: &[&[u8]], wanted: &str) -> bool {
+    match texts {
+        [text] => *text == wanted.as_bytes(),
+        _ => false,
+    }
 }
 
-fn lends_both_texts(rt: &impl Abort, alloc: Global, catalogue: &Catalogue) -> Result<(), Fail> {
-    let all = catalogue.policy_texts(alloc, None)?;
-    let [cap, next] = all.as_slice() else {
-        panic!(rt; "two texts")
-    };
-    assert_eq!(rt; *cap, CAP_SERVED.as_bytes());
-    assert_eq!(rt; *next, NEXT_SERVED.as_bytes());
-    Ok(())
+/// Whether the texts of both policies are lent.
+fn are_both_texts(texts: &[&[u8]]) -> bool {
+    match texts {
+        [cap, next] => *cap == CAP_SERVED.as_bytes() && *next == NEXT_SERVED.as_bytes(),
+        _ => false,
+    }
 }
 
-fn lends_geography_texts(
-    rt: &impl Abort,
-    alloc: Global,
-    catalogue: &Catalogue,
-) -> Result<(), Fail> {
-    let geographies = catalogue.geography_texts(alloc)?;
-    let [square] = geographies.as_slice() else {
-        panic!(rt; "one geography")
-    };
-    assert_eq!(rt; *square, SQUARE_SERVED.as_bytes());
-    Ok(())
+fn lends_policy_texts(rt: &impl Abort, alloc: Global, catalogue: &Catalogue) {
+    let to_first = catalogue.policy_texts(alloc, Some(known(rt, OA)));
+    assert!(rt; to_first.expect(rt, "memory").len() == 2);
+    let to_second = catalogue.policy_texts(alloc, Some(known(rt, OB)));
+    assert!(rt; is_alone(&to_second.expect(rt, "memory"), CAP_SERVED));
+    let all = catalogue.policy_texts(alloc, None);
+    assert!(rt; are_both_texts(&all.expect(rt, "memory")));
 }
 
-fn lends_single_texts(rt: &impl Abort, catalogue: &Catalogue) -> Result<(), Fail> {
+fn lends_geography_texts(rt: &impl Abort, alloc: Global, catalogue: &Catalogue) {
+    let geographies = catalogue.geography_texts(alloc);
+    assert!(rt; is_alone(&geographies.expect(rt, "memory"), SQUARE_SERVED));
+}
+
+fn lends_single_texts(rt: &impl Abort, catalogue: &Catalogue) {
     assert!(rt; catalogue.policy_text(known(rt, P2)) == Some(NEXT_SERVED.as_bytes()));
     assert!(rt; catalogue.policy_text(known(rt, G1)).is_none());
     assert!(rt; catalogue.geography_text(known(rt, G1)) == Some(SQUARE_SERVED.as_bytes()));
     assert!(rt; catalogue.geography_text(known(rt, P2)).is_none());
-    Ok(())
 }
 
 /// Whether the first policy is in force for an operator at a moment.
-fn cap_in_force(catalogue: &Catalogue, at: i64) -> Result<bool, Fail> {
-    match catalogue.policy(id(P1)?) {
-        Some(cap) => Ok(catalogue.is_in_force(id(OA)?, moment(at)?, &cap)),
-        None => Ok(false),
+fn cap_in_force(rt: &impl Abort, catalogue: &Catalogue, at: i64) -> bool {
+    match catalogue.policy(known(rt, P1)) {
+        Some(cap) => catalogue.is_in_force(known(rt, OA), instant(rt, at), &cap),
+        None => false,
     }
 }
 
 /// The first policy is in force up to this moment, and no longer.
-fn ends_at(rt: &impl Abort, catalogue: &Catalogue, last: i64) -> Result<(), Fail> {
-    assert!(rt; cap_in_force(catalogue, last)?, "at {last}");
+fn ends_at(rt: &impl Abort, catalogue: &Catalogue, last: i64) {
+    assert!(rt; cap_in_force(rt, catalogue, last), "at {last}");
     assert!(rt;
-        !cap_in_force(catalogue, last.saturating_add(1))?,
+        !cap_in_force(rt, catalogue, last.saturating_add(1)),
         "after {last}"
     );
-    Ok(())
 }
 
 #[test]
-fn withdraws_from_the_least_moment_on(rt: HostRuntime) -> Result<(), Fail> {
+fn withdraws_from_the_least_moment_on(rt: HostRuntime) {
     let alloc = rt.alloc();
-    let mut catalogue = opened(alloc)?;
-    withdraws_thrice(&rt, alloc, &mut catalogue)?;
-    let next = alone(alloc, &[NEXT])?;
-    assert_eq!(rt; catalogue.policies(alloc, None)?.len(), 1);
-    assert!(rt; catalogue.lawful(&next));
-    Ok(())
+    let mut catalogue = opened(&rt, alloc);
+    withdraws_thrice(&rt, alloc, &mut catalogue);
+    let policies = catalogue.policies(alloc, None).expect(&rt, "memory");
+    assert!(rt; policies.len() == 1);
+    assert!(rt; catalogue.lawful(&alone(&rt, alloc, &[NEXT])));
 }
 
 /// The first policy is withdrawn from three moments on, of which the second is the least.
-fn withdraws_thrice(rt: &impl Abort, alloc: Global, catalogue: &mut Catalogue) -> Result<(), Fail> {
-    catalogue.adopt(Arc::new(alloc, withdrawal(alloc, P1, 3000)?)?);
-    assert_eq!(rt; catalogue.revision(), 2);
-    ends_at(rt, catalogue, 2999)?;
-    catalogue.adopt(Arc::new(alloc, withdrawal(alloc, P1, 2500)?)?);
-    assert_eq!(rt; catalogue.revision(), 3);
-    ends_at(rt, catalogue, 2499)?;
-    catalogue.adopt(Arc::new(alloc, withdrawal(alloc, P1, 2800)?)?);
-    ends_at(rt, catalogue, 2499)
+fn withdraws_thrice(rt: &impl Abort, alloc: Global, catalogue: &mut Catalogue) {
+    adopt(rt, alloc, catalogue, withdrawal(rt, alloc, P1, 3000));
+    assert!(rt; catalogue.revision() == 2);
+    ends_at(rt, catalogue, 2999);
+    adopt(rt, alloc, catalogue, withdrawal(rt, alloc, P1, 2500));
+    assert!(rt; catalogue.revision() == 3);
+    ends_at(rt, catalogue, 2499);
+    adopt(rt, alloc, catalogue, withdrawal(rt, alloc, P1, 2800));
+    ends_at(rt, catalogue, 2499);
 }
 
 /// A policy can't be withdrawn by the batch that publishes it.
-fn withdraws_not_its_own(rt: &impl Abort, alloc: Global) -> Result<(), Fail> {
-    let mut own = whole(alloc, &[CAP])?;
-    own.withdrawn.push(known(rt, P1))?;
-    let none = Catalogue::with_room(alloc)?;
+fn withdraws_not_its_own(rt: &impl Abort, alloc: Global) {
+    let mut own = whole(rt, alloc, &[CAP]);
+    own.withdrawn.push(known(rt, P1)).expect(rt, "memory");
+    let none = Catalogue::with_room(alloc).expect(rt, "memory");
     assert!(rt; none.first_unpublished(&own.withdrawn) == Some(known(rt, P1)));
     assert!(rt; !none.lawful(&own));
-    Ok(())
 }
 
 #[test]
-fn withdraws_what_is_published_before(rt: HostRuntime) -> Result<(), Fail> {
-    let alloc = rt.alloc();
-    let mut catalogue = published(alloc, &rt)?;
-    withdraws_published_policies(&rt, alloc, &catalogue)?;
-    withdraws_not_its_own(&rt, alloc)?;
-    has_none_in_force(&rt, alloc, &mut catalogue)
+fn withdraws_what_is_published_before(rt: HostRuntime) {
+    let mut catalogue = published(&rt, rt.alloc());
+    withdraws_published_policies(&rt, rt.alloc(), &catalogue);
+    withdraws_not_its_own(&rt, rt.alloc());
+    has_none_in_force(&rt, rt.alloc(), &mut catalogue);
 }
 
 /// Published policies can be withdrawn, each once; a geography can't.
-fn withdraws_published_policies(
-    rt: &impl Abort,
-    alloc: Global,
-    catalogue: &Catalogue,
-) -> Result<(), Fail> {
-    let geography = withdrawal(alloc, G1, 3000)?;
-    assert!(rt; !catalogue.lawful(&geography));
-    let mut batch = withdrawal(alloc, P1, 3000)?;
-    batch.withdrawn.push(known(rt, P2))?;
+fn withdraws_published_policies(rt: &impl Abort, alloc: Global, catalogue: &Catalogue) {
+    assert!(rt; !catalogue.lawful(&withdrawal(rt, alloc, G1, 3000)));
+    let mut batch = withdrawal(rt, alloc, P1, 3000);
+    batch.withdrawn.push(known(rt, P2)).expect(rt, "memory");
     assert!(rt; catalogue.lawful(&batch));
-    batch.withdrawn.push(known(rt, P1))?;
+    batch.withdrawn.push(known(rt, P1)).expect(rt, "memory");
     assert!(rt; !are_distinct(&batch.withdrawn) && !catalogue.lawful(&batch));
-    Ok(())
 }
 
 /// A successor is withdrawn: its predecessor doesn't come back.
-fn has_none_in_force(
-    rt: &impl Abort,
-    alloc: Global,
-    catalogue: &mut Catalogue,
-) -> Result<(), Fail> {
-    let batch = Arc::new(alloc, withdrawal(alloc, P2, 86_401_000)?)?;
-    catalogue.absorb(&batch)?;
-    let lent = catalogue.in_force(alloc, known(rt, OA), instant(rt, 86_401_000))?;
-    assert!(rt; lent.is_empty(), "a predecessor doesn't come back");
-    Ok(())
+fn has_none_in_force(rt: &impl Abort, alloc: Global, catalogue: &mut Catalogue) {
+    absorb(rt, alloc, catalogue, withdrawal(rt, alloc, P2, 86_401_000));
+    assert!(rt; is_alone_in_force(rt, alloc, catalogue, (OA, 86_401_000), None));
+}
+
+/// Whether the geography of this identifier holds the middle of the square.
+fn holds_middle(rt: &impl Abort, catalogue: &Catalogue, name: &str) -> bool {
+    catalogue.holds(known(rt, name), position(rt, 50_000_000, 50_000_000))
 }
 
 #[test]
-fn shows_its_geographies(rt: HostRuntime) -> Result<(), Fail> {
-    let catalogue = published(rt.alloc(), &rt)?;
-    let five = Units7::new(50_000_000).ok_or("no coordinate")?;
-    let inside = Position {
-        lng: five,
-        lat: five,
-    };
-    assert!(rt; catalogue.holds(id(G1)?, inside));
-    assert!(rt; !catalogue.holds(id(P1)?, inside));
-    Ok(())
-}
-
-#[test]
-fn refuses_what_is_not_lawful(rt: HostRuntime) -> Result<(), Fail> {
-    let alloc = rt.alloc();
-    let without = alone(alloc, &[CAP])?;
-    let both = Arc::new(alloc, whole(alloc, &[CAP, NEXT])?)?;
-    let mut catalogue = Catalogue::with_room(alloc)?;
-    refuses_at_first(&rt, &mut catalogue, &without, &both)?;
-    catalogue.adopt(Arc::new(alloc, whole(alloc, &[CAP])?)?);
-    let again = whole(alloc, &[CAP])?;
-    let nothing = alone(alloc, &[])?;
-    assert!(rt; catalogue.first_published(&again) == Some(known(&rt, G1)));
-    assert!(rt; catalogue.first_published(&without) == Some(known(&rt, P1)));
-    assert!(rt; catalogue.fits(&without));
-    assert!(rt; !catalogue.lawful(&nothing));
-    Ok(())
+fn shows_its_geographies(rt: HostRuntime) {
+    let catalogue = published(&rt, rt.alloc());
+    assert!(rt; holds_middle(&rt, &catalogue, G1));
+    assert!(rt; !holds_middle(&rt, &catalogue, P1));
 }
 
 /// Nothing is published: a policy without its geography isn't, nor one with its predecessor.
-fn refuses_at_first(
-    rt: &impl Abort,
-    catalogue: &mut Catalogue,
-    without: &Batch,
-    both: &Arc<Batch>,
-) -> Result<(), Fail> {
-    assert!(rt; catalogue.missing_geography(without) == Some(known(rt, G1)));
-    assert!(rt; !catalogue.lawful(without));
-    assert!(rt; catalogue.missing_predecessor(both) == Some(known(rt, P1)));
-    catalogue.absorb(both)?;
-    assert_eq!(rt; catalogue.revision(), 0);
-    Ok(())
+fn refuses_at_first(rt: &impl Abort, alloc: Global, catalogue: &mut Catalogue) {
+    let without = alone(rt, alloc, &[CAP]);
+    assert!(rt; catalogue.missing_geography(&without) == Some(known(rt, G1)));
+    assert!(rt; !catalogue.lawful(&without));
+    let both = whole(rt, alloc, &[CAP, NEXT]);
+    assert!(rt; catalogue.missing_predecessor(&both) == Some(known(rt, P1)));
+    absorb(rt, alloc, catalogue, both);
+    assert!(rt; catalogue.revision() == 0);
+}
+
+/// The first policy is published with the square: neither is once more, nor is nothing.
+fn refuses_once_more(rt: &impl Abort, alloc: Global, catalogue: &Catalogue) {
+    let again = whole(rt, alloc, &[CAP]);
+    assert!(rt; catalogue.first_published(&again) == Some(known(rt, G1)));
+    let without = alone(rt, alloc, &[CAP]);
+    assert!(rt; catalogue.first_published(&without) == Some(known(rt, P1)));
+    assert!(rt; catalogue.fits(&without));
+    assert!(rt; !catalogue.lawful(&alone(rt, alloc, &[])));
+}
+
+#[test]
+fn refuses_what_is_not_lawful(rt: HostRuntime) {
+    let alloc = rt.alloc();
+    let mut catalogue = Catalogue::with_room(alloc).expect(&rt, "memory");
+    refuses_at_first(&rt, alloc, &mut catalogue);
+    adopt(&rt, alloc, &mut catalogue, whole(&rt, alloc, &[CAP]));
+    refuses_once_more(&rt, alloc, &catalogue);
 }
 
 /// The first policy is published, with the square.
-fn opened(alloc: Global) -> Result<Catalogue, Fail> {
-    let mut catalogue = Catalogue::with_room(alloc)?;
-    catalogue.adopt(Arc::new(alloc, whole(alloc, &[CAP])?)?);
-    Ok(catalogue)
+fn opened(rt: &impl Abort, alloc: Global) -> Catalogue {
+    let mut catalogue = Catalogue::with_room(alloc).expect(rt, "memory");
+    adopt(rt, alloc, &mut catalogue, whole(rt, alloc, &[CAP]));
+    catalogue
 }
 
 /// A policy of this number under these starts, in place of those that are named.
-fn numbered(alloc: Global, number: usize, start: i64, previous: &str) -> Result<Policy, Fail> {
+fn numbered(
+    rt: &impl Abort,
+    alloc: Global,
+    number: usize,
+    start: i64,
+    previous: &str,
+) -> Arc<Policy> {
     let text = format!(in alloc;
         "{{\"policy_id\":\"00000000-0000-4000-8000-{number:012}\",\"name\":\"n\",\"start_date\":{start},\"prev_policies\":[{previous}],\"rules\":[]}}"
-    )?;
-    Ok(Policy::read(alloc, text.as_bytes())?)
+    );
+    shared(rt, alloc, text.expect(rt, "memory").as_bytes())
 }
 
 /// A policy in the place of the first: its number, its publication, its start, and the last moment
@@ -409,19 +444,26 @@ const SUCCESSORS: &[Successor] = &[
 
 const P1_QUOTED: &str = "\"00000000-0000-4000-8000-000000000201\"";
 
+/// Publishes a policy in the place of the first.
+fn supersede(rt: &impl Abort, alloc: Global, catalogue: &mut Catalogue, by: &Successor) {
+    let policy = numbered(rt, alloc, by.number, by.start, P1_QUOTED);
+    let policies = vec![in alloc; policy].expect(rt, "memory");
+    adopt(
+        rt,
+        alloc,
+        catalogue,
+        of_policies(rt, alloc, by.at, policies),
+    );
+}
+
 #[test]
-fn supersedes_from_the_least_moment_on(rt: HostRuntime) -> Result<(), Fail> {
-    let alloc = rt.alloc();
-    let mut catalogue = published(alloc, &rt)?;
+fn supersedes_from_the_least_moment_on(rt: HostRuntime) {
+    let mut catalogue = published(&rt, rt.alloc());
     for successor in SUCCESSORS {
-        let policy = numbered(alloc, successor.number, successor.start, P1_QUOTED)?;
-        let policies = vec![in alloc; Arc::new(alloc, policy)?]?;
-        let batch = of_policies(alloc, successor.at, policies)?;
-        catalogue.adopt(Arc::new(alloc, batch)?);
-        ends_at(&rt, &catalogue, successor.last)?;
+        supersede(&rt, rt.alloc(), &mut catalogue, successor);
+        ends_at(&rt, &catalogue, successor.last);
     }
-    assert_eq!(rt; catalogue.revision(), 5);
-    Ok(())
+    assert!(rt; catalogue.revision() == 5);
 }
 
 /// The number of the policy in this place: each of 0 to 511 once, out of order.
@@ -432,26 +474,39 @@ fn number_at(place: usize) -> usize
 }
 
 /// The identifier of the policy of this number.
-fn name_of(alloc: Global, number: usize) -> Result<String, Fail> {
-    Ok(format!(in alloc; "00000000-0000-4000-8000-{number:012}")?)
+fn name_of(rt: &impl Abort, alloc: Global, number: usize) -> String {
+    let name = format!(in alloc; "00000000-0000-4000-8000-{number:012}");
+    name.expect(rt, "memory")
+}
+
+/// The name of the policy 64 places before, in quotes, if there is one.
+fn previous_to(rt: &impl Abort, alloc: Global, place: usize) -> String
+    requires { place < 512 }
+{
+    if place < 64 {
+        return String::new(alloc);
+    }
+    let before = name_of(rt, alloc, number_at(place - 64));
+    joined(alloc, &["\"", before.as_str(), "\""]).expect(rt, "memory")
+}
+
+/// The policy in this place, in the place of the one 64 places before.
+fn link(rt: &impl Abort, alloc: Global, place: usize) -> Arc<Policy>
+    requires { place < 512 }
+{
+    let previous = previous_to(rt, alloc, place);
+    numbered(rt, alloc, number_at(place), 0, previous.as_str())
 }
 
 /// 64 policies, each in the place of the one 64 places before, if there is one.
-fn layer(alloc: Global, first: usize) -> Result<Vec<Arc<Policy>>, Fail>
+fn layer(rt: &impl Abort, alloc: Global, first: usize) -> Vec<Arc<Policy>>
     requires { first ≤ 448 }
 {
     let mut policies = Vec::new(alloc);
     for place in first..first + 64 {
-        let previous = if place < 64 {
-            String::new(alloc)
-        } else {
-            let before = name_of(alloc, number_at(place - 64))?;
-            format!(in alloc; "\"{before}\"")?
-        };
-        let policy = numbered(alloc, number_at(place), 0, previous.as_str())?;
-        policies.push(Arc::new(alloc, policy)?)?;
+        policies.push(link(rt, alloc, place)).expect(rt, "memory");
     }
-    Ok(policies)
+    policies
 }
 
 const LAYERS: [(usize, i64); 8] = [
@@ -466,58 +521,65 @@ const LAYERS: [(usize, i64); 8] = [
 ];
 
 /// Eight batches of 64 policies, a second apart, each batch in the place of the one before.
-fn chained(alloc: Global) -> Result<Catalogue, Fail> {
-    let mut catalogue = Catalogue::with_room(alloc)?;
+fn chain(rt: &impl Abort, alloc: Global, catalogue: &mut Catalogue) {
     for (first, at) in LAYERS {
-        let batch = of_policies(alloc, at, layer(alloc, first.min(448))?)?;
-        catalogue.adopt(Arc::new(alloc, batch)?);
+        let policies = layer(rt, alloc, first.min(448));
+        adopt(rt, alloc, catalogue, of_policies(rt, alloc, at, policies));
     }
-    Ok(catalogue)
+}
+
+/// A catalogue of these batches.
+fn chained(rt: &impl Abort, alloc: Global) -> Catalogue {
+    let mut catalogue = Catalogue::with_room(alloc).expect(rt, "memory");
+    chain(rt, alloc, &mut catalogue);
+    catalogue
 }
 
 /// When the policy of this number was published.
-fn published_at(alloc: Global, catalogue: &Catalogue, number: usize) -> Result<Option<i64>, Fail> {
-    let name = name_of(alloc, number)?;
-    match catalogue.policy(id(name.as_str())?) {
-        Some(found) => Ok(Some(found.moment.get())),
-        None => Ok(None),
+fn published_at(
+    rt: &impl Abort,
+    alloc: Global,
+    catalogue: &Catalogue,
+    number: usize,
+) -> Option<i64> {
+    let name = name_of(rt, alloc, number);
+    match catalogue.policy(known(rt, name.as_str())) {
+        Some(found) => Some(found.moment.get()),
+        None => None,
     }
 }
 
 #[test]
-fn finds_each_of_512_policies(rt: HostRuntime) -> Result<(), Fail> {
+fn finds_each_of_512_policies(rt: HostRuntime) {
     let alloc = rt.alloc();
-    let catalogue = chained(alloc)?;
-    assert_eq!(rt; catalogue.revision(), 8);
+    let catalogue = chained(&rt, alloc);
+    assert!(rt; catalogue.revision() == 8);
     for (first, at) in LAYERS {
         let first = first.min(448);
         for place in first..first + 64 {
-            assert_eq!(rt;
-                published_at(alloc, &catalogue, number_at(place))?,
-                Some(at)
-            );
+            let found = published_at(&rt, alloc, &catalogue, number_at(place));
+            assert!(rt; found == Some(at), "in place {place}");
         }
     }
     assert!(rt; catalogue.policy(known(&rt, OA)).is_none());
-    assert!(rt; !catalogue.fits(&alone(alloc, &[NEXT])?));
-    Ok(())
+    assert!(rt; !catalogue.fits(&alone(&rt, alloc, &[NEXT])));
+}
+
+/// The moments of the policies that are in force at a moment are that one, and there are so many.
+fn expect_of_moment(rt: &impl Abort, alloc: Global, catalogue: &Catalogue, at: i64, count: usize) {
+    let lent = catalogue.in_force(alloc, known(rt, OA), instant(rt, at));
+    let lent = lent.expect(rt, "memory");
+    assert!(rt; lent.len() == count, "at {at}");
+    for policy in &lent {
+        assert!(rt; policy.moment.get() == at, "at {at}");
+    }
 }
 
 #[test]
-fn has_the_last_of_a_chain_in_force(rt: HostRuntime) -> Result<(), Fail> {
-    let alloc = rt.alloc();
-    let catalogue = chained(alloc)?;
+fn has_the_last_of_a_chain_in_force(rt: HostRuntime) {
+    let catalogue = chained(&rt, rt.alloc());
     for (_, at) in LAYERS {
-        let lent = catalogue.in_force(alloc, known(&rt, OA), instant(&rt, at))?;
-        assert_eq!(rt; lent.len(), 64, "at {at}");
-        for policy in &lent {
-            assert_eq!(rt; policy.moment.get(), at);
-        }
+        expect_of_moment(&rt, rt.alloc(), &catalogue, at, 64);
     }
-    assert!(rt;
-        catalogue
-            .in_force(alloc, known(&rt, OA), instant(&rt, 999))?
-            .is_empty()
-    );
-    Ok(())
+    expect_of_moment(&rt, rt.alloc(), &catalogue, 999, 0);
 }

@@ -1,13 +1,11 @@
 //! Reports as they are sent, books of two vehicles, and a book of many against a plain list.
 
-use crate::square::{id, instant, known, moment};
+use crate::square::{device, instant, known, position, word};
 use mds_fleet::{Book, BookFault, Report, Taken};
-use mds_geometry::Position;
 use mds_match::Vehicle;
-use mds_text::{Field, Id, TextFault, Token, Units7};
+use mds_text::{Field, Id, TextFault};
 use std::alloc::Global;
 use std::process::Abort;
-use std::test::Fail;
 
 const V1: &str = "00000000-0000-4000-8000-000000000401";
 
@@ -21,11 +19,16 @@ const ELECTRIC_SCOOTER: &str = r#""vehicle_type":"scooter","propulsion_types":["
 const AT_FIVE: &str = r#""location":{"lat":5,"lng":5}"#;
 
 /// What is reported of an electric scooter at 5 degrees north and east.
-fn report_in(alloc: Global, device: &str, state: &str, timestamp: i64) -> Result<Report, Fail> {
+fn report_in(
+    alloc: Global,
+    device: &str,
+    state: &str,
+    timestamp: i64,
+) -> Result<Report, TextFault> {
     let text = format!(in alloc;
         "{{\"device_id\":\"{device}\",{ELECTRIC_SCOOTER},\"vehicle_state\":\"{state}\",\"event_types\":[\"trip_end\"],\"timestamp\":{timestamp},{AT_FIVE}}}"
     )?;
-    Ok(Report::read(alloc, text.as_bytes())?)
+    Report::read(alloc, text.as_bytes())
 }
 
 /// A report of an available scooter that comes at a moment, and its outcome.
@@ -38,34 +41,27 @@ struct Sent {
 }
 
 /// The reports come one after the other.
-fn expect_taken(
-    rt: &impl Abort,
-    alloc: Global,
-    book: &mut Book,
-    reports: &[Sent],
-) -> Result<(), Fail> {
+fn expect_taken(rt: &impl Abort, alloc: Global, book: &mut Book, reports: &[Sent]) {
     for sent in reports {
-        let report = report_in(alloc, sent.device, "available", sent.timestamp)?;
-        let found = book.report(report, instant(rt, sent.now));
-        assert_eq!(rt; found, sent.outcome);
+        let report = report_in(alloc, sent.device, "available", sent.timestamp);
+        let found = book.report(report.expect(rt, "a report"), instant(rt, sent.now));
+        assert!(rt; found == sent.outcome, "{} at {}", sent.device, sent.now);
     }
-    Ok(())
 }
 
 /// When the run of a device's state began.
-fn since(book: &Book, device: &str) -> Result<i64, Fail> {
-    let vehicle = book.get(id(device)?).ok_or("not held")?;
-    Ok(vehicle.since.get())
+fn since(rt: &impl Abort, book: &Book, device: &str) -> i64 {
+    let vehicle = book.get(known(rt, device)).expect(rt, "held");
+    vehicle.since.get()
 }
 
 /// The book holds these devices, in this order.
-fn expect_rows(rt: &impl Abort, book: &Book, devices: &[&str]) -> Result<(), Fail> {
-    let rows = book.rows()?;
-    assert_eq!(rt; rows.len(), devices.len());
+fn expect_rows(rt: &impl Abort, book: &Book, devices: &[&str]) {
+    let rows = book.rows().expect(rt, "memory");
+    assert!(rt; rows.len() == devices.len());
     for (vehicle, device) in rows.iter().zip(devices) {
         assert!(rt; vehicle.device == known(rt, device), "{device}");
     }
-    Ok(())
 }
 
 const TWO_AND_ONE_MORE: &[Sent] = &[
@@ -103,14 +99,14 @@ const ONE_IN_ANOTHER_BOOK: &[Sent] = &[Sent {
 }];
 
 #[test]
-fn new_changed_and_full(rt: HostRuntime) -> Result<(), Fail> {
+fn new_changed_and_full(rt: HostRuntime) {
     let alloc = rt.alloc();
     let mut alfa = Book::new(alloc, 2);
     let mut bravo = Book::new(alloc, 2);
-    expect_taken(&rt, alloc, &mut alfa, TWO_AND_ONE_MORE)?;
-    expect_taken(&rt, alloc, &mut bravo, ONE_IN_ANOTHER_BOOK)?;
-    assert_eq!(rt; alfa.len(), 2);
-    expect_rows(&rt, &alfa, &[V1, V2])
+    expect_taken(&rt, alloc, &mut alfa, TWO_AND_ONE_MORE);
+    expect_taken(&rt, alloc, &mut bravo, ONE_IN_ANOTHER_BOOK);
+    assert!(rt; alfa.len() == 2);
+    expect_rows(&rt, &alfa, &[V1, V2]);
 }
 
 const THE_SAME_AND_A_LATER_ONE: &[Sent] = &[
@@ -135,15 +131,14 @@ const THE_SAME_AND_A_LATER_ONE: &[Sent] = &[
 ];
 
 #[test]
-fn same_and_the_run_of_a_state(rt: HostRuntime) -> Result<(), Fail> {
+fn same_and_the_run_of_a_state(rt: HostRuntime) {
     let alloc = rt.alloc();
     let mut book = Book::new(alloc, 2);
-    expect_taken(&rt, alloc, &mut book, THE_SAME_AND_A_LATER_ONE)?;
-    assert_eq!(rt; since(&book, V1)?, 2000);
-    let trip = report_in(alloc, V1, "on_trip", 6000)?;
-    assert_eq!(rt; book.report(trip, instant(&rt, 6000)), Ok(Taken::Changed));
-    assert_eq!(rt; since(&book, V1)?, 6000);
-    Ok(())
+    expect_taken(&rt, alloc, &mut book, THE_SAME_AND_A_LATER_ONE);
+    assert!(rt; since(&rt, &book, V1) == 2000);
+    let trip = report_in(alloc, V1, "on_trip", 6000).expect(&rt, "a report");
+    assert!(rt; book.report(trip, instant(&rt, 6000)) == Ok(Taken::Changed));
+    assert!(rt; since(&rt, &book, V1) == 6000);
 }
 
 const STALE_AND_FUTURE: &[Sent] = &[
@@ -174,94 +169,73 @@ const STALE_BEFORE_THE_REMOVAL: &[Sent] = &[Sent {
     outcome: Ok(Taken::New),
 }];
 
+/// Takes a device out of a book: the moment of its last report, if it was held.
+fn removed(book: &mut Book, device: Id) -> Option<i64> {
+    match book.remove(device) {
+        Ok(vehicle) => Some(vehicle.timestamp.get()),
+        Err(_) => None,
+    }
+}
+
 #[test]
-fn stale_future_and_removed(rt: HostRuntime) -> Result<(), Fail> {
+fn stale_future_and_removed(rt: HostRuntime) {
     let alloc = rt.alloc();
     let mut book = Book::new(alloc, 2);
-    expect_taken(&rt, alloc, &mut book, STALE_AND_FUTURE)?;
-    let removed = book.remove(known(&rt, V1)).or(Err("not held"))?;
-    assert_eq!(rt; removed.timestamp.get(), 2000);
-    assert!(rt; book.get(known(&rt, V1)).is_none());
-    assert!(rt; book.remove(known(&rt, V1)).is_err());
-    expect_taken(&rt, alloc, &mut book, STALE_BEFORE_THE_REMOVAL)?;
-    assert_eq!(rt; since(&book, V1)?, 1999);
-    Ok(())
-}
-
-const DEVICE: &[u8; 36] = b"00000000-0000-4000-8000-000000000000";
-
-/// The device of this number, which is below a million millions.
-fn device(number: u64) -> Result<Id, Fail> {
-    let mut text = *DEVICE;
-    let mut rest = number;
-    for digit in text[24..].iter_mut().rev() {
-        *digit = b'0' + (rest % 10) as u8;
-        rest /= 10;
-    }
-    id(std::str::from_utf8(&text)?)
-}
-
-fn token(text: &str) -> Result<Token, Fail> {
-    Ok(Token::read(text).ok_or("no token")?)
-}
-
-fn units(value: i64) -> Result<Units7, Fail> {
-    Ok(Units7::new(value).ok_or("no coordinate")?)
+    expect_taken(&rt, alloc, &mut book, STALE_AND_FUTURE);
+    let device = known(&rt, V1);
+    assert!(rt; removed(&mut book, device) == Some(2000));
+    assert!(rt; book.get(device).is_none());
+    assert!(rt; removed(&mut book, device).is_none());
+    expect_taken(&rt, alloc, &mut book, STALE_BEFORE_THE_REMOVAL);
+    assert!(rt; since(&rt, &book, V1) == 1999);
 }
 
 /// A report without lists, which takes no memory.
-fn bare_report(alloc: Global, number: u64, state: &str, timestamp: i64) -> Result<Report, Fail> {
-    Ok(Report {
-        device: device(number)?,
-        vehicle_type: token("scooter")?,
+fn bare_report(rt: &impl Abort, alloc: Global, number: u32, state: &str, timestamp: i64) -> Report {
+    Report {
+        device: device(rt, number),
+        vehicle_type: word(rt, "scooter"),
         propulsion: Vec::new(alloc),
-        state: token(state)?,
+        state: word(rt, state),
         events: Vec::new(alloc),
-        timestamp: moment(timestamp)?,
-        position: Position {
-            lng: units(5)?,
-            lat: units(5)?,
-        },
-    })
+        timestamp: instant(rt, timestamp),
+        position: position(rt, 5, 5),
+    }
 }
 
 /// The first report of a device: it is taken, or finds no memory, changes nothing, and is then taken.
-fn expect_new(rt: &impl Abort, alloc: Global, book: &mut Book, number: u64) -> Result<(), Fail> {
-    let report = bare_report(alloc, number, "available", 2000)?;
+fn expect_new(rt: &impl Abort, alloc: Global, book: &mut Book, number: u32) {
+    let report = bare_report(rt, alloc, number, "available", 2000);
     let mut taken = book.report(report, instant(rt, 2000));
     if taken == Err(BookFault::NoMemory) {
-        assert!(rt; book.get(device(number)?).is_none());
-        let again = bare_report(alloc, number, "available", 2000)?;
+        assert!(rt; book.get(device(rt, number)).is_none());
+        let again = bare_report(rt, alloc, number, "available", 2000);
         taken = book.report(again, instant(rt, 2000));
     }
-    assert_eq!(rt; taken, Ok(Taken::New));
-    Ok(())
+    assert!(rt; taken == Ok(Taken::New));
 }
 
 /// With one growth refused, wherever it is, one report finds no memory and changes nothing, and the
 /// same report is then taken.
 #[test]
-fn takes_or_wants_memory(rt: HostRuntime) -> Result<(), Fail> {
+fn takes_or_wants_memory(rt: HostRuntime) {
     let alloc = rt.alloc();
     let mut book = Book::new(alloc, 40);
     for number in 0..40 {
-        expect_new(&rt, alloc, &mut book, number)?;
+        expect_new(&rt, alloc, &mut book, number);
     }
-    assert_eq!(rt; book.len(), 40);
-    let change = bare_report(alloc, 0, "on_trip", 2001)?;
-    assert_eq!(rt; book.report(change, instant(&rt, 2001)), Ok(Taken::Changed));
-    let further = bare_report(alloc, 40, "available", 2001)?;
-    assert_eq!(rt;
-        book.report(further, instant(&rt, 2001)),
-        Err(BookFault::FleetFull)
-    );
-    Ok(())
+    assert!(rt; book.len() == 40);
+    let change = bare_report(&rt, alloc, 0, "on_trip", 2001);
+    assert!(rt; book.report(change, instant(&rt, 2001)) == Ok(Taken::Changed));
+    let further = bare_report(&rt, alloc, 40, "available", 2001);
+    let refused = book.report(further, instant(&rt, 2001));
+    assert!(rt; refused == Err(BookFault::FleetFull));
 }
 
 /// What a plain list knows of a device.
-#[derive(Drop)]
+#[derive(Clone, Copy)]
 struct Listed {
-    number: u64,
+    number: u32,
     on_trip: bool,
     timestamp: i64,
     since: i64,
@@ -269,27 +243,36 @@ struct Listed {
 
 const MOST: usize = 2_000;
 
-/// The outcome of a report by the rules for books, over a plain list.
-fn taken_by_list(list: &mut Vec<Listed>, report: Listed) -> Result<Result<Taken, BookFault>, Fail> {
-    let Some(held) = list.iter_mut().find(|held| held.number == report.number) else {
-        if list.len() >= MOST {
-            return Ok(Err(BookFault::FleetFull));
-        }
-        list.push(report)?;
-        return Ok(Ok(Taken::New));
-    };
+/// The outcome of a report of a device that a plain list holds, by the rules for books.
+fn taken_by_entry(held: &mut Listed, report: Listed) -> Result<Taken, BookFault> {
     if held.timestamp > report.timestamp {
-        return Ok(Err(BookFault::Stale));
+        return Err(BookFault::Stale);
     }
     if held.timestamp == report.timestamp && held.on_trip == report.on_trip {
-        return Ok(Ok(Taken::Same));
+        return Ok(Taken::Same);
     }
     if held.on_trip != report.on_trip {
         held.since = report.timestamp;
     }
     held.on_trip = report.on_trip;
     held.timestamp = report.timestamp;
-    Ok(Ok(Taken::Changed))
+    Ok(Taken::Changed)
+}
+
+/// The outcome of a report by the rules for books, over a plain list.
+fn taken_by_list(
+    rt: &impl Abort,
+    list: &mut Vec<Listed>,
+    report: Listed,
+) -> Result<Taken, BookFault> {
+    if let Some(held) = list.iter_mut().find(|held| held.number == report.number) {
+        return taken_by_entry(held, report);
+    }
+    if list.len() >= MOST {
+        return Err(BookFault::FleetFull);
+    }
+    list.push(report).expect(rt, "memory");
+    Ok(Taken::New)
 }
 
 /// The next of a row of numbers without a pattern.
@@ -299,48 +282,36 @@ fn next(random: u64) -> u64 {
         .wrapping_add(1_442_695_040_888_963_407)
 }
 
-/// The removal of a device from a book comes to what its removal from a plain list does.
-fn remove_alike(
-    rt: &impl Abort,
-    book: &mut Book,
-    list: &mut Vec<Listed>,
-    number: u64,
-) -> Result<(), Fail> {
-    let removed = book.remove(device(number)?);
+/// Takes a device out of a plain list: the moment of its last report, if it was held.
+fn removed_from_list(list: &mut Vec<Listed>, number: u32) -> Option<i64> {
     match list.iter().position(|held| held.number == number) {
-        Some(place) => {
-            let held = list.swap_remove(place);
-            let vehicle = removed.or(Err("not held"))?;
-            assert_eq!(rt; vehicle.timestamp.get(), held.timestamp);
-        }
-        None => assert!(rt; removed.is_err()),
+        Some(place) => Some(list.swap_remove(place).timestamp),
+        None => None,
     }
-    Ok(())
+}
+
+/// The removal of a device from a book comes to what its removal from a plain list does.
+fn remove_alike(rt: &impl Abort, book: &mut Book, list: &mut Vec<Listed>, number: u32) {
+    let wanted = removed_from_list(list, number);
+    assert!(rt; removed(book, device(rt, number)) == wanted);
 }
 
 /// These vehicles are those of a plain list.
-fn assert_listed(rt: &impl Abort, rows: &[&Vehicle], list: &[Listed]) -> Result<(), Fail> {
-    assert_eq!(rt; rows.len(), list.len());
+fn assert_listed(rt: &impl Abort, rows: &[&Vehicle], list: &[Listed]) {
+    assert!(rt; rows.len() == list.len());
     for (vehicle, held) in rows.iter().zip(list) {
-        assert!(rt; vehicle.device == device(held.number)?);
-        assert_eq!(rt; vehicle.since.get(), held.since);
+        assert!(rt; vehicle.device == device(rt, held.number));
+        assert!(rt; vehicle.since.get() == held.since);
     }
-    Ok(())
 }
 
 /// The report of a device that a random number tells comes to what it does to a plain list.
-fn report_alike(
-    rt: &impl Abort,
-    book: &mut Book,
-    list: &mut Vec<Listed>,
-    random: u64,
-    time: i64,
-) -> Result<(), Fail> {
-    let number = (random >> 33) % 3_000;
+fn report_alike(rt: &impl Abort, book: &mut Book, list: &mut Vec<Listed>, random: u64, time: i64) {
+    let number = device_of(random);
     let on_trip = (random >> 20) % 2 == 0;
     let timestamp = if (random >> 21) % 8 == 0 { 1 } else { time };
     let state = if on_trip { "on_trip" } else { "available" };
-    let report = bare_report(*list.allocator(), number, state, timestamp)?;
+    let report = bare_report(rt, *list.allocator(), number, state, timestamp);
     let since = timestamp;
     let entry = Listed {
         number,
@@ -348,28 +319,36 @@ fn report_alike(
         timestamp,
         since,
     };
-    let expected = taken_by_list(list, entry)?;
-    assert_eq!(rt; book.report(report, instant(rt, time)), expected);
-    Ok(())
+    let expected = taken_by_list(rt, list, entry);
+    assert!(rt; book.report(report, instant(rt, time)) == expected);
+}
+
+/// The number of the device that a random number tells.
+fn device_of(random: u64) -> u32 {
+    ((random >> 33) % 3_000) as u32
 }
 
 /// Reports and removals of random devices do to a book what they do to a plain list.
-#[test]
-fn holds_what_a_plain_list_holds(rt: HostRuntime) -> Result<(), Fail> {
-    let alloc = rt.alloc();
-    let mut book = Book::new(alloc, MOST as u32);
-    let mut list: Vec<Listed> = Vec::new(alloc);
+fn act_alike(rt: &impl Abort, book: &mut Book, list: &mut Vec<Listed>) {
     let mut random = 1;
     for time in 1..12_000 {
         random = next(random);
         if random >> 62 == 0 {
-            remove_alike(&rt, &mut book, &mut list, (random >> 33) % 3_000)?;
+            remove_alike(rt, book, list, device_of(random));
         } else {
-            report_alike(&rt, &mut book, &mut list, random, time)?;
+            report_alike(rt, book, list, random, time);
         }
     }
-    list.sort_by_key(|held| held.number)?;
-    assert_listed(&rt, &book.rows()?, &list)
+}
+
+#[test]
+fn holds_what_a_plain_list_holds(rt: HostRuntime) {
+    let mut book = Book::new(rt.alloc(), MOST as u32);
+    let mut list: Vec<Listed> = Vec::new(rt.alloc());
+    act_alike(&rt, &mut book, &mut list);
+    list.sort_by_key(|held| held.number).expect(&rt, "memory");
+    let rows = book.rows().expect(&rt, "memory");
+    assert_listed(&rt, &rows, &list);
 }
 
 /// Why a text is no report, if it is none.
@@ -390,16 +369,14 @@ const TOO_FAR_NORTH: &[u8] =
 const CUT: &[u8] = br#"{"device_id":"V"#;
 
 #[test]
-fn reports(rt: HostRuntime) -> Result<(), Fail> {
-    let alloc = rt.alloc();
-    let west = Report::read(alloc, WEST)?;
-    assert_eq!(rt; west.timestamp.get(), 2000);
+fn reports(rt: HostRuntime) {
+    let west = Report::read(rt.alloc(), WEST).expect(&rt, "a report");
+    assert!(rt; west.timestamp.get() == 2000);
     let position = west.position;
-    assert_eq!(rt; position.lat.get(), 340_000_000);
-    assert_eq!(rt; position.lng.get(), -1_180_000_000);
+    assert!(rt; position.lat.get() == 340_000_000);
+    assert!(rt; position.lng.get() == -1_180_000_000);
     assert!(rt; west.propulsion.is_empty() && west.events.is_empty());
-    assert_no_reports(&rt, alloc);
-    Ok(())
+    assert_no_reports(&rt, rt.alloc());
 }
 
 fn assert_no_reports(rt: &impl Abort, alloc: Global) {

@@ -1,28 +1,23 @@
 //! Zones, windows and matching, at local times worked out by hand.
 
-use crate::square::{NOON, id, instant, moment, one_square, position, word};
+use crate::square::{NOON, Square, instant, joined, known, one_square, position, word};
 use mds_match::{Local, ResolvedPolicy, Vehicle, Zone, ZoneFault, first, meets, open_at};
 use mds_policy::{Policy, Rule};
 use std::alloc::Global;
 use std::process::Abort;
-use std::test::Fail;
 
 /// An electric scooter, available after a trip, at a longitude on the tenth parallel.
-fn scooter(alloc: Global, lng: i64) -> Result<Vehicle, Fail> {
-    let mut propulsion = Vec::new(alloc);
-    propulsion.push(word("electric")?)?;
-    let mut events = Vec::new(alloc);
-    events.push(word("trip_end")?)?;
-    Ok(Vehicle {
-        device: id("00000000-0000-4000-8000-000000000401")?,
-        vehicle_type: word("scooter")?,
-        propulsion,
-        state: word("available")?,
-        events,
-        timestamp: moment(2000)?,
-        position: position(lng, 100_000_000)?,
-        since: moment(2000)?,
-    })
+fn scooter(rt: &impl Abort, alloc: Global, lng: i64) -> Vehicle {
+    Vehicle {
+        device: known(rt, "00000000-0000-4000-8000-000000000401"),
+        vehicle_type: word(rt, "scooter"),
+        propulsion: vec![in alloc; word(rt, "electric")].expect(rt, "memory"),
+        state: word(rt, "available"),
+        events: vec![in alloc; word(rt, "trip_end")].expect(rt, "memory"),
+        timestamp: instant(rt, 2000),
+        position: position(rt, lng, 100_000_000),
+        since: instant(rt, 2000),
+    }
 }
 
 /// The text of a policy of one rule on the square's count, up to further members of the rule.
@@ -30,13 +25,13 @@ const ONE_RULE: &str =
     r#"{"policy_id":"00000000-0000-4000-8000-000000000201","name":"cap","start_date":1000,"rules":[{"rule_id":"00000000-0000-4000-8000-000000000301","name":"cap","rule_type":"count","geographies":["00000000-0000-4000-8000-000000000101"]"#;
 
 /// A policy of one rule on the square's count, with these members behind its own.
-fn policy(alloc: Global, more: &str) -> Result<Policy, Fail> {
-    let text = format!(in alloc; "{ONE_RULE}{more}}}]}}")?;
-    Ok(Policy::read(alloc, text.as_bytes())?)
+fn policy(rt: &impl Abort, alloc: Global, more: &str) -> Policy {
+    let text = joined(alloc, &[ONE_RULE, more, "}]}"]).expect(rt, "memory");
+    Policy::read(alloc, text.as_bytes()).expect(rt, "a policy")
 }
 
-fn rule_of(policy: &Policy) -> Result<&Rule, Fail> {
-    Ok(policy.rules().first().ok_or("no rule")?)
+fn rule_of<'a>(rt: &impl Abort, policy: &'a Policy) -> &'a Rule {
+    policy.rules().first().expect(rt, "a rule")
 }
 
 const NIGHT: &str = r#","start_time":"22:00","end_time":"05:00:00","days":["fri"]"#;
@@ -137,19 +132,22 @@ const WINDOWS: &[(&str, Local, bool)] = &[
     ),
 ];
 
+/// Whether a rule with these members is open at a local time.
+fn is_open(rt: &impl Abort, alloc: Global, more: &str, local: Local) -> bool {
+    let policy = policy(rt, alloc, more);
+    open_at(rule_of(rt, &policy), local)
+}
+
 #[test]
-fn windows(rt: HostRuntime) -> Result<(), Fail> {
+fn windows(rt: HostRuntime) {
     for (more, local, wanted) in WINDOWS {
-        let policy = policy(rt.alloc(), more)?;
-        let is_open = open_at(rule_of(&policy)?, *local);
-        assert_eq!(rt;
-            is_open,
-            *wanted,
+        assert!(rt;
+            is_open(&rt, rt.alloc(), more, *local) == *wanted,
             "{more} on {} at {}",
-            local.weekday, local.second
+            local.weekday,
+            local.second
         );
     }
-    Ok(())
 }
 
 /// Members of a rule, and whether a scooter in the square meets it.
@@ -168,22 +166,53 @@ const RULES: &[(&str, bool)] = &[
     (r#","start_time":"12:00:01""#, false),
 ];
 
-#[test]
-fn vehicles(rt: HostRuntime) -> Result<(), Fail> {
-    let alloc = rt.alloc();
-    let places = one_square(alloc)?;
-    let corner = scooter(alloc, 100_000_000)?;
-    for (more, wanted) in RULES {
-        let policy = policy(alloc, more)?;
-        let is_met = meets(rule_of(&policy)?, &places, &corner, NOON);
-        assert_eq!(rt; is_met, *wanted, "{more}");
-        let resolved = ResolvedPolicy::new(alloc, &policy, &places, NOON)?;
-        assert_eq!(rt; resolved.first(&corner).is_some(), *wanted, "{more}");
+/// Whether a vehicle meets a rule, and the rule's policy once that is resolved.
+fn is_met(
+    rt: &impl Abort,
+    alloc: Global,
+    places: &Square,
+    policy: &Policy,
+    vehicle: &Vehicle,
+) -> (bool, bool) {
+    let resolved = ResolvedPolicy::new(alloc, policy, places, NOON).expect(rt, "memory");
+    let is_first = resolved.first(vehicle).is_some();
+    (meets(rule_of(rt, policy), places, vehicle, NOON), is_first)
+}
+
+/// The vehicle meets a rule with these members, or it doesn't.
+fn expect_met(
+    rt: &impl Abort,
+    alloc: Global,
+    places: &Square,
+    vehicle: &Vehicle,
+    case: (&str, bool),
+) {
+    let (more, wanted) = case;
+    let policy = policy(rt, alloc, more);
+    let (is_met, is_first) = is_met(rt, alloc, places, &policy, vehicle);
+    assert!(rt; is_met == wanted && is_first == wanted, "{more}");
+}
+
+/// A scooter at this longitude meets those of the rules that it should.
+fn expect_all_met(
+    rt: &impl Abort,
+    alloc: Global,
+    places: &Square,
+    lng: i64,
+    rules: &[(&str, bool)],
+) {
+    let vehicle = scooter(rt, alloc, lng);
+    for case in rules {
+        expect_met(rt, alloc, places, &vehicle, *case);
     }
-    let policy = policy(alloc, "")?;
-    let beside = scooter(alloc, 100_000_001)?;
-    assert!(rt; !meets(rule_of(&policy)?, &places, &beside, NOON));
-    Ok(())
+}
+
+#[test]
+fn vehicles(rt: HostRuntime) {
+    let alloc = rt.alloc();
+    let places = one_square(&rt, alloc).expect(&rt, "memory");
+    expect_all_met(&rt, alloc, &places, 100_000_000, RULES);
+    expect_all_met(&rt, alloc, &places, 100_000_001, &[("", false)]);
 }
 
 /// A rule on speed and two on counts, all in the square.
@@ -191,26 +220,19 @@ const THREE_RULES: &[u8] =
     br#"{"policy_id":"00000000-0000-4000-8000-000000000201","name":"three","start_date":1000,"rules":[{"rule_id":"00000000-0000-4000-8000-000000000301","name":"slow","rule_type":"speed","geographies":["00000000-0000-4000-8000-000000000101"],"maximum":15},{"rule_id":"00000000-0000-4000-8000-000000000302","name":"cap","rule_type":"count","geographies":["00000000-0000-4000-8000-000000000101"]},{"rule_id":"00000000-0000-4000-8000-000000000303","name":"cap","rule_type":"count","geographies":["00000000-0000-4000-8000-000000000101"]}]}"#;
 
 /// The first rule that a scooter at this longitude meets, asked of the policy and resolved.
-fn expect_first(
-    rt: &impl Abort,
-    alloc: Global,
-    policy: &Policy,
-    lng: i64,
-    wanted: Option<usize>,
-) -> Result<(), Fail> {
-    let places = one_square(alloc)?;
-    let vehicle = scooter(alloc, lng)?;
-    let resolved = ResolvedPolicy::new(alloc, policy, &places, NOON)?;
-    assert_eq!(rt; first(policy, &places, &vehicle, NOON), wanted);
-    assert_eq!(rt; resolved.first(&vehicle), wanted);
-    Ok(())
+fn expect_first(rt: &impl Abort, alloc: Global, policy: &Policy, lng: i64, wanted: Option<usize>) {
+    let places = one_square(rt, alloc).expect(rt, "memory");
+    let vehicle = scooter(rt, alloc, lng);
+    let resolved = ResolvedPolicy::new(alloc, policy, &places, NOON).expect(rt, "memory");
+    assert!(rt; first(policy, &places, &vehicle, NOON) == wanted);
+    assert!(rt; resolved.first(&vehicle) == wanted);
 }
 
 #[test]
-fn the_first_rule(rt: HostRuntime) -> Result<(), Fail> {
-    let policy = Policy::read(rt.alloc(), THREE_RULES)?;
-    expect_first(&rt, rt.alloc(), &policy, 100_000_000, Some(1))?;
-    expect_first(&rt, rt.alloc(), &policy, 100_000_001, None)
+fn the_first_rule(rt: HostRuntime) {
+    let policy = Policy::read(rt.alloc(), THREE_RULES).expect(&rt, "a policy");
+    expect_first(&rt, rt.alloc(), &policy, 100_000_000, Some(1));
+    expect_first(&rt, rt.alloc(), &policy, 100_000_001, None);
 }
 
 const PACIFIC: &str = "PST8PDT,M3.2.0,M11.1.0";
@@ -333,15 +355,23 @@ const NO_ZONES: &[&str] = &[
     "PST8PDT,M3.2.0,M11.1.0 ",
 ];
 
+/// The local time in a zone at a moment.
+fn local_in(rt: &impl Abort, name: &str, at: i64) -> Local {
+    let zone = Zone::read(name).expect(rt, "a zone");
+    zone.local(instant(rt, at)).expect(rt, "memory")
+}
+
+/// Whether a text is refused as a zone.
+fn is_no_zone(name: &str) -> bool {
+    matches!(Zone::read(name), Err(ZoneFault::BadZone))
+}
+
 #[test]
-fn zones(rt: HostRuntime) -> Result<(), Fail> {
+fn zones(rt: HostRuntime) {
     for (name, at, wanted) in LOCAL_TIMES {
-        let zone = Zone::read(name).or(Err("no zone"))?;
-        let found = zone.local(instant(&rt, *at))?;
-        assert_eq!(rt; found, *wanted, "{name}");
+        assert!(rt; local_in(&rt, name, *at) == *wanted, "{name} at {at}");
     }
     for name in NO_ZONES {
-        assert_eq!(rt; Zone::read(name).err(), Some(ZoneFault::BadZone), "{name}");
+        assert!(rt; is_no_zone(name), "{name}");
     }
-    Ok(())
 }

@@ -5,7 +5,6 @@ use mds_world::World;
 use std::alloc::Global;
 use std::io::{self, ErrorKind, Read, Write};
 use std::process::Abort;
-use std::test::Fail;
 
 /// A configuration of two operators.
 const CONFIGURATION: &[u8] =
@@ -106,45 +105,35 @@ fn replayed(alloc: Global, script: &[u8]) -> Result<Vec<u8>, ReplayFault> {
 }
 
 /// The bytes of both, one after the other.
-fn joined(alloc: Global, front: &[u8], back: &[u8]) -> Result<Vec<u8>, Fail> {
+fn joined(rt: &impl Abort, alloc: Global, front: &[u8], back: &[u8]) -> Vec<u8> {
     let mut bytes = Vec::new(alloc);
-    bytes.extend_from_slice(front)?;
-    bytes.extend_from_slice(back)?;
-    Ok(bytes)
+    bytes.extend_from_slice(front).expect(rt, "memory");
+    bytes.extend_from_slice(back).expect(rt, "memory");
+    bytes
 }
 
-/// The script has these answers.
-fn has_answers(alloc: Global, rt: &impl Abort, script: &[u8], answers: &[u8]) {
-    match replayed(alloc, script) {
-        Ok(written) => assert_eq!(rt; written.as_slice(), answers),
-        Err(fault) => panic!(rt; "{}", fault.message()),
-    }
-}
-
-/// The replay ends with this fault.
-fn has_fault(rt: &impl Abort, ended: Result<(), ReplayFault>, fault: ReplayFault) {
-    assert_eq!(rt; ended, Err(fault));
+/// Whether the lines behind the configuration have this answer.
+fn is_answered(rt: &impl Abort, alloc: Global, lines: &[u8], answer: &[u8]) -> bool {
+    let script = joined(rt, alloc, CONFIGURATION, lines);
+    let written = replayed(alloc, &script).expect(rt, "a replay");
+    written.as_slice() == answer
 }
 
 /// The script's first line is no configuration.
-fn has_no_configuration(alloc: Global, rt: &impl Abort, script: &[u8]) {
-    has_fault(
-        rt,
-        replayed(alloc, script).map(drop),
-        ReplayFault::BadConfig,
-    );
+fn has_no_configuration(rt: &impl Abort, alloc: Global, script: &[u8]) {
+    let ended = replayed(alloc, script).map(drop);
+    assert!(rt; ended == Err(ReplayFault::BadConfig));
 }
 
 #[test]
-fn wants_a_configuration(rt: HostRuntime) -> Result<(), Fail> {
+fn wants_a_configuration(rt: HostRuntime) {
     let alloc = rt.alloc();
-    has_no_configuration(alloc, &rt, b"");
-    has_no_configuration(alloc, &rt, b"{}\n");
-    has_no_configuration(alloc, &rt, &CONFIGURATION[..40]);
+    has_no_configuration(&rt, alloc, b"");
+    has_no_configuration(&rt, alloc, b"{}\n");
+    has_no_configuration(&rt, alloc, &CONFIGURATION[..40]);
     // an empty first line isn't skipped
-    let blank = joined(alloc, b"\n", CAP)?;
-    has_no_configuration(alloc, &rt, &blank);
-    Ok(())
+    let blank = joined(&rt, alloc, b"\n", CAP);
+    has_no_configuration(&rt, alloc, &blank);
 }
 
 const NO_VEHICLES: &[u8] = b"200 {\"vehicles\":[]}\n";
@@ -172,73 +161,81 @@ const LINES: &[(&[u8], &[u8])] = &[
 ];
 
 #[test]
-fn cuts_lines(rt: HostRuntime) -> Result<(), Fail> {
-    for (line, answer) in LINES {
-        let script = joined(rt.alloc(), CONFIGURATION, line)?;
-        has_answers(rt.alloc(), &rt, &script, answer);
+fn cuts_lines(rt: HostRuntime) {
+    for (number, (lines, answer)) in LINES.iter().enumerate() {
+        assert!(rt;
+            is_answered(&rt, rt.alloc(), lines, answer),
+            "case {number}"
+        );
     }
-    Ok(())
 }
 
 const SIZES: &[usize] = &[1, 2, 7, 1000];
 
+/// Whether the script is answered where so many bytes at most come and go at a time.
+fn is_taken(alloc: Global, size: usize) -> bool {
+    let source = Pieces {
+        rest: CAP,
+        size,
+        sound: None,
+    };
+    let mut sink = Drip::new(alloc, size, usize::MAX);
+    let ended = run::<World<Plain>, _, _>(alloc, source, &mut sink).map(drop);
+    ended == Ok(()) && sink.written.as_slice() == CAP_ANSWERS
+}
+
 #[test]
-fn takes_pieces_of_any_size(rt: HostRuntime) -> Result<(), Fail> {
+fn takes_pieces_of_any_size(rt: HostRuntime) {
     for size in SIZES {
-        let source = Pieces {
-            rest: CAP,
-            size: *size,
-            sound: None,
-        };
-        let mut sink = Drip::new(rt.alloc(), *size, usize::MAX);
-        let ended = run::<World<Plain>, _, _>(rt.alloc(), source, &mut sink).map(drop);
-        assert_eq!(rt; ended, Ok(()));
-        assert_eq!(rt; sink.written.as_slice(), CAP_ANSWERS);
+        assert!(rt; is_taken(rt.alloc(), *size), "{size} at a time");
     }
-    Ok(())
+}
+
+/// Whether the replay ended with this fault, and what was written is the front of the answers.
+fn is_cut(ended: Result<(), ReplayFault>, fault: ReplayFault, sink: &Drip) -> bool {
+    ended == Err(fault) && CAP_ANSWERS.starts_with(&sink.written)
+}
+
+/// Whether the replay stops at the read that comes after so many.
+fn stops_reading(alloc: Global, sound: usize) -> bool {
+    let source = Pieces {
+        rest: CAP,
+        size: 100,
+        sound: Some(sound),
+    };
+    let mut sink = Drip::new(alloc, 1000, usize::MAX);
+    let ended = run::<World<Plain>, _, _>(alloc, source, &mut sink).map(drop);
+    is_cut(ended, ReplayFault::Read, &sink)
 }
 
 /// One read fails, and those after it would go well: what was written is the front of the answers.
 #[test]
-fn stops_at_a_failed_read(rt: HostRuntime) -> Result<(), Fail> {
+fn stops_at_a_failed_read(rt: HostRuntime) {
     for sound in 0..=CAP.len().div_ceil(100) {
-        let source = Pieces {
-            rest: CAP,
-            size: 100,
-            sound: Some(sound),
-        };
-        let mut sink = Drip::new(rt.alloc(), 1000, usize::MAX);
-        let ended = run::<World<Plain>, _, _>(rt.alloc(), source, &mut sink).map(drop);
-        has_fault(&rt, ended, ReplayFault::Read);
-        assert!(rt;
-            CAP_ANSWERS.starts_with(&sink.written),
-            "after {sound} reads"
-        );
+        assert!(rt; stops_reading(rt.alloc(), sound), "after {sound} reads");
     }
-    Ok(())
+}
+
+/// Whether the replay stops at the write that comes after so many.
+fn stops_writing(alloc: Global, sound: usize) -> bool {
+    let mut sink = Drip::new(alloc, 40, sound);
+    let ended = run::<World<Plain>, _, _>(alloc, CAP, &mut sink).map(drop);
+    is_cut(ended, ReplayFault::Write, &sink)
 }
 
 #[test]
-fn stops_at_a_failed_write(rt: HostRuntime) -> Result<(), Fail> {
+fn stops_at_a_failed_write(rt: HostRuntime) {
     for sound in 0..CAP_ANSWERS.len().div_ceil(40) {
-        let mut sink = Drip::new(rt.alloc(), 40, sound);
-        let ended = run::<World<Plain>, _, _>(rt.alloc(), CAP, &mut sink).map(drop);
-        has_fault(&rt, ended, ReplayFault::Write);
-        assert!(rt;
-            CAP_ANSWERS.starts_with(&sink.written),
-            "after {sound} writes"
-        );
+        assert!(rt; stops_writing(rt.alloc(), sound), "after {sound} writes");
     }
-    Ok(())
 }
 
 #[test]
-fn tells_a_failed_flush(rt: HostRuntime) -> Result<(), Fail> {
+fn tells_a_failed_flush(rt: HostRuntime) {
     let mut sink = Drip::new(rt.alloc(), 1000, usize::MAX);
     sink.flushes = false;
     let ended = run::<World<Plain>, _, _>(rt.alloc(), CAP, &mut sink).map(drop);
-    has_fault(&rt, ended, ReplayFault::Write);
-    Ok(())
+    assert!(rt; ended == Err(ReplayFault::Write));
 }
 
 const NO_MEMORY: &[u8] = b"503 {\"error\":\"no_memory\"}\n";
@@ -250,7 +247,7 @@ fn assert_answers_or_front(rt: &impl Abort, written: &[u8]) {
         match lines.next() {
             Some(line) if line == answer => {}
             Some(line) => {
-                assert_eq!(rt; line, NO_MEMORY);
+                assert!(rt; line == NO_MEMORY);
                 return;
             }
             None => panic!(rt; "an answer is missing"),
@@ -262,12 +259,11 @@ fn assert_answers_or_front(rt: &impl Abort, written: &[u8]) {
 /// With one growth refused, wherever it is: either nothing is written, or one answer is 503 and
 /// those before it are as ever.
 #[test]
-fn survives_want_of_memory(rt: HostRuntime) -> Result<(), Fail> {
+fn survives_want_of_memory(rt: HostRuntime) {
     match replayed(rt.alloc(), CAP) {
         Ok(written) => assert_answers_or_front(&rt, &written),
         // the vector that is written to finds no memory
         Err(ReplayFault::NoMemory | ReplayFault::Write) => {}
         Err(fault) => panic!(rt; "{}", fault.message()),
     }
-    Ok(())
 }

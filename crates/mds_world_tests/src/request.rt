@@ -1,33 +1,39 @@
 //! A configuration of two operators, the calls of requests to it, and local times by hand.
 
-use crate::square::{instant, moment};
+use crate::square::{instant, joined, known};
 use mds_match::Local;
 use mds_request::{
     Actor, AuthorCall, Call, Code, Config, ConfigFault, OperatorCall, Reply, Request, Routes, Verb,
     read_call,
 };
-use mds_text::{DraftKind, Field, Id, TextFault};
-use std::alloc::Global;
+use mds_text::{DraftKind, Field, TextFault};
+use std::alloc::{AllocError, Global};
 use std::process::Abort;
-use std::test::Fail;
 
 const CONFIGURATION: &str =
     r#"{"author":"city","operators":[{"id":"00000000-0000-4000-8000-0000000000a1","limit":2,"token":"alfa"},{"id":"00000000-0000-4000-8000-0000000000b1","limit":2,"token":"bravo"}],"zone":"Z"}"#;
 
 const P1: &str = "00000000-0000-4000-8000-000000000201";
 
-/// The configuration's text with these members in place of its own.
-fn text_with(alloc: Global, author: &str, operators: &str, zone: &str) -> Result<String, Fail> {
-    Ok(format!(in alloc;
-        "{{\"author\":\"{author}\",\"operators\":[{operators}],\"zone\":\"{zone}\"}}"
-    )?)
-}
-
-/// An operator's entry.
-fn entry(alloc: Global, id: &str, limit: &str, token: &str) -> Result<String, Fail> {
-    Ok(format!(in alloc;
-        "{{\"id\":\"00000000-0000-4000-8000-0000000000{id}\",\"limit\":{limit},\"token\":\"{token}\"}}"
-    )?)
+/// Why a configuration of this author, these operators and this zone is none, if it is none.
+fn fault_with(
+    rt: &impl Abort,
+    alloc: Global,
+    author: &str,
+    operators: &str,
+    zone: &str,
+) -> Option<ConfigFault> {
+    let pieces = [
+        "{\"author\":\"",
+        author,
+        "\",\"operators\":[",
+        operators,
+        "],\"zone\":\"",
+        zone,
+        "\"}",
+    ];
+    let text = joined(alloc, &pieces).expect(rt, "memory");
+    fault_of(alloc, text.as_str())
 }
 
 fn read(alloc: Global, text: &str) -> Result<Config, ConfigFault> {
@@ -55,72 +61,86 @@ const FRIDAY_AT_FIVE: Local = Local {
     second: 18000,
 };
 
-#[test]
-fn a_configuration(rt: HostRuntime) -> Result<(), Fail> {
-    let config = read(rt.alloc(), CONFIGURATION)?;
-    assert_eq!(rt; config.author(), "city");
+/// The configuration's author and its operators.
+fn expect_members(rt: &impl Abort, config: &Config) {
+    assert!(rt; config.author() == "city");
     let operators = config.operators();
-    assert_eq!(rt; operators.len(), TOKENS.len());
+    assert!(rt; operators.len() == TOKENS.len());
     for (operator, token) in operators.iter().zip(TOKENS) {
-        assert_eq!(rt; operator.token.as_str(), *token);
-        assert_eq!(rt; operator.limit, 2);
+        assert!(rt; operator.token.as_str() == *token && operator.limit == 2);
     }
-    let local = config.zone().local(instant(&rt, 104_400_000))?;
-    assert_eq!(rt; local, FRIDAY_AT_FIVE);
-    for (token, actor) in ACTORS {
-        assert_eq!(rt; config.actor(token.as_bytes()), *actor);
-    }
-    Ok(())
 }
 
-/// An author and the limit of one operator, or none, and whether it is a configuration.
-const LIMITS: &[(&str, Option<&str>, bool)] = &[
-    ("city", Some("200000"), true),
-    ("city", None, true),
-    ("city", Some("200001"), false),
-    ("city", Some("0"), false),
-    ("city hall", None, false),
-    ("", None, false),
+#[test]
+fn a_configuration(rt: HostRuntime) {
+    let config = read(rt.alloc(), CONFIGURATION).expect(&rt, "a configuration");
+    expect_members(&rt, &config);
+    let local = config.zone().local(instant(&rt, 104_400_000));
+    assert!(rt; local == Ok(FRIDAY_AT_FIVE));
+    for (token, actor) in ACTORS {
+        assert!(rt; config.actor(token.as_bytes()) == *actor, "{token}");
+    }
+}
+
+/// An author and the operators, and whether it is a configuration.
+const LIMITS: &[(&str, &str, bool)] = &[
+    (
+        "city",
+        r#"{"id":"00000000-0000-4000-8000-0000000000a1","limit":200000,"token":"alfa"}"#,
+        true,
+    ),
+    ("city", "", true),
+    (
+        "city",
+        r#"{"id":"00000000-0000-4000-8000-0000000000a1","limit":200001,"token":"alfa"}"#,
+        false,
+    ),
+    (
+        "city",
+        r#"{"id":"00000000-0000-4000-8000-0000000000a1","limit":0,"token":"alfa"}"#,
+        false,
+    ),
+    ("city hall", "", false),
+    ("", "", false),
+];
+
+/// A token twice, and two operators of one identifier.
+const ALIKE: &[(&str, &str)] = &[
+    (
+        "alfa",
+        r#"{"id":"00000000-0000-4000-8000-0000000000a1","limit":2,"token":"alfa"}"#,
+    ),
+    (
+        "city",
+        r#"{"id":"00000000-0000-4000-8000-0000000000a1","limit":2,"token":"alfa"},{"id":"00000000-0000-4000-8000-0000000000a1","limit":2,"token":"bravo"}"#,
+    ),
 ];
 
 #[test]
-fn no_configurations(rt: HostRuntime) -> Result<(), Fail> {
+fn no_configurations(rt: HostRuntime) {
     let alloc = rt.alloc();
-    for (author, limit, is_read) in LIMITS {
-        let operators = match limit {
-            Some(limit) => entry(alloc, "a1", limit, "alfa")?,
-            None => String::new(alloc),
-        };
-        let text = text_with(alloc, author, operators.as_str(), "Z")?;
-        assert_eq!(rt;
-            read(alloc, text.as_str()).is_ok(),
-            *is_read,
-            "{author} {}",
-            operators.as_str()
-        );
+    for (author, operators, is_read) in LIMITS {
+        let fault = fault_with(&rt, alloc, author, operators, "Z");
+        assert!(rt; fault.is_none() == *is_read, "{author} {operators}");
     }
-    assert_alike(&rt, alloc)?;
-    assert_other_faults(&rt, alloc)
-}
-
-/// A token twice, and two operators of one identifier.
-fn assert_alike(rt: &impl Abort, alloc: Global) -> Result<(), Fail> {
-    let alfa = entry(alloc, "a1", "2", "alfa")?;
-    let pair = format!(in alloc; "{alfa},{}", entry(alloc, "a1", "2", "bravo")?)?;
-    for (author, operators) in [("alfa", &alfa), ("city", &pair)] {
-        let text = text_with(alloc, author, operators.as_str(), "Z")?;
-        let fault = fault_of(alloc, text.as_str());
+    for (author, operators) in ALIKE {
+        let fault = fault_with(&rt, alloc, author, operators, "Z");
         assert!(rt; matches!(fault, Some(ConfigFault::Alike)), "{author}");
     }
-    let told = format!(in alloc; "{}", ConfigFault::Alike)?;
-    assert_eq!(rt; told.as_str(), "alike");
-    Ok(())
+    assert_other_faults(&rt, alloc);
+    assert_told(&rt, alloc);
+}
+
+/// What is told of operators that are alike.
+fn assert_told(rt: &impl Abort, alloc: Global) {
+    let told = format!(in alloc; "{}", ConfigFault::Alike).expect(rt, "memory");
+    assert!(rt; told.as_str() == "alike");
 }
 
 /// A zone too far east, a text that is cut, and one without operators.
-fn assert_other_faults(rt: &impl Abort, alloc: Global) -> Result<(), Fail> {
-    let far = text_with(alloc, "city", "", "+15:00")?;
-    assert!(rt; matches!(fault_of(alloc, far.as_str()), Some(ConfigFault::BadZone)));
+fn assert_other_faults(rt: &impl Abort, alloc: Global) {
+    let far = fault_with(rt, alloc, "city", "", "+15:00");
+    assert!(rt; matches!(far, Some(ConfigFault::BadZone)));
     let cut = fault_of(alloc, "{\"author\":\"city\"");
     assert!(rt; matches!(cut, Some(ConfigFault::Text(TextFault::BadJson))));
     let bare = fault_of(alloc, "{\"author\":\"city\"}");
@@ -130,7 +150,6 @@ fn assert_other_faults(rt: &impl Abort, alloc: Global) -> Result<(), Fail> {
             Some(ConfigFault::Text(TextFault::BadField(Field::Operators)))
         )
     );
-    Ok(())
 }
 
 /// A request's token, method, target and body.
@@ -275,13 +294,8 @@ const DRAFT_DROPPED: Sent = Sent {
     body: "",
 };
 
-fn expect_call(
-    rt: &impl Abort,
-    routes: &Routes,
-    config: &Config,
-    sent: &Sent,
-    wanted: Result<Call, Code>,
-) -> Result<(), Fail> {
+/// What a request is read as.
+fn call_of(rt: &impl Abort, routes: &Routes, config: &Config, sent: &Sent) -> Result<Call, Code> {
     let request = Request {
         at: instant(rt, 2000),
         token: sent.token.as_bytes(),
@@ -289,7 +303,17 @@ fn expect_call(
         target: sent.target.as_bytes(),
         body: sent.body.as_bytes(),
     };
-    let found = read_call(routes, config, &request);
+    read_call(routes, config, &request)
+}
+
+fn expect_call(
+    rt: &impl Abort,
+    routes: &Routes,
+    config: &Config,
+    sent: &Sent,
+    wanted: Result<Call, Code>,
+) {
+    let found = call_of(rt, routes, config, sent);
     assert!(rt;
         found == wanted,
         "{} {} {}",
@@ -297,79 +321,88 @@ fn expect_call(
         sent.method,
         sent.target
     );
-    Ok(())
 }
 
-#[test]
-fn calls(rt: HostRuntime) -> Result<(), Fail> {
-    let config = read(rt.alloc(), CONFIGURATION)?;
-    let routes = Routes::new(rt.alloc())?;
+fn expect_calls(rt: &impl Abort, routes: &Routes, config: &Config) {
     for (sent, code) in REFUSED {
-        expect_call(&rt, &routes, &config, sent, Err(*code))?;
+        expect_call(rt, routes, config, sent, Err(*code));
     }
-    let id = Id::read(P1).ok_or("no identifier")?;
+    let id = known(rt, P1);
     let asked = Call::Operator(0, OperatorCall::PolicyCompliance(id));
-    expect_call(&rt, &routes, &config, &COMPLIANCE_ASKED, Ok(asked))?;
+    expect_call(rt, routes, config, &COMPLIANCE_ASKED, Ok(asked));
     let report = Call::Operator(1, OperatorCall::Report);
-    expect_call(&rt, &routes, &config, &REPORT_SENT, Ok(report))?;
+    expect_call(rt, routes, config, &REPORT_SENT, Ok(report));
     let publication = Call::Author(AuthorCall::Publish);
-    expect_call(&rt, &routes, &config, &PUBLICATION_SENT, Ok(publication))?;
+    expect_call(rt, routes, config, &PUBLICATION_SENT, Ok(publication));
     let dropped = Call::Author(AuthorCall::DropDraft(DraftKind::Policy, id));
-    expect_call(&rt, &routes, &config, &DRAFT_DROPPED, Ok(dropped))
+    expect_call(rt, routes, config, &DRAFT_DROPPED, Ok(dropped));
 }
 
 #[test]
-fn a_large_body(rt: HostRuntime) -> Result<(), Fail> {
+fn calls(rt: HostRuntime) {
+    let config = read(rt.alloc(), CONFIGURATION).expect(&rt, "a configuration");
+    let routes = Routes::new(rt.alloc()).expect(&rt, "memory");
+    expect_calls(&rt, &routes, &config);
+}
+
+#[test]
+fn a_large_body(rt: HostRuntime) {
     let alloc = rt.alloc();
-    let config = read(alloc, CONFIGURATION)?;
-    let routes = Routes::new(alloc)?;
-    let mut body = Vec::with_capacity(alloc, 1_048_577)?;
-    for _ in 0..1_048_576u32 {
-        body.push(b' ')?;
-    }
-    assert_eq!(rt;
-        code_of(&routes, &config, body.as_slice())?,
-        Some(Code::Token)
-    );
-    body.push(b' ')?;
-    assert_eq!(rt;
-        code_of(&routes, &config, body.as_slice())?,
-        Some(Code::TooLarge)
-    );
-    Ok(())
+    let config = read(alloc, CONFIGURATION).expect(&rt, "a configuration");
+    let routes = Routes::new(alloc).expect(&rt, "memory");
+    expect_refused(&rt, alloc, &routes, &config, (1_048_576, Code::Token));
+    expect_refused(&rt, alloc, &routes, &config, (1_048_577, Code::TooLarge));
+}
+
+/// A request with nobody's token and a body of so many bytes is refused with this code.
+fn expect_refused(
+    rt: &impl Abort,
+    alloc: Global,
+    routes: &Routes,
+    config: &Config,
+    case: (usize, Code),
+) {
+    let (size, wanted) = case;
+    let body = vec![in alloc; b' '; size].expect(rt, "memory");
+    let found = code_of(rt, routes, config, body.as_slice());
+    assert!(rt; found == Some(wanted));
 }
 
 /// Why a request with this body and nobody's token is refused.
-fn code_of(routes: &Routes, config: &Config, body: &[u8]) -> Result<Option<Code>, Fail> {
-    let at = moment(2000)?;
+fn code_of(rt: &impl Abort, routes: &Routes, config: &Config, body: &[u8]) -> Option<Code> {
     let request = Request {
-        at,
+        at: instant(rt, 2000),
         token: "nobody".as_bytes(),
         verb: Verb::Post,
         target: "/fleet/events".as_bytes(),
         body,
     };
-    match read_call(routes, config, &request) {
-        Ok(_) => Ok(None),
-        Err(code) => Ok(Some(code)),
-    }
+    read_call(routes, config, &request).err()
 }
 
 const NOT_PUBLISHED: &str = r#"{"error":"not_published"}"#;
 
-#[test]
-fn replies(rt: HostRuntime) -> Result<(), Fail> {
-    let alloc = rt.alloc();
-    let refused = Reply::from(Code::NotPublished);
-    assert_eq!(rt; refused.status(), 409);
-    assert!(rt; refused.body() == NOT_PUBLISHED.as_bytes());
-    assert!(rt; refused.into_body(alloc)?.as_slice() == NOT_PUBLISHED.as_bytes());
+/// The reply has this body, lent and given away.
+fn expect_body(rt: &impl Abort, alloc: Global, reply: Reply, wanted: &[u8]) {
+    assert!(rt; reply.body() == wanted);
+    let body = reply.into_body(alloc).expect(rt, "memory");
+    assert!(rt; body.as_slice() == wanted);
+}
+
+/// A success whose body is an empty object.
+fn done(alloc: Global) -> Result<Reply, AllocError> {
     let mut body = Vec::new(alloc);
     body.push(b'{')?;
     body.push(b'}')?;
-    let done = Reply::ok(body);
-    assert_eq!(rt; done.status(), 200);
-    assert!(rt; done.body() == b"{}".as_slice());
-    assert!(rt; done.into_body(alloc)?.as_slice() == b"{}".as_slice());
-    Ok(())
+    Ok(Reply::ok(body))
+}
+
+#[test]
+fn replies(rt: HostRuntime) {
+    let refused = Reply::from(Code::NotPublished);
+    assert!(rt; refused.status() == 409);
+    expect_body(&rt, rt.alloc(), refused, NOT_PUBLISHED.as_bytes());
+    let done = done(rt.alloc()).expect(&rt, "memory");
+    assert!(rt; done.status() == 200);
+    expect_body(&rt, rt.alloc(), done, b"{}");
 }

@@ -1,13 +1,12 @@
-//! Squares on the map, identifiers, words and positions for the tests of vehicles.
+//! Squares on the map, identifiers, words, positions and texts for the tests of vehicles.
 
 ghost use Rattle.std.specs.Prelude.{[], cond, bytes_eq};
 
 use mds_geometry::{Area, Polygon, Position, Ring};
 use mds_match::{Local, Places};
 use mds_text::{Id, Moment, Token, Units7};
-use std::alloc::Global;
+use std::alloc::{AllocError, Global};
 use std::process::Abort;
-use std::test::Fail;
 
 /// Thursday, noon.
 pub(crate) const NOON: Local = Local {
@@ -38,10 +37,6 @@ impl Places for Square {
     }
 }
 
-pub(crate) fn id(text: &str) -> Result<Id, Fail> {
-    Ok(Id::read(text).ok_or("no identifier")?)
-}
-
 /// The identifier that a text is.
 pub(crate) fn known(rt: &impl Abort, text: &str) -> Id {
     Id::read(text).expect(rt, "an identifier")
@@ -52,39 +47,74 @@ pub(crate) fn instant(rt: &impl Abort, millis: i64) -> Moment {
     Moment::new(millis).expect(rt, "a moment")
 }
 
-pub(crate) fn word(text: &str) -> Result<Token, Fail> {
-    Ok(Token::read(text).ok_or("no token")?)
+/// The word that a text is.
+pub(crate) fn word(rt: &impl Abort, text: &str) -> Token {
+    Token::read(text).expect(rt, "a token")
 }
 
-pub(crate) fn moment(millis: i64) -> Result<Moment, Fail> {
-    Ok(Moment::new(millis).ok_or("no moment")?)
+/// The position at so many ten-millionths of a degree.
+pub(crate) fn position(rt: &impl Abort, lng: i64, lat: i64) -> Position {
+    Position {
+        lng: Units7::new(lng).expect(rt, "a longitude"),
+        lat: Units7::new(lat).expect(rt, "a latitude"),
+    }
 }
 
-pub(crate) fn position(lng: i64, lat: i64) -> Result<Position, Fail> {
-    let lng = Units7::new(lng).ok_or("no longitude")?;
-    let lat = Units7::new(lat).ok_or("no latitude")?;
-    Ok(Position { lng, lat })
+const DEVICE: &[u8; 36] = b"00000000-0000-4000-8000-000000000000";
+
+/// The device identifier that ends in this number, in hexadecimal digits.
+pub(crate) fn device(rt: &impl Abort, number: u32) -> Id {
+    let mut text = *DEVICE;
+    let mut rest = number;
+    for byte in text.iter_mut().rev().take(8) {
+        *byte = digit(rest % 16);
+        rest /= 16;
+    }
+    known(rt, std::str::from_utf8(&text).expect(rt, "a text"))
+}
+
+fn digit(value: u32) -> u8 {
+    match value {
+        0..=9 => b'0' + value as u8,
+        10..=15 => b'a' - 10 + value as u8,
+        _ => b'?',
+    }
 }
 
 /// From one corner to the other.
-pub(crate) fn rectangle(alloc: Global, low: i64, high: i64) -> Result<Area, Fail> {
-    let mut corners = Vec::new(alloc);
-    corners.push(position(low, low)?)?;
-    corners.push(position(high, low)?)?;
-    corners.push(position(high, high)?)?;
-    corners.push(position(low, high)?)?;
-    corners.push(position(low, low)?)?;
-    let mut rings = Vec::new(alloc);
-    rings.push(Ring::new(corners)?)?;
-    let mut polygons = Vec::new(alloc);
-    polygons.push(Polygon::new(rings))?;
-    Ok(Area::new(alloc, polygons)?)
+pub(crate) fn rectangle(
+    rt: &impl Abort,
+    alloc: Global,
+    low: i64,
+    high: i64,
+) -> Result<Area, AllocError> {
+    let corner = position(rt, low, low);
+    let corners = [
+        corner,
+        position(rt, high, low),
+        position(rt, high, high),
+        position(rt, low, high),
+        corner,
+    ];
+    let ring = Ring::new(Vec::from_array(alloc, corners)?).expect(rt, "a ring");
+    let polygon = Polygon::new(vec![in alloc; ring]?);
+    Area::new(alloc, vec![in alloc; polygon]?)
 }
 
 /// From 0 to 10 degrees.
-pub(crate) fn one_square(alloc: Global) -> Result<Square, Fail> {
+pub(crate) fn one_square(rt: &impl Abort, alloc: Global) -> Result<Square, AllocError> {
+    let square = rectangle(rt, alloc, 0, 100_000_000)?;
     Ok(Square {
-        id: id("00000000-0000-4000-8000-000000000101")?,
-        square: rectangle(alloc, 0, 100_000_000)?,
+        id: known(rt, "00000000-0000-4000-8000-000000000101"),
+        square,
     })
+}
+
+/// These pieces of a text, one after the other.
+pub(crate) fn joined(alloc: Global, pieces: &[&str]) -> Result<String, AllocError> {
+    let mut text = String::new(alloc);
+    for piece in pieces {
+        text.push_str(piece)?;
+    }
+    Ok(text)
 }

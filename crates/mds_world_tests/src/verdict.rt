@@ -2,15 +2,14 @@
 
 ghost use Rattle.std.specs.Prelude.{cond, bytes_eq};
 
-use crate::square::{NOON, id, instant, known, moment, position, rectangle, word};
+use crate::square::{NOON, device, instant, known, position, rectangle, word};
 use mds_geometry::{Area, Position};
 use mds_match::{Local, Places, Vehicle};
 use mds_policy::Policy;
-use mds_text::{Id, Tree, print_tree};
+use mds_text::{Id, Moment, print_tree};
 use mds_verdict::{Evaluator, Plain, RuleVerdict, Status, report_tree};
-use std::alloc::Global;
+use std::alloc::{AllocError, Global};
 use std::process::Abort;
-use std::test::Fail;
 
 /// A geography and another, which any other identifier names.
 #[derive(Drop)]
@@ -41,39 +40,108 @@ impl Places for Squares {
 }
 
 /// From 0 to 10 degrees, and from -20 to 20.
-fn two_squares(alloc: Global) -> Result<Squares, Fail> {
-    Ok(Squares {
-        id: id("00000000-0000-4000-8000-000000000101")?,
-        square: rectangle(alloc, 0, 100_000_000)?,
-        wide: rectangle(alloc, -200_000_000, 200_000_000)?,
-    })
+fn two_squares(rt: &impl Abort, alloc: Global) -> Squares {
+    Squares {
+        id: known(rt, "00000000-0000-4000-8000-000000000101"),
+        square: rectangle(rt, alloc, 0, 100_000_000).expect(rt, "memory"),
+        wide: rectangle(rt, alloc, -200_000_000, 200_000_000).expect(rt, "memory"),
+    }
 }
 
 /// A scooter that has been available since 2000.
-fn scooter(alloc: Global, device: &str, lng: i64, lat: i64) -> Result<Vehicle, Fail> {
-    parked(alloc, device, lng, lat, 2000)
+fn scooter(rt: &impl Abort, alloc: Global, device: Id, lng: i64, lat: i64) -> Vehicle {
+    parked(rt, alloc, device, position(rt, lng, lat), 2000)
 }
 
 /// A scooter that has been available since its last report.
-fn parked(alloc: Global, device: &str, lng: i64, lat: i64, since: i64) -> Result<Vehicle, Fail> {
-    Ok(Vehicle {
-        device: id(device)?,
-        vehicle_type: word("scooter")?,
+fn parked(rt: &impl Abort, alloc: Global, device: Id, position: Position, since: i64) -> Vehicle {
+    Vehicle {
+        device,
+        vehicle_type: word(rt, "scooter"),
         propulsion: Vec::new(alloc),
-        state: word("available")?,
+        state: word(rt, "available"),
         events: Vec::new(alloc),
-        timestamp: moment(since)?,
-        position: position(lng, lat)?,
-        since: moment(since)?,
-    })
+        timestamp: instant(rt, since),
+        position,
+        since: instant(rt, since),
+    }
+}
+
+/// The middle of the smaller square.
+fn middle(rt: &impl Abort) -> Position {
+    position(rt, 50_000_000, 50_000_000)
+}
+
+/// The two squares under a policy.
+#[derive(Drop)]
+struct City {
+    policy: Policy,
+    places: Squares,
+}
+
+fn city_under(rt: &impl Abort, alloc: Global, policy: &[u8]) -> City {
+    City {
+        policy: Policy::read(alloc, policy).expect(rt, "a policy"),
+        places: two_squares(rt, alloc),
+    }
+}
+
+/// The verdicts on vehicles at noon, at so many milliseconds.
+fn judged(
+    rt: &impl Abort,
+    alloc: Global,
+    city: &City,
+    vehicles: &[&Vehicle],
+    millis: i64,
+) -> Vec<RuleVerdict> {
+    let at = instant(rt, millis);
+    let found = Plain.verdicts(alloc, &city.policy, &city.places, vehicles, NOON, at);
+    found.expect(rt, "memory")
+}
+
+/// Vehicles are judged so at noon, at so many milliseconds.
+fn expect_judged(
+    rt: &impl Abort,
+    alloc: Global,
+    city: &City,
+    vehicles: &[&Vehicle],
+    millis: i64,
+    wanted: &[(Status, u64)],
+) {
+    let found = judged(rt, alloc, city, vehicles, millis);
+    expect(rt, &found, wanted);
 }
 
 fn expect(rt: &impl Abort, found: &[RuleVerdict], wanted: &[(Status, u64)]) {
-    assert_eq!(rt; found.len(), wanted.len());
+    assert!(rt; found.len() == wanted.len());
     for (verdict, wanted) in found.iter().zip(wanted) {
-        assert_eq!(rt; verdict.status, wanted.0);
-        assert_eq!(rt; verdict.measure, wanted.1);
+        assert!(rt; verdict.status == wanted.0 && verdict.measure == wanted.1);
     }
+}
+
+/// The report of the verdicts on vehicles at noon, printed.
+fn reported(
+    alloc: Global,
+    city: &City,
+    vehicles: &[&Vehicle],
+    at: Moment,
+) -> Result<Vec<u8>, AllocError> {
+    let found = Plain.verdicts(alloc, &city.policy, &city.places, vehicles, NOON, at)?;
+    let report = report_tree(alloc, &city.policy, &found)?;
+    print_tree(alloc, &report)
+}
+
+/// Vehicles are reported so at noon, at so many milliseconds.
+fn expect_reported(
+    rt: &impl Abort,
+    alloc: Global,
+    city: &City,
+    vehicles: &[&Vehicle],
+    millis: i64,
+    wanted: &[u8],
+) {
+    let report = reported(alloc, city, vehicles, instant(rt, millis)).expect(rt, "memory");
+    assert!(rt; report.as_slice() == wanted);
 }
 
 const FIRST_DEVICE: &str = "00000000-0000-4000-8000-000000000401";
@@ -88,44 +156,25 @@ const DOWNTOWN_AND_CITYWIDE: &[u8] =
 const TWO_VERDICTS: &[u8] =
     br#"{"policy_id":"00000000-0000-4000-8000-000000000201","rules":[{"measure":1,"rule_id":"00000000-0000-4000-8000-000000000301","status":"ok"},{"measure":0,"rule_id":"00000000-0000-4000-8000-000000000302","status":"ok"}]}"#;
 
-#[test]
-fn in_the_first_rule_alone(rt: HostRuntime) -> Result<(), Fail> {
-    let alloc = rt.alloc();
-    let policy = Policy::read(alloc, DOWNTOWN_AND_CITYWIDE)?;
-    let places = two_squares(alloc)?;
-    let inside = scooter(alloc, FIRST_DEVICE, 50_000_000, 50_000_000)?;
-    let beside = scooter(alloc, SECOND_DEVICE, 150_000_000, 150_000_000)?;
-    let one = Plain.verdicts(
-        alloc,
-        &policy,
-        &places,
-        &[&inside],
-        NOON,
-        instant(&rt, 2000),
-    )?;
-    expect(&rt, &one, &[(Status::Ok, 1), (Status::Ok, 0)]);
-    let both = Plain.verdicts(
-        alloc,
-        &policy,
-        &places,
-        &[&inside, &beside],
-        NOON,
-        instant(&rt, 2000),
-    )?;
-    expect(&rt, &both, &[(Status::Ok, 1), (Status::Ok, 1)]);
-    let report = report_tree(alloc, &policy, &one)?;
-    expect_printed(&rt, alloc, &report, TWO_VERDICTS)
-}
+const ONE_DOWNTOWN: &[(Status, u64)] = &[(Status::Ok, 1), (Status::Ok, 0)];
 
-fn expect_printed(
-    rt: &impl Abort,
-    alloc: Global,
-    report: &Tree,
-    wanted: &[u8],
-) -> Result<(), Fail> {
-    let text = print_tree(alloc, report)?;
-    assert!(rt; text.as_slice() == wanted);
-    Ok(())
+const ONE_BESIDE: &[(Status, u64)] = &[(Status::Ok, 1), (Status::Ok, 1)];
+
+#[test]
+fn in_the_first_rule_alone(rt: HostRuntime) {
+    let alloc = rt.alloc();
+    let city = city_under(&rt, alloc, DOWNTOWN_AND_CITYWIDE);
+    let inside = scooter(&rt, alloc, known(&rt, FIRST_DEVICE), 50_000_000, 50_000_000);
+    let beside = scooter(
+        &rt,
+        alloc,
+        known(&rt, SECOND_DEVICE),
+        150_000_000,
+        150_000_000,
+    );
+    expect_judged(&rt, alloc, &city, &[&inside], 2000, ONE_DOWNTOWN);
+    expect_judged(&rt, alloc, &city, &[&inside, &beside], 2000, ONE_BESIDE);
+    expect_reported(&rt, alloc, &city, &[&inside], 2000, TWO_VERDICTS);
 }
 
 /// One vehicle from two to three on Sundays.
@@ -199,26 +248,26 @@ const NIGHTS: &[(Local, Status)] = &[
     ),
 ];
 
+/// The verdicts at a local time, where there are no vehicles.
+fn judged_at(rt: &impl Abort, alloc: Global, city: &City, local: Local) -> Vec<RuleVerdict> {
+    let at = instant(rt, 0);
+    let found = Plain.verdicts(alloc, &city.policy, &city.places, &[], local, at);
+    found.expect(rt, "memory")
+}
+
 /// Without vehicles the policy has these statuses at these local times.
-fn expect_statuses(
-    rt: &impl Abort,
-    alloc: Global,
-    policy: &[u8],
-    wanted: &[(Local, Status)],
-) -> Result<(), Fail> {
-    let policy = Policy::read(alloc, policy)?;
-    let places = two_squares(alloc)?;
+fn expect_statuses(rt: &impl Abort, alloc: Global, policy: &[u8], wanted: &[(Local, Status)]) {
+    let city = city_under(rt, alloc, policy);
     for (local, status) in wanted {
-        let found = Plain.verdicts(alloc, &policy, &places, &[], *local, instant(rt, 0))?;
+        let found = judged_at(rt, alloc, &city, *local);
         expect(rt, &found, &[(*status, 0)]);
     }
-    Ok(())
 }
 
 #[test]
-fn outside_the_window(rt: HostRuntime) -> Result<(), Fail> {
-    expect_statuses(&rt, rt.alloc(), SUNDAY, SUNDAYS)?;
-    expect_statuses(&rt, rt.alloc(), FRIDAY_NIGHT, NIGHTS)
+fn outside_the_window(rt: HostRuntime) {
+    expect_statuses(&rt, rt.alloc(), SUNDAY, SUNDAYS);
+    expect_statuses(&rt, rt.alloc(), FRIDAY_NIGHT, NIGHTS);
 }
 
 /// A rule on speed, and at most 72 hours in one place.
@@ -233,45 +282,31 @@ const IDLE_FOUND: &[(i64, (Status, u64))] = &[
 ];
 
 #[test]
-fn three_days(rt: HostRuntime) -> Result<(), Fail> {
+fn three_days(rt: HostRuntime) {
     let alloc = rt.alloc();
-    let policy = Policy::read(alloc, IDLE)?;
-    let places = two_squares(alloc)?;
-    let vehicle = scooter(alloc, FIRST_DEVICE, 50_000_000, 50_000_000)?;
+    let city = city_under(&rt, alloc, IDLE);
+    let vehicle = scooter(&rt, alloc, known(&rt, FIRST_DEVICE), 50_000_000, 50_000_000);
     for (millis, wanted) in IDLE_FOUND {
-        let found = Plain.verdicts(
-            alloc,
-            &policy,
-            &places,
-            &[&vehicle],
-            NOON,
-            instant(&rt, *millis),
-        )?;
-        expect(&rt, &found, &[(Status::NotEvaluated, 0), *wanted]);
+        let wanted = [(Status::NotEvaluated, 0), *wanted];
+        expect_judged(&rt, alloc, &city, &[&vehicle], *millis, &wanted);
     }
-    Ok(())
 }
 
 /// Scooters with the device numbers before this one, in the smaller square.
-fn fleet_of(alloc: Global, size: u32) -> Result<Vec<Vehicle>, Fail> {
+fn fleet_of(rt: &impl Abort, alloc: Global, size: u32) -> Result<Vec<Vehicle>, AllocError> {
     let mut fleet = Vec::new(alloc);
     for number in 0..size {
-        let device = format!(in alloc; "00000000-0000-4000-8000-{number:012x}")?;
-        fleet.push(scooter(alloc, device.as_str(), 50_000_000, 50_000_000)?)?;
+        fleet.push(scooter(rt, alloc, device(rt, number), 50_000_000, 50_000_000))?;
     }
     Ok(fleet)
 }
 
 /// The first devices of `fleet_of`, the first 100.
-fn expect_devices(rt: &impl Abort, found: &RuleVerdict) -> Result<(), Fail> {
-    assert_eq!(rt; found.devices.len(), 100);
-    for (number, device) in found.devices.iter().enumerate() {
-        let wanted = format!(in *found.devices.allocator();
-            "00000000-0000-4000-8000-{number:012x}"
-        )?;
-        assert!(rt; *device == known(rt, wanted.as_str()));
+fn expect_devices(rt: &impl Abort, found: &RuleVerdict) {
+    assert!(rt; found.devices.len() == 100);
+    for (number, listed) in (0..100).zip(&found.devices) {
+        assert!(rt; *listed == device(rt, number));
     }
-    Ok(())
 }
 
 const CAP_OF_HUNDRED: &[u8] =
@@ -279,37 +314,41 @@ const CAP_OF_HUNDRED: &[u8] =
 
 /// Verdicts on so many vehicles of a fleet by a cap of 100.
 fn capped(
+    rt: &impl Abort,
     alloc: Global,
-    policy: &Policy,
+    city: &City,
     fleet: &[Vehicle],
     size: usize,
-) -> Result<Vec<RuleVerdict>, Fail> {
-    let places = two_squares(alloc)?;
-    let vehicles = fleet.iter().take(size).collect::<Vec<&Vehicle>>(alloc)?;
-    let found = Plain.verdicts(alloc, policy, &places, &vehicles, NOON, moment(2000)?)?;
-    Ok(found)
+) -> Vec<RuleVerdict> {
+    let vehicles = fleet.iter().take(size).collect::<Vec<&Vehicle>>(alloc);
+    judged(rt, alloc, city, &vehicles.expect(rt, "memory"), 2000)
 }
 
-const ABOVE_HUNDRED: &[usize] = &[101, 5003];
+/// So many vehicles of a fleet are too many: the first 100 are told.
+fn expect_too_many(rt: &impl Abort, alloc: Global, city: &City, fleet: &[Vehicle], size: usize) {
+    let found = capped(rt, alloc, city, fleet, size);
+    expect(rt, &found, &[(Status::Violated, size as u64)]);
+    for verdict in &found {
+        expect_devices(rt, verdict);
+    }
+}
+
+/// So many vehicles of a fleet aren't too many: none is told.
+fn expect_within(rt: &impl Abort, alloc: Global, city: &City, fleet: &[Vehicle], size: usize) {
+    let found = capped(rt, alloc, city, fleet, size);
+    expect(rt, &found, &[(Status::Ok, size as u64)]);
+    assert!(rt; found.iter().all(|verdict| verdict.devices.is_empty()));
+}
 
 #[test]
-fn the_first_hundred(rt: HostRuntime) -> Result<(), Fail> {
+fn the_first_hundred(rt: HostRuntime) {
     let alloc = rt.alloc();
-    let policy = Policy::read(alloc, CAP_OF_HUNDRED)?;
-    let none = capped(alloc, &policy, &[], 0)?;
-    expect(&rt, &none, &[(Status::Ok, 0)]);
-    let fleet = fleet_of(alloc, 5003)?;
-    for size in ABOVE_HUNDRED {
-        let found = capped(alloc, &policy, &fleet, *size)?;
-        expect(&rt, &found, &[(Status::Violated, *size as u64)]);
-        for verdict in &found {
-            expect_devices(&rt, verdict)?;
-        }
-    }
-    let kept = capped(alloc, &policy, &fleet, 100)?;
-    expect(&rt, &kept, &[(Status::Ok, 100)]);
-    assert!(&rt; kept.iter().all(|verdict| verdict.devices.is_empty()));
-    Ok(())
+    let city = city_under(&rt, alloc, CAP_OF_HUNDRED);
+    let fleet = fleet_of(&rt, alloc, 5003).expect(&rt, "memory");
+    expect_within(&rt, alloc, &city, &[], 0);
+    expect_within(&rt, alloc, &city, &fleet, 100);
+    expect_too_many(&rt, alloc, &city, &fleet, 101);
+    expect_too_many(&rt, alloc, &city, &fleet, 5003);
 }
 
 /// At most 72 hours in one place, and at least one vehicle in the whole city.
@@ -320,16 +359,34 @@ const IDLE_AND_SERVICE: &[u8] =
 const DEVICES_NAMED: &[u8] =
     br#"{"policy_id":"00000000-0000-4000-8000-000000000201","rules":[{"devices":["00000000-0000-4000-8000-000000000401"],"measure":1,"rule_id":"00000000-0000-4000-8000-000000000301","status":"violated"},{"devices":[],"measure":0,"rule_id":"00000000-0000-4000-8000-000000000302","status":"violated"}]}"#;
 
+const BOTH_VIOLATED: &[(Status, u64)] = &[(Status::Violated, 1), (Status::Violated, 0)];
+
 #[test]
-fn named_in_the_report(rt: HostRuntime) -> Result<(), Fail> {
+fn named_in_the_report(rt: HostRuntime) {
     let alloc = rt.alloc();
-    let policy = Policy::read(alloc, IDLE_AND_SERVICE)?;
-    let places = two_squares(alloc)?;
-    let long = scooter(alloc, FIRST_DEVICE, 50_000_000, 50_000_000)?;
-    let short = parked(alloc, SECOND_DEVICE, 50_000_000, 50_000_000, 259_000_000)?;
-    let at = instant(&rt, 259_202_001);
-    let found = Plain.verdicts(alloc, &policy, &places, &[&long, &short], NOON, at)?;
-    expect(&rt, &found, &[(Status::Violated, 1), (Status::Violated, 0)]);
-    let report = report_tree(alloc, &policy, &found)?;
-    expect_printed(&rt, alloc, &report, DEVICES_NAMED)
+    let city = city_under(&rt, alloc, IDLE_AND_SERVICE);
+    let long = parked(&rt, alloc, known(&rt, FIRST_DEVICE), middle(&rt), 2000);
+    let short = parked(
+        &rt,
+        alloc,
+        known(&rt, SECOND_DEVICE),
+        middle(&rt),
+        259_000_000,
+    );
+    expect_judged(
+        &rt,
+        alloc,
+        &city,
+        &[&long, &short],
+        259_202_001,
+        BOTH_VIOLATED,
+    );
+    expect_reported(
+        &rt,
+        alloc,
+        &city,
+        &[&long, &short],
+        259_202_001,
+        DEVICES_NAMED,
+    );
 }

@@ -1,14 +1,14 @@
 //! Verdicts and withdrawals, asked of the machine and of its parts, also with one growth refused
 //! wherever it is.
-use crate::square::instant;
+use crate::square::{instant, known};
 use mds_catalog::Catalogue;
 use mds_drafts::Drafts;
 use mds_fleet::Book;
-use mds_request::{AuthorCall, Config, OperatorCall, Reply, Request, Verb};
-use mds_text::{DraftKind, Id};
+use mds_request::{AuthorCall, Config, ConfigFault, OperatorCall, Reply, Request, Verb};
+use mds_text::DraftKind;
 use mds_verdict::Plain;
 use mds_world::{AuthorAct, World, author_step, operator_step};
-use std::alloc::Global;
+use std::alloc::{AllocError, Global};
 use std::process::Abort;
 use std::test::Fail;
 
@@ -156,18 +156,24 @@ const EXCHANGES: &[Exchange] = &[
 ];
 
 /// A configuration; a second try where the first found no memory.
-fn config(alloc: Global) -> Result<Config, Fail> {
+fn config(alloc: Global) -> Result<Config, ConfigFault> {
     match Config::read(alloc, CONFIGURATION) {
         Ok(config) => Ok(config),
-        Err(_) => Ok(Config::read(alloc, CONFIGURATION)?),
+        Err(_) => Config::read(alloc, CONFIGURATION),
     }
 }
 
+/// A machine of the configuration.
+fn new_machine(alloc: Global) -> Result<World<Plain>, ConfigFault> {
+    let config = Config::read(alloc, CONFIGURATION)?;
+    Ok(World::new(alloc, config, Plain)?)
+}
+
 /// A machine of the configuration; a second try where the first found no memory.
-fn machine(alloc: Global) -> Result<World<Plain>, Fail> {
-    match World::new(alloc, config(alloc)?, Plain) {
+fn machine(alloc: Global) -> Result<World<Plain>, ConfigFault> {
+    match new_machine(alloc) {
         Ok(world) => Ok(world),
-        Err(_) => Ok(World::new(alloc, config(alloc)?, Plain)?),
+        Err(_) => new_machine(alloc),
     }
 }
 
@@ -185,19 +191,50 @@ fn asked(rt: &impl Abort, world: &mut World<Plain>, exchange: &Exchange) -> Repl
     world.answer(&request(rt, exchange))
 }
 
+/// The reply to a request, asked once more where the first found no memory.
+fn answered(rt: &impl Abort, world: &mut World<Plain>, exchange: &Exchange) -> Reply {
+    let reply = asked(rt, world, exchange);
+    if reply.status() != 503 {
+        return reply;
+    }
+    assert!(rt; reply.body() == NO_MEMORY.as_bytes());
+    asked(rt, world, exchange)
+}
+
 /// The replies to the requests; a second call where the first found no memory.
-fn run(world: &mut World<Plain>, requests: &[Request<'_>]) -> Result<Vec<Reply>, Fail> {
+fn run(world: &mut World<Plain>, requests: &[Request<'_>]) -> Result<Vec<Reply>, AllocError> {
     match world.run(requests) {
         Ok(replies) => Ok(replies),
-        Err(_) => Ok(world.run(requests)?),
+        Err(_) => world.run(requests),
     }
+}
+
+/// Whether the reply is the exchange's success.
+fn is_success(reply: &Reply, exchange: &Exchange) -> bool {
+    reply.status() == 200 && reply.body() == exchange.success.as_bytes()
+}
+
+fn assert_success(rt: &impl Abort, reply: &Reply, exchange: &Exchange) {
+    assert!(rt;
+        is_success(reply, exchange),
+        "{} at {}",
+        exchange.target,
+        exchange.at
+    );
 }
 
 /// These are the replies to the first requests.
 fn assert_successes(rt: &impl Abort, replies: &[Reply]) {
     for (reply, exchange) in replies.iter().zip(EXCHANGES) {
-        assert_eq!(rt; reply.status(), 200);
-        assert_eq!(rt; reply.body(), exchange.success.as_bytes());
+        assert_success(rt, reply, exchange);
+    }
+}
+
+/// The requests are answered one after the other.
+fn expect_successes(rt: &impl Abort, world: &mut World<Plain>, exchanges: &[Exchange]) {
+    for exchange in exchanges {
+        let reply = answered(rt, world, exchange);
+        assert_success(rt, &reply, exchange);
     }
 }
 
@@ -206,15 +243,7 @@ fn assert_successes(rt: &impl Abort, replies: &[Reply]) {
 #[test]
 fn answers_or_wants_memory(rt: HostRuntime) -> Result<(), Fail> {
     let mut world = machine(rt.alloc())?;
-    for exchange in EXCHANGES {
-        let mut reply = asked(&rt, &mut world, exchange);
-        if reply.status() == 503 {
-            assert_eq!(rt; reply.body(), NO_MEMORY.as_bytes());
-            reply = asked(&rt, &mut world, exchange);
-        }
-        assert_eq!(rt; reply.status(), 200);
-        assert_eq!(rt; reply.body(), exchange.success.as_bytes());
-    }
+    expect_successes(&rt, &mut world, EXCHANGES);
     Ok(())
 }
 
@@ -360,32 +389,37 @@ const HIDDEN: Exchange = Exchange {
     success: "",
 };
 
+/// An operator doesn't see the policy that isn't meant for it.
+fn expect_hidden(rt: &impl Abort, world: &mut World<Plain>) {
+    let reply = answered(rt, world, &HIDDEN);
+    assert!(rt; reply.status() == 404);
+}
+
 /// What is published is told as it was printed at its publication. With one growth refused, wherever it
 /// is, one answer is 503 `no_memory`, and the same request is then answered as if nothing had happened.
 #[test]
 fn lists_what_is_published(rt: HostRuntime) -> Result<(), Fail> {
     let mut world = machine(rt.alloc())?;
-    for exchange in LISTS {
-        let mut reply = asked(&rt, &mut world, exchange);
-        if reply.status() == 503 {
-            reply = asked(&rt, &mut world, exchange);
-        }
-        assert_eq!(rt; reply.status(), 200);
-        assert_eq!(rt; reply.body(), exchange.success.as_bytes());
-    }
-    let mut reply = asked(&rt, &mut world, &HIDDEN);
-    if reply.status() == 503 {
-        reply = asked(&rt, &mut world, &HIDDEN);
-    }
-    assert_eq!(rt; reply.status(), 404);
+    expect_successes(&rt, &mut world, LISTS);
+    expect_hidden(&rt, &mut world);
     Ok(())
 }
 
 /// Room for all requests; a second try where the first found no memory.
-fn room<'a>(alloc: Global) -> Result<Vec<Request<'a>>, Fail> {
+fn room<'a>(alloc: Global) -> Result<Vec<Request<'a>>, AllocError> {
     match Vec::with_capacity(alloc, EXCHANGES.len()) {
         Ok(room) => Ok(room),
-        Err(_) => Ok(Vec::with_capacity(alloc, EXCHANGES.len())?),
+        Err(_) => Vec::with_capacity(alloc, EXCHANGES.len()),
+    }
+}
+
+/// Adds the requests, for which there is room.
+fn add_requests<'a>(rt: &impl Abort, requests: &mut Vec<Request<'a>>, exchanges: &'a [Exchange]) {
+    for exchange in exchanges {
+        match requests.push(request(rt, exchange)) {
+            Ok(()) => {}
+            Err(_) => panic!(rt; "no room for all requests"),
+        }
     }
 }
 
@@ -393,15 +427,42 @@ fn all_requests<'a>(
     rt: &impl Abort,
     alloc: Global,
     exchanges: &'a [Exchange],
-) -> Result<Vec<Request<'a>>, Fail> {
+) -> Result<Vec<Request<'a>>, AllocError> {
     let mut requests = room(alloc)?;
-    for exchange in exchanges {
-        match requests.push(request(rt, exchange)) {
-            Ok(()) => {}
-            Err(_) => return Err(Fail::from("room for all requests")),
-        }
-    }
+    add_requests(rt, &mut requests, exchanges);
     Ok(requests)
+}
+
+/// The replies of a new machine to the requests.
+fn run_anew(alloc: Global, requests: &[Request<'_>]) -> Result<Vec<Reply>, ConfigFault> {
+    let mut world = machine(alloc)?;
+    Ok(run(&mut world, requests)?)
+}
+
+/// Whether there was memory for each reply; if not, those before it are as they should be.
+fn are_complete(rt: &impl Abort, replies: &[Reply]) -> bool {
+    match replies.iter().position(|reply| reply.status() == 503) {
+        Some(place) => {
+            assert!(rt; replies[place].body() == NO_MEMORY.as_bytes());
+            assert_successes(rt, &replies[..place]);
+            false
+        }
+        None => true,
+    }
+}
+
+/// The replies of a machine to the requests, of a second one where one found no memory.
+fn all_replies(
+    rt: &impl Abort,
+    alloc: Global,
+    requests: &[Request<'_>],
+) -> Result<Vec<Reply>, ConfigFault> {
+    let replies = run_anew(alloc, requests)?;
+    if are_complete(rt, &replies) {
+        Ok(replies)
+    } else {
+        run_anew(alloc, requests)
+    }
 }
 
 /// All requests in one call. With one growth refused, wherever it is, the call is refused and the same
@@ -410,51 +471,60 @@ fn all_requests<'a>(
 #[test]
 fn runs_or_wants_memory(rt: HostRuntime) -> Result<(), Fail> {
     let requests = all_requests(&rt, rt.alloc(), EXCHANGES)?;
-    let mut replies = run(&mut machine(rt.alloc())?, &requests)?;
-    if let Some(place) = replies.iter().position(|reply| reply.status() == 503) {
-        assert_eq!(rt; replies[place].body(), NO_MEMORY.as_bytes());
-        assert_successes(&rt, &replies[..place]);
-        replies = run(&mut machine(rt.alloc())?, &requests)?;
-    }
-    assert_eq!(rt; replies.len(), EXCHANGES.len());
+    let replies = all_replies(&rt, rt.alloc(), &requests)?;
+    assert!(rt; replies.len() == EXCHANGES.len());
     assert_successes(&rt, &replies);
     Ok(())
 }
 
 /// An empty catalogue; a second try where the first found no memory.
-fn catalogue(alloc: Global) -> Result<Catalogue, Fail> {
+fn catalogue(alloc: Global) -> Result<Catalogue, AllocError> {
     match Catalogue::with_room(alloc) {
         Ok(catalogue) => Ok(catalogue),
-        Err(_) => Ok(Catalogue::with_room(alloc)?),
+        Err(_) => Catalogue::with_room(alloc),
     }
+}
+
+/// The book has taken its first report.
+fn assert_taken(rt: &impl Abort, reply: &Reply, book: &Book) {
+    assert!(rt; reply.body() == NEW.as_bytes() && book.len() == 1);
+}
+
+/// The first operator's report is taken, by the second call where the first finds no memory.
+fn expect_reported(rt: &impl Abort, alloc: Global, config: &Config, catalogue: &Catalogue) {
+    let operators = config.operators();
+    assert!(rt; !operators.is_empty());
+    let mut book = Book::new(alloc, operators[0].limit as u32);
+    let request = request(rt, &FIRST_REPORTED);
+    let call = OperatorCall::Report;
+    let mut reply = operator_step(
+        alloc, &mut book, catalogue, config, 0, &call, &request, &Plain,
+    );
+    if reply.status() == 503 {
+        assert!(rt; book.len() == 0);
+        reply = operator_step(
+            alloc, &mut book, catalogue, config, 0, &call, &request, &Plain,
+        );
+    }
+    assert_taken(rt, &reply, &book);
 }
 
 /// An operator's call, over a book alone: with one growth refused it is 503 `no_memory`, and the same
 /// call then takes the report.
 #[test]
 fn operator_step_reports(rt: HostRuntime) -> Result<(), Fail> {
-    let alloc = rt.alloc();
-    let config = config(alloc)?;
-    let catalogue = catalogue(alloc)?;
-    let operators = config.operators();
-    if operators.is_empty() {
-        return Err(Fail::from("no operator"));
-    }
-    let mut book = Book::new(alloc, operators[0].limit as u32);
-    let request = request(&rt, &FIRST_REPORTED);
-    let call = OperatorCall::Report;
-    let mut reply = operator_step(
-        alloc, &mut book, &catalogue, &config, 0, &call, &request, &Plain,
-    );
-    if reply.status() == 503 {
-        assert_eq!(rt; book.len(), 0);
-        reply = operator_step(
-            alloc, &mut book, &catalogue, &config, 0, &call, &request, &Plain,
-        );
-    }
-    assert_eq!(rt; reply.body(), NEW.as_bytes());
-    assert_eq!(rt; book.len(), 1);
+    let config = config(rt.alloc())?;
+    let catalogue = catalogue(rt.alloc())?;
+    expect_reported(&rt, rt.alloc(), &config, &catalogue);
     Ok(())
+}
+
+/// Whether an act found no memory.
+fn wants_memory(act: &AuthorAct) -> bool {
+    match act {
+        AuthorAct::Answer(reply) => reply.status() == 503,
+        AuthorAct::Publish(_, _) => false,
+    }
 }
 
 /// The act of the author; a second try where the first found no memory.
@@ -467,15 +537,11 @@ fn acted(
     exchange: &Exchange,
 ) -> AuthorAct {
     let request = request(rt, exchange);
-    match author_step(alloc, drafts, catalogue, call, &request) {
-        AuthorAct::Answer(reply) => {
-            if reply.status() == 503 {
-                author_step(alloc, drafts, catalogue, call, &request)
-            } else {
-                AuthorAct::Answer(reply)
-            }
-        }
-        act => act,
+    let act = author_step(alloc, drafts, catalogue, call, &request);
+    if wants_memory(&act) {
+        author_step(alloc, drafts, catalogue, call, &request)
+    } else {
+        act
     }
 }
 
@@ -490,34 +556,42 @@ const SQUARE_PUBLISHED: Exchange = Exchange {
     success: PUBLISHED_FIRST,
 };
 
+/// Whether an act is answered with this body.
+fn is_answer(act: &AuthorAct, body: &str) -> bool {
+    match act {
+        AuthorAct::Answer(reply) => reply.body() == body.as_bytes(),
+        AuthorAct::Publish(_, _) => false,
+    }
+}
+
+/// Whether an act publishes one geography and is then answered with this body.
+fn is_publication(act: &AuthorAct, body: &str) -> bool {
+    match act {
+        AuthorAct::Publish(batch, reply) => {
+            batch.geographies.len() == 1 && reply.body() == body.as_bytes()
+        }
+        AuthorAct::Answer(_) => false,
+    }
+}
+
+/// The square is put, and published.
+fn expect_published(rt: &impl Abort, alloc: Global, drafts: &mut Drafts, catalogue: &Catalogue) {
+    let id = known(rt, "00000000-0000-4000-8000-000000000101");
+    let put = AuthorCall::PutDraft(DraftKind::Geography, id);
+    let act = acted(rt, alloc, drafts, catalogue, &put, &SQUARE_PUT);
+    assert!(rt; is_answer(&act, NEW));
+    let publish = AuthorCall::Publish;
+    let act = acted(rt, alloc, drafts, catalogue, &publish, &SQUARE_PUBLISHED);
+    assert!(rt; is_publication(&act, PUBLISHED_FIRST));
+    assert!(rt; drafts.get(DraftKind::Geography, id).is_some());
+}
+
 /// A draft that is put is answered; a publication of it is handed on with its reply, and the draft is
 /// there still.
 #[test]
 fn author_step_publishes(rt: HostRuntime) -> Result<(), Fail> {
-    let alloc = rt.alloc();
-    let catalogue = catalogue(alloc)?;
-    let mut drafts = Drafts::new(alloc);
-    let id = Id::read("00000000-0000-4000-8000-000000000101").ok_or("no identifier")?;
-    let put = AuthorCall::PutDraft(DraftKind::Geography, id);
-    match acted(&rt, alloc, &mut drafts, &catalogue, &put, &SQUARE_PUT) {
-        AuthorAct::Answer(reply) => assert_eq!(rt; reply.body(), NEW.as_bytes()),
-        AuthorAct::Publish(_, _) => return Err(Fail::from("a draft is published as it is put")),
-    }
-    let publish = AuthorCall::Publish;
-    match acted(
-        &rt,
-        alloc,
-        &mut drafts,
-        &catalogue,
-        &publish,
-        &SQUARE_PUBLISHED,
-    ) {
-        AuthorAct::Publish(batch, reply) => {
-            assert_eq!(rt; batch.geographies.len(), 1);
-            assert_eq!(rt; reply.body(), PUBLISHED_FIRST.as_bytes());
-            assert!(rt; drafts.get(DraftKind::Geography, id).is_some());
-        }
-        AuthorAct::Answer(_) => return Err(Fail::from("nothing is published")),
-    }
+    let catalogue = catalogue(rt.alloc())?;
+    let mut drafts = Drafts::new(rt.alloc());
+    expect_published(&rt, rt.alloc(), &mut drafts, &catalogue);
     Ok(())
 }

@@ -19,6 +19,12 @@ struct Counting {
     looks: u64,
 }
 
+impl Counting {
+    fn assert_counted(&self, rt: &impl Abort, looks: u64) {
+        assert!(rt; self.looks == looks);
+    }
+}
+
 impl Gate for Counting {
     fn held(&mut self) {
         self.looks = self.looks.saturating_add(1);
@@ -36,15 +42,14 @@ impl Scene for EachLook {
         _alloc: Global,
         room: &mut AuthorRoom<K>,
         alfa: &mut Desk<K>,
-        _bravo: Desk<K>,
-    ) -> Result<bool, Fail> {
-        let note = set_up(rt, room);
-        alfa.learn(&note);
+        _bravo: &mut Desk<K>,
+    ) -> Result<bool, AllocError> {
+        set_up_for(rt, room, alfa);
         let requests = two_requests(rt, ASKED);
         let mut gate = Counting { looks: 0 };
         let replies = alfa.run(&requests, &mut gate, &Plain)?;
-        assert_eq!(rt; gate.looks, 2);
         assert_successes(rt, &replies, ASKED);
+        gate.assert_counted(rt, 2);
         Ok(true)
     }
 }
@@ -58,13 +63,23 @@ fn a_gate_is_told_of_each_look(rt: HostRuntime) -> Result<(), Fail> {
 
 /// The revision of a reply that lists just what is published at it.
 fn revision(rt: &impl Abort, reply: &Reply) -> u64 {
-    if reply.body() == EMPTY.as_bytes() {
-        assert_eq!(rt; reply.status(), 200);
+    if is_reply(reply, 200, EMPTY) {
         0
     } else {
         assert_success(rt, reply, POLICIES);
         1
     }
+}
+
+/// The revision that a desk lists now.
+fn revision_at<K: Naming>(rt: &impl Abort, desk: &mut Desk<K>) -> u64 {
+    revision(rt, &asked(rt, desk, POLICIES))
+}
+
+/// What a desk is shown it goes on to be shown.
+fn assert_goes_on<K: Naming>(rt: &impl Abort, desk: &mut Desk<K>) {
+    let before = revision_at(rt, desk);
+    assert!(rt; before <= revision_at(rt, desk));
 }
 
 struct PublicationBetween;
@@ -76,14 +91,11 @@ impl Scene for PublicationBetween {
         _alloc: Global,
         room: &mut AuthorRoom<K>,
         alfa: &mut Desk<K>,
-        _bravo: Desk<K>,
-    ) -> Result<bool, Fail> {
-        let first = asked(rt, alfa, POLICIES);
-        assert_eq!(rt; revision(rt, &first), 0);
+        _bravo: &mut Desk<K>,
+    ) -> Result<bool, AllocError> {
+        assert!(rt; revision_at(rt, alfa) == 0);
         let note = set_up(rt, room);
-        let second = asked(rt, alfa, POLICIES);
-        let third = asked(rt, alfa, POLICIES);
-        assert!(rt; revision(rt, &second) <= revision(rt, &third));
+        assert_goes_on(rt, alfa);
         alfa.learn(&note);
         assert_answers(rt, alfa, POLICIES);
         Ok(true)

@@ -16,19 +16,28 @@ fn stage_at_last<S: Scene, R: Wait + Abort>(rt: &R, alloc: Global, scene: &S) ->
     Ok(())
 }
 
-/// A request of the author, once more where it was refused for want of memory: no note comes then.
+/// What the room gives to a request of the author, once more where it was refused for want of memory: no
+/// note comes then.
+fn given_at_last<K: Naming, R: Wait + Abort>(
+    rt: &R,
+    room: &mut AuthorRoom<K>,
+    exchange: &Exchange,
+) -> (Reply, Option<Note<K>>) {
+    let given = room_turn(rt, room, exchange);
+    if given.0.status() != 503 {
+        return given;
+    }
+    assert_unnoted(rt, &given, 503, NO_MEMORY);
+    room_turn(rt, room, exchange)
+}
+
+/// The room gives the exchange's reply at the first or the second try, and perhaps a note.
 fn told<K: Naming, R: Wait + Abort>(
     rt: &R,
     room: &mut AuthorRoom<K>,
     exchange: &Exchange,
 ) -> Option<Note<K>> {
-    let request = request(moment(rt, exchange), exchange);
-    let (mut reply, mut note) = room.answer(rt, &request);
-    if reply.status() == 503 {
-        assert_refused(rt, &reply, 503, NO_MEMORY);
-        assert!(rt; note.is_none());
-        (reply, note) = room.answer(rt, &request);
-    }
+    let (reply, note) = given_at_last(rt, room, exchange);
     assert_success(rt, &reply, exchange);
     note
 }
@@ -38,6 +47,23 @@ fn set_up_at_last<K: Naming, R: Wait + Abort>(rt: &R, room: &mut AuthorRoom<K>) 
     assert!(rt; told(rt, room, PUT_SQUARE).is_none());
     assert!(rt; told(rt, room, PUT_CAP).is_none());
     told(rt, room, PUBLISH).expect(rt, "a note")
+}
+
+/// What a desk answers to a request, once more where it was refused for want of memory.
+fn answer_at_last<K: Naming, E: Evaluator<Catalogue>>(
+    rt: &impl Abort,
+    desk: &mut Desk<K>,
+    request: &Request<'_>,
+    evaluator: &E,
+) -> Reply
+    requires { E.may_judge }
+{
+    let reply = desk.answer(request, &mut OpenGate, evaluator);
+    if reply.status() != 503 {
+        return reply;
+    }
+    assert_refused(rt, &reply, 503, NO_MEMORY);
+    desk.answer(request, &mut OpenGate, evaluator)
 }
 
 /// A desk gives the exchange's reply, at the first or the second try.
@@ -50,11 +76,7 @@ fn assert_answers_at_last<K: Naming, E: Evaluator<Catalogue>>(
     requires { E.may_judge }
 {
     let request = request(moment(rt, exchange), exchange);
-    let mut reply = desk.answer(&request, &mut OpenGate, evaluator);
-    if reply.status() == 503 {
-        assert_refused(rt, &reply, 503, NO_MEMORY);
-        reply = desk.answer(&request, &mut OpenGate, evaluator);
-    }
+    let reply = answer_at_last(rt, desk, &request, evaluator);
     assert_success(rt, &reply, exchange);
 }
 
@@ -72,8 +94,8 @@ impl<E: Evaluator<Catalogue>> Scene for Answering<'_, E> {
         _alloc: Global,
         room: &mut AuthorRoom<K>,
         alfa: &mut Desk<K>,
-        mut bravo: Desk<K>,
-    ) -> Result<bool, Fail>
+        bravo: &mut Desk<K>,
+    ) -> Result<bool, AllocError>
         requires { E.may_judge }
     {
         let note = set_up_at_last(rt, room);
@@ -82,7 +104,7 @@ impl<E: Evaluator<Catalogue>> Scene for Answering<'_, E> {
         for exchange in LINES {
             assert_answers_at_last(rt, alfa, exchange, self.evaluator);
         }
-        assert_answers_at_last(rt, &mut bravo, NONE_FOR_BRAVO, self.evaluator);
+        assert_answers_at_last(rt, bravo, NONE_FOR_BRAVO, self.evaluator);
         Ok(true)
     }
 }
@@ -113,6 +135,7 @@ fn four_requests<'a>(rt: &impl Abort, exchanges: &'a [&'a Exchange; 4]) -> [Requ
 
 /// Whether all are successes: else one is 503 `no_memory`. Those before it are the exchanges' replies.
 fn are_successes(rt: &impl Abort, replies: &[Reply], exchanges: &[&Exchange]) -> bool {
+    assert!(rt; replies.len() == exchanges.len());
     for (reply, exchange) in replies.iter().zip(exchanges) {
         if reply.status() == 503 {
             assert_refused(rt, reply, 503, NO_MEMORY);
@@ -121,6 +144,20 @@ fn are_successes(rt: &impl Abort, replies: &[Reply], exchanges: &[&Exchange]) ->
         assert_success(rt, reply, exchange);
     }
     true
+}
+
+/// What a desk replies to a run of requests, once more where the call wanted memory.
+fn run_at_last<K: Naming, E: Evaluator<Catalogue>>(
+    desk: &mut Desk<K>,
+    requests: &[Request<'_>],
+    evaluator: &E,
+) -> Result<Vec<Reply>, AllocError>
+    requires { E.may_judge }
+{
+    match desk.run(requests, &mut OpenGate, evaluator) {
+        Ok(replies) => Ok(replies),
+        Err(_) => desk.run(requests, &mut OpenGate, evaluator),
+    }
 }
 
 #[derive(Clone, Copy)]
@@ -137,18 +174,13 @@ impl<E: Evaluator<Catalogue>> Scene for Running<'_, E> {
         _alloc: Global,
         room: &mut AuthorRoom<K>,
         alfa: &mut Desk<K>,
-        _bravo: Desk<K>,
-    ) -> Result<bool, Fail>
+        _bravo: &mut Desk<K>,
+    ) -> Result<bool, AllocError>
         requires { E.may_judge }
     {
-        let note = set_up_at_last(rt, room);
-        alfa.learn(&note);
+        alfa.learn(&set_up_at_last(rt, room));
         let requests = four_requests(rt, LINES);
-        let replies = match alfa.run(&requests, &mut OpenGate, self.evaluator) {
-            Ok(replies) => replies,
-            Err(_) => alfa.run(&requests, &mut OpenGate, self.evaluator)?,
-        };
-        assert_eq!(rt; replies.len(), 4);
+        let replies = run_at_last(alfa, &requests, self.evaluator)?;
         Ok(are_successes(rt, &replies, LINES))
     }
 }

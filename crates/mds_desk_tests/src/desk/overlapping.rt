@@ -4,23 +4,10 @@ ghost use Rattle.mds_snapshot.specs.Opening.{book_of};
 
 use super::looks::{EMPTY, POLICIES};
 use super::*;
+use crate::waiting::is_set_in_time;
 use mds_desk::Gate;
 use std::sync::atomic::{AtomicBool, Ordering};
-use std::thread::{Threads, join, yield_now};
-
-/// The most turns of a wait for another thread. A wait that meets it fails the test.
-const MOST_TURNS: u32 = 50_000_000;
-
-/// Waits for a flag, and says whether it was set within the limit.
-fn is_set_in_time(flag: &AtomicBool) -> bool {
-    for _ in 0..MOST_TURNS {
-        if flag.load(Ordering::SeqCst) {
-            return true;
-        }
-        yield_now();
-    }
-    false
-}
+use std::thread::{Threads, join};
 
 /// What one thread tells another.
 #[derive(Drop)]
@@ -107,7 +94,8 @@ fn answered_meanwhile<K: Naming>(desk: &mut Desk<K>, signals: &Signals) -> Optio
     Some(reply)
 }
 
-fn two_desks<K: Naming + Send + Sync, R: Threads + Wait + Abort>(
+/// Puts both documents and publishes them, of which both desks learn.
+fn set_up_for_both<K: Naming, R: Wait + Abort>(
     rt: &R,
     room: &mut AuthorRoom<K>,
     alfa: &mut Desk<K>,
@@ -116,6 +104,15 @@ fn two_desks<K: Naming + Send + Sync, R: Threads + Wait + Abort>(
     let note = set_up(rt, room);
     alfa.learn(&note);
     bravo.learn(&note);
+}
+
+fn two_desks<K: Naming + Send + Sync, R: Threads + Wait + Abort>(
+    rt: &R,
+    room: &mut AuthorRoom<K>,
+    alfa: &mut Desk<K>,
+    bravo: &mut Desk<K>,
+) {
+    set_up_for_both(rt, room, alfa, bravo);
     let signals = Signals::new();
     let held = HeldDesk {
         desk: alfa,
@@ -160,10 +157,15 @@ impl<K: Naming> Errand for RunningDesk<'_, K> {
             signals: self.signals,
         };
         let replies = self.desk.run(&requests, &mut gate, &Plain).ok()?;
-        match replies.as_slice() {
-            [first, second, third] => Some([listed(first)?, listed(second)?, listed(third)?]),
-            _ => None,
-        }
+        revisions(&replies)
+    }
+}
+
+/// The revisions of three replies, each of which lists just what is published at it.
+fn revisions(replies: &[Reply]) -> Option<[u64; 3]> {
+    match replies {
+        [first, second, third] => Some([listed(first)?, listed(second)?, listed(third)?]),
+        _ => None,
     }
 }
 
@@ -204,6 +206,13 @@ fn published_beside<K: Naming + Send + Sync, R: Threads + Wait>(
     beside(rt, running, || published_meanwhile(rt, room, &signals))
 }
 
+/// The first reply lists nothing, and what is listed goes on to be.
+fn assert_rise(rt: &impl Abort, revisions: [u64; 3]) {
+    let [first, second, third] = revisions;
+    assert!(rt; first == 0);
+    assert!(rt; second <= third);
+}
+
 fn publication_between<K: Naming + Send + Sync, R: Threads + Wait + Abort>(
     rt: &R,
     room: &mut AuthorRoom<K>,
@@ -211,9 +220,7 @@ fn publication_between<K: Naming + Send + Sync, R: Threads + Wait + Abort>(
 ) {
     draft(rt, room);
     let (revisions, published) = published_beside(rt, room, alfa);
-    let [first, second, third] = revisions.expect(rt, "three replies");
-    assert_eq!(rt; first, 0);
-    assert!(rt; second <= third);
+    assert_rise(rt, revisions.expect(rt, "three replies"));
     let (reply, note) = published.expect(rt, "a publication in time");
     assert_success(rt, &reply, PUBLISH);
     alfa.learn(&note);
@@ -237,36 +244,33 @@ fn overlapped<K: Naming + Send + Sync, R: Threads + Wait + Abort>(
 ) -> Result<(), Fail>
     requires { book_of blank ≡ K.book }
 {
-    let (mut room, mut desks) = furnish::<K, R>(rt, alloc, config, blank)?;
-    let outcome = match (desks.pop(), desks.pop()) {
-        (Some(mut bravo), Some(mut alfa)) => match overlap {
-            Overlap::TwoDesks => Ok(two_desks(rt, &mut room, &mut alfa, &mut bravo)),
-            Overlap::PublicationBetweenLooks => Ok(publication_between(rt, &mut room, &mut alfa)),
-        },
-        _ => Err(Fail::from("two desks")),
-    };
+    let (mut room, desks) = furnish::<K, R>(rt, alloc, config, blank)?;
+    let (mut alfa, mut bravo) = two(rt, desks);
+    match overlap {
+        Overlap::TwoDesks => two_desks(rt, &mut room, &mut alfa, &mut bravo),
+        Overlap::PublicationBetweenLooks => publication_between(rt, &mut room, &mut alfa),
+    }
+    drop(alfa);
+    drop(bravo);
     room.finish(rt);
-    outcome
+    Ok(())
+}
+
+/// Has it done with what was prepared.
+fn staged<R: Threads + Wait + Abort>(rt: &R, alloc: Global, overlap: Overlap) -> Result<(), Fail> {
+    let config = Config::read(alloc, CONFIGURATION)?;
+    let blank = prepare(alloc)?;
+    overlapped::<Brand, R>(rt, alloc, config, blank, overlap)
 }
 
 /// One desk answers while another's look is held.
 #[test]
 fn answers_beside_a_held_look(rt: HostRuntime) -> Result<(), Fail> {
-    let config = Config::read(rt.alloc(), CONFIGURATION)?;
-    let blank = prepare(rt.alloc())?;
-    overlapped::<Brand, _>(&rt, rt.alloc(), config, blank, Overlap::TwoDesks)
+    staged(&rt, rt.alloc(), Overlap::TwoDesks)
 }
 
 /// The author publishes while a desk answers a run of requests.
 #[test]
 fn a_publication_between_the_looks_of_a_run(rt: HostRuntime) -> Result<(), Fail> {
-    let config = Config::read(rt.alloc(), CONFIGURATION)?;
-    let blank = prepare(rt.alloc())?;
-    overlapped::<Brand, _>(
-        &rt,
-        rt.alloc(),
-        config,
-        blank,
-        Overlap::PublicationBetweenLooks,
-    )
+    staged(&rt, rt.alloc(), Overlap::PublicationBetweenLooks)
 }

@@ -31,13 +31,10 @@ impl Scene for AnotherToken {
         _alloc: Global,
         room: &mut AuthorRoom<K>,
         alfa: &mut Desk<K>,
-        _bravo: Desk<K>,
-    ) -> Result<bool, Fail> {
-        let reply = asked(rt, alfa, NOTHING_FOR_BRAVO);
-        assert_refused(rt, &reply, 401, TOKEN);
-        let (reply, note) = room_turn(rt, room, NOTHING_FOR_ALFA);
-        assert_refused(rt, &reply, 401, TOKEN);
-        assert!(rt; note.is_none());
+        _bravo: &mut Desk<K>,
+    ) -> Result<bool, AllocError> {
+        assert_refused(rt, &asked(rt, alfa, NOTHING_FOR_BRAVO), 401, TOKEN);
+        assert_unnoted(rt, &room_turn(rt, room, NOTHING_FOR_ALFA), 401, TOKEN);
         assert_answers(rt, alfa, NOTHING_FOR_ALFA);
         Ok(true)
     }
@@ -58,10 +55,9 @@ impl Scene for FirstSession {
         _alloc: Global,
         room: &mut AuthorRoom<K>,
         alfa: &mut Desk<K>,
-        _bravo: Desk<K>,
-    ) -> Result<bool, Fail> {
-        let note = set_up(rt, room);
-        alfa.learn(&note);
+        _bravo: &mut Desk<K>,
+    ) -> Result<bool, AllocError> {
+        set_up_for(rt, room, alfa);
         assert_answers_each(rt, alfa, LINES);
         Ok(true)
     }
@@ -82,13 +78,13 @@ impl Scene for MomentsGoBack {
         _alloc: Global,
         room: &mut AuthorRoom<K>,
         alfa: &mut Desk<K>,
-        mut bravo: Desk<K>,
-    ) -> Result<bool, Fail> {
+        bravo: &mut Desk<K>,
+    ) -> Result<bool, AllocError> {
         let note = set_up(rt, room);
         alfa.learn(&note);
         bravo.learn(&note.again());
         assert_answers(rt, alfa, REPORT_FIRST);
-        assert_answers(rt, &mut bravo, FAR);
+        assert_answers(rt, bravo, FAR);
         assert_answers(rt, alfa, WITHIN);
         assert_answers(rt, alfa, TOO_EARLY);
         Ok(true)
@@ -113,13 +109,11 @@ impl Scene for Served {
         _alloc: Global,
         room: &mut AuthorRoom<K>,
         alfa: &mut Desk<K>,
-        _bravo: Desk<K>,
-    ) -> Result<bool, Fail> {
-        let note = set_up(rt, room);
-        alfa.learn(&note);
+        _bravo: &mut Desk<K>,
+    ) -> Result<bool, AllocError> {
+        set_up_for(rt, room, alfa);
         let requests = two_requests(rt, SERVED);
         let replies = alfa.run(&requests, &mut OpenGate, &Plain)?;
-        assert_eq!(rt; replies.len(), 2);
         assert_successes(rt, &replies, SERVED);
         Ok(true)
     }

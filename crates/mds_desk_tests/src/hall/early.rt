@@ -2,33 +2,75 @@
 use super::*;
 use mds_request::MOST_BODY;
 
-const TOO_LARGE: &str = r#"{"error":"too_large"}"#;
+const TOO_LARGE: &Answer = &Answer {
+    status: 413,
+    body: r#"{"error":"too_large"}"#,
+};
 
-const BAD_BODY: &str = r#"{"error":"bad_body"}"#;
+const BAD_BODY: &Answer = &Answer {
+    status: 400,
+    body: r#"{"error":"bad_body"}"#,
+};
 
-const CLOCK: &str = r#"{"error":"clock"}"#;
+const CLOCK: &Answer = &Answer {
+    status: 503,
+    body: r#"{"error":"clock"}"#,
+};
 
-const NO_MEMORY: &str = r#"{"error":"no_memory"}"#;
+const NO_MEMORY: &Answer = &Answer {
+    status: 503,
+    body: r#"{"error":"no_memory"}"#,
+};
 
 const NOWHERE: &str = "/nowhere";
 
 const NOBODY: &str = "Bearer nobody";
 
-pub(super) fn each_arrival<K: Naming, R: Host + Sync>(
+/// Whether alfa's question with what arrived has this answer.
+fn tells_alfa<K: Naming, R: Host + Sync>(
     rt: &R,
     alloc: Global,
     hall: &Hall<K>,
-) -> Result<(), Fail> {
-    let parts = head(alloc, Method::GET, COMPLIANCE, Some(ALFA))?;
-    let at = Some(moment(2000)?);
-    let broken = ask(rt, alloc, &parts, Arrived::Broken, at, hall);
-    assert_says(rt, broken, 400, BAD_BODY)?;
-    let timeless = ask(rt, alloc, &parts, Arrived::Broken, None, hall);
-    assert_says(rt, timeless, 503, CLOCK)?;
-    let long = ask(rt, alloc, &parts, Arrived::TooLong, at, hall);
-    assert_says(rt, long, 413, TOO_LARGE)?;
-    let unkept = ask(rt, alloc, &parts, Arrived::NoMemory, at, hall);
-    assert_says(rt, unkept, 503, NO_MEMORY)
+    arrived: Arrived,
+    at: Option<Moment>,
+    answer: &Answer,
+) -> bool {
+    let parts = parts(alloc, Method::GET, COMPLIANCE, Some(ALFA));
+    gives(rt, alloc, hall, parts, arrived, at, answer)
+}
+
+pub(super) fn each_arrival<K: Naming, R: Host + Sync>(rt: &R, alloc: Global, hall: &Hall<K>) {
+    assert!(rt;
+        tells_alfa(
+            rt,
+            alloc,
+            hall,
+            Arrived::Broken,
+            Moment::new(2000),
+            BAD_BODY
+        )
+    );
+    assert!(rt; tells_alfa(rt, alloc, hall, Arrived::Broken, None, CLOCK));
+    assert!(rt;
+        tells_alfa(
+            rt,
+            alloc,
+            hall,
+            Arrived::TooLong,
+            Moment::new(2000),
+            TOO_LARGE
+        )
+    );
+    assert!(rt;
+        tells_alfa(
+            rt,
+            alloc,
+            hall,
+            Arrived::NoMemory,
+            Moment::new(2000),
+            NO_MEMORY
+        )
+    );
 }
 
 #[test]
@@ -39,20 +81,27 @@ fn each_arrival_has_its_answer(rt: HostRuntime) -> Result<(), Fail> {
 /// A body of so many spaces.
 fn spaces(alloc: Global, length: usize) -> Result<Arrived, AllocError> {
     let spaces = vec![in alloc; b' '; length]?;
-    Ok(Arrived::Whole(Bytes::copy_from_slice(alloc, &spaces)?))
+    Ok(Arrived::Whole(Bytes::from_vec(spaces)?))
 }
 
-pub(super) fn large_and_unknown<K: Naming, R: Host + Sync>(
+/// Whether nobody's request with a body of so many spaces has this answer.
+fn tells_nobody<K: Naming, R: Host + Sync>(
     rt: &R,
     alloc: Global,
     hall: &Hall<K>,
-) -> Result<(), Fail> {
-    let parts = head(alloc, Method::GET, NOWHERE, Some(NOBODY))?;
-    let at = Some(moment(2000)?);
-    let most = spaces(alloc, MOST_BODY)?;
-    assert_says(rt, ask(rt, alloc, &parts, most, at, hall), 401, TOKEN)?;
-    let more = spaces(alloc, MOST_BODY + 1)?;
-    assert_says(rt, ask(rt, alloc, &parts, more, at, hall), 413, TOO_LARGE)
+    length: usize,
+    answer: &Answer,
+) -> bool {
+    let Ok(spaces) = spaces(alloc, length) else {
+        return false;
+    };
+    let parts = parts(alloc, Method::GET, NOWHERE, Some(NOBODY));
+    gives(rt, alloc, hall, parts, spaces, Moment::new(2000), answer)
+}
+
+pub(super) fn large_and_unknown<K: Naming, R: Host + Sync>(rt: &R, alloc: Global, hall: &Hall<K>) {
+    assert!(rt; tells_nobody(rt, alloc, hall, MOST_BODY, TOKEN));
+    assert!(rt; tells_nobody(rt, alloc, hall, MOST_BODY + 1, TOO_LARGE));
 }
 
 #[test]

@@ -1,18 +1,20 @@
 //! An operator's question is held while another operator and the author are answered.
 use super::*;
+use crate::waiting::is_set_in_time;
 use mds_desk::Gate;
 use mds_hall::respond_with;
 use mds_verdict::Plain;
 use std::sync::atomic::{AtomicBool, Ordering};
-use std::thread::{join, yield_now};
+use std::thread::join;
 
-/// The most turns of a wait for the other thread. A wait that meets it fails the test.
-const MOST_TURNS: u32 = 50_000_000;
-
-const NEXT: &str =
-    r#"{"policy_id":"00000000-0000-4000-8000-000000000202","name":"next","start_date":86401000,"prev_policies":["00000000-0000-4000-8000-000000000201"],"rules":[{"rule_id":"00000000-0000-4000-8000-000000000302","name":"cap","rule_type":"count","geographies":["00000000-0000-4000-8000-000000000101"],"maximum":1}]}"#;
-
-const DRAFT_OF_NEXT: &str = "/drafts/policies/00000000-0000-4000-8000-000000000202";
+/// The author's draft of a policy that takes the place of the other.
+const DRAFT_OF_NEXT: &Exchange = &Exchange {
+    at: 2000,
+    credentials: Some(CITY),
+    target: "/drafts/policies/00000000-0000-4000-8000-000000000202",
+    body: r#"{"policy_id":"00000000-0000-4000-8000-000000000202","name":"next","start_date":86401000,"prev_policies":["00000000-0000-4000-8000-000000000201"],"rules":[{"rule_id":"00000000-0000-4000-8000-000000000302","name":"cap","rule_type":"count","geographies":["00000000-0000-4000-8000-000000000101"],"maximum":1}]}"#,
+    answer: TAKEN,
+};
 
 /// What the threads tell each other: that the question is held, and that the others have their answers.
 #[derive(Drop)]
@@ -33,31 +35,6 @@ impl Gate for Holding<'_> {
         self.signals.held.store(true, Ordering::SeqCst);
         self.in_time = is_set_in_time(&self.signals.answered);
     }
-}
-
-/// Waits for a flag, and says whether it was set within the limit.
-fn is_set_in_time(flag: &AtomicBool) -> bool {
-    for _ in 0..MOST_TURNS {
-        if flag.load(Ordering::SeqCst) {
-            return true;
-        }
-        yield_now();
-    }
-    false
-}
-
-/// Whether the response is a success with this body.
-fn is_success<R: Host>(
-    rt: &R,
-    response: Result<Response<Full<Bytes>>, AllocError>,
-    wanted: &str,
-) -> bool {
-    let Ok(response) = response else {
-        return false;
-    };
-    let status = response.status().as_u16();
-    let body = body_of(rt, response);
-    status == 200 && body.is_some_and(|body| body.as_slice() == wanted.as_bytes())
 }
 
 /// What is done in a thread of its own.
@@ -89,8 +66,7 @@ struct HeldQuestion<'a, K: Naming, R> {
 impl<K: Naming, R: Host> Errand for HeldQuestion<'_, K, R> {
     /// Whether it has its answer, and was held in time.
     fn run(self) -> bool {
-        let asked = parts(self.alloc, Method::GET, COMPLIANCE, Some(ALFA));
-        let Some(asked) = asked else {
+        let Some(asked) = parts(self.alloc, Method::GET, COMPLIANCE, Some(ALFA)) else {
             return false;
         };
         let mut gate = Holding {
@@ -102,24 +78,9 @@ impl<K: Naming, R: Host> Errand for HeldQuestion<'_, K, R> {
         let response = respond_with(
             self.rt, self.alloc, &asked, body, at, self.hall, &mut gate, &Plain,
         );
-        gate.in_time && is_success(self.rt, response, NONE_COUNTED)
+        let is_answered = is_answer(self.rt, response, NONE_COUNTED);
+        gate.in_time && is_answered
     }
-}
-
-/// Whether a request at 2000 has this answer.
-fn is_answered<K: Naming, R: Host + Sync>(
-    rt: &R,
-    alloc: Global,
-    hall: &Hall<K>,
-    parts: Option<Parts>,
-    body: &'static str,
-    wanted: &str,
-) -> bool {
-    let Some(parts) = parts else {
-        return false;
-    };
-    let response = ask(rt, alloc, &parts, whole(body), Moment::new(2000), hall);
-    is_success(rt, response, wanted)
 }
 
 /// Whether bravo's question and then the author's draft have their answers, meanwhile.
@@ -132,10 +93,8 @@ fn are_answered<K: Naming, R: Host + Sync>(
     if !is_set_in_time(&signals.held) {
         return false;
     }
-    let asked = parts(alloc, Method::GET, COMPLIANCE, Some(BRAVO));
-    let drafted = parts(alloc, Method::PUT, DRAFT_OF_NEXT, Some(CITY));
-    let all = is_answered(rt, alloc, hall, asked, "", NONE_COUNTED)
-        && is_answered(rt, alloc, hall, drafted, NEXT, NEW);
+    let all = answers(rt, alloc, hall, Method::GET, ASKED_BY_BRAVO)
+        && answers(rt, alloc, hall, Method::PUT, DRAFT_OF_NEXT);
     signals.answered.store(all, Ordering::SeqCst);
     all
 }
@@ -144,8 +103,8 @@ pub(super) fn beside_a_held_question<K: Naming + Send + Sync, R: Host + Sync>(
     rt: &R,
     alloc: Global,
     hall: &Hall<K>,
-) -> Result<(), Fail> {
-    set_up(rt, alloc, hall)?;
+) {
+    set_up(rt, alloc, hall);
     let signals = Signals {
         held: AtomicBool::new(false),
         answered: AtomicBool::new(false),
@@ -159,7 +118,6 @@ pub(super) fn beside_a_held_question<K: Naming + Send + Sync, R: Host + Sync>(
     let (held, answered) = beside(rt, question, || are_answered(rt, alloc, hall, &signals));
     assert!(rt; answered);
     assert!(rt; held);
-    Ok(())
 }
 
 #[test]

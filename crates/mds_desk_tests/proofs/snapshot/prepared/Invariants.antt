@@ -1,5 +1,5 @@
 use Rattle.mds_snapshot.specs.Opening.{book_of}
-use Rattle.mds_desk_tests.proofs.snapshot.survives_want_of_memory.Given as goal
+use Rattle.mds_desk_tests.proofs.snapshot.prepared.Given as goal
 
 -- the book of what was just prepared
 abbrev pub ghosts-wanting : goal.ghosts-wanting

@@ -1,6 +1,6 @@
 //! What is told of times.
 ghost use Rattle.std.specs.Prelude.{◌≡◌, [], IfSome, IfNone, length};
-ghost use Rattle.mds_stress.specs.Times.{IsRanked, place_of};
+ghost use Rattle.mds_measures.specs.Times.{IsRanked, place_of};
 
 /// The least, the median and the 99th percentile of some times.
 #[derive(Clone, Copy, Debug, PartialEq, Eq)]

@@ -1,6 +1,6 @@
 use Rattle.std.proofs.Common.{◌≡◌, ℕ, ◌<◌}
 use Rattle.std.specs.List.{slice_get}
-use Rattle.mds_stress.proofs.comparing.first_difference.Given as goal
+use Rattle.mds_measures.proofs.comparing.first_difference.Given as goal
 
 -- the replies before this place are the same
 abbrev pub invariant-loop-place : goal.invariant-loop-place

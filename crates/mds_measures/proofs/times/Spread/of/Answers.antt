@@ -1,6 +1,6 @@
 use Rattle.std.proofs.Common.{arith}
-use Rattle.mds_stress.proofs.Ranks.{ranked}
-use Rattle.mds_stress.proofs.times.Spread.of.Goals as goal
+use Rattle.mds_measures.proofs.Ranks.{ranked}
+use Rattle.mds_measures.proofs.times.Spread.of.Goals as goal
 
 pub returns-clause-least : goal.returns-clause-least
 returns-clause-least c = let e = c.in_ok-last.ensures in ranked _ _ _ _ c.sort_unstable.ensures.permutation c.sort_unstable.ensures.sorted (omega arith) (omega arith)

@@ -1,5 +1,5 @@
 use Rattle.mds_snapshot.specs.Opening.{book_of}
-use Rattle.mds_desk_tests.proofs.desk.overlapping.answers_beside_a_held_look.Given as goal
+use Rattle.mds_desk_tests.proofs.desk.overlapping.staged.Given as goal
 
 -- the book of what was just prepared
 abbrev pub ghosts-overlapped : goal.ghosts-overlapped

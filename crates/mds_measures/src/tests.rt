@@ -1,7 +1,5 @@
 //! Percentiles and differences, worked by hand.
-use crate::comparing::first_difference;
-use crate::replay::revision_in;
-use crate::times::Spread;
+use crate::{Spread, first_difference, revision_in};
 use mds_request::{Code, Reply};
 use std::test::Fail;
 

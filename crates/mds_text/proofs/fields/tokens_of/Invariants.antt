@@ -1,9 +1,0 @@
-use Rattle.std.proofs.Common.{◌≡◌, map, drop}
-use Rattle.mds_text.specs.Fields.{each, token_of}
-use Rattle.mds_text.specs.View.{view}
-use Rattle.mds_text.proofs.Lists.{with_front}
-use Rattle.mds_text.proofs.fields.tokens_of.Given as goal
-
--- what was read and what is left are the whole list
-abbrev pub invariant-loop-entry : goal.invariant-loop-entry
-invariant-loop-entry l = with_front l.found.items (each (token_of l.field) (map view (drop l.entry-index l.entries))) ≡ each (token_of l.field) (map view l.entries)
