@@ -1,2 +1,3 @@
 mod Ranks
+mod Revisions
 mod Same

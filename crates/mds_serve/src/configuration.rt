@@ -1,8 +1,8 @@
 //! The configuration that comes in on standard input.
 
-use crate::fault::ServeFault;
 use mds_lines::{LINE_LIMIT, without_end};
 use mds_request::Config;
+use mds_start::ServeFault;
 use std::alloc::Global;
 use std::io::{BufRead, ErrorKind, Read};
 

@@ -4,7 +4,6 @@
 
 mod arguments;
 mod configuration;
-mod fault;
 mod running;
 
 use running::run;

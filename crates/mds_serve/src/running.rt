@@ -4,11 +4,11 @@ ghost use Rattle.mds_snapshot.specs.Opening.{book_of};
 
 use crate::arguments::{Arguments, read_arguments};
 use crate::configuration::read_configuration;
-use crate::fault::ServeFault;
 use mds_doors::{MachineClock, Moments, Queues, bound, serve, workers};
 use mds_hall::Hall;
 use mds_request::Config;
 use mds_snapshot::{Blank, Naming, prepare};
+use mds_start::ServeFault;
 use std::alloc::AllocGlobal;
 use std::env::Env;
 use std::io::{self, Input, Print};

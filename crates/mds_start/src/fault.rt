@@ -1,6 +1,6 @@
 //! Why the server ends without serving.
 ghost use Rattle.std.specs.Prelude.{◌≡◌};
-ghost use Rattle.mds_serve.specs.Exit.{message_of, exit_status};
+ghost use Rattle.mds_start.specs.Exit.{message_of, exit_status};
 
 use mds_request::ConfigFault;
 use mds_snapshot::OpenFault;
@@ -46,6 +46,11 @@ impl ServeFault {
 }
 
 impl From<ConfigFault> for ServeFault {
+    ghost use Rattle.std.specs.Prelude.{◌≡◌};
+    ghost use Rattle.mds_start.specs.Exit.{fault_of};
+
+    ghost from_gives = { λ fault e. e ≡ fault_of fault };
+
     fn from(fault: ConfigFault) -> ServeFault {
         match fault {
             ConfigFault::NoMemory | ConfigFault::Text(TextFault::NoMemory) => ServeFault::NotOpened,
