@@ -60,12 +60,22 @@ impl From<ConfigFault> for ServeFault {
 }
 
 impl From<OpenFault> for ServeFault {
+    ghost use Rattle.std.specs.Prelude.{◌≡◌};
+    ghost use Rattle.mds_start.specs.declared.fault.ServeFault.TheVariants.{NotOpened};
+
+    ghost from_gives = { λ _ e. e ≡ NotOpened };
+
     fn from(_fault: OpenFault) -> ServeFault {
         ServeFault::NotOpened
     }
 }
 
 impl From<AllocError> for ServeFault {
+    ghost use Rattle.std.specs.Prelude.{◌≡◌};
+    ghost use Rattle.mds_start.specs.declared.fault.ServeFault.TheVariants.{NotOpened};
+
+    ghost from_gives = { λ _ e. e ≡ NotOpened };
+
     fn from(_refused: AllocError) -> ServeFault {
         ServeFault::NotOpened
     }
