@@ -5,7 +5,7 @@ ghost use Rattle.mds_hall.specs.Respond.{Responds};
 
 use crate::asked::{request, token};
 use crate::early::{Arrived, heard};
-use crate::hall::Hall;
+use crate::hall::{Hall, taken};
 use crate::response::response;
 use crate::turn::desk_turn;
 use bytes::Bytes;
@@ -79,7 +79,7 @@ pub fn respond_with<K: Naming, R: Wait, G: Gate, E: Evaluator<Catalogue>>(
             response(alloc, reply)
         }
         Actor::Operator(place) => {
-            let mut desk = hall.desk(place).lock(rt);
+            let mut desk = taken(rt, hall.desk(place));
             let note = hall.note(rt);
             desk_turn(
                 alloc,

@@ -9,7 +9,11 @@ use mds_request::{Actor, Config, Reply, Request};
 use mds_snapshot::{Blank, Naming, Note, OpenFault};
 use std::alloc::{AllocError, Global};
 use std::mem::ManuallyDrop;
-use std::sync::{Arc, Mutex, Wait};
+use std::sync::{Arc, Mutex, MutexGuard, Wait};
+use std::thread::yield_now;
+
+/// How often the lock of a desk is tried, and another thread let run, before a thread sleeps for it.
+const TRIES: usize = 32;
 
 /// The author's room and a desk for each operator, each behind a lock of its own, and the latest note of
 /// what is published, behind a third. An operator's request takes its desk's lock, then the note's for as
@@ -36,6 +40,21 @@ fn locked<K: Naming>(alloc: Global, desks: Vec<Desk<K>>) -> Result<Vec<Mutex<Des
         locked.push(Mutex::new(desk))?;
     }
     Ok(locked)
+}
+
+/// The desk behind this lock. Most answers take less time than it takes to put a thread to sleep and to
+/// wake it, so a thread sleeps only where the desk stays taken.
+pub(crate) fn taken<'a, K: Naming, R: Wait>(
+    rt: &R,
+    desk: &'a Mutex<Desk<K>>,
+) -> MutexGuard<'a, Desk<K>> {
+    for _ in 0..TRIES {
+        if let Some(desk) = desk.try_lock() {
+            return desk;
+        }
+        yield_now();
+    }
+    desk.lock(rt)
 }
 
 impl<K: Naming> Hall<K> {
