@@ -6,7 +6,7 @@ ghost use Rattle.mds_text.specs.Fields.{each};
 ghost use Rattle.mds_reading.specs.Node.{node_view};
 ghost use Rattle.mds_match.specs.declared.vehicle.TheConstants.{MOST_VEHICLES};
 ghost use Rattle.mds_request.specs.declared.config.TheConstants.{MOST_OPERATORS};
-ghost use Rattle.mds_request.specs.Configuration.{configuration, operator, is_access_byte, is_access_token, access_of, access_at, limit_at, operator_of, operators_at, zone_at, configuration_of, read_configuration};
+ghost use Rattle.mds_request.specs.Configuration.{configuration, operator, is_access_byte, is_access_token, access_of, access_at, in_limits, limit_at, operator_of, operators_at, zone_at, configuration_of, read_configuration};
 ghost use Rattle.mds_request.specs.Fault.{config_cause};
 
 use crate::config::{Config, MOST_OPERATORS, MOST_TOKEN, Operator};
@@ -81,7 +81,7 @@ fn are_access_bytes(text: &[u8]) -> bool
 fn is_access_byte(byte: u8) -> bool
     ensures { result ≡ is_access_byte byte }
 {
-    matches!(byte, b'A'..=b'Z' | b'a'..=b'z' | b'0'..=b'9' | b'-' | b'_')
+    byte.is_ascii_alphanumeric() || byte == b'-' || byte == b'_'
 }
 
 /// The operators that have to be there.
@@ -128,6 +128,15 @@ fn limit_at(entry: &Node<'_>) -> Result<usize, TextFault>
     ensures most { IfOk result (λ n. n ≤ MOST_VEHICLES) }
 {
     let limit = int_of(required_member(entry, Field::Limit)?, Field::Limit)?;
+    in_limits(limit)
+}
+
+/// A number from 1 to `MOST_VEHICLES`.
+fn in_limits(limit: i64) -> Result<usize, TextFault>
+    ensures reading { Gives text_cause (λ n. n) result (in_limits limit) }
+    ensures least { IfOk result (λ n. 1 ≤ n) }
+    ensures most { IfOk result (λ n. n ≤ MOST_VEHICLES) }
+{
     if 1 <= limit && limit <= i64::from(MOST_VEHICLES) {
         Ok(limit as usize)
     } else {
