@@ -3,7 +3,7 @@
 # serve  the server on 127.0.0.1:8080 for the city of examples/city.json, with three lines to paste that ask it
 # test   the whole gate: every proof from nothing, the edits that must fail, the tests, the programs, the scripts
 # openapi  checks docs/openapi.yaml against the protocol and the scripts; not part of the gate (Debian's python3-yaml, python3-jsonschema)
-# bench  times mds_replay and mds_bench on generated input, and two programs in Rust beside them; not part of the gate (minutes)
+# bench  times mds_replay and the lines of mds_stress on generated input, and two programs in Rust beside them; not part of the gate (minutes)
 # stress  publishes 500 batches while 8 desks are asked, checks each reply against a replay, and tells times; not part of the gate (some seconds, once proved)
 
 .PHONY: demo build serve test openapi bench stress
@@ -38,7 +38,7 @@ test:
 	@bash tests/gate
 
 bench: build
-	cd crates/mds_bench && rt run < stdin > /dev/null
+	cd crates/mds_stress && rt run < stdin > /dev/null
 	python3 -B bench/measure.py
 
 stress:

@@ -3,7 +3,7 @@
 Processor time (user and system) of whole runs; a part's time is the difference of two runs that
 differ in that part alone, divided by how often the part is in the longer one. The median of the rounds is
 printed with the least and the greatest, and each ratio with what it must be, what it should be, and whether it
-is. mds_bench, which judges by several threads, is timed by the clock, on one processor and on four. All
+is. `mds_stress lines`, which judges by several threads, is timed by the clock, on one processor and on four. All
 programs have to give the same answers.
 """
 
@@ -20,7 +20,7 @@ import generate
 
 HERE = os.path.dirname(os.path.abspath(__file__))
 PROGRAM = os.path.join(HERE, "..", "crates", "mds_replay", "out", "mds_replay")
-PARALLEL = os.path.join(HERE, "..", "crates", "mds_bench", "out", "mds_bench")
+PARALLEL = os.path.join(HERE, "..", "crates", "mds_stress", "out", "mds_stress")
 THREADS = 4
 TIMER = "time"
 ROUNDS = 3
@@ -173,7 +173,7 @@ def build_runs(folder, program, parallel, scripts):
     for count in (1, THREADS) if len(processors) >= THREADS and os.path.exists(parallel) else ():
         for name in scripts_for("threads", scripts):
             output = os.path.join(folder, "%d threads %s.out" % (count, name))
-            runs[count, name] = Run([parallel], paths[name], output, processors[:count])
+            runs[count, name] = Run([parallel, "lines"], paths[name], output, processors[:count])
     return runs
 
 
@@ -281,7 +281,7 @@ def tell(runs):
     table.compare(label, asked[EDGES[2]], asked[EDGES[1]], (1.8, 1.4))
     label = "a question, %d policies of %d rules, %d vehicles" % (POLICIES, POLICY_RULES, PART_FLEET)
     table.row(label, "ask policies", "policies", 10, 1e3, "ms", (2, 0.9))
-    label = "mds_bench on %d processors against one, %d edges each (speed-up)" % (THREADS, EDGES[1])
+    label = "mds_stress lines on %d processors against one, %d edges each (speed-up)" % (THREADS, EDGES[1])
     table.threads(label, "ask %d" % EDGES[1], (2.5, 3.5))
     label = "a report of a new device, fleet of %d"
     large = table.row(label % FLEET, "large fleet and more", "large fleet", NEW_DEVICES, 1e6, "us", None)
@@ -306,7 +306,7 @@ def memory(runs, who):
 def main():
     parser = argparse.ArgumentParser(description=__doc__)
     parser.add_argument("--program", default=PROGRAM, help="the built mds_replay")
-    parser.add_argument("--parallel", default=PARALLEL, help="the built mds_bench")
+    parser.add_argument("--parallel", default=PARALLEL, help="the built mds_stress")
     parser.add_argument("--rounds", type=int, default=ROUNDS)
     options = parser.parse_args()
     if not shutil.which(TIMER) or not shutil.which("rustc"):

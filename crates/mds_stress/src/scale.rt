@@ -1,7 +1,5 @@
 //! How much is asked.
 use crate::fault::Fault;
-use std::alloc::AllocGlobal;
-use std::env::{self, Env};
 
 /// The most publications.
 const MOST_PUBLICATIONS: u32 = 500;
@@ -25,7 +23,7 @@ pub struct Scale {
 }
 
 /// A few of each.
-const SMALL: Scale = Scale {
+pub const SMALL: Scale = Scale {
     publications: 3,
     desks: 2,
     most_requests: 2_000,
@@ -34,25 +32,21 @@ const SMALL: Scale = Scale {
 };
 
 impl Scale {
-    /// The scale that the arguments name.
-    pub fn of_arguments<R: Env + AllocGlobal>(rt: &R) -> Result<Scale, Fault> {
-        let mut words = env::args(rt)?;
-        let _program = words.next();
-        match (words.next(), words.next()) {
-            (None, None) => Ok(SMALL),
-            (publications, desks) => Ok(Scale {
-                publications: number(publications, MOST_PUBLICATIONS)?,
-                desks: number(desks, MOST_DESKS)?,
-                most_requests: 200_000,
-                idle_requests: 5_000,
-                tells_times: true,
-            }),
-        }
+    /// The scale of two words, the publications and the desks.
+    pub fn read(publications: &str, desks: &str) -> Result<Scale, Fault> {
+        Ok(Scale {
+            publications: number(publications, MOST_PUBLICATIONS)?,
+            desks: number(desks, MOST_DESKS)?,
+            most_requests: 200_000,
+            idle_requests: 5_000,
+            tells_times: true,
+        })
     }
 }
 
-fn number(word: Option<String>, most: u32) -> Result<u32, Fault> {
-    word.and_then(|word| word.parse().ok())
+fn number(word: &str, most: u32) -> Result<u32, Fault> {
+    word.parse()
+        .ok()
         .filter(|number| *number <= most)
         .ok_or(Fault::BadUse)
 }

@@ -11,7 +11,6 @@ use crate::telling::tell;
 use mds_desk::furnish;
 use mds_snapshot::{Blank, Naming, prepare};
 use std::alloc::{AllocGlobal, Global};
-use std::env::Env;
 use std::io::Print;
 use std::marker::Brand;
 use std::sync::Wait;
@@ -19,12 +18,11 @@ use std::sync::atomic::{AtomicBool, AtomicU64};
 use std::thread::{Threads, join, map_vec};
 use std::time::Clock;
 
-/// Publishes and asks at the scale that the arguments name, checks the replies, and tells of them.
-pub fn run<R>(rt: &R) -> Result<(), Fault>
+/// Publishes and asks at this scale, checks the replies, and tells of them.
+pub fn run<R>(rt: &R, scale: Scale) -> Result<(), Fault>
 where
-    R: Threads + Wait + Clock + Env + Print + AllocGlobal + Sync,
+    R: Threads + Wait + Clock + Print + AllocGlobal + Sync,
 {
-    let scale = Scale::of_arguments(rt)?;
     let alloc = rt.alloc();
     let (told, publishing) = played::<Brand, R>(rt, alloc, prepare(alloc)?, scale)?;
     for of_desk in &told {

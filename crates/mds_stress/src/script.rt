@@ -26,7 +26,7 @@ pub fn configuration(alloc: Global, desks: u32) -> Result<Config, Fault> {
         text.push_str(operator.as_str())?;
     }
     text.push_str("]}")?;
-    Config::read(alloc, text.as_bytes()).map_err(|_| Fault::NoMemory)
+    Ok(Config::read(alloc, text.as_bytes())?)
 }
 
 /// What is asked, as a text of one's own.
