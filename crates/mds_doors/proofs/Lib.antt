@@ -1,2 +1,1 @@
 mod Receptions
-mod Turned

@@ -15,7 +15,7 @@ pub struct Bell {
 /// then waits for events.
 #[derive(Drop)]
 pub struct Watch {
-    calls: Option<Receiver<()>>,
+    calls: Receiver<()>,
 }
 
 /// A bell and its watch.
@@ -26,9 +26,7 @@ pub struct Watch {
 pub fn watched(alloc: Global) -> Result<(Bell, Watch), AllocError> {
     let (sender, receiver) = channel(alloc, 1)?;
     let bell = Bell { calls: sender };
-    let watch = Watch {
-        calls: Some(receiver),
-    };
+    let watch = Watch { calls: receiver };
     Ok((bell, watch))
 }
 
@@ -39,23 +37,11 @@ impl Bell {
     }
 }
 
-impl Watch {
-    /// The same watch, and nothing in this place.
-    pub fn take(&mut self) -> Watch {
-        Watch {
-            calls: self.calls.take(),
-        }
-    }
-}
-
 impl Future for Watch {
     type Output = ();
 
     fn poll(&mut self, cx: &mut Context<'_>) -> Poll<()> {
-        let Some(calls) = &mut self.calls else {
-            return Poll::Ready(());
-        };
-        match calls.poll_recv(cx) {
+        match self.calls.poll_recv(cx) {
             Poll::Ready(Some(())) => cx.yield_now(),
             Poll::Ready(None) => Poll::Ready(()),
             Poll::Pending => Poll::Pending,
