@@ -1,8 +1,8 @@
 //! The lines of standard input, answered as `mds_replay` answers them, but with vehicles judged by several threads.
 use crate::fault::Fault;
+use mds_lines::cut;
 use mds_parallel::Chunked;
-use mds_request::{Config, Reply, Request, Verb};
-use mds_text::Moment;
+use mds_request::{Config, Reply};
 use mds_world::World;
 use std::alloc::AllocGlobal;
 use std::io::{self, BufRead, BufReader, BufWriter, Input, Print, Write};
@@ -24,7 +24,7 @@ where
     let mut answers = BufWriter::new(alloc, io::writer(rt))?;
     for line in lines {
         let line = line?;
-        let Some(request) = cut(line.as_str()) else {
+        let Some(request) = cut(line.as_bytes()) else {
             return Err(Fault::NoRequest);
         };
         write_reply(&mut answers, &world.answer(&request))?;
@@ -38,19 +38,4 @@ fn write_reply<W: Write>(answers: &mut W, reply: &Reply) -> io::Result<()> {
     write!(answers, "{} ", reply.status())?;
     answers.write_all(reply.body())?;
     answers.write_all(b"\n")
-}
-
-/// The request on a line `AT TOKEN METHOD TARGET [BODY]`.
-fn cut(line: &str) -> Option<Request<'_>> {
-    let (at, rest) = line.split_once(' ')?;
-    let (token, rest) = rest.split_once(' ')?;
-    let (method, rest) = rest.split_once(' ')?;
-    let (target, body) = rest.split_once(' ').unwrap_or((rest, ""));
-    Some(Request {
-        at: Moment::new(at.parse::<i64>().ok()?)?,
-        token: token.as_bytes(),
-        verb: Verb::read(method.as_bytes()),
-        target: target.as_bytes(),
-        body: body.as_bytes(),
-    })
 }

@@ -1,6 +1,0 @@
-use Rattle.mds_snapshot.specs.Opening.{book_of}
-use Rattle.mds_desk_tests.proofs.snapshot.prepared.Given as goal
-
--- the book of what was just prepared
-abbrev pub ghosts-wanting : goal.ghosts-wanting
-ghosts-wanting g a = record { book = book_of a.blank }
