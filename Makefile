@@ -3,10 +3,10 @@
 # serve  the server on 127.0.0.1:8080 for the city of examples/city.json, with three lines to paste that ask it
 # test   the whole gate: every proof from nothing, the edits that must fail, the tests, the programs, the scripts
 # openapi  checks docs/openapi.yaml against the protocol and the scripts; not part of the gate (Debian's python3-yaml, python3-jsonschema)
-# bench  times mds_replay and the lines of mds_stress on generated input, and two programs in Rust beside them; not part of the gate (minutes)
-# stress  publishes 500 batches while 8 desks are asked, checks each reply against a replay, and tells times; not part of the gate (some seconds, once proved)
+# bench  times mds_replay on generated input, and two programs in Rust beside it; not part of the gate (minutes)
+# stress  publishes 500 batches at mds_serve while 8 operators ask, checks each reply against a replay, and tells times; not part of the gate (some seconds, once proved)
 
-.PHONY: demo build serve test openapi bench stress
+.PHONY: demo build server serve test openapi bench stress
 
 PROGRAM := crates/mds_replay/out/mds_replay
 SCRIPT := examples/first-verdict.replay
@@ -26,11 +26,14 @@ demo:
 build:
 	cd crates/mds_replay && rt run < stdin > /dev/null
 
-# The built server, made first where a source is newer; the lines publish, report and ask.
-serve:
+# Proves and builds mds_serve with all that it stands on, where a source is newer.
+server:
 	@if [ ! -x $(SERVER) ] || [ -n "$$(find crates.txt crates -path '*/out' -prune -o -newer $(SERVER) \( -name '*.rt' -o -name crates.txt \) -print)" ]; then \
 		cd crates/mds_serve && rt run -- 127.0.0.1:0 0 < stdin > /dev/null; \
 	fi
+
+# The lines publish, report and ask.
+serve: server
 	@cat examples/serve.curl
 	@$(SERVER) 127.0.0.1:8080 < examples/city.json
 
@@ -38,11 +41,10 @@ test:
 	@bash tests/gate
 
 bench: build
-	cd crates/mds_stress && rt run < stdin > /dev/null
 	python3 -B bench/measure.py
 
-stress:
-	cd crates/mds_stress && rt run -- 500 8
+stress: build server
+	python3 -B tests/stress.py
 
 openapi:
 	/usr/bin/python3 -B tests/openapi.py docs/PROTOCOL.md

@@ -1,7 +1,8 @@
 """Times mds_serve over loopback by wrk, and beside it nginx that gives static files of the same sizes, in the same run.
 
 Each measure is taken by turns, mds_serve and then nginx, in each round; the median of the rounds is printed with the least and the
-greatest. Last come the reads of operators while the author publishes 20 times a second, and the memory of idle connections.
+greatest. Then come the reads of operators while the author publishes 20 times a second, the memory of idle connections, and a question
+over the largest fleet on one processor and on four, by the clock.
 """
 
 import argparse
@@ -21,6 +22,7 @@ import generate
 HERE = os.path.dirname(os.path.abspath(__file__))
 sys.path.append(os.path.join(HERE, "..", "tests"))
 
+from measure import RULES as MOST_RULES, city  # noqa: E402
 from wire import Link, Server, free_port, request  # noqa: E402
 
 PROGRAM = os.path.join(HERE, "..", "crates", "mds_serve", "out", "mds_serve")
@@ -31,6 +33,7 @@ SMALL, LARGE = 1_024, 102_400
 FLEET, RULES = 2_000, 8
 PUBLICATIONS, PUBLISHING_SECONDS, PUBLISHING_CONNECTIONS = 20, 10, 32
 IDLE = 1_000
+PROCESSORS, QUESTIONS, EDGES, AT_ONCE = 4, 20, 1_000, 200
 OPERATOR, OTHER = generate.token(0), generate.token(1)
 TICKS = os.sysconf("SC_CLK_TCK")
 
@@ -306,14 +309,74 @@ def idle_connections(program, lines):
     print(f"| memory of {IDLE} idle connections | {more / 1e6:.1f} MB, {more / IDLE / 1024:.1f} KiB each |")
 
 
+@contextlib.contextmanager
+def kept_to(processors):
+    """What is started meanwhile runs on these processors alone."""
+    all_ = os.sched_getaffinity(0)
+    os.sched_setaffinity(0, processors)
+    try:
+        yield
+    finally:
+        os.sched_setaffinity(0, all_)
+
+
+def send_many(link, lines):
+    """Sends lines of generated input, which succeed, many before the first is answered."""
+    for place in range(0, len(lines), AT_ONCE):
+        parts = [(line.split(" ", 4) + [""])[1:5] for line in lines[place : place + AT_ONCE]]
+        link.send(b"".join(request(method, target, token, body.encode()) for token, method, target, body in parts))
+        if any(link.answer(method).status != 200 for _, method, _, _ in parts):
+            sys.exit("not every report is taken")
+
+
+def asked(server, question):
+    """The seconds of each of several answers to a question, and the last of them."""
+    seconds = []
+    with server.link() as link:
+        for _ in range(QUESTIONS):
+            begun = time.perf_counter()
+            answer = send(link, question)
+            seconds.append(time.perf_counter() - begun)
+    return seconds, re.sub(rb'"at":\d+', b"", answer)
+
+
+def several_processors(program, rounds):
+    """A question over the largest fleet, judged on one processor and on several."""
+    processors = sorted(os.sched_getaffinity(0))
+    if len(processors) < PROCESSORS:
+        print(f"fewer than {PROCESSORS} processors: judging by several threads wasn't timed")
+        return
+    random = generate.Xorshift(generate.SEED)
+    lines, fleet = city(random, 100, EDGES), generate.fleet(random, generate.MOST_VEHICLES)
+    question, times, answers = generate.get("/compliance/" + generate.policy_id(100)), {}, set()
+    with contextlib.ExitStack() as stack:
+        servers = {}
+        for count in (1, PROCESSORS):
+            with kept_to(processors[:count]):
+                servers[count] = serve(stack, program, lines)
+            with servers[count].link() as link:
+                send_many(link, fleet)
+        for _ in range(rounds):
+            for count, server in servers.items():
+                seconds, answer = asked(server, question)
+                times.setdefault(count, []).append(statistics.median(seconds))
+                answers.add(answer)
+    if len(answers) != 1:
+        sys.exit("the answers on one processor and on several differ")
+    label = f"a question, {len(fleet)} vehicles, {MOST_RULES} rules, {EDGES} edges each, on {PROCESSORS} processors against one (speed-up)"
+    speed = spread([one / several for one, several in zip(times[1], times[PROCESSORS])], 1, "")
+    print("\n| Measure | one | several | speed-up | must | aim |\n|---|---|---|---|---|---|")
+    print("| %s | %s | %s | %s | 2.5 | 3.5 |" % (label, *(spread(times[count], 1e3, " ms") for count in (1, PROCESSORS)), speed))
+
+
 def measures(stack, program, folder, static):
     """All that is compared with nginx."""
     random = generate.Xorshift(generate.SEED)
-    city = districts(random)
-    small = serve(stack, program, city + policies(random, SMALL))
-    large = serve(stack, program, city + policies(random, LARGE))
+    places = districts(random)
+    small = serve(stack, program, places + policies(random, SMALL))
+    large = serve(stack, program, places + policies(random, LARGE))
     fleet = [generate.put_policy(0, generate.policy(random, 0, RULES, range(RULES))), generate.publish([], [0])]
-    judged = serve(stack, program, city + fleet + generate.fleet(random, FLEET))
+    judged = serve(stack, program, places + fleet + generate.fleet(random, FLEET))
     reports, in_turn = os.path.join(folder, "reports.lua"), os.path.join(folder, "in_turn.lua")
     with open(reports, "w", encoding="ascii") as text:
         text.write(REPORTS % generate.START)
@@ -356,6 +419,7 @@ def main():
     lines = districts(generate.Xorshift(generate.SEED)) + policies(generate.Xorshift(generate.SEED), SMALL)
     while_publishing(program, lines, options.rounds, PUBLISHING_SECONDS)
     idle_connections(program, lines)
+    several_processors(program, options.rounds)
 
 
 if __name__ == "__main__":

@@ -3,8 +3,7 @@
 Processor time (user and system) of whole runs; a part's time is the difference of two runs that
 differ in that part alone, divided by how often the part is in the longer one. The median of the rounds is
 printed with the least and the greatest, and each ratio with what it must be, what it should be, and whether it
-is. `mds_stress lines`, which judges by several threads, is timed by the clock, on one processor and on four. All
-programs have to give the same answers.
+is. All programs have to give the same answers.
 """
 
 import argparse
@@ -14,21 +13,18 @@ import statistics
 import subprocess
 import sys
 import tempfile
-import time
 
 import generate
 
 HERE = os.path.dirname(os.path.abspath(__file__))
 PROGRAM = os.path.join(HERE, "..", "crates", "mds_replay", "out", "mds_replay")
-PARALLEL = os.path.join(HERE, "..", "crates", "mds_stress", "out", "mds_stress")
-THREADS = 4
 TIMER = "time"
 ROUNDS = 3
 EDGES = (4, 1_000, generate.MOST_POSITIONS - 1)
 RULES = 64
 RADIUS = 0.2
 FLEET = generate.MOST_VEHICLES
-QUESTIONS = {"ours": 10, "good": 10, "scan": 1, "threads": 60}
+QUESTIONS = {"ours": 10, "good": 10, "scan": 1}
 POLICIES, POLICY_RULES, PART_FLEET = 30, 8, 20_000
 NEW_DEVICES = 20_000
 SMALL_FLEET = 2_000
@@ -38,11 +34,10 @@ PUTS, POLICY_PUTS, LISTS = 20, 2_000, 50
 class Run:
     """One program on one script, and what each round measured of it."""
 
-    def __init__(self, command, source, output, processors=None):
+    def __init__(self, command, source, output):
         self.command = command
         self.source = source
         self.output = output
-        self.processors = processors
         self.seconds = []
         self.memory = []
 
@@ -51,21 +46,14 @@ class Run:
         note = self.output + ".memory"
         with open(self.source, "rb") as source, open(self.output, "wb") as output:
             command = [TIMER, "-f", "%M", "-o", note] + self.command
-            begun = time.monotonic()
-            child = subprocess.Popen(command, stdin=source, stdout=output, preexec_fn=self.keep_to_processors)
+            child = subprocess.Popen(command, stdin=source, stdout=output)
             _, status, usage = os.wait4(child.pid, 0)
-            passed = time.monotonic() - begun
             child.returncode = os.waitstatus_to_exitcode(status)
         if child.returncode != 0:
             sys.exit("%s ended with %d" % (" ".join(self.command), child.returncode))
-        self.seconds.append(passed if self.processors else usage.ru_utime + usage.ru_stime)
+        self.seconds.append(usage.ru_utime + usage.ru_stime)
         with open(note, encoding="ascii") as text:
             self.memory.append(int(text.read().split()[-1]))
-
-    def keep_to_processors(self):
-        """What is timed by the clock runs on so many processors alone."""
-        if self.processors:
-            os.sched_setaffinity(0, self.processors)
 
 
 def city(random, first, edges):
@@ -87,8 +75,6 @@ def question_scripts(random):
     for place, edges in enumerate(EDGES):
         name = "/compliance/" + generate.policy_id(100 * (place + 1))
         for who, count in QUESTIONS.items():
-            if who == "threads" and edges != EDGES[1]:
-                continue
             scripts["ask %d, %s" % (edges, who)] = scripts["fleet"] + [generate.get(name)] * count
     return scripts
 
@@ -147,10 +133,6 @@ def scripts_for(who, scripts):
     """Which scripts a program runs. The plain one isn't asked what would take it minutes."""
     for name in scripts:
         only = name.partition(", ")[2]
-        if who == "threads":
-            if name == "fleet" or only == who:
-                yield name
-            continue
         if only and only != who:
             continue
         if who == "scan" and (name.startswith("large") or name.startswith("ask %d" % EDGES[-1])):
@@ -158,7 +140,7 @@ def scripts_for(who, scripts):
         yield name
 
 
-def build_runs(folder, program, parallel, scripts):
+def build_runs(folder, program, scripts):
     good = os.path.join(folder, "good")
     source = os.path.join(HERE, "good.rs")
     subprocess.run(["rustc", "--edition", "2024", "-O", "-o", good, source], check=True)
@@ -169,11 +151,6 @@ def build_runs(folder, program, parallel, scripts):
         for who, command in commands.items():
             if name in scripts_for(who, scripts):
                 runs[who, name] = Run(command, paths[name], os.path.join(folder, "%s %s.out" % (who, name)))
-    processors = sorted(os.sched_getaffinity(0))
-    for count in (1, THREADS) if len(processors) >= THREADS and os.path.exists(parallel) else ():
-        for name in scripts_for("threads", scripts):
-            output = os.path.join(folder, "%d threads %s.out" % (count, name))
-            runs[count, name] = Run([parallel, "lines"], paths[name], output, processors[:count])
     return runs
 
 
@@ -206,8 +183,7 @@ class Table:
     def seconds(self, who, longer, shorter, count):
         """The seconds of one of the parts that the longer run has over the shorter, by round."""
         if (who, longer) not in self.runs:
-            script = who if who in QUESTIONS else "threads"
-            longer, count = "%s, %s" % (longer, script), QUESTIONS[script]
+            longer, count = "%s, %s" % (longer, who), QUESTIONS[who]
         if (who, longer) not in self.runs:
             return None
         pairs = zip(self.runs[who, longer].seconds, self.runs[who, shorter].seconds)
@@ -226,15 +202,6 @@ class Table:
         ours, good, scan = ([1 / seconds for seconds in rounds] for rounds in each)
         cells = [spread(rates, 1e-3, "thousand") for rates in (ours, good, scan)]
         line([label] + cells[:2] + told(ratio(ours, good), bounds, more=True) + [cells[2], figure(ratio(ours, scan))])
-
-    def threads(self, label, longer, bounds):
-        """One processor against several, by the clock: how many times as fast."""
-        one, several = (self.seconds(count, longer, "fleet", 0) for count in (1, THREADS))
-        if not one:
-            print("no program with several threads, or fewer than %d processors: judging by several threads wasn't timed" % THREADS)
-            return
-        cells = ["%d: %s" % (count, spread(times, 1e3, "ms")) for count, times in ((THREADS, several), (1, one))]
-        line([label] + cells + told(ratio(one, several), bounds, more=True) + ["", ""])
 
     def compare(self, label, ours, others, bounds):
         line([label, "", ""] + told(ratio(ours, others), bounds) + ["", ""])
@@ -281,8 +248,6 @@ def tell(runs):
     table.compare(label, asked[EDGES[2]], asked[EDGES[1]], (1.8, 1.4))
     label = "a question, %d policies of %d rules, %d vehicles" % (POLICIES, POLICY_RULES, PART_FLEET)
     table.row(label, "ask policies", "policies", 10, 1e3, "ms", (2, 0.9))
-    label = "mds_stress lines on %d processors against one, %d edges each (speed-up)" % (THREADS, EDGES[1])
-    table.threads(label, "ask %d" % EDGES[1], (2.5, 3.5))
     label = "a report of a new device, fleet of %d"
     large = table.row(label % FLEET, "large fleet and more", "large fleet", NEW_DEVICES, 1e6, "us", None)
     small = table.row(label % SMALL_FLEET, "small fleets and more", "small fleets", NEW_DEVICES, 1e6, "us", None)
@@ -306,7 +271,6 @@ def memory(runs, who):
 def main():
     parser = argparse.ArgumentParser(description=__doc__)
     parser.add_argument("--program", default=PROGRAM, help="the built mds_replay")
-    parser.add_argument("--parallel", default=PARALLEL, help="the built mds_stress")
     parser.add_argument("--rounds", type=int, default=ROUNDS)
     options = parser.parse_args()
     if not shutil.which(TIMER) or not shutil.which("rustc"):
@@ -314,7 +278,7 @@ def main():
     random = generate.Xorshift(generate.SEED)
     scripts = question_scripts(random) | policies_scripts(random) | report_scripts(random) | document_scripts(random)
     with tempfile.TemporaryDirectory() as folder:
-        runs = build_runs(folder, os.path.abspath(options.program), os.path.abspath(options.parallel), scripts)
+        runs = build_runs(folder, os.path.abspath(options.program), scripts)
         for number in range(options.rounds):
             for (who, name), run in runs.items():
                 run.measure()

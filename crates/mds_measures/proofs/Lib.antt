@@ -1,3 +1,0 @@
-mod Ranks
-mod Revisions
-mod Same
