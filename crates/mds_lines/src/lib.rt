@@ -15,7 +15,6 @@ mod streams;
 mod world;
 mod write;
 
-pub use cut::cut;
 pub use ends::{Failed, Sink, Source};
 pub use fault::ReplayFault;
 pub use gather::LINE_LIMIT;
