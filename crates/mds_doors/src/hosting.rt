@@ -1,5 +1,5 @@
 //! A hall is served over a listener, and ended.
-ghost use Rattle.std.specs.Prelude.{◌<◌};
+ghost use Rattle.std.specs.Prelude.{◌≤◌};
 
 use crate::admission::Admission;
 use crate::door::House;
@@ -30,7 +30,7 @@ use tokio::time::Handle;
 /// How many threads serve those of these queues: as many as processors, and a thread for each answer that may
 /// take long and for one more.
 pub fn workers<R: Threads>(rt: &R, queues: &Queues) -> usize
-    ensures { 0 < result }
+    ensures { FEWEST_WORKERS ≤ result }
 {
     let processors = thread::available_parallelism(rt).map_or(FEWEST_WORKERS, |n| n.get());
     processors.max(queues.threads()).max(FEWEST_WORKERS)
