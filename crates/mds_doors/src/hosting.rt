@@ -1,9 +1,7 @@
 //! A hall is served over a listener, and ended.
-ghost use Rattle.std.specs.Prelude.{◌≤◌};
 
 use crate::admission::Admission;
 use crate::door::House;
-use crate::limits::FEWEST_WORKERS;
 use crate::moments::Moments;
 use crate::queues::Queues;
 use crate::reception::Reception;
@@ -16,25 +14,16 @@ use mds_parallel::Chunked;
 use mds_snapshot::Naming;
 use std::alloc::AllocGlobal;
 use std::hash::RandomState;
+use std::io;
 use std::net::{Net, ToSocketAddrs};
 use std::random::RandomSource;
 use std::sync::{Arc, Wait};
 use std::thread::Threads;
 use std::time::Clock;
-use std::{io, thread};
 use tokio::net::TcpListener;
 use tokio::reactor;
 use tokio::runtime::Runtime;
 use tokio::time::Handle;
-
-/// How many threads serve those of these queues: as many as processors, and a thread for each answer that may
-/// take long and for one more.
-pub fn workers<R: Threads>(rt: &R, queues: &Queues) -> usize
-    ensures { FEWEST_WORKERS ≤ result }
-{
-    let processors = thread::available_parallelism(rt).map_or(FEWEST_WORKERS, |n| n.get());
-    processors.max(queues.threads()).max(FEWEST_WORKERS)
-}
 
 /// A listener at the first address of that name that it takes.
 ///

@@ -13,6 +13,6 @@ mod reception;
 mod serving;
 mod watch;
 
-pub use hosting::{bound, serve, workers};
+pub use hosting::{bound, serve};
 pub use moments::{MachineClock, Moments};
 pub use queues::Queues;

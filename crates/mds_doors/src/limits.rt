@@ -16,10 +16,6 @@ pub const IDLE_SECONDS: u64 = 60;
 /// How long no connection is accepted after one couldn't be.
 pub const ACCEPT_PAUSE_MILLIS: u64 = 20;
 
-/// The fewest threads that serve connections. There are as many as processors, and at least one more than may
-/// ask: so many may be answered at once.
-pub const FEWEST_WORKERS: usize = 2;
-
 /// The most short answers that one who asks is given at once.
 pub const MOST_SHORT: u32 = 4_096;
 

@@ -52,12 +52,6 @@ impl Queues {
         Ok(Queues { queues })
     }
 
-    /// So many threads that nobody waits for another's answer: one for each queue, and one for those who have
-    /// none.
-    pub fn threads(&self) -> usize {
-        self.queues.len().saturating_add(1)
-    }
-
     /// A place in the queue of whose access token a head carries; none, where it is nobody's. A head that
     /// carries it in a wrong form waits with the others, and is then refused.
     pub fn place(&self, headers: &HeaderMap, is_long: bool) -> Option<AcquireOwned>

@@ -1,14 +1,14 @@
 //! From the arguments and the configuration to the last connection.
-ghost use Rattle.std.specs.Prelude.{◌≡◌};
+ghost use Rattle.std.specs.Prelude.{◌≡◌, ◌<◌};
 ghost use Rattle.mds_snapshot.specs.Opening.{book_of};
 
 use crate::arguments::{Arguments, read_arguments};
 use crate::configuration::read_configuration;
-use mds_doors::{MachineClock, Moments, Queues, bound, serve, workers};
+use mds_doors::{MachineClock, Moments, Queues, bound, serve};
 use mds_hall::Hall;
 use mds_request::Config;
 use mds_snapshot::{Blank, Naming, prepare};
-use mds_start::ServeFault;
+use mds_start::{ServeFault, workers};
 use std::alloc::AllocGlobal;
 use std::env::Env;
 use std::io::{self, Input, Print};
@@ -16,7 +16,7 @@ use std::marker::Brand;
 use std::net::Net;
 use std::random::RandomSource;
 use std::sync::Wait;
-use std::thread::Threads;
+use std::thread::{Threads, available_parallelism};
 use std::time::Clock;
 use tokio::runtime::Runtime;
 
@@ -69,16 +69,19 @@ where
     requires { book_of blank ≡ K.book }
 {
     let queues = Queues::new(rt.alloc(), &config)?;
+    let processors = available_parallelism(rt).map_or(1, |n| n.get());
+    let threads = workers(processors, &config);
     let hall = Hall::<K>::new(rt, rt.alloc(), config, blank)?;
-    match listen(rt, arguments, hall, queues, MachineClock(*rt)) {
+    match listen(rt, threads, arguments, hall, queues, MachineClock(*rt)) {
         Ok(()) => Ok(()),
         Err(_) => Err(ServeFault::NoListener),
     }
 }
 
-/// Binds, says so, serves and ends the hall.
+/// Binds, says so, serves by so many threads and ends the hall.
 fn listen<K: Naming + Send + Sync, R, M: Moments + Send + Sync>(
     rt: &R,
+    threads: usize,
     arguments: &Arguments,
     hall: Hall<K>,
     queues: Queues,
@@ -96,8 +99,9 @@ where
         + Send
         + Copy
         + Drop,
+    requires { 0 < threads }
 {
-    let mut runtime = Runtime::with_worker_threads(rt, workers(rt, &queues))?;
+    let mut runtime = Runtime::with_worker_threads(rt, threads)?;
     let listener = bound(rt, arguments.address.as_str(), runtime.handle().reactor())?;
     let _ = println!(rt; "ready");
     serve(

@@ -1,8 +1,10 @@
-//! How the server is asked to start, and why it ends without serving.
+//! How the server is asked to start, how many threads serve, and why it ends without serving.
 #![tactic(auto)]
 
 mod count;
 mod fault;
+mod threads;
 
 pub use count::count_of;
 pub use fault::ServeFault;
+pub use threads::workers;
