@@ -115,7 +115,7 @@ const SQUARE: &[Corner] = &[(0, 0), (16, 0), (16, 16), (0, 16)];
 const HOLE: &[Corner] = &[(4, 4), (8, 4), (8, 8), (4, 8)];
 /// It shares a corner with the hole and has corners on the exterior.
 const SECOND_HOLE: &[Corner] = &[(8, 8), (16, 8), (12, 12), (8, 16)];
-/// Its level edges lie on borders of strips.
+/// Three steps.
 const STAIRS: &[Corner] = &[
     (0, 0),
     (12, 0),
@@ -126,7 +126,7 @@ const STAIRS: &[Corner] = &[
     (4, 12),
     (0, 12),
 ];
-/// Two edges span all strips, and the others are short.
+/// Two edges are long, and the others are short.
 const COMB: &[Corner] = &[
     (0, 0),
     (16, 16),
@@ -262,6 +262,46 @@ fn from_minus_two(alloc: Global, count: i64) -> Result<Vec<i64>, AllocError> {
     Ok(all)
 }
 
+/// The corners round three steps, each four units high, one unit after another. The level edges lie on
+/// borders of strips.
+fn stairs(alloc: Global) -> Result<Vec<Corner>, AllocError> {
+    let mut all = Vec::new(alloc);
+    walk(&mut all, (0, 0), (1, 0), 20)?;
+    walk(&mut all, (20, 0), (0, 1), 4)?;
+    walk(&mut all, (20, 4), (-1, 0), 6)?;
+    walk(&mut all, (14, 4), (0, 1), 4)?;
+    walk(&mut all, (14, 8), (-1, 0), 6)?;
+    walk(&mut all, (8, 8), (0, 1), 4)?;
+    walk(&mut all, (8, 12), (-1, 0), 8)?;
+    walk(&mut all, (0, 12), (0, -1), 12)?;
+    Ok(all)
+}
+
+/// The corners of a saw with sixteen teeth. Two edges span all strips, and the others are short.
+fn saw(alloc: Global) -> Result<Vec<Corner>, AllocError> {
+    let mut all = Vec::new(alloc);
+    all.push((0, 0))?;
+    all.push((15, 15))?;
+    for tooth in 0..16_i64 {
+        let lng = 16_i64.saturating_sub(tooth);
+        all.push((lng, 0))?;
+        all.push((lng, 1))?;
+    }
+    Ok(all)
+}
+
+/// Level edges on borders of strips, edges that span all strips among short ones, and both.
+#[test]
+fn strips_of_stairs_and_saws(rt: HostRuntime) -> Result<(), Fail> {
+    let alloc = rt.alloc();
+    let steps = stairs(alloc)?;
+    let teeth = saw(alloc)?;
+    let (steps, teeth) = (steps.as_slice(), teeth.as_slice());
+    agrees(&rt, alloc, &[&[steps]], &FEW, &FEW)?;
+    agrees(&rt, alloc, &[&[teeth]], &FEW, &FEW)?;
+    agrees(&rt, alloc, &[&[steps], &[teeth]], &FEW, &FEW)
+}
+
 /// Most cells tell what is held: inside and outside rectangles with holes, and a polygon in a hole.
 #[test]
 fn cells_of_rectangles(rt: HostRuntime) -> Result<(), Fail> {
@@ -287,18 +327,18 @@ fn cells_of_diamonds(rt: HostRuntime) -> Result<(), Fail> {
     agrees(&rt, alloc, &[&[hole], &[exterior]], &all, &all)
 }
 
-const FEW_LNGS: &[i64] = &[-1, 0, 1, 4, 7, 8, 9];
+const FEW_LNGS: &[i64] = &[-1, 0, 1, 8, 15, 16, 17];
 
 const FAR_LATS: &[i64] = &[
-    -1, 0, 1, 7, 8, 9, 262_144, 500_000, 999_999, 1_000_000, 1_000_001, 1_000_008, 1_000_009,
+    -1, 0, 1, 15, 16, 17, 262_144, 500_000, 999_999, 1_000_000, 1_000_001, 1_000_016, 1_000_017,
 ];
 
 /// Most strips and most cells between two small polygons are empty.
 #[test]
 fn empty_strips(rt: HostRuntime) -> Result<(), Fail> {
     let alloc = rt.alloc();
-    let near = outline(alloc, (0, 0), (8, 8))?;
-    let far = outline(alloc, (0, 1_000_000), (8, 1_000_008))?;
+    let near = outline(alloc, (0, 0), (16, 16))?;
+    let far = outline(alloc, (0, 1_000_000), (16, 1_000_016))?;
     let area: &[&[&[Corner]]] = &[&[near.as_slice()], &[far.as_slice()]];
     agrees(&rt, alloc, area, FEW_LNGS, FAR_LATS)
 }

@@ -2,6 +2,7 @@
 use Rattle.std.specs.Prelude.{ℕ, List, Option, option_map, string_bytes}
 use Rattle.mds_geometry.specs.declared.position.Position.{Position}
 use Rattle.mds_geography.specs.declared.geography.Geography as program
+use Rattle.mds_geography.specs.declared.geography.Said.{Said}
 
 -- A geography document: its polygons in document order, each the list of its rings.
 pub record Geography : Type 0 where
@@ -18,4 +19,14 @@ geography_document g =
       name = string_bytes g.name;
       description = option_map (λ s. string_bytes s) g.description;
       polygons = g.area;
+    }
+
+-- the document that was read, before its area is made
+abbrev pub said_document : Said → Geography
+said_document s =
+    record {
+      id = s.id;
+      name = string_bytes s.name;
+      description = option_map (λ t. string_bytes t) s.description;
+      polygons = s.polygons.items;
     }

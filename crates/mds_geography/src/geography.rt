@@ -23,10 +23,9 @@ pub struct Geography {
 
 impl Geography {
     ghost use Rattle.mds_text.specs.View.{view};
-    ghost use Rattle.mds_reading.specs.Node.{node_view};
     ghost use Rattle.mds_geometry.specs.Area.{area_holds};
     ghost use Rattle.mds_geography.specs.Geography.{geography_document};
-    ghost use Rattle.mds_geography.specs.Reading.{read_geography, geography_of};
+    ghost use Rattle.mds_geography.specs.Reading.{read_geography};
     ghost use Rattle.mds_geography.specs.Served.{served};
 
     /// Reads a geography document: its members by the table, then its GeoJSON in document order
@@ -38,26 +37,17 @@ impl Geography {
     pub fn read(alloc: Global, text: &[u8]) -> Result<Geography, GeoFault>
         ensures { Gives geo_cause geography_document result (read_geography text.now) }
     {
-        let mut source = Source::new(alloc);
-        let tree = source.read(alloc, text)?;
-        Geography::from_node(alloc, &tree)
-    }
-
-    fn from_node(alloc: Global, tree: &Node<'_>) -> Result<Geography, GeoFault>
-        ensures { Gives geo_cause geography_document result (geography_of (node_view tree.now)) }
-    {
-        let document = document_of(tree)?;
-        let id = required_id(document, Field::GeographyId)?;
-        let name = required_text(document, Field::Name)?;
-        let description = text_at(document, Field::Description)?;
-        let geojson = required_member(document, Field::GeographyJson)?;
-        let kind = kind_of(geojson, Field::GeographyJson)?;
-        let polygons = geojson_of(alloc, kind, geojson)?;
+        let Said {
+            id,
+            name,
+            description,
+            polygons,
+        } = Said::read(alloc, text)?;
         let area = Area::new(alloc, polygons)?;
         Ok(Geography {
             id,
-            name: String::from_str(alloc, name)?,
-            description: copied(alloc, description)?,
+            name,
+            description,
             area,
         })
     }
@@ -111,6 +101,47 @@ impl Geography {
             add_member(&mut members, "published_date", int_tree(moment.get()))?;
         }
         Ok(object_tree(members))
+    }
+}
+
+/// What a geography document says. The tree of its text is given back before the area is made.
+#[derive(Drop)]
+struct Said {
+    id: Id,
+    name: String,
+    description: Option<String>,
+    polygons: Vec<Polygon>,
+}
+
+impl Said {
+    ghost use Rattle.mds_reading.specs.Node.{node_view};
+    ghost use Rattle.mds_geography.specs.Geography.{said_document};
+    ghost use Rattle.mds_geography.specs.Reading.{read_geography, geography_of};
+
+    fn read(alloc: Global, text: &[u8]) -> Result<Said, GeoFault>
+        ensures { Gives geo_cause said_document result (read_geography text.now) }
+    {
+        let mut source = Source::new(alloc);
+        let tree = source.read(alloc, text)?;
+        Said::from_node(alloc, &tree)
+    }
+
+    fn from_node(alloc: Global, tree: &Node<'_>) -> Result<Said, GeoFault>
+        ensures { Gives geo_cause said_document result (geography_of (node_view tree.now)) }
+    {
+        let document = document_of(tree)?;
+        let id = required_id(document, Field::GeographyId)?;
+        let name = required_text(document, Field::Name)?;
+        let description = text_at(document, Field::Description)?;
+        let geojson = required_member(document, Field::GeographyJson)?;
+        let kind = kind_of(geojson, Field::GeographyJson)?;
+        let polygons = geojson_of(alloc, kind, geojson)?;
+        Ok(Said {
+            id,
+            name: String::from_str(alloc, name)?,
+            description: copied(alloc, description)?,
+            polygons,
+        })
     }
 }
 

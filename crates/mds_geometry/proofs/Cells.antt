@@ -1,5 +1,5 @@
 -- Two positions of one row of cells, between which no edge covers a cell, are held alike.
-use Rattle.std.proofs.Common.{arith, inl, inr, ◌⊎◌, ◌≡◌, sym, ◌∙◌, ap, refl, ℕ, ◌+◌, ◌≤◌, ◌<◌, Bool, true, false, not, cond, ◌&&◌, ◌||◌, ℤ, List, [], ◌∷◌, ◌++◌, map, length}
+use Rattle.std.proofs.Common.{arith, inl, inr, ◌⊎◌, ◌≡◌, sym, ◌∙◌, ap, refl, ℕ, ◌+◌, ◌≤◌, ◌<◌, Bool, true, false, cond, ◌&&◌, ◌||◌, ℤ, List, [], ◌∷◌, ◌++◌, map}
 use Rattle.std.specs.Prelude.{◌≤ℤ◌, ◌<ℤ◌, nat_lt}
 use Rattle.std.specs.List.{All, list_any}
 use Rattle.std.proofs.lemmas.Bool.{cases_Bool, cases_lt}
@@ -15,7 +15,7 @@ use Rattle.mds_geometry.specs.Area.{area_holds}
 use Rattle.mds_geometry.specs.Grid.{covers}
 use Rattle.mds_geometry.specs.Inside.{edges_of_ring, edges, is_on, is_crossed, touches, crossings, is_odd, holds}
 use Rattle.mds_geometry.specs.Ring.{IsClosed}
-use Rattle.mds_geometry.specs.Strips.{edge_of, edges_from, lies_between, reaches, strip_of}
+use Rattle.mds_geometry.specs.Strips.{edge_of, edges_from, lies_between, strip_of}
 use Rattle.mds_geometry.proofs.Outside.{below, beyond, closed_ends, flip, last, off_between, turned-path, turned-self}
 use Rattle.mds_geometry.proofs.Reaching.{idle_unreached, lies_down, lies_up, strip_rises}
 use Rattle.mds_geometry.proofs.Seen.{turned, turned_more, is_odd-add}

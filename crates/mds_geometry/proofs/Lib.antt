@@ -7,6 +7,7 @@ pub mod Indexed
 pub mod Outside
 pub mod Reaching
 pub mod Seen
+pub mod Spans
 pub mod Signs
 pub mod Told
 pub mod Wide

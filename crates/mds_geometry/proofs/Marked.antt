@@ -1,5 +1,5 @@
 -- The cells that an edge covers, between its least and its greatest row and column.
-use Rattle.std.proofs.Common.{arith, inl, inr, ◌≡◌, ◌∙◌, ap, refl, ℕ, ◌+◌, ◌*◌, ◌≤◌, ◌<◌, Bool, true, false, ◌&&◌, ◌||◌, sym, List, length, get_or, set, take}
+use Rattle.std.proofs.Common.{arith, inl, inr, ◌≡◌, ◌∙◌, ap, refl, ℕ, ◌+◌, ◌*◌, ◌≤◌, ◌<◌, Bool, true, false, ◌&&◌, sym, List, length, get_or, set, take}
 use Rattle.std.specs.Prelude.{nat_le}
 use Rattle.std.specs.List.{list_any}
 use Rattle.std.proofs.lemmas.Bool.{cases_Bool, cases_lt}
@@ -89,3 +89,33 @@ pub edge_spared : (old marks : List Bool) (columns rows : Scale) (e : Edge) (sou
 edge_spared old marks columns rows e south north west east lat lng spared r c free =
     let s = spared r c free in
     (s.0, uncovered columns rows e south north west east r c lat lng (λ w. s.1 (w.0, let top = w.1 in omega arith, w.2, w.3)))
+
+-- an edge that covers one cell, which is marked
+one_spared : (old : List Bool) (row column : ℕ) → place_of row column < length old
+    → AreSpared old (set old (place_of row column) true) row (row + 1) column column
+one_spared old row column within r c free =
+    let place = place_of row column in
+    let b = spared_more old old place place within (λ k before. (before, λ w. (let low = w.0 in let high = w.1 in omega arith))) (place_of r c) free in (
+      b.0,
+      λ w.
+          let low = w.0 in
+          let high = w.1 in
+          let least = w.2 in
+          let most = w.3 in
+          let r_is : r ≡ row = omega arith in
+          let c_is : c ≡ column = omega arith in
+          b.1 (rw (r_is, c_is) (omega arith), rw (r_is, c_is) (omega arith)),
+    )
+
+alike : (a b s n : ℕ) → a ≡ s → b ≡ s → lies_between a b n ≡ (nat_le s n && nat_le n s)
+alike a b s n is also = rw (is, also) (grind (arith, nat_tests))
+
+pub cell_spared : (old : List Bool) (columns rows : Scale) (e : Edge) (row column : ℕ)
+    → strip_of rows e.from.lat ≡ row → strip_of rows e.to.lat ≡ row → strip_of columns e.from.lng ≡ column → strip_of columns e.to.lng ≡ column
+    → place_of row column < length old
+    → (r c : ℕ) → get_or (set old (place_of row column) true) (place_of r c) false ≡ false
+    → (get_or old (place_of r c) false ≡ false) × (covers columns rows r c e ≡ false)
+cell_spared old columns rows e row column south north west east within =
+    edge_spared old (set old (place_of row column) true) columns rows e row row column column
+    (λ n. alike _ _ row n south north) (λ n. alike _ _ column n west east)
+    (one_spared old row column within)

@@ -52,6 +52,14 @@ pub record AreFiled (scale : Scale) (edges : List Edge) (strips : List (List Edg
   pub whole : length strips ≡ scale.last + 1
   pub filed : (s : ℕ) → s < length strips → get_or strips s [] ≡ filter (reaches scale s) edges
 
+-- how far an edge reaches from south to north, in rows
+abbrev pub reach : Edge → ℕ
+reach e = abs_diff (row_of e.from.lat) (row_of e.to.lat)
+
+-- how far edges reach, all together, unless that is too much for a number of 64 bits
+abbrev pub AreMeasured : List Edge → ℕ → Type 0
+AreMeasured edges far = far < 18446744073709551615 → sum_by reach edges ≡ far
+
 -- how many strips an edge reaches
 abbrev pub span : Scale → Edge → ℕ
 span scale e = abs_diff (strip_of scale e.from.lat) (strip_of scale e.to.lat) + 1

@@ -2,7 +2,9 @@
 ghost use Rattle.std.specs.Prelude.{◌≡◌, IfOk};
 ghost use Rattle.mds_geometry.specs.Area.{area_holds};
 
+use crate::bounds::bounds_of;
 use crate::cell::Cell;
+use crate::extent::Extents;
 use crate::gather::gather;
 use crate::grid::Grid;
 use crate::polygon::Polygon;
@@ -52,8 +54,10 @@ impl Area {
         ensures { IfOk result (λ area. area ≡ polygons.items) }
     {
         let edges = gather(alloc, &polygons)?;
-        let striped = Striped::new(alloc, polygons, &edges)?;
-        let grid = Grid::new(alloc, &striped, &edges)?;
+        let bounds = bounds_of(&polygons);
+        let extents = Extents::of(&edges, &bounds);
+        let striped = Striped::new(alloc, polygons, bounds, &edges, &extents)?;
+        let grid = Grid::new(alloc, &striped, &edges, &extents)?;
         Ok(Area { striped, grid })
     }
 

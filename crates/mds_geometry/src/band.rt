@@ -8,9 +8,9 @@ use mds_text::Units7;
 #[derive(Clone, Copy)]
 pub(crate) struct Band {
     /// The least coordinate.
-    least: i64,
+    pub(crate) least: i64,
     /// The greatest coordinate.
-    greatest: i64,
+    pub(crate) greatest: i64,
 }
 
 impl Band {
@@ -31,6 +31,7 @@ impl Band {
     }
 
     /// Widens the band to hold a coordinate.
+    #[inline(always)]
     pub(crate) fn widen(&mut self, x: Units7)
         ensures wider { IsWider self.old self.new }
         ensures held { lies_in self.new x ≡ true }

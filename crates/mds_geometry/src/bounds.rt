@@ -12,9 +12,9 @@ use crate::ring::Ring;
 #[derive(Clone, Copy)]
 pub(crate) struct Bounds {
     /// The longitudes.
-    lng: Band,
+    pub(crate) lng: Band,
     /// The latitudes.
-    lat: Band,
+    pub(crate) lat: Band,
 }
 
 impl Bounds {
@@ -34,6 +34,7 @@ impl Bounds {
     }
 
     /// Widens the bounds to hold a position.
+    #[inline(always)]
     fn widen(&mut self, at: &Position)
         ensures wider { AreWider self.old self.new }
         ensures held { is_within self.new at.now ≡ true }

@@ -85,6 +85,7 @@ fn whole_degrees(degrees: i64, most: u8) -> Result<Units7, TextFault>
 }
 
 /// A coordinate that is at most so many degrees from zero.
+#[inline(always)]
 fn within(units: Units7, most: u8) -> Result<Units7, TextFault>
     ensures value { Gives text_cause (λ u. u) result (within most units) }
     ensures memory { IsCaused result }

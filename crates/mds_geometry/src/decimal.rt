@@ -26,17 +26,32 @@ const MOST_DIGITS: usize = 9;
 ///
 /// `BadNumber` for a text that is no number, has more than 64 bytes or an exponent of more than three
 /// digits; else `OutOfRange` beyond 180 degrees.
+#[inline(always)]
 pub(crate) fn units_of_text(text: &str) -> Result<Units7, NumberFault>
     ensures { Gives number_cause (λ u. u) result (units_of text.now) }
 {
     match decimal_units(text.as_bytes()) {
         Some(units) => Ok(units),
-        None => units_of(text),
+        None => other_units(text),
     }
+}
+
+/// The coordinate that a number's text gives, whatever its notation.
+///
+/// # Errors
+///
+/// Those of `units_of_text`.
+#[cold]
+#[inline(never)]
+fn other_units(text: &str) -> Result<Units7, NumberFault>
+    ensures { Gives number_cause (λ u. u) result (units_of text.now) }
+{
+    units_of(text)
 }
 
 /// The coordinate of a text with digits, a point and one to seven digits, perhaps behind a minus.
 /// Of other texts, and beyond 180 degrees, nothing is said.
+#[inline(always)]
 fn decimal_units(text: &[u8]) -> Option<Units7>
     ensures { IfSome result (λ u. units_of text.now ≡ Ok u) }
 {
@@ -50,6 +65,7 @@ fn decimal_units(text: &[u8]) -> Option<Units7>
 }
 
 /// Whether a text begins with a minus, and the text without it.
+#[inline(always)]
 fn sign_of(text: &[u8]) -> (bool, &[u8])
     ensures negative { result.0 ≡ begins_with 45 text.now }
     ensures number { result.1.now ≡ behind_minus text.now }
@@ -61,6 +77,7 @@ fn sign_of(text: &[u8]) -> (bool, &[u8])
 }
 
 /// The whole degrees that a number begins with, and what stands behind its point.
+#[inline(always)]
 fn degrees_of(number: &[u8]) -> Option<(u64, &[u8])>
     ensures whole { IfSome result (λ r. is_whole (digits number.now) ≡ true) }
     ensures value { IfSome result (λ r. r.0 ≡ digits_value 10 (digits number.now)) }
@@ -77,6 +94,7 @@ fn degrees_of(number: &[u8]) -> Option<(u64, &[u8])>
 }
 
 /// The units of one to seven decimals.
+#[inline(always)]
 fn decimals_of(fraction: &[u8]) -> Option<u64>
     ensures some { IfSome result (λ n. 1 ≤ length (digits fraction.now)) }
     ensures few { IfSome result (λ n. length (digits fraction.now) ≤ 7) }
@@ -84,6 +102,9 @@ fn decimals_of(fraction: &[u8]) -> Option<u64>
     ensures value { IfSome result (λ n. n ≡ digits_value 10 (digits fraction.now) * 10 ^ (7 - length (digits fraction.now))) }
     ensures small { IfSome result (λ n. n < 10 ^ 16) }
 {
+    if let Ok(seven) = <&[u8; 7]>::try_from(fraction) {
+        return seven_digits(seven);
+    }
     let (decimals, count) = front_digits(fraction)?;
     if count < fraction.len() {
         return None;
@@ -132,7 +153,26 @@ fn front_digits(text: &[u8]) -> Option<(u64, usize)>
     Some((value, text.len()))
 }
 
+/// The number that seven digits write; `None` where one of them is no digit.
+#[inline(always)]
+fn seven_digits(text: &[u8; 7]) -> Option<u64>
+    ensures value { IfSome result (λ n. n ≡ digits_value 10 (digits text.now)) }
+    ensures count { IfSome result (λ n. prefix_len is_ascii_digit text.now ≡ 7) }
+    ensures all { IfSome result (λ n. behind_digits text.now ≡ []) }
+    ensures small { IfSome result (λ n. n < 10 ^ 7) }
+{
+    let mut value: u64 = 0;
+    for (place, byte) in text.iter().enumerate() {
+        if !byte.is_ascii_digit() {
+            return None;
+        }
+        value = value * 10 + u64::from(*byte - b'0');
+    }
+    Some(value)
+}
+
 /// What stands behind this byte, where the text begins with it.
+#[inline(always)]
 fn cut(text: &[u8], byte: u8) -> Option<&[u8]>
     ensures { option_map (λ rest. rest.now) result ≡ (if begins_with byte text.now then Some (drop 1 text.now) else None) }
 {
@@ -143,6 +183,7 @@ fn cut(text: &[u8], byte: u8) -> Option<&[u8]>
 }
 
 /// A size of at most 180 degrees, with its sign.
+#[inline(always)]
 fn signed(negative: bool, size: u64) -> Option<Units7>
     ensures { IfSome result (λ u. in_range negative size ≡ Ok u) }
 {

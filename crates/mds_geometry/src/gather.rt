@@ -33,6 +33,17 @@ fn gather_polygon(all: &mut Vec<Edge>, place: usize, polygon: &Polygon) -> Resul
     Ok(())
 }
 
+/// How many positions the polygons have: more than edges.
+fn count_of(polygons: &[Polygon]) -> usize {
+    let mut count: usize = 0;
+    for polygon in polygons {
+        for ring in polygon.rings() {
+            count = count.saturating_add(ring.positions().len());
+        }
+    }
+    count
+}
+
 /// The edges of the polygons in their order.
 ///
 /// # Errors
@@ -41,7 +52,7 @@ fn gather_polygon(all: &mut Vec<Edge>, place: usize, polygon: &Polygon) -> Resul
 pub(crate) fn gather(alloc: Global, polygons: &[Polygon]) -> Result<Vec<Edge>, AllocError>
     ensures { IfOk result (λ all. all.items ≡ edges_from 0 polygons.now) }
 {
-    let mut all = Vec::new(alloc);
+    let mut all = Vec::with_capacity(alloc, count_of(polygons))?;
     for (place, polygon) in polygons.iter().enumerate() {
         gather_polygon(&mut all, place, polygon)?;
     }

@@ -8,6 +8,7 @@ ghost use Rattle.mds_geometry.specs.declared.cell.Cell.TheVariants.{Mixed};
 ghost use Rattle.mds_geometry.specs.declared.position.Position.{Position};
 
 use crate::cell::Cell;
+use crate::extent::Extents;
 use crate::fit::grid_of;
 use crate::marks::{COLUMNS, marks_of};
 use crate::position::Position;
@@ -28,18 +29,23 @@ pub(crate) struct Grid {
 }
 
 impl Grid {
-    /// The grid over some polygons, of which these are the edges.
+    /// The grid over some polygons, of which these are the edges and their extents.
     ///
     /// # Errors
     ///
     /// Memory ran out.
-    pub(crate) fn new(alloc: Global, striped: &Striped, edges: &[Edge]) -> Result<Grid, AllocError>
+    pub(crate) fn new(
+        alloc: Global,
+        striped: &Striped,
+        edges: &[Edge],
+        extents: &Extents,
+    ) -> Result<Grid, AllocError>
         requires linear { AreClosed striped.now }
         requires edges { edges.now ≡ edges_from 0 striped.now }
         ensures told { IfOk result (λ grid. AreTold grid.columns grid.rows striped.now grid.cells.items) }
         ensures few { IfOk result (λ grid. length grid.cells.items ≤ 16 * length edges.now + 128) }
     {
-        let (columns, rows) = grid_of(edges);
+        let (columns, rows) = grid_of(extents, edges.len());
         let marks = marks_of(alloc, &columns, &rows, edges)?;
         let cells = cells_of(alloc, striped, &columns, &rows, &marks)?;
         Ok(Grid {

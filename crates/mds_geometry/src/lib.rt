@@ -9,6 +9,7 @@ mod cell;
 mod coordinate;
 mod decimal;
 mod edge;
+mod extent;
 mod fit;
 mod gather;
 mod grid;

@@ -30,8 +30,24 @@ fn mark_span(marks: &mut [bool], first: usize, last: usize)
     }
 }
 
+/// Marks the cells of some rows and columns, the first and the last of each included.
+fn mark_box(marks: &mut [bool], south: usize, north: usize, west: usize, east: usize)
+    requires ordered { south ≤ north }
+    requires rows { north < 4294967296 }
+    requires columns { west ≤ east }
+    requires narrow { east < 128 }
+    requires within { grid.place_of north east < length marks.old }
+    ensures { (r c : ℕ) → get_or marks.new (grid.place_of r c) false ≡ false
+        → (get_or marks.old (grid.place_of r c) false ≡ false) × ((south ≤ r) × (r < north + 1) × (west ≤ c) × (c ≤ east) → ⊥) }
+{
+    for row in south..north + 1 {
+        mark_span(marks, row * COLUMNS + west, row * COLUMNS + east);
+    }
+}
+
 /// Marks the cells that an edge covers.
-fn mark_edge(marks: &mut [bool], columns: &Scale, rows: &Scale, edge: &Edge)
+#[inline(never)]
+fn mark_across(marks: &mut [bool], columns: &Scale, rows: &Scale, edge: &Edge)
     requires whole { length marks.old ≡ (rows.now.last + 1) * 128 }
     requires narrow { columns.now.last < 128 }
     ensures { (r c : ℕ) → get_or marks.new (grid.place_of r c) false ≡ false
@@ -42,9 +58,24 @@ fn mark_edge(marks: &mut [bool], columns: &Scale, rows: &Scale, edge: &Edge)
         columns.strip_of(edge.from.lng),
         columns.strip_of(edge.to.lng),
     );
-    for row in south..north + 1 {
-        mark_span(marks, row * COLUMNS + west, row * COLUMNS + east);
+    mark_box(marks, south, north, west, east);
+}
+
+/// Marks the cells that an edge covers: mostly one.
+#[inline(always)]
+fn mark_edge(marks: &mut [bool], columns: &Scale, rows: &Scale, edge: &Edge)
+    requires whole { length marks.old ≡ (rows.now.last + 1) * 128 }
+    requires narrow { columns.now.last < 128 }
+    ensures { (r c : ℕ) → get_or marks.new (grid.place_of r c) false ≡ false
+        → (get_or marks.old (grid.place_of r c) false ≡ false) × (grid.covers columns.now rows.now r c edge.now ≡ false) }
+{
+    let row = rows.strip_of(edge.from.lat);
+    let column = columns.strip_of(edge.from.lng);
+    if rows.strip_of(edge.to.lat) == row && columns.strip_of(edge.to.lng) == column {
+        marks[row * COLUMNS + column] = true;
+        return;
     }
+    mark_across(marks, columns, rows, edge);
 }
 
 /// So many cells that aren't marked.

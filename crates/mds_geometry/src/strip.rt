@@ -52,10 +52,12 @@ impl Strip {
     /// # Errors
     ///
     /// Memory ran out.
-    pub(crate) fn push(&mut self, edge: Edge) -> Result<(), AllocError>
-        ensures { OnOk result (self.new ≡ self.old ++ edge ∷ []) }
+    #[inline(always)]
+    pub(crate) fn push(&mut self, edge: &Edge) -> Result<(), AllocError>
+        ensures { OnOk result (self.new ≡ self.old ++ edge.now ∷ []) }
     {
-        self.edges.push(edge)?;
+        self.edges.reserve(1)?;
+        self.edges.push_reserved(*edge);
         Ok(())
     }
 

@@ -1,10 +1,12 @@
 //! Polygons with their edges by strips of latitude.
 ghost use Rattle.std.specs.Prelude.{◌≡◌, false, IfOk, IsTrue};
 ghost use Rattle.mds_geometry.specs.Area.{area_holds};
+ghost use Rattle.mds_geometry.specs.Bounds.{AreBounded};
 ghost use Rattle.mds_geometry.specs.Grid.{AreClosed};
-ghost use Rattle.mds_geometry.specs.Strips.{edges_from};
+ghost use Rattle.mds_geometry.specs.Strips.{AreMeasured, edges_from};
 
-use crate::bounds::{Bounds, bounds_of};
+use crate::bounds::Bounds;
+use crate::extent::Extents;
 use crate::fit::scale_of;
 use crate::polygon::Polygon;
 use crate::position::Position;
@@ -37,8 +39,8 @@ impl Model for Striped {
 }
 
 impl Striped {
-    /// The polygons, of which these are the edges. An edge has at most four places in the strips, on
-    /// the average.
+    /// The polygons, of which these are the bounds, the edges and their extents. An edge has at most four
+    /// places in the strips, on the average.
     ///
     /// # Errors
     ///
@@ -46,15 +48,18 @@ impl Striped {
     pub(crate) fn new(
         alloc: Global,
         polygons: Vec<Polygon>,
+        bounds: Bounds,
         edges: &[Edge],
+        extents: &Extents,
     ) -> Result<Striped, AllocError>
-        requires { edges.now ≡ edges_from 0 polygons.items }
+        requires bounded { AreBounded bounds polygons.items }
+        requires edges { edges.now ≡ edges_from 0 polygons.items }
+        requires measured { AreMeasured edges.now extents.now.rows.reach }
         ensures value { IfOk result (λ striped. striped ≡ polygons.items) }
         ensures linear { IfOk result (λ striped. AreClosed striped) }
     {
-        let scale = scale_of(edges);
+        let scale = scale_of(extents, edges);
         let strips = strips_of(alloc, &scale, edges)?;
-        let bounds = bounds_of(&polygons);
         Ok(Striped {
             polygons,
             bounds,

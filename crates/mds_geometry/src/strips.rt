@@ -1,5 +1,5 @@
 //! Strips of latitude, and the edges that they meet.
-ghost use Rattle.std.specs.Prelude.{◌≡◌, ◌+◌, ◌++◌, ◌<◌, ◌≤◌, ℕ, length, get_or, OnOk, IfOk, [], ◌∷◌, if◌then◌else◌};
+ghost use Rattle.std.specs.Prelude.{◌≡◌, ◌+◌, ◌++◌, ◌<◌, ◌≤◌, ℕ, length, get_or, OnOk, IfOk, [], ◌∷◌, if◌then◌else◌, nat_le, ◌&&◌};
 ghost use Rattle.mds_geometry.specs.Strips as strips;
 
 use crate::scale::Scale;
@@ -14,6 +14,7 @@ const SOUTH: i64 = 1_800_000_000;
 const ROOM: usize = 2;
 
 /// The units from the least latitude that there is.
+#[inline(always)]
 pub(crate) fn row_of(lat: Units7) -> u32
     ensures { result ≡ strips.row_of lat }
 {
@@ -22,6 +23,7 @@ pub(crate) fn row_of(lat: Units7) -> u32
 
 impl Scale {
     /// The strip of a latitude. A latitude beyond the strips is taken as one of the nearest strip.
+    #[inline(always)]
     pub(crate) fn strip_of(&self, lat: Units7) -> usize
         ensures value { result ≡ strips.strip_of self.now lat }
         ensures few { result < 4294967296 }
@@ -43,11 +45,35 @@ impl Scale {
     }
 }
 
+/// Puts an edge into each strip from one to another, both included, after the edges there.
+///
+/// # Errors
+///
+/// Memory ran out.
+fn file_between(
+    all: &mut [Strip],
+    south: usize,
+    north: usize,
+    edge: &Edge,
+) -> Result<(), AllocError>
+    requires ordered { south ≤ north }
+    requires within { north < length all.old }
+    ensures { OnOk result ((s : ℕ) → s < length all.old →
+        get_or all.new s [] ≡ get_or all.old s [] ++ (if nat_le south s && nat_le s north then edge.now ∷ [] else [])) }
+{
+    for place in south..north + 1 {
+        let strip = &mut all[place];
+        strip.push(edge)?;
+    }
+    Ok(())
+}
+
 /// Puts an edge into each strip that it reaches, after the edges there.
 ///
 /// # Errors
 ///
 /// Memory ran out.
+#[inline(always)]
 fn file_edge(all: &mut [Strip], scale: &Scale, edge: &Edge) -> Result<(), AllocError>
     requires { length all.old ≡ scale.now.last + 1 }
     ensures { OnOk result ((s : ℕ) → s < length all.old →
@@ -55,13 +81,11 @@ fn file_edge(all: &mut [Strip], scale: &Scale, edge: &Edge) -> Result<(), AllocE
 {
     let from = scale.strip_of(edge.from.lat);
     let to = scale.strip_of(edge.to.lat);
-    let south = from.min(to);
-    let north = from.max(to);
-    for place in south..north + 1 {
-        let strip = &mut all[place];
-        strip.push(*edge)?;
+    if from == to {
+        let strip = &mut all[from];
+        return strip.push(edge);
     }
-    Ok(())
+    file_between(all, from.min(to), from.max(to), edge)
 }
 
 /// So many strips that meet no edge, each with room for some.

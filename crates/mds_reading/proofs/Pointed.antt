@@ -1,9 +1,8 @@
 -- A number with a point isn't plain.
-use Rattle.std.proofs.Common.{◌≡◌, ℕ, suc, ◌+◌, List, [], ◌∷◌, Bool, true, false, cond, eqb, ◌||◌, ◌==◌, length, take, drop, get_or, Option, Some, None, option_and_then, refl, sym, ap, ap₂, ◌∙◌, subst, arith, ◌<◌}
+use Rattle.std.proofs.Common.{◌≡◌, ℕ, zero, suc, ◌+◌, List, [], ◌∷◌, Bool, true, false, cond, eqb, ◌||◌, ◌==◌, length, take, drop, get_or, Option, Some, None, option_and_then, refl, sym, ap, ap₂, ◌∙◌, subst, arith}
 use Rattle.std.proofs.lemmas.Bool.{false≢true, eqb-true}
 use Rattle.std.proofs.lemmas.Bool.Decides.{nat_tests}
 use Rattle.std.proofs.lemmas.List.Folds.{length-prefix_len}
-use Rattle.std.proofs.Math.Seq.{drop-cons}
 use Rattle.std.specs.List.{prefix_len}
 use Rattle.std.specs.Char.{is_ascii_digit}
 use Rattle.json.specs.Word.{after_digits, after_minus, after_sign, after_whole, after_fraction, after_exponent, after_number}
@@ -119,9 +118,9 @@ whole_at_digit false false d ds f z h = absurd (cc)
 zero_digit : (d : ℕ) → (d == 48) ≡ true → is_ascii_digit d ≡ true
 zero_digit d h = ap is_ascii_digit (eqb-true d 48 h)
 
-whole_ends : (t : List ℕ) → option_and_then after_exponent (option_and_then after_fraction (after_whole t)) ≡ Some [] → begins_with 46 (behind_digits t) ≡ true → Whole t
-whole_ends [] h p = absurd (false≢true p)
-whole_ends (d ∷ ds) h p =
+whole_ends : (t : List ℕ) → option_and_then after_exponent (option_and_then after_fraction (after_whole t)) ≡ Some [] → Whole t
+whole_ends [] h = absurd (cc)
+whole_ends (d ∷ ds) h =
     let found = whole_at_digit (is_ascii_digit d) (d == 48) d ds (zero_digit d) refl h in
     record { whole = found.whole; rest = found.rest }
 
@@ -148,16 +147,87 @@ unfolding after_number
 valid_number s h = ap (λ t. option_and_then after_exponent (option_and_then after_fraction (after_whole t))) (sym (minus_is s)) ∙ h
 
 -- a number in which a point stands behind the digits is quoted
-pub quoted_at_point : (s : List ℕ) → IsNumber s → begins_with 46 (behind_digits (behind_minus s)) ≡ true → is_quoted s ≡ true
+quoted_at_point : (s : List ℕ) → IsNumber s → begins_with 46 (behind_digits (behind_minus s)) ≡ true → is_quoted s ≡ true
 quoted_at_point s h p =
     let t = behind_minus s in
-    let whole = whole_ends t (valid_number s h) p in
+    let whole = whole_ends t (valid_number s h) in
     let fraction = some_digits (drop 1 (behind_digits t)) after_exponent (fraction_begins (behind_digits t) p whole.rest) in
     let ends = exponent_ends (behind_digits (drop 1 (behind_digits t))) fraction.1 in
     ap is_decimal (number_is s ends.exponent whole.whole p fraction.0 ends.is) ∙ rw fraction.0 refl
 
--- a point at the first byte that is no digit
-pub point_found : (s : List ℕ) (n : ℕ) → n ≡ prefix_len is_ascii_digit s → n < length s → get_or s n 0 ≡ 46 → begins_with 46 (behind_digits s) ≡ true
-point_found s n is within point =
-    let whole : drop n s ≡ get_or s n 0 ∷ drop (suc n) s = drop-cons s n 0 within in
-    ap (λ k. begins_with 46 (drop k s)) (sym is) ∙ ap (begins_with 46) whole ∙ ap (λ c. 46 == c) point
+-- ---- a number with a point anywhere
+
+abbrev pub pointed : List ℕ → Bool
+pointed [] = false
+pointed (c ∷ s) = (c == 46) || pointed s
+
+or_true : (a : Bool) → (a || true) ≡ true
+or_true true = refl
+or_true false = refl
+
+pointed_at : (s : List ℕ) (k : ℕ) → get_or s k 0 ≡ 46 → pointed s ≡ true
+pointed_at [] zero h = absurd (cc)
+pointed_at [] (suc k) h = absurd (cc)
+pointed_at (c ∷ s) zero h = ap (λ d. (d == 46) || pointed s) h
+pointed_at (c ∷ s) (suc k) h = ap (λ b. (c == 46) || b) (pointed_at s k h) ∙ or_true (c == 46)
+
+pointed_digit : (d : Bool) (c : ℕ) (s : List ℕ) (n : ℕ) → (d ≡ true → (c == 46) ≡ false) → pointed s ≡ pointed (drop n s) → pointed (c ∷ s) ≡ pointed (drop (cond d (1 + n) 0) (c ∷ s))
+pointed_digit false c s n f h = refl
+pointed_digit true c s n f h =
+    let k : suc n ≡ 1 + n = omega arith in
+    ap (λ b. b || pointed s) (f refl) ∙ h ∙ ap (λ m. pointed (drop m (c ∷ s))) k
+
+pointed_digits : (s : List ℕ) → pointed s ≡ pointed (behind_digits s)
+pointed_digits [] = refl
+pointed_digits (c ∷ s) = pointed_digit (is_ascii_digit c) c s (prefix_len is_ascii_digit s) (λ h. (digit_else c h).0) (pointed_digits s)
+
+pointed_sign : (b : Bool) (c : ℕ) (s : List ℕ) → (b ≡ true → (c == 46) ≡ false) → pointed (c ∷ s) ≡ pointed (cond b s (c ∷ s))
+pointed_sign false c s f = refl
+pointed_sign true c s f = ap (λ b. b || pointed s) (f refl)
+
+minus_else : (c : ℕ) → (c == 45) ≡ true → (c == 46) ≡ false
+minus_else c h = grind (arith, nat_tests)
+
+sign_else : (c : ℕ) → ((c == 45) || (c == 43)) ≡ true → (c == 46) ≡ false
+sign_else c h = grind (arith, nat_tests)
+
+power_else : (c : ℕ) → ((c == 101) || (c == 69)) ≡ true → (c == 46) ≡ false
+power_else c h = grind (arith, nat_tests)
+
+pointed_behind_minus : (s : List ℕ) → pointed s ≡ pointed (after_minus s)
+pointed_behind_minus [] = refl
+pointed_behind_minus (c ∷ s) = pointed_sign (c == 45) c s (minus_else c)
+
+pointed_behind_sign : (s : List ℕ) → pointed s ≡ pointed (after_sign s)
+pointed_behind_sign [] = refl
+pointed_behind_sign (c ∷ s) = pointed_sign ((c == 45) || (c == 43)) c s (sign_else c)
+
+emptied : (r : List ℕ) → Some r ≡ Some [] → pointed r ≡ false
+emptied r h = ap (λ o. pointed (held o)) h
+
+power_pointless : (b : Bool) (x : ℕ) (v : List ℕ) → (b ≡ true → (x == 46) ≡ false) → cond b (after_digits (after_sign v)) (Some (x ∷ v)) ≡ Some [] → pointed (x ∷ v) ≡ false
+power_pointless false x v f h = absurd (cc)
+power_pointless true x v f h =
+    let ends = some_digits (after_sign v) Some (sym (alone (after_digits (after_sign v))) ∙ h) in
+    ap (λ b. b || pointed v) (f refl) ∙ pointed_behind_sign v ∙ pointed_digits (after_sign v) ∙ emptied (behind_digits (after_sign v)) ends.1
+
+exponent_pointless : (u : List ℕ) → after_exponent u ≡ Some [] → pointed u ≡ false
+exponent_pointless [] h = refl
+exponent_pointless (x ∷ v) h = power_pointless ((x == 101) || (x == 69)) x v (power_else x) h
+
+fraction_else : (r : List ℕ) → begins_with 46 r ≡ false → option_and_then after_exponent (after_fraction r) ≡ Some [] → pointed r ≡ false
+fraction_else [] p h = refl
+fraction_else (x ∷ q) p h =
+    exponent_pointless (x ∷ q) (sym (ap (λ b. option_and_then after_exponent (cond b (after_digits q) (Some (x ∷ q)))) (turned x 46 ∙ p)) ∙ h)
+
+pointed_behind : (b : Bool) (s : List ℕ) → begins_with 46 (behind_digits (behind_minus s)) ≡ b → IsNumber s → pointed s ≡ true → b ≡ true
+pointed_behind true s p h at = refl
+pointed_behind false s p h at =
+    let t = behind_minus s in
+    let whole = whole_ends t (valid_number s h) in
+    sym (pointed_behind_minus s ∙ ap pointed (minus_is s) ∙ pointed_digits t ∙ fraction_else (behind_digits t) p whole.rest) ∙ at
+
+-- a number in which a point stands anywhere is quoted
+pub quoted_with_point : (s : List ℕ) (k : ℕ) → IsNumber s → get_or s k 0 ≡ 46 → is_quoted s ≡ true
+quoted_with_point s k h at =
+    quoted_at_point s h (pointed_behind (begins_with 46 (behind_digits (behind_minus s))) s refl h (pointed_at s k at))

@@ -1,13 +1,12 @@
 -- The grammar's loops, a turn at a time, under the conversion to data.
-use Rattle.std.proofs.Common.{◌≡◌, ℕ, zero, suc, ◌-◌, ◌<◌, ◌≤◌, List, [], ◌∷◌, ◌++◌, length, Option, Some, None, option_map, option_and_then, true, cond, refl, ap, arith, ◌∙◌}
-use Rattle.json.specs.Token.{Token, number}
+use Rattle.std.proofs.Common.{◌≡◌, ℕ, zero, suc, ◌+◌, ◌-◌, ◌<◌, ◌≤◌, List, [], ◌∷◌, ◌++◌, length, Option, Some, None, option_map, option_and_then, refl, ap, arith, ◌∙◌}
+use Rattle.json.specs.Token.{Token}
 use Rattle.json.specs.Json as json
 use Rattle.json.specs.Json.{Parse, parse_map, after_end_array, read_key, items_step, items, members, if_last, value}
-use Rattle.json.proofs.Grammar.{value_is, items_end, items_more, members_end, members_no_key, members_more}
-use Rattle.mds_text.specs.Quoting.{is_quoted}
-use Rattle.mds_text.specs.Tree.{Json as Data, int, text, list as array, object, Items, no_items, item, Members, no_members}
+use Rattle.json.proofs.Grammar.{items_end, items_more, members_end, members_no_key, members_more}
+use Rattle.mds_text.specs.Tree.{Json as Data, list as array, object, Items, no_items, item, Members, no_members}
 use Rattle.serde_json.specs.Read.{converted}
-use Rattle.mds_reading.specs.Direct.{put, tree_value, tree_items, tree_members, tree_number, whole_number}
+use Rattle.mds_reading.specs.Direct.{put, tree_value, tree_items, tree_members}
 use Rattle.mds_reading.specs.Gathered.{items_before}
 use Rattle.mds_text.specs.Tree.{items_of}
 
@@ -114,21 +113,10 @@ pub none_before : (r : Option (Items × List Token)) → r ≡ parse_map (λ a. 
 none_before None = refl
 none_before (Some p) = refl
 
--- ---- a decimal at the front
+-- ---- an entry at the front
 
-decimal_value : (depth : ℕ) (s : List ℕ) (r : List Token) → is_quoted s ≡ true → converted tree_value (value depth (number s ∷ r)) ≡ Some (text s, r)
-decimal_value depth s r quoted =
-    let is : tree_number s ≡ Some (text s) = ap (λ b. cond b (Some (text s)) (option_map int (whole_number s))) quoted in
-    ap (converted tree_value) (value_is depth _) ∙ rw is refl
-
-pub decimal_read : (depth n : ℕ) (s : List ℕ) (ts r : List Token) → 0 < n → ts ≡ number s ∷ r → is_quoted s ≡ true
-    → converted tree_items (items (value depth) n ts) ≡ parse_map (item (text s)) (converted tree_items (items (value depth) (n - 1) r))
-decimal_read depth n s ts r some is quoted =
-    item_read (value depth) n ts r (text s) some (ap after_end_array is) (ap (λ ks. converted tree_value (value depth ks)) is ∙ decimal_value depth s r quoted)
-
-pub front_read : (depth : ℕ) (s : List ℕ) (ts r : List Token) → ts ≡ number s ∷ r → is_quoted s ≡ true
-    → converted tree_items (items (value depth) (length ts) ts) ≡ parse_map (items_before (text s ∷ [])) (converted tree_items (items (value depth) (length r) r))
-front_read depth s ts r is quoted =
-    let long : length ts ≡ length (number s ∷ r) = ap length is in
-    let rest : length ts - 1 ≡ length r = omega (arith, long) in
-    decimal_read depth (length ts) s ts r (omega (arith, long)) is quoted ∙ ap (λ n. parse_map (item (text s)) (converted tree_items (items (value depth) n r))) rest
+pub front_read : (depth : ℕ) (d : Data) (ts r : List Token) → after_end_array ts ≡ None → length ts ≡ length r + 1 → converted tree_value (value depth ts) ≡ Some (d, r)
+    → converted tree_items (items (value depth) (length ts) ts) ≡ parse_map (items_before (d ∷ [])) (converted tree_items (items (value depth) (length r) r))
+front_read depth d ts r going one is =
+    let rest : length ts - 1 ≡ length r = omega (arith, one) in
+    item_read (value depth) (length ts) ts r d (omega (arith, one)) going is ∙ ap (λ n. parse_map (item d) (converted tree_items (items (value depth) n r))) rest

@@ -1,15 +1,19 @@
--- The entries of a list that were read.
-use Rattle.std.specs.Prelude.{List, [], ◌∷◌, map}
-use Rattle.mds_text.specs.Tree.{Json, Items, item, text}
-use Rattle.mds_reading.specs.Node.{node_view}
+-- The entries that a list begins with.
+use Rattle.std.specs.Prelude.{List, [], ◌∷◌}
+use Rattle.mds_text.specs.Tree.{Json, Items, item, int, text}
 use Rattle.mds_reading.specs.declared.gathered.Gathered.{Gathered}
-use Rattle.mds_reading.specs.declared.gathered.Gathered.TheVariants.{Empty, One, Two, Many}
+use Rattle.mds_reading.specs.declared.gathered.Gathered.TheVariants.{Empty, One, Two}
+use Rattle.mds_reading.specs.declared.gathered.Scalar.{Scalar}
+use Rattle.mds_reading.specs.declared.gathered.Scalar.TheVariants.{Int, Text}
+
+abbrev pub scalar_view : Scalar → Json
+scalar_view (Int z) = int z
+scalar_view (Text s) = text s.now
 
 abbrev pub gathered : Gathered → List Json
 gathered Empty = []
-gathered (One s) = text s.now ∷ []
-gathered (Two s t) = text s.now ∷ text t.now ∷ []
-gathered (Many v) = map node_view v.items
+gathered (One a) = scalar_view a ∷ []
+gathered (Two a b) = scalar_view a ∷ scalar_view b ∷ []
 
 -- entries, and others behind them
 abbrev pub items_before : List Json → Items → Items

@@ -1,20 +1,20 @@
 //! From a text to a tree that lends from it. Of a text that is unusual nothing is said.
-ghost use Rattle.std.specs.Prelude.{◌≡◌, ℕ, ◌+◌, ◌<◌, ◌≤◌, ◌∷◌, true, false, [], length, IfOk, OnOk, MatchOption, Ok, Some, map};
-ghost use Rattle.json.specs.Json.{value, items, members, parse_map};
+ghost use Rattle.std.specs.Prelude.{◌≡◌, ℕ, ◌+◌, ◌<◌, ◌≤◌, false, length, IfOk, IfSome, IsNone, OnOk, Ok, Some, None, map};
+ghost use Rattle.json.specs.Json.{value, items, members, parse_map, after_end_array};
 ghost use Rattle.json.specs.Print.{IsNumber};
 ghost use Rattle.serde_json.specs.Read.{converted};
 ghost use Rattle.mds_text.specs.Quoting.{is_quoted, quoted_count};
 ghost use Rattle.mds_text.specs.Reading.{read_text};
 ghost use Rattle.mds_text.specs.Tree.{int, items_of, list, members_of, no_members};
-ghost use Rattle.mds_reading.specs.Gathered.{gathered, items_before};
+ghost use Rattle.mds_reading.specs.Gathered.{gathered, items_before, scalar_view};
 ghost use Rattle.mds_reading.specs.Node.{node_view, node_member_view};
 ghost use Rattle.mds_reading.specs.Direct.{tree_number, tree_value, tree_items, tree_members, quoted_in, quoted_one};
 ghost use Rattle.json.specs.Token as token;
 
-use crate::gathered::Gathered;
+use crate::gathered::{Gathered, Scalar};
 use crate::members::put_member;
 use crate::node::{Node, NodeMember};
-use crate::point::{has_point, shows_decimal};
+use crate::point::{has_point, shows_scalar};
 use crate::stop::Stop;
 use crate::whole::whole_number;
 use json::{Reader, Scratch, Token};
@@ -63,7 +63,7 @@ fn read<'a>(
     };
     match token {
         Token::String(string) => Ok(Node::Text(string)),
-        Token::Number(number) => Ok(read_number(number, quoted)?),
+        Token::Number(number) => Ok(read_number(number, quoted)?.node()),
         Token::Bool(b) => Ok(Node::Bool(b)),
         Token::Null => Ok(Node::Null),
         Token::BeginArray => {
@@ -82,7 +82,7 @@ fn read<'a>(
     }
 }
 
-/// The list that a bracket began. One of two decimals takes no memory.
+/// The list that a bracket began. One of two texts takes no memory.
 #[cycle(read)]
 fn read_list<'a>(
     alloc: Global,
@@ -100,10 +100,10 @@ fn read_list<'a>(
         return Ok(front.list(alloc)?);
     }
     let entries = read_items(alloc, text, reader, quoted, depth, front)?;
-    Ok(entries.list(alloc)?)
+    Ok(Node::List(entries))
 }
 
-/// The decimals that a list begins with, two at most.
+/// The numbers and texts that a list begins with, two at most.
 #[inline(always)]
 fn read_front<'a>(
     text: &[u8],
@@ -115,36 +115,36 @@ fn read_front<'a>(
     ensures counted { OnOk result (quoted.new + quoted_in reader.new ≡ quoted.old + quoted_in reader.old) }
     ensures shorter { OnOk result (length reader.new ≤ length reader.old) }
 {
-    let Some(first) = next_decimal(text, reader, quoted)? else {
+    let Some(first) = next_scalar(text, reader, quoted)? else {
         return Ok(Gathered::Empty);
     };
-    let Some(second) = next_decimal(text, reader, quoted)? else {
+    let Some(second) = next_scalar(text, reader, quoted)? else {
         return Ok(Gathered::One(first));
     };
     Ok(Gathered::Two(first, second))
 }
 
-/// The decimal that comes next, where the text shows one.
+/// The number or the text that comes next, where the text shows one.
 #[inline(always)]
-fn next_decimal<'a>(
+fn next_scalar<'a>(
     text: &[u8],
     reader: &mut Reader<'a>,
     quoted: &mut u64,
-) -> Result<Option<&'a str>, Stop>
-    ensures { IfOk result (λ found. MatchOption found ((reader.new ≡ reader.old) × (quoted.new ≡ quoted.old))
-        (λ s. (reader.old ≡ token.number s.now ∷ reader.new) × (is_quoted s.now ≡ true) × (quoted.new ≡ quoted.old + 1))) }
+) -> Result<Option<Scalar<'a>>, Stop>
+    ensures none { IfOk result (λ found. IsNone found → (reader.new ≡ reader.old) × (quoted.new ≡ quoted.old)) }
+    ensures going { IfOk result (λ found. IfSome found (λ a. after_end_array reader.old ≡ None)) }
+    ensures ok { IfOk result (λ found. IfSome found (λ a. (depth : ℕ) → converted tree_value (value depth reader.old) ≡ Some (scalar_view a, reader.new))) }
+    ensures counted { OnOk result (quoted.new + quoted_in reader.new ≡ quoted.old + quoted_in reader.old) }
+    ensures one { IfOk result (λ found. IfSome found (λ a. length reader.old ≡ length reader.new + 1)) }
 {
-    if !shows_decimal(text, reader.offset()) {
+    if !shows_scalar(text, reader.offset()) {
         return Ok(None);
     }
-    let Some(Token::Number(number)) = reader.next() else {
-        return Err(Stop::Unusual);
-    };
-    if !has_point(number.as_bytes()) {
-        return Err(Stop::Unusual);
+    match reader.next() {
+        Some(Token::Number(number)) => Ok(Some(read_number(number, quoted)?)),
+        Some(Token::String(string)) => Ok(Some(Scalar::Text(string))),
+        _ => Err(Stop::Unusual),
     }
-    *quoted = quoted.checked_add(1).ok_or(Stop::Unusual)?;
-    Ok(Some(number))
 }
 
 /// The entries of a list behind those that were found.
@@ -157,15 +157,15 @@ fn read_items<'a>(
     quoted: &mut u64,
     depth: usize,
     front: Gathered<'a>,
-) -> Result<Gathered<'a>, Stop>
-    ensures ok { IfOk result (λ g. parse_map (items_before (gathered front.entry)) (converted tree_items (items (value depth) (length reader.old) reader.old)) ≡ Some (items_of (gathered g), reader.new)) }
+) -> Result<Vec<Node<'a>>, Stop>
+    ensures ok { IfOk result (λ v. parse_map (items_before (gathered front.entry)) (converted tree_items (items (value depth) (length reader.old) reader.old)) ≡ Some (items_of (map node_view v.items), reader.new)) }
     ensures counted { OnOk result (quoted.new + quoted_in reader.new ≡ quoted.old + quoted_in reader.old) }
     ensures shorter { OnOk result (length reader.new < length reader.old) }
 {
-    let mut found = front;
+    let mut found = front.entries(alloc)?;
     'items: while !reader.take_end_array() {
         let item = read(alloc, text, reader, quoted, depth)?;
-        found = found.with(alloc, item)?;
+        found.push(item)?;
     }
     Ok(found)
 }
@@ -194,31 +194,22 @@ fn read_members<'a>(
 
 /// A number: a text, which is counted, where it isn't plain.
 #[inline(always)]
-fn read_number<'a>(text: &'a str, quoted: &mut u64) -> Result<Node<'a>, Stop>
+fn read_number<'a>(text: &'a str, quoted: &mut u64) -> Result<Scalar<'a>, Stop>
     requires { IsNumber text.now }
-    ensures value { IfOk result (λ n. tree_number text.now ≡ Some (node_view n)) }
+    ensures value { IfOk result (λ a. tree_number text.now ≡ Some (scalar_view a)) }
     ensures counted { OnOk result (quoted.new ≡ quoted.old + quoted_one (token.number text.now)) }
 {
     if has_point(text.as_bytes()) || is_quoted(text.as_bytes()) {
         *quoted = quoted.checked_add(1).ok_or(Stop::Unusual)?;
-        return Ok(Node::Text(text));
+        return Ok(Scalar::Text(text));
     }
-    plain_number(text)
+    Ok(Scalar::Int(plain_number(text)?))
 }
 
 /// A plain whole number.
-fn plain_number<'a>(text: &str) -> Result<Node<'a>, Stop>
+fn plain_number(text: &str) -> Result<i64, Stop>
     requires { is_quoted text.now ≡ false }
-    ensures { IfOk result (λ n. tree_number text.now ≡ Some (node_view n)) }
+    ensures { IfOk result (λ z. tree_number text.now ≡ Some (int z)) }
 {
-    match whole_number(text.as_bytes()) {
-        Some(int) => Ok(int_node(int)),
-        None => Err(Stop::Unusual),
-    }
-}
-
-fn int_node<'a>(value: i64) -> Node<'a>
-    ensures { node_view result ≡ int value }
-{
-    Node::Int(value)
+    whole_number(text.as_bytes()).ok_or(Stop::Unusual)
 }

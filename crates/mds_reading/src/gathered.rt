@@ -1,63 +1,63 @@
-//! The entries of a list while it is read: a list of two texts takes no memory of its own.
-ghost use Rattle.std.specs.Prelude.{◌≡◌, ◌++◌, ◌∷◌, [], IfOk, map};
+//! What a list begins with, while it is read: a list of two texts takes no memory of its own.
+ghost use Rattle.std.specs.Prelude.{◌≡◌, IfOk, map};
 ghost use Rattle.mds_text.specs.Tree.{list, items_of};
 ghost use Rattle.mds_reading.specs.Node.{node_view};
-ghost use Rattle.mds_reading.specs.Gathered.{gathered};
+ghost use Rattle.mds_reading.specs.Gathered.{gathered, scalar_view};
 
 use crate::node::Node;
 use std::alloc::{AllocError, Global};
 
-/// The entries that were read.
-#[derive(Drop)]
+/// A plain whole number, or a text: that of a string, or of a number that isn't plain.
+#[derive(Clone, Copy)]
+pub(crate) enum Scalar<'a> {
+    Int(i64),
+    Text(&'a str),
+}
+
+impl<'a> Scalar<'a> {
+    /// The node of the number or the text.
+    #[inline(always)]
+    pub(crate) fn node(self) -> Node<'a>
+        ensures { node_view result ≡ scalar_view self.entry }
+    {
+        match self {
+            Scalar::Int(int) => Node::Int(int),
+            Scalar::Text(text) => Node::Text(text),
+        }
+    }
+}
+
+/// The numbers and texts that a list begins with, two at most.
+#[derive(Clone, Copy)]
 pub(crate) enum Gathered<'a> {
     Empty,
-    One(&'a str),
-    Two(&'a str, &'a str),
-    Many(Vec<Node<'a>>),
+    One(Scalar<'a>),
+    Two(Scalar<'a>, Scalar<'a>),
 }
 
 impl<'a> Gathered<'a> {
-    /// The entries with one more behind them.
-    #[inline(always)]
-    pub(crate) fn with(self, alloc: Global, entry: Node<'a>) -> Result<Gathered<'a>, AllocError>
-        ensures { IfOk result (λ more. gathered more ≡ gathered self.entry ++ node_view entry.entry ∷ []) }
-    {
-        match (self, entry) {
-            (Gathered::Empty, Node::Text(first)) => Ok(Gathered::One(first)),
-            (Gathered::One(first), Node::Text(second)) => Ok(Gathered::Two(first, second)),
-            (Gathered::Many(mut entries), entry) => {
-                entries.push(entry)?;
-                Ok(Gathered::Many(entries))
-            }
-            (before, entry) => {
-                let mut entries = before.entries(alloc)?;
-                entries.push(entry)?;
-                Ok(Gathered::Many(entries))
-            }
-        }
-    }
-
-    /// The list of the entries.
+    /// The list of these entries. One of two texts takes no memory.
     #[inline(always)]
     pub(crate) fn list(self, alloc: Global) -> Result<Node<'a>, AllocError>
         ensures { IfOk result (λ node. node_view node ≡ list (items_of (gathered self.entry))) }
     {
         match self {
-            Gathered::Two(first, second) => Ok(Node::Pair(first, second)),
+            Gathered::Two(Scalar::Text(first), Scalar::Text(second)) => {
+                Ok(Node::Pair(first, second))
+            }
             others => Ok(Node::List(others.entries(alloc)?)),
         }
     }
 
-    fn entries(self, alloc: Global) -> Result<Vec<Node<'a>>, AllocError>
+    /// The entries in memory of their own.
+    #[inline(never)]
+    pub(crate) fn entries(self, alloc: Global) -> Result<Vec<Node<'a>>, AllocError>
         ensures { IfOk result (λ entries. map node_view entries.items ≡ gathered self.entry) }
     {
         match self {
             Gathered::Empty => Ok(Vec::new(alloc)),
-            Gathered::One(first) => Ok(vec![in alloc; Node::Text(first)]?),
-            Gathered::Two(first, second) => {
-                Ok(vec![in alloc; Node::Text(first), Node::Text(second)]?)
-            }
-            Gathered::Many(entries) => Ok(entries),
+            Gathered::One(first) => Ok(vec![in alloc; first.node()]?),
+            Gathered::Two(first, second) => Ok(vec![in alloc; first.node(), second.node()]?),
         }
     }
 }

@@ -1,47 +1,28 @@
-//! Numbers with a point.
-ghost use Rattle.std.specs.Prelude.{◌≡◌, true, IsTrue, if◌then◌else◌, drop};
+//! What numbers and texts look like.
+ghost use Rattle.std.specs.Prelude.{◌≡◌, true, IsTrue};
 ghost use Rattle.json.specs.Print.{IsNumber};
-ghost use Rattle.mds_text.specs.Numbers.{begins_with, behind_digits, behind_minus};
 ghost use Rattle.mds_text.specs.Quoting.{is_quoted};
 
-/// Whether a point stands behind the digits of a number, which isn't plain then.
+/// Whether a point is one of the second to fifth bytes of a number, which isn't plain then.
 #[inline(always)]
 pub(crate) fn has_point(number: &[u8]) -> bool
     requires { IsNumber number.now }
     ensures { IsTrue result → is_quoted number.now ≡ true }
 {
-    is_point_behind_digits(behind_minus(number))
+    is_point(number, 2) || is_point(number, 3) || is_point(number, 1) || is_point(number, 4)
 }
 
-/// Whether a text shows a number with a point at this place: a look ahead, of which nothing is said.
+/// Whether a point stands at this place of a number, which isn't plain then.
 #[inline(always)]
-pub(crate) fn shows_decimal(text: &[u8], place: usize) -> bool {
-    match text.get(place..) {
-        Some(rest) => is_point_behind_digits(behind_minus(rest)),
-        None => false,
-    }
-}
-
-/// A text without a minus in front.
-#[inline(always)]
-fn behind_minus(text: &[u8]) -> &[u8]
-    ensures { result.now ≡ behind_minus text.now }
+fn is_point(number: &[u8], place: usize) -> bool
+    requires { IsNumber number.now }
+    ensures { IsTrue result → is_quoted number.now ≡ true }
 {
-    match text.split_first() {
-        Some((first, rest)) if *first == b'-' => rest,
-        _ => text,
-    }
+    place < number.len() && number[place] == b'.'
 }
 
-/// Whether a point stands behind the digits that a text begins with.
+/// Whether a text shows a number or a text at this place: a look ahead, of which nothing is said.
 #[inline(always)]
-fn is_point_behind_digits(text: &[u8]) -> bool
-    ensures { IsTrue result → begins_with 46 (behind_digits text.now) ≡ true }
-{
-    for (place, byte) in text.iter().enumerate() {
-        if !byte.is_ascii_digit() {
-            return *byte == b'.';
-        }
-    }
-    false
+pub(crate) fn shows_scalar(text: &[u8], place: usize) -> bool {
+    place < text.len() && matches!(text[place], b'"' | b'-' | b'0'..=b'9')
 }

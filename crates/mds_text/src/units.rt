@@ -10,7 +10,7 @@ pub(crate) const MOST_UNITS: u64 = 1_800_000_000;
 /// Contracts see the number.
 #[derive(Clone, Copy, PartialEq, Eq, PartialOrd, Ord)]
 pub struct Units7 {
-    units: i64,
+    units: i32,
 }
 
 impl Model for Units7 {
@@ -33,7 +33,9 @@ impl Units7 {
         ensures value { IfSome result (λ u. u ≡ units) }
     {
         if units.unsigned_abs() <= MOST_UNITS {
-            Some(Units7 { units })
+            Some(Units7 {
+                units: units as i32,
+            })
         } else {
             None
         }
@@ -45,7 +47,6 @@ impl Units7 {
         ensures least { least_units ≤ℤ result }
         ensures most { result ≤ℤ pos most_units }
     {
-        let Units7 { units } = self;
-        units
+        i64::from(self.units)
     }
 }

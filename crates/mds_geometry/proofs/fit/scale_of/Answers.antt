@@ -6,6 +6,7 @@ use Rattle.std.proofs.lemmas.List.Sums.{sum_by-cons}
 use Rattle.mds_geometry.specs.Strips.{at_most, span, strip_of}
 use Rattle.mds_geometry.specs.declared.scale.Scale.{Scale}
 use Rattle.mds_geometry.specs.declared.strip.Edge.{Edge}
+use Rattle.mds_geometry.proofs.Spans.{few_places}
 use Rattle.mds_geometry.proofs.fit.scale_of.Goals as goal
 
 at_most_none : (last n : ℕ) → last ≡ 0 → at_most last n ≡ 0
@@ -26,6 +27,12 @@ one_place scale is (e ∷ es) =
     let here = one_strip scale is e in
     let rest = one_place scale is es in
     omega arith
+
+pub returns-then-is_spare : goal.returns-then-is_spare
+returns-then-is_spare c =
+    let known = c.is_spare.ensures.known c.if-is_spare.true in
+    few_places c.between-scale.result c.args.edges.now c.args.extents.now.rows.reach c.loop-shift.shift
+    c.between-scale.ensures (c.requires known) (c.is_spare.ensures.spare c.if-is_spare.true)
 
 pub returns : goal.returns
 returns c = one_place c.one_strip.result c.one_strip.ensures c.args.edges.now

@@ -1,4 +1,5 @@
-use Rattle.std.proofs.Common.{◌≡◌, ◌-◌, ◌<◌, ◌∷◌, length, Some, None, map, refl, sym, ap, ◌∙◌, arith}
+use Rattle.std.proofs.Common.{◌≡◌, ◌-◌, ◌<◌, ◌∷◌, ◌++◌, [], length, Some, None, option_map, map, refl, sym, ap, ◌∙◌, arith}
+use Rattle.std.proofs.lemmas.List.{map_push}
 use Rattle.json.specs.Token.{Token}
 use Rattle.json.specs.Json.{parse_map, after_end_array, read_key, items, members, value}
 use Rattle.json.specs.Reads.{token_of}
@@ -7,7 +8,7 @@ use Rattle.serde_json.specs.Read.{converted}
 use Rattle.mds_text.specs.Tree.{list, object, members_of}
 use Rattle.mds_reading.specs.Gathered.{gathered, items_before}
 use Rattle.mds_reading.specs.Node.{node_view, node_member_view}
-use Rattle.mds_reading.proofs.Nodes.{node-Null, node-Bool, node-Text, node-Object}
+use Rattle.mds_reading.proofs.Nodes.{node-Null, node-Bool, node-Text, node-List, node-Object}
 use Rattle.mds_reading.specs.Direct.{tree_value, tree_items, tree_members, quoted_in}
 use Rattle.mds_reading.proofs.Turns.{converted-array, converted-object, member_read, members_over, item_read, items_over, items_before-no_items, one_more_item}
 use Rattle.mds_reading.proofs.Counted.{key_taken}
@@ -23,7 +24,7 @@ pub read-returns-in_ok-read_number-in-Number-clause-ok : goal.read-returns-in_ok
 read-returns-in_ok-read_number-in-Number-clause-ok t c =
     let first : c.args.reader.now ≡ token_of c.in-Some.token ∷ c.next.new.self = grind arith in
     let is : c.args.reader.now ≡ Token.number c.in-Number.number.now ∷ c.next.new.self = grind (arith, first) in
-    ap (converted tree_value) (ap (value c.args.depth) is ∙ value_is c.args.depth _) ∙ rw c.in_ok-read_number-in-Number.ensures.value
+    ap (converted tree_value) (ap (value c.args.depth) is ∙ value_is c.args.depth _) ∙ ap (option_map (λ d. (d, c.next.new.self))) (c.in_ok-read_number-in-Number.ensures.value) ∙ ap (λ d. Some (d, c.next.new.self)) (sym c.node.ensures)
 
 pub read-returns-in-Bool-clause-ok : goal.read-returns-in-Bool-clause-ok
 read-returns-in-Bool-clause-ok t c =
@@ -57,27 +58,30 @@ read_list-returns-then-take_end_array-clause-ok t c =
 pub read_list-returns-clause-ok : goal.read_list-returns-clause-ok
 read_list-returns-clause-ok t c =
     let found = c.in_ok-front.ensures.ok c.args.depth ∙ ap (λ ts. parse_map (items_before (gathered c.in_ok-front.front)) (converted tree_items (items (value c.args.depth) (length ts) ts))) (grind arith) ∙ c.in_ok-entries.ensures.ok in
-    ap (parse_map list) found ∙ ap (λ d. Some (d, c.read_items.new.reader)) (sym c.in_ok-list-2.ensures)
+    ap (parse_map list) found ∙ ap (λ d. Some (d, c.read_items.new.reader)) (sym (node-List c.in_ok-entries.entries))
 
 pub read_items-items-init : goal.read_items-items-init
 read_items-items-init t c =
-    (length c.args.reader.now, omega arith, refl, omega arith, refl)
+    let front = ap (λ vs. parse_map (items_before vs) (converted tree_items (items (value c.args.depth) (length c.args.reader.now) c.args.reader.now))) (sym c.in_ok-found.ensures) in
+    (length c.args.reader.now, omega arith, front, omega arith, refl)
 
 pub read_items-items-preserved : goal.read_items-items-preserved
 read_items-items-preserved t c =
     let p = value c.args.depth in
     let l = c.items in
     let n = l.invariant.0 in
+    let before = map node_view l.found.items in
     let going : (after_end_array l.reader ≡ None) × (c.take_end_array.new.self ≡ l.reader) = grind arith in
     let done = c.in_ok-item.ensures in
     let v = c.in_ok-item.item in
     let r = c.read.new.reader in
     let less : length r < length l.reader = rw (← going.1) done.shorter in
-    let turn = item_read p n l.reader r (node_view v) (omega (arith, l.invariant.1)) going.0 (rw (← going.1) done.ok) in (
+    let turn = item_read p n l.reader r (node_view v) (omega (arith, l.invariant.1)) going.0 (rw (← going.1) done.ok) in
+    let grown : map node_view c.push.new.self.items ≡ before ++ node_view v ∷ [] = ap (map node_view) (c.in_ok-push.ensures.items) ∙ map_push node_view l.found.items v in (
       n - 1,
       omega (arith, l.invariant.1),
-      l.invariant.2 ∙ ap (parse_map (items_before (gathered l.found))) turn ∙ one_more_item (gathered l.found) (node_view v) _
-          ∙ ap (λ vs. parse_map (items_before vs) (converted tree_items (items p (n - 1) r))) (sym c.in_ok-found.ensures),
+      l.invariant.2 ∙ ap (parse_map (items_before before)) turn ∙ one_more_item before (node_view v) _
+          ∙ ap (λ vs. parse_map (items_before vs) (converted tree_items (items p (n - 1) r))) (sym grown),
       omega (arith, l.invariant.3),
       omega (arith, l.invariant.4, c.in_ok-item.ensures.counted, ap quoted_in going.1),
     )
@@ -88,7 +92,8 @@ read_items-returns-clause-ok t c =
     let l = c.items in
     let n = l.invariant.0 in
     let r = c.take_end_array.new.self in
-    l.invariant.2 ∙ ap (parse_map (items_before (gathered l.found))) (items_over p n l.reader r l.invariant.1 (grind arith)) ∙ ap (λ ds. Some (ds, r)) (items_before-no_items (gathered l.found))
+    let before = map node_view l.found.items in
+    l.invariant.2 ∙ ap (parse_map (items_before before)) (items_over p n l.reader r l.invariant.1 (grind arith)) ∙ ap (λ ds. Some (ds, r)) (items_before-no_items before)
 
 pub read-returns-in_ok-read_members-in-BeginObject-clause-ok : goal.read-returns-in_ok-read_members-in-BeginObject-clause-ok
 read-returns-in_ok-read_members-in-BeginObject-clause-ok t c =

@@ -3,7 +3,7 @@ use Rattle.json.specs.Json.{items, members, value, parse_map}
 use Rattle.serde_json.specs.Read.{converted}
 use Rattle.mds_text.specs.Tree.{members_of, no_members}
 use Rattle.mds_reading.specs.Gathered.{gathered, items_before}
-use Rattle.mds_reading.specs.Node.{node_member_view}
+use Rattle.mds_reading.specs.Node.{node_view, node_member_view}
 use Rattle.mds_reading.specs.Direct.{tree_items, tree_members, quoted_in}
 use Rattle.mds_reading.proofs.direct.+read.Given as goal
 
@@ -22,7 +22,7 @@ decreases-read_members l = 3 * l.depth + 1
 abbrev pub invariant-read_items-items : goal.invariant-read_items-items
 invariant-read_items-items l =
     (n : ℕ) × (length l.reader ≤ n)
-    × (parse_map (items_before (gathered l.fn.front)) (converted tree_items (items (value l.depth) (length l.initial.reader) l.initial.reader)) ≡ parse_map (items_before (gathered l.found)) (converted tree_items (items (value l.depth) n l.reader)))
+    × (parse_map (items_before (gathered l.fn.front)) (converted tree_items (items (value l.depth) (length l.initial.reader) l.initial.reader)) ≡ parse_map (items_before (map node_view l.found.items)) (converted tree_items (items (value l.depth) n l.reader)))
     × (length l.reader ≤ length l.initial.reader)
     × (l.quoted + quoted_in l.reader ≡ l.initial.quoted + quoted_in l.initial.reader)
 

@@ -1,0 +1,35 @@
+use Rattle.std.proofs.Common.{arith, ◌≡◌, below_more, true, get_or}
+use Rattle.std.specs.Char.{is_ascii_digit}
+use Rattle.std.proofs.lemmas.Bool.Decides.{nat_tests}
+use Rattle.std.proofs.lemmas.List.{drop_all}
+use Rattle.mds_geometry.proofs.Decimals.{digits_end, digit_turn, value_end}
+use Rattle.mds_geometry.proofs.decimal.seven_digits.Goals as goal
+
+pub loop-place-preserved : goal.loop-place-preserved
+loop-place-preserved c =
+    let s = c.args.text.now in
+    let i = c.loop-place.place in
+    let is : is_ascii_digit (get_or s i 0) ≡ true = grind (arith, nat_tests) in
+    let turn = digit_turn s i c.loop-place.value c.from.result (omega arith) is c.from.ensures c.loop-place.invariant.value c.loop-place.invariant.small in
+    record {
+      value = turn.0;
+      small = turn.1;
+      few = omega arith;
+      digits = below_more _ _ c.loop-place.invariant.digits is;
+    }
+
+pub returns-clause-value : goal.returns-clause-value
+returns-clause-value c =
+    let s = c.args.text.now in
+    value_end s c.loop-place.place c.loop-place.value c.loop-place.invariant.value
+    (digits_end s c.loop-place.place (omega arith) c.loop-place.invariant.digits (λ within. absurd (omega arith)))
+
+pub returns-clause-count : goal.returns-clause-count
+returns-clause-count c =
+    let seen = digits_end c.args.text.now c.loop-place.place (omega arith) c.loop-place.invariant.digits (λ within. absurd (omega arith)) in
+    omega arith
+
+pub returns-clause-all : goal.returns-clause-all
+returns-clause-all c =
+    let seen = digits_end c.args.text.now c.loop-place.place (omega arith) c.loop-place.invariant.digits (λ within. absurd (omega arith)) in
+    drop_all _ c.args.text.now (omega arith)

@@ -1,0 +1,115 @@
+//! From where to where the edges of an area reach.
+ghost use Rattle.std.specs.Prelude.{◌≡◌, ◌≤◌, ◌<◌, ◌+◌, ◌*◌, ◌/◌, ◌^◌, IsTrue};
+ghost use Rattle.std.specs.Int.{abs_diff};
+ghost use Rattle.mds_geometry.specs.Strips.{AreMeasured};
+ghost use Rattle.mds_geometry.specs.Strips as strips;
+
+use crate::band::Band;
+use crate::bounds::Bounds;
+use crate::strip::Edge;
+use crate::strips::row_of;
+use mds_text::Units7;
+
+/// How many heights of a strip an edge reaches at most, on the average of all edges.
+const MOST_HEIGHTS: u64 = 2;
+
+/// More edges than are measured.
+const TOO_MANY: usize = 1 << 32;
+
+/// The least and the greatest row or column of some edges, and how far the edges reach.
+#[derive(Clone, Copy)]
+pub(crate) struct Extent {
+    /// The least row or column.
+    pub(crate) least: u32,
+    /// The greatest row or column.
+    pub(crate) greatest: u32,
+    /// How far the edges reach, all together. `u64::MAX` says nothing.
+    pub(crate) reach: u64,
+}
+
+/// The extents of edges from south to north and from west to east.
+#[derive(Clone, Copy)]
+pub(crate) struct Extents {
+    /// The rows of their latitudes.
+    pub(crate) rows: Extent,
+    /// The columns of their longitudes.
+    pub(crate) columns: Extent,
+}
+
+/// How far an edge reaches from one latitude or longitude to another.
+#[inline(always)]
+fn apart(from: Units7, to: Units7) -> u64
+    ensures value { result ≡ abs_diff (strips.row_of from) (strips.row_of to) }
+    ensures few { result ≤ 4294967295 }
+{
+    u64::from(row_of(from).abs_diff(row_of(to)))
+}
+
+/// How far edges reach in rows and in columns, all together.
+fn reach_of(edges: &[Edge]) -> (u64, u64)
+    ensures { AreMeasured edges.now result.0 }
+{
+    if edges.len() >= TOO_MANY {
+        return (u64::MAX, u64::MAX);
+    }
+    let mut rows: u64 = 0;
+    let mut columns: u64 = 0;
+    for edge in edges {
+        rows += apart(edge.from.lat, edge.to.lat);
+        columns += apart(edge.from.lng, edge.to.lng);
+    }
+    (rows, columns)
+}
+
+/// The row or column of so many units.
+fn row_at(units: i64) -> u32 {
+    match Units7::new(units) {
+        Some(units) => row_of(units),
+        None => 0,
+    }
+}
+
+impl Extent {
+    /// The extent of edges within a band, which reach so far, all together.
+    fn new(band: &Band, reach: u64) -> Extent
+        ensures { result.reach ≡ reach }
+    {
+        Extent {
+            least: row_at(band.least),
+            greatest: row_at(band.greatest),
+            reach,
+        }
+    }
+
+    /// How many strips of this height an edge of so many reaches, on the average.
+    pub(crate) fn strips(&self, shift: u32, edges: usize) -> u64
+        requires { shift ≤ 31 }
+    {
+        (self.reach >> shift)
+            .checked_div(edges as u64)
+            .unwrap_or(0)
+            .saturating_add(1)
+    }
+
+    /// Whether so many edges reach at most two heights of a strip, on the average.
+    pub(crate) fn is_spare(&self, shift: u32, edges: usize) -> bool
+        requires { shift ≤ 31 }
+        ensures known { IsTrue result → self.now.reach < 18446744073709551615 }
+        ensures spare { IsTrue result → self.now.reach / 2 ^ shift ≤ 2 * edges }
+    {
+        self.reach < u64::MAX && self.reach >> shift <= (edges as u64).saturating_mul(MOST_HEIGHTS)
+    }
+}
+
+impl Extents {
+    /// The extents of these edges, which lie within these bounds.
+    pub(crate) fn of(edges: &[Edge], bounds: &Bounds) -> Extents
+        ensures { AreMeasured edges.now result.rows.reach }
+    {
+        let (rows, columns) = reach_of(edges);
+        Extents {
+            rows: Extent::new(&bounds.lat, rows),
+            columns: Extent::new(&bounds.lng, columns),
+        }
+    }
+}
