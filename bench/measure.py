@@ -27,8 +27,9 @@ FLEET = generate.MOST_VEHICLES
 QUESTIONS = {"ours": 10, "good": 10, "scan": 1}
 POLICIES, POLICY_RULES, PART_FLEET = 30, 8, 20_000
 NEW_DEVICES = 20_000
+MANY_DEVICES = 100_000
 SMALL_FLEET = 2_000
-PUTS, POLICY_PUTS, LISTS = 100, 2_000, 50
+PUTS, POLICY_PUTS, LISTS = 100, 10_000, 50
 
 
 class Run:
@@ -92,9 +93,9 @@ def policies_scripts(random):
 
 
 def report_scripts(random):
-    """New devices in a large fleet, and as many in fleets of about 2,000, twenty of them."""
-    large = sorted(generate.fleet(random, FLEET - NEW_DEVICES))
-    more = generate.fleet(random, NEW_DEVICES)
+    """New devices in a large fleet, and in fleets of about 2,000, twenty of them."""
+    large = sorted(generate.fleet(random, FLEET - MANY_DEVICES))
+    more = generate.fleet(random, MANY_DEVICES)
     few = SMALL_FLEET - NEW_DEVICES // 20 // 2
     small, others = [], []
     for operator in range(1, generate.OPERATORS):
@@ -106,7 +107,7 @@ def report_scripts(random):
         "small fleets": small,
         "small fleets and more": small + others,
         "no report": [],
-        "reports": more,
+        "reports": more[:NEW_DEVICES],
     }
 
 
@@ -249,7 +250,7 @@ def tell(runs):
     label = "a question, %d policies of %d rules, %d vehicles" % (POLICIES, POLICY_RULES, PART_FLEET)
     table.row(label, "ask policies", "policies", 10, 1e3, "ms", (2, 0.9))
     label = "a report of a new device, fleet of %d"
-    large = table.row(label % FLEET, "large fleet and more", "large fleet", NEW_DEVICES, 1e6, "us", None)
+    large = table.row(label % FLEET, "large fleet and more", "large fleet", MANY_DEVICES, 1e6, "us", None)
     small = table.row(label % SMALL_FLEET, "small fleets and more", "small fleets", NEW_DEVICES, 1e6, "us", None)
     table.compare("a fleet of %d against %d" % (FLEET, SMALL_FLEET), large, small, (2, 1.5))
     table.rate("reports a second, fleet from 0 to %d" % NEW_DEVICES, "reports", "no report", NEW_DEVICES, (0.5, 0.9))
