@@ -399,35 +399,42 @@ fn reads_numbers_of_64_bytes(rt: HostRuntime) -> Result<(), Fail> {
     Ok(())
 }
 
-/// A geography of this GeoJSON, in which the last ring is one of so many positions.
-fn read_many(
-    alloc: Global,
-    before: &str,
-    count: usize,
-    after: &str,
-) -> Result<Geography, GeoFault> {
-    let mut geojson = String::from_str(alloc, before)?;
-    geojson.push_str("[[0,0]")?;
-    for _ in 1..count {
-        geojson.push_str(",[0,0]")?;
-    }
-    geojson.push_str("]")?;
-    geojson.push_str(after)?;
-    read(alloc, "n", geojson.as_str(), "")
-}
-
 /// Texts with a ring of the most positions that a geography may have, or of one more.
 struct Most {
     before: &'static str,
+    position: &'static str,
     after: &'static str,
     most: usize,
     more: usize,
     polygons: usize,
 }
 
+/// A geography of a case's GeoJSON, whose last ring has so many positions.
+fn read_many(alloc: Global, case: &Most, count: usize) -> Result<Geography, GeoFault> {
+    let mut geojson = String::from_str(alloc, case.before)?;
+    geojson.push_str("[")?;
+    geojson.push_str(case.position)?;
+    for _ in 1..count {
+        geojson.push_str(",")?;
+        geojson.push_str(case.position)?;
+    }
+    geojson.push_str("]")?;
+    geojson.push_str(case.after)?;
+    read(alloc, "n", geojson.as_str(), "")
+}
+
 const MOST: &[Most] = &[
     Most {
         before: "{\"type\":\"Polygon\",\"coordinates\":[",
+        position: "[0,0]",
+        after: "]}",
+        most: 20_000,
+        more: 20_001,
+        polygons: 1,
+    },
+    Most {
+        before: "{\"type\":\"Polygon\",\"coordinates\":[",
+        position: "[0.5,-0.5]",
         after: "]}",
         most: 20_000,
         more: 20_001,
@@ -435,6 +442,7 @@ const MOST: &[Most] = &[
     },
     Most {
         before: "{\"type\":\"MultiPolygon\",\"coordinates\":[[[[0,0],[10,0],[10,10],[0,10],[0,0]]],[",
+        position: "[0,0]",
         after: "]]}",
         most: 19_995,
         more: 19_996,
@@ -446,9 +454,9 @@ const MOST: &[Most] = &[
 fn reads_twenty_thousand_positions(rt: HostRuntime) -> Result<(), Fail> {
     let alloc = rt.alloc();
     for case in MOST {
-        let geography = read_many(alloc, case.before, case.most, case.after)?;
+        let geography = read_many(alloc, case, case.most)?;
         assert_eq!(rt; geography.polygons().len(), case.polygons);
-        let answer = read_many(alloc, case.before, case.more, case.after);
+        let answer = read_many(alloc, case, case.more);
         assert!(rt; matches!(answer, Err(GeoFault::TooManyPoints)));
     }
     Ok(())

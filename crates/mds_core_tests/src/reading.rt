@@ -108,6 +108,21 @@ const TEXTS: &[ReadCase] = &[
         count: 0,
     },
     ReadCase {
+        text: r#"[[-122.4,37.7],[0.5,"x"]]"#,
+        want: r#"[["-122.4","37.7"],["0.5","x"]]"#,
+        count: 3,
+    },
+    ReadCase {
+        text: "[[1.5,2.5],[3.5],7]",
+        want: r#"[["1.5","2.5"],["3.5"],7]"#,
+        count: 3,
+    },
+    ReadCase {
+        text: "[[1.5,2.5,3.5],[4.5,5.5]]",
+        want: r#"[["1.5","2.5","3.5"],["4.5","5.5"]]"#,
+        count: 5,
+    },
+    ReadCase {
         text: "\"1.5\"",
         want: "\"1.5\"",
         count: 0,
@@ -414,6 +429,39 @@ fn members_are_read(rt: HostRuntime) -> Result<(), Fail> {
     let alloc = rt.alloc();
     let mut source = Source::new(alloc);
     expect_lent(&rt, alloc, &mut source)?;
+    Ok(())
+}
+
+/// Whether an entry is this pair.
+fn is_pair(entry: &Node<'_>, first: &str, second: &str) -> bool {
+    match entry {
+        Node::Pair(one, two) => *one == first && *two == second,
+        _ => false,
+    }
+}
+
+/// Whether these are the pairs of a ring.
+fn are_pairs(entries: &[Node<'_>]) -> bool {
+    match entries {
+        [one, two] => is_pair(one, "-122.4", "37.7") && is_pair(two, "0.5", "x"),
+        _ => false,
+    }
+}
+
+/// A list of pairs, as a source lends it.
+fn expect_pairs(rt: &impl Abort, alloc: Global, source: &mut Source) -> Result<(), TextFault> {
+    let ring = source.read(alloc, br#"[[-122.4,37.7],[0.5,"x"]]"#)?;
+    assert!(rt; matches!(ring, Node::Pairs(_)));
+    let entries = entries_of(alloc, &ring, Field::Coordinates)?;
+    assert!(rt; are_pairs(entries.as_slice()));
+    Ok(())
+}
+
+#[test]
+fn pairs_are_lent(rt: HostRuntime) -> Result<(), Fail> {
+    let alloc = rt.alloc();
+    let mut source = Source::new(alloc);
+    expect_pairs(&rt, alloc, &mut source)?;
     Ok(())
 }
 

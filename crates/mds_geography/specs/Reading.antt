@@ -55,6 +55,10 @@ positions_of read (t ∷ ts) = do
   rest ← positions_of next ts
   Ok (position ∷ rest.0, rest.1)
 
+-- the positions of the list that a ring is
+abbrev pub positions_in : ℕ → Json → Result (Counted (List Position)) Fault
+positions_in read value = list_of Coordinates value >>= positions_of read
+
 -- the ends of a ring agree
 abbrev pub ends_meet : Option Position → Option Position → Bool
 ends_meet (Some p) (Some q) = int_eq p.lng q.lng && int_eq p.lat q.lat
@@ -69,8 +73,7 @@ ring_from ps =
 
 abbrev pub ring_of : ℕ → Json → Result (Counted (List Position)) Fault
 ring_of read value = do
-  entries ← list_of Coordinates value
-  positions ← positions_of read entries
+  positions ← positions_in read value
   ring ← ring_from positions.0
   Ok (ring, positions.1)
 

@@ -1,14 +1,14 @@
 //! The walk through the GeoJSON of a geography, in document order. Each step is told how many
 //! positions were read before it, and tells how many were read after it.
-ghost use Rattle.std.specs.Prelude.{◌≡◌, ◌≤◌, ◌∷◌, [], map, IfOk, Ok};
-ghost use Rattle.mds_text.specs.Fault.{Gives, text_cause};
+ghost use Rattle.std.specs.Prelude.{◌≡◌, ◌≤◌, ◌∷◌, [], map, IfOk, Ok, Some};
+ghost use Rattle.mds_text.specs.Fault.{Gives, bad_field, text_cause};
 ghost use Rattle.mds_text.specs.Fields.{list_of, required_at};
 ghost use Rattle.mds_text.specs.Tree.{text};
-ghost use Rattle.mds_text.specs.declared.field.Field.TheVariants.{Features};
+ghost use Rattle.mds_text.specs.declared.field.Field.TheVariants.{Coordinates, Features};
 ghost use Rattle.mds_reading.specs.Entries.{entries_view};
-ghost use Rattle.mds_reading.specs.Node.{node_view};
+ghost use Rattle.mds_reading.specs.Node.{node_view, pair_view};
 ghost use Rattle.mds_geography.specs.Fault.{geo_cause};
-ghost use Rattle.mds_geography.specs.Reading.{position_of, position_at, positions_of, ring_of, rings_of, polygon_of, polygons_of, multipolygon_of, geometry_of, kind_of, feature_of, feature_geometry, features_of, geojson_of, most_positions, uncounted};
+ghost use Rattle.mds_geography.specs.Reading.{position_of, position_at, positions_of, positions_in, ring_of, rings_of, polygon_of, polygons_of, multipolygon_of, geometry_of, kind_of, feature_of, feature_geometry, features_of, geojson_of, most_positions, uncounted};
 
 use crate::fault::GeoFault;
 use mds_geometry::{
@@ -21,12 +21,19 @@ use std::alloc::Global;
 /// The most positions of a geography, closing ones counted.
 const MOST_POSITIONS: usize = 20_000;
 
+/// The fault of what is no position.
+fn no_position() -> GeoFault
+    ensures { geo_cause result ≡ Some (bad_field Coordinates) }
+{
+    GeoFault::Text(TextFault::BadField(Field::Coordinates))
+}
+
 /// Longitude, then latitude; further entries aren't looked at (RFC 7946, section 3.1.1).
 fn position_of(entries: &[Node<'_>]) -> Result<Position, GeoFault>
     ensures { Gives geo_cause (λ p. p) result (position_of (map node_view entries.now)) }
 {
     let [lng, lat, ..] = entries else {
-        return Err(GeoFault::Text(TextFault::BadField(Field::Coordinates)));
+        return Err(no_position());
     };
     let lng = coordinate_of_node(lng, Field::Coordinates, MOST_LONGITUDE)?;
     let lat = coordinate_of_node(lat, Field::Coordinates, MOST_LATITUDE)?;
@@ -34,6 +41,7 @@ fn position_of(entries: &[Node<'_>]) -> Result<Position, GeoFault>
 }
 
 /// The position of two numbers' texts: longitude, then latitude.
+#[inline(always)]
 fn position_of_texts(lng: &str, lat: &str) -> Result<Position, GeoFault>
     ensures { Gives geo_cause (λ p. p) result (position_of (text lng.now ∷ text lat.now ∷ [])) }
 {
@@ -49,7 +57,8 @@ fn position_at(entry: &Node<'_>) -> Result<Position, GeoFault>
     match entry {
         Node::Pair(lng, lat) => position_of_texts(lng, lat),
         Node::List(entries) => position_of(entries),
-        _ => Err(GeoFault::Text(TextFault::BadField(Field::Coordinates))),
+        Node::Pairs(_) => Err(no_position()),
+        _ => Err(no_position()),
     }
 }
 
@@ -74,14 +83,51 @@ fn positions_of(
     Ok((positions, read))
 }
 
+/// The positions of a ring of pairs, each counted before it is read.
+fn positions_of_pairs(
+    alloc: Global,
+    mut read: usize,
+    pairs: &[(&str, &str)],
+) -> Result<(Vec<Position>, usize), GeoFault>
+    requires { read ≤ most_positions }
+    ensures value { Gives geo_cause (λ x. (x.0.items, x.1)) result (positions_of read (map pair_view pairs.now)) }
+    ensures few { IfOk result (λ x. x.1 ≤ most_positions) }
+{
+    let mut positions = Vec::with_capacity(alloc, pairs.len().min(MOST_POSITIONS))?;
+    for pair in pairs {
+        if read == MOST_POSITIONS {
+            return Err(GeoFault::TooManyPoints);
+        }
+        read += 1;
+        positions.push(position_of_texts(pair.0, pair.1)?)?;
+    }
+    Ok((positions, read))
+}
+
+/// The positions of the list that a ring is.
+fn positions_in(
+    alloc: Global,
+    read: usize,
+    value: &Node<'_>,
+) -> Result<(Vec<Position>, usize), GeoFault>
+    requires { read ≤ most_positions }
+    ensures value { Gives geo_cause (λ x. (x.0.items, x.1)) result (positions_in read (node_view value.now)) }
+    ensures few { IfOk result (λ x. x.1 ≤ most_positions) }
+{
+    if let Node::Pairs(pairs) = value {
+        return positions_of_pairs(alloc, read, pairs);
+    }
+    let entries = entries_of(alloc, value, Field::Coordinates)?;
+    positions_of(alloc, read, entries.as_slice())
+}
+
 /// A ring and its end: too few positions come before ends that differ (RFC 7946, section 3.1.6).
 fn ring_of(alloc: Global, read: usize, value: &Node<'_>) -> Result<(Ring, usize), GeoFault>
     requires { read ≤ most_positions }
     ensures value { Gives geo_cause (λ x. (x.0, x.1)) result (ring_of read (node_view value.now)) }
     ensures few { IfOk result (λ x. x.1 ≤ most_positions) }
 {
-    let entries = entries_of(alloc, value, Field::Coordinates)?;
-    let (positions, read) = positions_of(alloc, read, entries.as_slice())?;
+    let (positions, read) = positions_in(alloc, read, value)?;
     let ring = Ring::new(positions)?;
     Ok((ring, read))
 }

@@ -3,6 +3,7 @@ pub mod Cells
 pub mod Decimals
 pub mod Marked
 pub mod Edges
+pub mod Eights
 pub mod Indexed
 pub mod Outside
 pub mod Reaching

@@ -1,8 +1,12 @@
-//! Numbers of degrees in plain decimal notation, each read in one pass.
-ghost use Rattle.std.specs.Prelude.{◌≡◌, ◌*◌, ◌-◌, ◌^◌, ◌<◌, ◌≤◌, [], drop, length, option_map, true, None, Ok, Some, if◌then◌else◌, IfSome};
+//! Numbers of degrees in plain decimal notation.
+ghost use Rattle.std.specs.Prelude.{◌≡◌, ℕ, List, nat_le, ◌+◌, ◌*◌, ◌-◌, ◌^◌, ◌<◌, ◌≤◌, [], drop, length, option_map, true, None, Ok, Some, if◌then◌else◌, IfSome};
 ghost use Rattle.std.specs.Char.{is_ascii_digit};
 ghost use Rattle.std.specs.List.{prefix_len};
 ghost use Rattle.std.specs.Str.Parse.{digits_value};
+ghost use Rattle.std.specs.Simd.Lanes.{number_l};
+ghost use Rattle.std.specs.Int.Digits.{number_from_digits};
+ghost use Rattle.core.specs.Dec2flt.Digits.{IsEightBytes, IsEightDigits};
+ghost use Rattle.core.specs.Slice.Scan.{digits_from, flag_word};
 ghost use Rattle.mds_text.specs.Fault.{Gives, number_cause};
 ghost use Rattle.mds_text.specs.Numbers.{begins_with, behind_digits, behind_minus, digits, in_range, is_whole, units_of};
 
@@ -19,6 +23,30 @@ const MOST_BYTES: usize = 64;
 
 /// The most digits that stand one behind another in a number that is read in one pass.
 const MOST_DIGITS: usize = 9;
+
+/// Eight bytes of the digit 0.
+const EIGHT_ZEROS: u64 = 0x3030_3030_3030_3030;
+
+/// What makes a zero of a point in the lowest byte.
+const POINT_TO_ZERO: u64 = 2;
+
+/// The high bit of each byte.
+const HIGH_BITS: u64 = 0x8080_8080_8080_8080;
+
+/// The other bits of each byte.
+const LOW_BITS: u64 = 0x7f7f_7f7f_7f7f_7f7f;
+
+/// What sets the high bit of each byte's low bits where these are 10 or more.
+const UP_FROM_TEN: u64 = 0x7676_7676_7676_7676;
+
+/// The bytes of a word that hold the first and the third pair of digits.
+const TWO_LANES: u64 = 0x0000_00ff_0000_00ff;
+
+/// What those pairs are worth, in the upper half of the product.
+const FIRST_PLACES: u64 = 100 + (1_000_000 << 32);
+
+/// What the second and the fourth pair are worth, likewise.
+const SECOND_PLACES: u64 = 1 + (10_000 << 32);
 
 /// The coordinate that a number's text gives, as `mds_text::units_of` reads it. Takes no memory.
 ///
@@ -53,6 +81,29 @@ fn other_units(text: &str) -> Result<Units7, NumberFault>
 /// Of other texts, and beyond 180 degrees, nothing is said.
 #[inline(always)]
 fn decimal_units(text: &[u8]) -> Option<Units7>
+    ensures { IfSome result (λ u. units_of text.now ≡ Ok u) }
+{
+    match usual_units(text) {
+        Some(units) => Some(units),
+        None => plain_units(text),
+    }
+}
+
+/// The same of a text with one to three whole digits and seven decimals, as fine as a unit. It has no loop.
+#[inline(always)]
+fn usual_units(text: &[u8]) -> Option<Units7>
+    ensures { IfSome result (λ u. units_of text.now ≡ Ok u) }
+{
+    let (negative, number) = sign_of(text);
+    let (whole, fraction) = number.split_last_chunk::<8>()?;
+    let decimals = seven_decimals(fraction)?;
+    let degrees = few_digits(whole)?;
+    signed(negative, degrees * DEGREE + decimals)
+}
+
+/// The same of a text with up to nine whole digits and one to seven decimals.
+#[inline(never)]
+fn plain_units(text: &[u8]) -> Option<Units7>
     ensures { IfSome result (λ u. units_of text.now ≡ Ok u) }
 {
     if text.len() > MOST_BYTES {
@@ -102,9 +153,6 @@ fn decimals_of(fraction: &[u8]) -> Option<u64>
     ensures value { IfSome result (λ n. n ≡ digits_value 10 (digits fraction.now) * 10 ^ (7 - length (digits fraction.now))) }
     ensures small { IfSome result (λ n. n < 10 ^ 16) }
 {
-    if let Ok(seven) = <&[u8; 7]>::try_from(fraction) {
-        return seven_digits(seven);
-    }
     let (decimals, count) = front_digits(fraction)?;
     if count < fraction.len() {
         return None;
@@ -153,22 +201,99 @@ fn front_digits(text: &[u8]) -> Option<(u64, usize)>
     Some((value, text.len()))
 }
 
-/// The number that seven digits write; `None` where one of them is no digit.
+/// The number that one to three digits write, the first of several being no zero; `None` of any other text.
 #[inline(always)]
-fn seven_digits(text: &[u8; 7]) -> Option<u64>
-    ensures value { IfSome result (λ n. n ≡ digits_value 10 (digits text.now)) }
-    ensures count { IfSome result (λ n. prefix_len is_ascii_digit text.now ≡ 7) }
-    ensures all { IfSome result (λ n. behind_digits text.now ≡ []) }
+fn few_digits(text: &[u8]) -> Option<u64>
+    ensures whole { IfSome result (λ n. is_whole text.now ≡ true) }
+    ensures count { IfSome result (λ n. prefix_len is_ascii_digit text.now ≡ length text.now) }
+    ensures few { IfSome result (λ n. length text.now ≤ 3) }
+    ensures value { IfSome result (λ n. n ≡ digits_value 10 text.now) }
+    ensures small { IfSome result (λ n. n < 1000) }
+{
+    match text {
+        [first, second, third] => {
+            let (first, second, third) = (
+                digit_value_of(*first),
+                digit_value_of(*second),
+                digit_value_of(*third),
+            );
+            if first == 0 || first > 9 || second > 9 || third > 9 {
+                return None;
+            }
+            Some(first * 100 + second * 10 + third)
+        }
+        [first, second] => {
+            let (first, second) = (digit_value_of(*first), digit_value_of(*second));
+            if first == 0 || first > 9 || second > 9 {
+                return None;
+            }
+            Some(first * 10 + second)
+        }
+        [only] => {
+            let only = digit_value_of(*only);
+            if only > 9 {
+                return None;
+            }
+            Some(only)
+        }
+        _ => None,
+    }
+}
+
+/// The value of a digit; more than 9 of another byte.
+#[inline(always)]
+fn digit_value_of(byte: u8) -> u64
+    ensures { result ≤ 9 → byte ≡ 48 + result }
+{
+    u64::from(byte).wrapping_sub(u64::from(b'0'))
+}
+
+/// The number that seven digits write behind a point; `None` of any other text.
+#[inline(always)]
+fn seven_decimals(fraction: &[u8; 8]) -> Option<u64>
+    ensures point { IfSome result (λ n. begins_with 46 fraction.now ≡ true) }
+    ensures count { IfSome result (λ n. prefix_len is_ascii_digit (drop 1 fraction.now) ≡ 7) }
+    ensures all { IfSome result (λ n. behind_digits (drop 1 fraction.now) ≡ []) }
+    ensures value { IfSome result (λ n. n ≡ digits_value 10 (digits (drop 1 fraction.now))) }
     ensures small { IfSome result (λ n. n < 10 ^ 7) }
 {
-    let mut value: u64 = 0;
-    for (place, byte) in text.iter().enumerate() {
-        if !byte.is_ascii_digit() {
-            return None;
-        }
-        value = value * 10 + u64::from(*byte - b'0');
+    if fraction[0] != b'.' {
+        return None;
     }
-    Some(value)
+    eight_digits(u64::from_le_bytes(*fraction) + POINT_TO_ZERO)
+}
+
+/// The number that eight digits write, the first of them in the lowest byte; `None` where a byte is no digit.
+#[inline(always)]
+fn eight_digits(word: u64) -> Option<u64>
+    ensures digits { (xs : List ℕ) → IsEightBytes xs → word ≡ number_l 256 xs → IfSome result (λ n. prefix_len is_ascii_digit xs ≡ 8) }
+    ensures value { (xs : List ℕ) → IsEightBytes xs → word ≡ number_l 256 xs → IfSome result (λ n. n ≡ digits_value 10 xs) }
+{
+    let lanes = word ^ EIGHT_ZEROS;
+    if flags_from_ten(lanes) != 0 {
+        return None;
+    }
+    Some(value_of_eight(lanes))
+}
+
+/// The high bit of each byte that is 10 or more. No sum carries into the next byte.
+#[inline(always)]
+fn flags_from_ten(word: u64) -> u64
+    ensures { (byte : ℕ → ℕ) → ((k : ℕ) → byte k < 256) → word ≡ digits_from byte 0 8 → result ≡ flag_word (λ k. nat_le 10 (byte k)) }
+{
+    (((word & LOW_BITS) + UP_FROM_TEN) | word) & HIGH_BITS
+}
+
+/// The number that eight digits write, each in a byte as its value and the first of them in the lowest:
+/// two neighbours are joined at a time, then all four pairs.
+#[inline(always)]
+fn value_of_eight(word: u64) -> u64
+    ensures { (ds : List ℕ) → IsEightDigits ds → word ≡ number_l 256 ds → result ≡ number_from_digits 10 ds }
+{
+    let pairs = word.wrapping_mul(10).wrapping_add(word >> 8);
+    let first = (pairs & TWO_LANES).wrapping_mul(FIRST_PLACES);
+    let second = ((pairs >> 16) & TWO_LANES).wrapping_mul(SECOND_PLACES);
+    first.wrapping_add(second) >> 32
 }
 
 /// What stands behind this byte, where the text begins with it.

@@ -54,7 +54,9 @@ fn events_of(alloc: Global, value: &Node<'_>) -> Result<Vec<Token>, TextFault>
 {
     match value {
         Node::Null => Ok(Vec::new(alloc)),
-        Node::List(_) | Node::Pair(_, _) => tokens_of(alloc, value, Field::States),
+        Node::List(_) | Node::Pair(_, _) | Node::Pairs(_) => {
+            tokens_of(alloc, value, Field::States)
+        }
         _ => Err(TextFault::BadField(Field::States)),
     }
 }

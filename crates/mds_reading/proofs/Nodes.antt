@@ -2,8 +2,8 @@
 use Rattle.std.proofs.Common.{◌≡◌, ℕ, ℤ, Bool, List, map, Vec, Global, rules}
 use Rattle.std.specs.Borrow.{Bor}
 use Rattle.mds_text.specs.Tree.{null, boolean, int, text, degrees, list, object, item, no_items, items_of, members_of}
-use Rattle.mds_reading.specs.Node.{node_view, node_member_view}
-use Rattle.mds_reading.specs.declared.node.Node.{Node, Null, Bool as BoolOf, Int, Text, Degrees, Pair, List as ListOf, Object, the_lemmas}
+use Rattle.mds_reading.specs.Node.{node_view, node_member_view, pair_view}
+use Rattle.mds_reading.specs.declared.node.Node.{Node, Null, Bool as BoolOf, Int, Text, Degrees, Pair, Pairs, List as ListOf, Object, the_lemmas}
 use Rattle.mds_reading.specs.declared.node.NodeMember.{NodeMember}
 
 pub node-Null : node_view Null ≡ null
@@ -23,6 +23,9 @@ node-Degrees u = search (rules, the_lemmas)
 
 pub node-Pair : (s t : Bor (List ℕ)) → node_view (Pair s t) ≡ list (item (text s.now) (item (text t.now) no_items))
 node-Pair s t = search (rules, the_lemmas)
+
+pub node-Pairs : (v : Vec (Bor (List ℕ) × Bor (List ℕ)) Global) → node_view (Pairs v) ≡ list (items_of (map pair_view v.items))
+node-Pairs v = search (rules, the_lemmas)
 
 pub node-List : (v : Vec Node Global) → node_view (ListOf v) ≡ list (items_of (map node_view v.items))
 node-List v = search (rules, the_lemmas)

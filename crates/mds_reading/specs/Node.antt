@@ -1,9 +1,14 @@
 -- The JSON value that a `Node` stands for.
-use Rattle.std.specs.Prelude.{ℕ, List}
+use Rattle.std.specs.Prelude.{ℕ, List, map}
+use Rattle.std.specs.Borrow.{Bor}
 use Rattle.mds_text.specs.Tree.{Json, null, boolean, int, text, degrees, list, object, no_items, item, items_of, members_of}
 use Rattle.mds_reading.specs.declared.node.Node.{Node, Node-F, fold-Node}
 use Rattle.mds_reading.specs.declared.node.Node.TheOpen.{NodeMember-F}
 use Rattle.mds_reading.specs.declared.node.NodeMember.{NodeMember}
+
+-- a list of two texts
+abbrev pub pair_view : Bor (List ℕ) × Bor (List ℕ) → Json
+pair_view p = list (item (text p.0.now) (item (text p.1.now) no_items))
 
 -- one level, with each value inside already seen as JSON
 abbrev pub node_step : Node-F Json (List ℕ × Json) → Json
@@ -13,6 +18,7 @@ node_step (Node-F.Int z) = int z
 node_step (Node-F.Text s) = text s.now
 node_step (Node-F.Degrees u) = degrees u
 node_step (Node-F.Pair s t) = list (item (text s.now) (item (text t.now) no_items))
+node_step (Node-F.Pairs v) = list (items_of (map pair_view v.items))
 node_step (Node-F.List v) = list (items_of v.items)
 node_step (Node-F.Object v) = object (members_of v.items)
 

@@ -11,10 +11,12 @@ ghost use Rattle.mds_reading.specs.Node.{node_view, node_member_view};
 ghost use Rattle.mds_reading.specs.Direct.{tree_number, tree_value, tree_items, tree_members, quoted_in, quoted_one};
 ghost use Rattle.json.specs.Token as token;
 
+use crate::entries::nodes_of;
+use crate::expected::{next_number, next_string, opens_list, shown};
 use crate::gathered::{Gathered, Scalar};
 use crate::members::put_member;
 use crate::node::{Node, NodeMember};
-use crate::point::{has_point, shows_scalar};
+use crate::point::has_point;
 use crate::stop::Stop;
 use crate::whole::whole_number;
 use json::{Reader, Scratch, Token};
@@ -84,6 +86,7 @@ fn read<'a>(
 
 /// The list that a bracket began. One of two texts takes no memory.
 #[cycle(read)]
+#[inline(always)]
 fn read_list<'a>(
     alloc: Global,
     text: &[u8],
@@ -99,8 +102,62 @@ fn read_list<'a>(
     if reader.take_end_array() {
         return Ok(front.list(alloc)?);
     }
-    let entries = read_items(alloc, text, reader, quoted, depth, front)?;
-    Ok(Node::List(entries))
+    if let Gathered::Empty = front {
+        return Ok(read_pairs(alloc, text, reader, quoted, depth)?);
+    }
+    let found = front.entries(alloc)?;
+    Ok(Node::List(read_items(alloc, text, reader, quoted, depth, found)?))
+}
+
+/// A list that begins with no number or text: pairs, where all of its entries are.
+#[cycle(read)]
+#[inline(never)]
+fn read_pairs<'a>(
+    alloc: Global,
+    text: &[u8],
+    reader: &mut Reader<'a>,
+    quoted: &mut u64,
+    depth: usize,
+) -> Result<Node<'a>, Stop>
+    ensures ok { IfOk result (λ n. parse_map list (converted tree_items (items (value depth) (length reader.old) reader.old)) ≡ Some (node_view n, reader.new)) }
+    ensures counted { OnOk result (quoted.new + quoted_in reader.new ≡ quoted.old + quoted_in reader.old) }
+    ensures shorter { OnOk result (length reader.new < length reader.old) }
+{
+    let mut pairs = Vec::new(alloc);
+    'pairs: while !reader.take_end_array() {
+        match read_entry(alloc, text, reader, quoted, depth)? {
+            Node::Pair(first, second) => pairs.push((first, second))?,
+            other => {
+                let mut found = nodes_of(alloc, &pairs)?;
+                found.push(other)?;
+                return Ok(Node::List(read_items(alloc, text, reader, quoted, depth, found)?));
+            }
+        }
+    }
+    Ok(Node::Pairs(pairs))
+}
+
+/// An entry of a list of lists.
+#[cycle(read)]
+#[inline(always)]
+fn read_entry<'a>(
+    alloc: Global,
+    text: &[u8],
+    reader: &mut Reader<'a>,
+    quoted: &mut u64,
+    depth: usize,
+) -> Result<Node<'a>, Stop>
+    ensures ok { IfOk result (λ n. converted tree_value (value depth reader.old) ≡ Some (node_view n, reader.new)) }
+    ensures counted { OnOk result (quoted.new + quoted_in reader.new ≡ quoted.old + quoted_in reader.old) }
+    ensures shorter { OnOk result (length reader.new < length reader.old) }
+{
+    if depth == 0 || shown(text, reader.offset()) != b'[' {
+        return Ok(read(alloc, text, reader, quoted, depth)?);
+    }
+    if !opens_list(reader) {
+        return Err(Stop::Unusual);
+    }
+    Ok(read_list(alloc, text, reader, quoted, depth - 1)?)
 }
 
 /// The numbers and texts that a list begins with, two at most.
@@ -137,13 +194,19 @@ fn next_scalar<'a>(
     ensures counted { OnOk result (quoted.new + quoted_in reader.new ≡ quoted.old + quoted_in reader.old) }
     ensures one { IfOk result (λ found. IfSome found (λ a. length reader.old ≡ length reader.new + 1)) }
 {
-    if !shows_scalar(text, reader.offset()) {
-        return Ok(None);
-    }
-    match reader.next() {
-        Some(Token::Number(number)) => Ok(Some(read_number(number, quoted)?)),
-        Some(Token::String(string)) => Ok(Some(Scalar::Text(string))),
-        _ => Err(Stop::Unusual),
+    match shown(text, reader.offset()) {
+        b'-' | b'0'..=b'9' => {
+            let number = next_number(reader);
+            if number.is_empty() {
+                return Err(Stop::Unusual);
+            }
+            Ok(Some(read_number(number, quoted)?))
+        }
+        b'"' => match next_string(reader) {
+            Some(string) => Ok(Some(Scalar::Text(string))),
+            None => Err(Stop::Unusual),
+        },
+        _ => Ok(None),
     }
 }
 
@@ -156,13 +219,12 @@ fn read_items<'a>(
     reader: &mut Reader<'a>,
     quoted: &mut u64,
     depth: usize,
-    front: Gathered<'a>,
+    mut found: Vec<Node<'a>>,
 ) -> Result<Vec<Node<'a>>, Stop>
-    ensures ok { IfOk result (λ v. parse_map (items_before (gathered front.entry)) (converted tree_items (items (value depth) (length reader.old) reader.old)) ≡ Some (items_of (map node_view v.items), reader.new)) }
+    ensures ok { IfOk result (λ v. (n : ℕ) → length reader.old ≤ n → parse_map (items_before (map node_view found.entry.items)) (converted tree_items (items (value depth) n reader.old)) ≡ Some (items_of (map node_view v.items), reader.new)) }
     ensures counted { OnOk result (quoted.new + quoted_in reader.new ≡ quoted.old + quoted_in reader.old) }
     ensures shorter { OnOk result (length reader.new < length reader.old) }
 {
-    let mut found = front.entries(alloc)?;
     'items: while !reader.take_end_array() {
         let item = read(alloc, text, reader, quoted, depth)?;
         found.push(item)?;

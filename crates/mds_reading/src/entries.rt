@@ -1,12 +1,12 @@
-ghost use Rattle.std.specs.Prelude.{◌≡◌, [], map};
+ghost use Rattle.std.specs.Prelude.{◌≡◌, [], map, IfOk};
 ghost use Rattle.mds_text.specs.Fault.{Gives, text_cause};
 ghost use Rattle.mds_text.specs.Fields.{list_of};
 ghost use Rattle.mds_reading.specs.Entries.{entries_view};
-ghost use Rattle.mds_reading.specs.Node.{node_view};
+ghost use Rattle.mds_reading.specs.Node.{node_view, pair_view};
 
 use crate::node::Node;
 use mds_text::{Field, TextFault};
-use std::alloc::Global;
+use std::alloc::{AllocError, Global};
 
 /// The entries of a list: those that are lent, or where there are any those that were made for it.
 #[derive(Drop)]
@@ -28,8 +28,8 @@ impl<'t, 'a> Entries<'t, 'a> {
     }
 }
 
-/// The entries of a list. Any other value is a bad field of this name. For a list of two texts memory
-/// is asked for.
+/// The entries of a list. Any other value is a bad field of this name. For a list of two texts, and for
+/// one of such lists, memory is asked for.
 pub fn entries_of<'t, 'a>(
     alloc: Global,
     value: &'t Node<'a>,
@@ -46,8 +46,26 @@ pub fn entries_of<'t, 'a>(
             let made = vec![in alloc; Node::Text(first), Node::Text(second)]?;
             Ok(Entries { lent: none(), made })
         }
+        Node::Pairs(pairs) => Ok(Entries {
+            lent: none(),
+            made: nodes_of(alloc, pairs)?,
+        }),
         _ => Err(TextFault::BadField(field)),
     }
+}
+
+/// Pairs, each a node of its own.
+pub(crate) fn nodes_of<'a>(
+    alloc: Global,
+    pairs: &[(&'a str, &'a str)],
+) -> Result<Vec<Node<'a>>, AllocError>
+    ensures { IfOk result (λ v. map node_view v.items ≡ map pair_view pairs.now) }
+{
+    let mut nodes = Vec::with_capacity(alloc, pairs.len())?;
+    for pair in pairs {
+        nodes.push(Node::Pair(pair.0, pair.1))?;
+    }
+    Ok(nodes)
 }
 
 fn none<'t, 'a>() -> &'t [Node<'a>]

@@ -3,6 +3,7 @@
 
 mod direct;
 mod entries;
+mod expected;
 mod fields;
 mod gathered;
 mod members;

@@ -12,6 +12,8 @@ pub enum Node<'a> {
     Degrees(Units7),
     /// A list of two texts, such as the longitude and latitude of a position.
     Pair(&'a str, &'a str),
+    /// A list of such pairs, such as the positions of a ring.
+    Pairs(Vec<(&'a str, &'a str)>),
     List(Vec<Node<'a>>),
     Object(Vec<NodeMember<'a>>),
 }

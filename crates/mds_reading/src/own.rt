@@ -1,7 +1,8 @@
 //! Trees of their own from lent ones, and the other way round.
 ghost use Rattle.std.specs.Prelude.{◌≡◌, IfOk, map};
+ghost use Rattle.mds_text.specs.Tree.{list, item, text, no_items};
 ghost use Rattle.mds_text.specs.View.{view, member_view};
-ghost use Rattle.mds_reading.specs.Node.{node_view, node_member_view};
+ghost use Rattle.mds_reading.specs.Node.{node_view, node_member_view, pair_view};
 
 use crate::node::{Node, NodeMember};
 use mds_text::{Member, Tree};
@@ -18,14 +19,30 @@ pub(crate) fn own(alloc: Global, node: &Node<'_>) -> Result<Tree, AllocError>
         Node::Int(int) => Ok(Tree::Int(*int)),
         Node::Text(text) => Ok(Tree::Text(String::from_str(alloc, text)?)),
         Node::Degrees(units) => Ok(Tree::Degrees(*units)),
-        Node::Pair(first, second) => {
-            let first = String::from_str(alloc, first)?;
-            let second = String::from_str(alloc, second)?;
-            Ok(Tree::List(vec![in alloc; Tree::Text(first), Tree::Text(second)]?))
-        }
+        Node::Pair(first, second) => own_pair(alloc, first, second),
+        Node::Pairs(pairs) => Ok(Tree::List(own_pairs(alloc, pairs)?)),
         Node::List(entries) => Ok(Tree::List(own_list(alloc, entries)?)),
         Node::Object(members) => Ok(Tree::Object(own_members(alloc, members)?)),
     }
+}
+
+/// A list of two texts.
+fn own_pair(alloc: Global, first: &str, second: &str) -> Result<Tree, AllocError>
+    ensures { IfOk result (λ t. view t ≡ list (item (text first.now) (item (text second.now) no_items))) }
+{
+    let first = String::from_str(alloc, first)?;
+    let second = String::from_str(alloc, second)?;
+    Ok(Tree::List(vec![in alloc; Tree::Text(first), Tree::Text(second)]?))
+}
+
+fn own_pairs(alloc: Global, pairs: &[(&str, &str)]) -> Result<Vec<Tree>, AllocError>
+    ensures { IfOk result (λ v. map view v.items ≡ map pair_view pairs.now) }
+{
+    let mut owned = Vec::with_capacity(alloc, pairs.len())?;
+    for pair in pairs {
+        owned.push(own_pair(alloc, pair.0, pair.1)?)?;
+    }
+    Ok(owned)
 }
 
 #[cycle(own)]

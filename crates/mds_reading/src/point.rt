@@ -20,9 +20,3 @@ fn is_point(number: &[u8], place: usize) -> bool
 {
     place < number.len() && number[place] == b'.'
 }
-
-/// Whether a text shows a number or a text at this place: a look ahead, of which nothing is said.
-#[inline(always)]
-pub(crate) fn shows_scalar(text: &[u8], place: usize) -> bool {
-    place < text.len() && matches!(text[place], b'"' | b'-' | b'0'..=b'9')
-}

@@ -1,4 +1,4 @@
-use Rattle.std.proofs.Common.{arith, ℕ, ◌≡◌, sym, ap, ◌∙◌, refl, subst, ◌≤◌, ◌<◌, ◌-◌, true, false, List, [], ◌∷◌, Option, Some, Ok, length, inl, inr, ℤ}
+use Rattle.std.proofs.Common.{arith, ℕ, ◌≡◌, sym, ◌∙◌, refl, subst, ◌≤◌, ◌<◌, ◌-◌, true, false, List, [], ◌∷◌, Option, Some, Ok, length, inl, inr, ℤ}
 use Rattle.std.specs.Prelude.{slice_get, nat_lt}
 use Rattle.std.specs.Ordering.{int_eq}
 use Rattle.std.proofs.lemmas.Bool.{cases_Bool}
@@ -32,5 +32,4 @@ ring_is (p ∷ ps) short differs =
 pub returns-clause-value : goal.returns-clause-value
 returns-clause-value c =
     let made = ring_is c.in_ok-positions.positions.items (λ few. (let e = c.in_ok-ring.ensures.short.1 few in cc)) (λ apart. (let e = c.in_ok-ring.ensures.open.1 apart in cc)) in
-    let entries = c.in_ok-entries.ensures ∙ ap Ok (sym c.as_slice.ensures) in
-    rw (entries, c.in_ok-positions.ensures.value, made, c.in_ok-ring.ensures.ring) refl
+    rw (c.in_ok-positions.ensures.value, made, c.in_ok-ring.ensures.ring) refl

@@ -1,6 +1,6 @@
 use Rattle.std.proofs.Common.{arith}
 use Rattle.mds_geometry.proofs.Decimals.{some_units}
-use Rattle.mds_geometry.proofs.decimal.decimal_units.Goals as goal
+use Rattle.mds_geometry.proofs.decimal.plain_units.Goals as goal
 
 pub returns : goal.returns
 returns c =
