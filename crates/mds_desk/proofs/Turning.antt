@@ -1,6 +1,6 @@
 -- A turn of a desk, put together.
 use mathlib.Core.List.{IsPrefix}
-use Rattle.std.proofs.Common.{◌≡◌, ◌⊎◌, ℕ, List, [], Option, Some, None, IfSome, inl, inr, refl, sym, subst, ◌∙◌}
+use Rattle.std.proofs.Common.{◌≡◌, ◌⊎◌, ℕ, List, [], Option, Some, None, IfSome, inl, inr, refl, sym, ap, subst, ◌∙◌}
 use Rattle.std.specs.List.{slice_get}
 use Rattle.std.proofs.lemmas.List.{append-nil}
 use Rattle.mds_catalog.specs.Publication.{Publication}
@@ -37,6 +37,7 @@ module _ (configuration : Configuration) (place : ℕ) (known : List Publication
             | inr a ↦ inr (inr a.0, a.1)
           ];
         };
+        shown = inr (λ operator found. at_some front reply after (slice_get configuration.operators place) operator (subst (λ f. IfSome (slice_get configuration.operators place) (Answered f reply after)) same h) found);
       }
 
   pub not_looked : (front : List Publication) (reply : Reply) → front ≡ known → reply ≡ refused NoSnapshot → TakesTurn (desk known rows) request reply (desk front rows)
@@ -47,4 +48,5 @@ module _ (configuration : Configuration) (place : ℕ) (known : List Publication
           begins = ([], append-nil known ∙ sym same);
           answer = inr (inl is, refl);
         };
+        shown = inl (is, ap (λ f. desk f rows) same);
       }

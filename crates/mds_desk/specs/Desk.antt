@@ -7,8 +7,9 @@ use Rattle.mds_catalog.specs.Publication.{Publication}
 use Rattle.mds_fleet.specs.Books.{Rows}
 use Rattle.mds_request.specs.Configuration.{Configuration, Operator, configuration}
 use Rattle.mds_request.specs.Request.{Request}
-use Rattle.mds_request.specs.Reply.{Reply}
-use Rattle.mds_fronts.specs.Desks.{IsTurn, IsRun}
+use Rattle.mds_request.specs.Reply.{Reply, refused}
+use Rattle.mds_request.specs.declared.code.Code.TheVariants.{NoMemory, NoSnapshot}
+use Rattle.mds_fronts.specs.Desks.{desk_does, IsTurn, IsRun}
 use Rattle.mds_desk.specs.declared.desk.Desk.{Desk}
 
 -- a desk between two requests
@@ -35,11 +36,20 @@ pub record IsSameDesk (d next : DeskState) : Type 0 where
   pub configuration : next.configuration ≡ d.configuration
   pub place : next.place ≡ d.place
 
--- A desk takes one turn, at the front that it knows afterwards.
+-- what the desk does at the front that it knows afterwards, or want of memory, which leaves the rows
+abbrev pub IsAnsweredAt : DeskState → Request → Reply → DeskState → Operator → Type 0
+IsAnsweredAt d request reply next operator =
+    let does = desk_does d.configuration d.place operator next.known d.rows request in
+    ((reply ≡ does.0) × (next.rows ≡ does.1)) ⊎ ((reply ≡ refused NoMemory) × (next.rows ≡ d.rows))
+
+-- A desk takes one turn, at the front that it knows afterwards. Want of a snapshot is told only by a desk that saw nothing
+-- new: it is as it was.
 pub record TakesTurn (d : DeskState) (request : Request) (reply : Reply) (next : DeskState) : Type 0 where
   pub same : IsSameDesk d next
   pub turn : (operator : Operator) → slice_get d.configuration.operators d.place ≡ Some operator
       → IsTurn d.configuration d.place operator d.known d.rows (record { request = request; front = next.known; reply = reply }) next.rows
+  pub shown : ((reply ≡ refused NoSnapshot) × (next ≡ d))
+      ⊎ ((operator : Operator) → slice_get d.configuration.operators d.place ≡ Some operator → IsAnsweredAt d request reply next operator)
 
 -- A desk takes a turn for each of these requests, in their order.
 pub record TakesRun (d : DeskState) (requests : List Request) (replies : List Reply) (next : DeskState) : Type 0 where

@@ -1,11 +1,12 @@
 -- What the author's room holds, and what becomes of it.
-use Rattle.std.specs.Prelude.{◌≡◌, List, [], ◌∷◌, ◌++◌, Bool, true, false, Option, Some, None, IfSome}
+use Rattle.std.specs.Prelude.{◌≡◌, ◌⊎◌, List, [], ◌∷◌, ◌++◌, Bool, true, false, Option, Some, None, IfSome}
 use Rattle.mds_catalog.specs.Publication.{Publication}
 use Rattle.mds_drafts.specs.Drafts.{Drafts}
 use Rattle.mds_drafts.specs.Shelf.{drafts_of}
 use Rattle.mds_request.specs.Configuration.{Configuration, configuration}
 use Rattle.mds_request.specs.Request.{Request}
-use Rattle.mds_request.specs.Reply.{Reply}
+use Rattle.mds_request.specs.Reply.{Reply, refused}
+use Rattle.mds_request.specs.declared.code.Code.TheVariants.{NoMemory}
 use Rattle.mds_machine.specs.Step.{new_state}
 use Rattle.mds_fronts.specs.Room.{IsRoomTurn}
 use Rattle.mds_desk.specs.declared.author.AuthorRoom.{AuthorRoom}
@@ -36,13 +37,15 @@ abbrev pub IsNoted : List Publication → Option (List Publication) → List Pub
 IsNoted publications None after = after ≡ publications
 IsNoted publications (Some note) after = (note ≡ after) × (p : Publication) × (after ≡ publications ++ p ∷ [])
 
--- The room takes one turn. Once it is closed it stays so and gives no note; it is open after each note that it gives.
+-- The room takes one turn. Once it is closed it stays so and gives no note; an open one closes for want of memory alone,
+-- and is open after each note that it gives.
 pub record TakesRoomTurn (r : RoomState) (request : Request) (reply : Reply) (note : Option (List Publication)) (next : RoomState) : Type 0 where
   pub same : next.configuration ≡ r.configuration
   pub turn : IsRoomTurn r.configuration (held_in r) request reply (held_in next)
   pub noted : IsNoted r.publications note next.publications
   pub stays_closed : r.is_open ≡ false → (next.is_open ≡ false) × (note ≡ None)
-  pub stays_open : IfSome note (λ list. next.is_open ≡ true)
+  pub stays_open : r.is_open ≡ true → (next.is_open ≡ true) ⊎ (reply ≡ refused NoMemory)
+  pub open_noted : IfSome note (λ list. next.is_open ≡ true)
 
 -- the room without a draft and a publication
 abbrev pub new_room : Configuration → RoomState

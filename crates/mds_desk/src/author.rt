@@ -1,5 +1,5 @@
 //! The author's room.
-ghost use Rattle.std.specs.Prelude.{◌≡◌};
+ghost use Rattle.std.specs.Prelude.{◌≡◌, ◌⊎◌};
 
 use crate::desk::Desk;
 use crate::operator::refusal_of_another;
@@ -25,6 +25,9 @@ impl<K: Naming> AuthorRoom<K> {
     ghost use mathlib.Core.List.{IsPrefix};
     ghost use Rattle.mds_request.specs.Configuration.{configuration};
     ghost use Rattle.mds_request.specs.Request.{request_of};
+    ghost use Rattle.mds_request.specs.Reply.{refused};
+    ghost use Rattle.mds_request.specs.declared.code.Code.TheVariants.{NoMemory};
+    ghost use Rattle.mds_snapshot.specs.Publishing.{IsShorterFront};
     ghost use Rattle.mds_machine.specs.Answer.{Gives};
     ghost use Rattle.mds_machine.specs.Author.{author_does};
     ghost use Rattle.mds_desk.specs.Desk.{state_of};
@@ -84,7 +87,8 @@ impl<K: Naming> AuthorRoom<K> {
             (author_does (room_of self.old).drafts (room_of self.old).publications call.now (request_of request.now)) result.0 (held_in (room_of self.new)) }
         ensures noted { IsNoted (room_of self.old).publications result.1 (room_of self.new).publications }
         ensures stays_closed { (room_of self.old).is_open ≡ false → ((room_of self.new).is_open ≡ false) × (result.1 ≡ None) }
-        ensures stays_open { IfSome result.1 (λ list. (room_of self.new).is_open ≡ true) }
+        ensures stays_open { (room_of self.old).is_open ≡ true → ((room_of self.new).is_open ≡ true) ⊎ (result.0 ≡ refused NoMemory) }
+        ensures open_noted { IfSome result.1 (λ list. (room_of self.new).is_open ≡ true) }
     {
         let catalogue = self.publisher.catalogue();
         match author_step(self.alloc, &mut self.drafts, catalogue, call, request) {
@@ -116,10 +120,10 @@ impl<K: Naming> AuthorRoom<K> {
     }
 
     /// Whether all that a desk of the same opening knows is published here; if not, the desk knows all that
-    /// is published here. Takes no memory.
+    /// is published here, and more. Takes no memory.
     pub fn has_published(&self, desk: &Desk<K>) -> bool
         ensures { MatchBool result (IsPrefix (state_of desk.now).known (room_of self.now).publications)
-            (IsPrefix (room_of self.now).publications (state_of desk.now).known) }
+            (IsShorterFront (room_of self.now).publications (state_of desk.now).known) }
     {
         self.publisher.has_published(desk.pane())
     }

@@ -14,7 +14,7 @@ use std::alloc::{AllocError, Global};
 use std::sync::Arc;
 
 /// An operator's own place: its book, and its pane on what is published. It is answered here without
-/// waiting for anybody. Contracts see the configuration, the operator's place in it, the publications that
+/// waiting for a lock. Contracts see the configuration, the operator's place in it, the publications that
 /// were seen or learnt, and the operator's rows.
 #[derive(Drop)]
 pub struct Desk<K: Naming> {
@@ -63,7 +63,7 @@ impl<K: Naming> Desk<K> {
         &self.pane
     }
 
-    /// Answers a request, and carries it out, from one look at what is published: a front of it that begins
+    /// Answers a request, and carries it out, from one look at what is published: publications that begin
     /// with all that this desk has seen or learnt.
     ///
     /// For a request of this desk's operator the reply is the success or the first refusal that applies at

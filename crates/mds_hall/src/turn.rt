@@ -27,7 +27,7 @@ fn tell<K: Naming>(desk: &mut Desk<K>, note: Option<&Note<K>>)
 }
 
 /// Answers the HTTP request of this head and body at a desk: the desk learns the note, where there is one,
-/// answers the request, and the response says its reply. It waits for nobody. Vehicles are judged by the
+/// answers the request, and the response says its reply. It waits for no lock. Vehicles are judged by the
 /// evaluator.
 ///
 /// # Errors

@@ -45,6 +45,11 @@ events_of null = Ok []
 events_of (list ts) = each (token_of StatesField) (entries ts)
 events_of value = Err (bad_field StatesField)
 
+-- the entries of a state's event types: what is neither null nor a list has none
+abbrev pub event_entries : Json → Result (List Json) Fault
+event_entries null = Ok []
+event_entries value = list_of StatesField value
+
 -- a state with its event types
 abbrev pub state_of : List ℕ → Json → Result States Fault
 state_of name value = do

@@ -1,7 +1,7 @@
 ghost use Rattle.std.specs.Prelude.{◌≡◌, [], map, IfOk};
 ghost use Rattle.mds_text.specs.Fault.{Gives, text_cause};
 ghost use Rattle.mds_text.specs.Fields.{list_of};
-ghost use Rattle.mds_reading.specs.Entries.{entries_view};
+ghost use Rattle.mds_reading.specs.Entries.{entries_view, IsCausedWhere};
 ghost use Rattle.mds_reading.specs.Node.{node_view, pair_view};
 
 use crate::node::Node;
@@ -28,14 +28,15 @@ impl<'t, 'a> Entries<'t, 'a> {
     }
 }
 
-/// The entries of a list. Any other value is a bad field of this name. For a list of two texts, and for
-/// one of such lists, memory is asked for.
+/// The entries of a list. Any other value is a bad field of this name, which asks for no memory. For a list
+/// of two texts, and for one of such lists, memory is asked for.
 pub fn entries_of<'t, 'a>(
     alloc: Global,
     value: &'t Node<'a>,
     field: Field,
 ) -> Result<Entries<'t, 'a>, TextFault>
-    ensures { Gives text_cause (λ entries. entries_view entries) result (list_of field (node_view value.now)) }
+    ensures value { Gives text_cause (λ entries. entries_view entries) result (list_of field (node_view value.now)) }
+    ensures memory { IsCausedWhere (list_of field (node_view value.now)) result }
 {
     match value {
         Node::List(entries) => Ok(Entries {

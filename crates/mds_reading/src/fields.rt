@@ -5,7 +5,7 @@ ghost use Rattle.std.specs.Prelude.{◌≡◌, option_map, map};
 ghost use Rattle.mds_text.specs.Fault.{Gives, IsCaused, text_cause};
 ghost use Rattle.mds_text.specs.Fields.{find_member, member_at, optional_at, required_at, required_member, object_of, document_of};
 ghost use Rattle.mds_text.specs.Fields.{text_of, bool_of, int_of, id_of, token_of, moment_of, bound_of, list_of, list_each};
-ghost use Rattle.mds_reading.specs.Entries.{entries_view};
+ghost use Rattle.mds_reading.specs.Entries.{entries_view, IsCausedWhere};
 ghost use Rattle.mds_text.specs.Tree.{members_of};
 ghost use Rattle.mds_reading.specs.Node.{node_view, node_member_view};
 
@@ -139,7 +139,8 @@ fn bound_of(value: &Node<'_>, field: Field) -> Result<u64, TextFault>
 
 /// A list of identifiers, read in order up to the first fault.
 fn ids_of(alloc: Global, value: &Node<'_>, field: Field) -> Result<Vec<Id>, TextFault>
-    ensures { Gives text_cause (λ v. v.items) result (list_each id_of field (node_view value.now)) }
+    ensures value { Gives text_cause (λ v. v.items) result (list_each id_of field (node_view value.now)) }
+    ensures memory { IsCausedWhere (list_of field (node_view value.now)) result }
 {
     let list = entries_of(alloc, value, field)?;
     let entries = list.as_slice();
@@ -152,7 +153,8 @@ fn ids_of(alloc: Global, value: &Node<'_>, field: Field) -> Result<Vec<Id>, Text
 
 /// A list of words of the vocabulary, read in order up to the first fault.
 pub fn tokens_of(alloc: Global, value: &Node<'_>, field: Field) -> Result<Vec<Token>, TextFault>
-    ensures { Gives text_cause (λ v. v.items) result (list_each token_of field (node_view value.now)) }
+    ensures value { Gives text_cause (λ v. v.items) result (list_each token_of field (node_view value.now)) }
+    ensures memory { IsCausedWhere (list_of field (node_view value.now)) result }
 {
     let list = entries_of(alloc, value, field)?;
     let entries = list.as_slice();
@@ -235,7 +237,8 @@ pub fn list_at<'t, 'a>(
     document: &'t Node<'a>,
     field: Field,
 ) -> Result<Option<Entries<'t, 'a>>, TextFault>
-    ensures { Gives text_cause (option_map (λ entries. entries_view entries)) result (optional_at list_of (node_view document.now) field) }
+    ensures value { Gives text_cause (option_map (λ entries. entries_view entries)) result (optional_at list_of (node_view document.now) field) }
+    ensures memory { IsCausedWhere (required_at list_of (node_view document.now) field) result }
 {
     match member_at(document, field)? {
         Some(value) => Ok(Some(entries_of(alloc, value, field)?)),
@@ -249,7 +252,8 @@ pub fn ids_at(
     document: &Node<'_>,
     field: Field,
 ) -> Result<Option<Vec<Id>>, TextFault>
-    ensures { Gives text_cause (option_map (λ v. v.items)) result (optional_at (list_each id_of) (node_view document.now) field) }
+    ensures value { Gives text_cause (option_map (λ v. v.items)) result (optional_at (list_each id_of) (node_view document.now) field) }
+    ensures memory { IsCausedWhere (required_at list_of (node_view document.now) field) result }
 {
     match member_at(document, field)? {
         Some(value) => Ok(Some(ids_of(alloc, value, field)?)),
@@ -263,7 +267,8 @@ pub fn tokens_at(
     document: &Node<'_>,
     field: Field,
 ) -> Result<Option<Vec<Token>>, TextFault>
-    ensures { Gives text_cause (option_map (λ v. v.items)) result (optional_at (list_each token_of) (node_view document.now) field) }
+    ensures value { Gives text_cause (option_map (λ v. v.items)) result (optional_at (list_each token_of) (node_view document.now) field) }
+    ensures memory { IsCausedWhere (required_at list_of (node_view document.now) field) result }
 {
     match member_at(document, field)? {
         Some(value) => Ok(Some(tokens_of(alloc, value, field)?)),
@@ -309,14 +314,16 @@ pub fn required_list<'t, 'a>(
     document: &'t Node<'a>,
     field: Field,
 ) -> Result<Entries<'t, 'a>, TextFault>
-    ensures { Gives text_cause (λ entries. entries_view entries) result (required_at list_of (node_view document.now) field) }
+    ensures value { Gives text_cause (λ entries. entries_view entries) result (required_at list_of (node_view document.now) field) }
+    ensures memory { IsCausedWhere (required_at list_of (node_view document.now) field) result }
 {
     list_at(alloc, document, field)?.ok_or(TextFault::BadField(field))
 }
 
 /// A list of identifiers that has to be there.
 pub fn required_ids(alloc: Global, document: &Node<'_>, field: Field) -> Result<Vec<Id>, TextFault>
-    ensures { Gives text_cause (λ v. v.items) result (required_at (list_each id_of) (node_view document.now) field) }
+    ensures value { Gives text_cause (λ v. v.items) result (required_at (list_each id_of) (node_view document.now) field) }
+    ensures memory { IsCausedWhere (required_at list_of (node_view document.now) field) result }
 {
     ids_at(alloc, document, field)?.ok_or(TextFault::BadField(field))
 }

@@ -23,6 +23,11 @@ impl<T: Drop> From<AllocFailed<T>> for Stop {
 }
 
 impl From<Invalid> for Stop {
+    ghost use Rattle.std.specs.Prelude.{◌≡◌};
+    ghost use Rattle.mds_reading.specs.declared.stop.Stop.TheVariants.{Unusual};
+
+    ghost from_gives = { λ _ e. e ≡ Unusual };
+
     fn from(_refused: Invalid) -> Stop {
         Stop::Unusual
     }

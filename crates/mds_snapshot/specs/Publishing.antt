@@ -1,5 +1,6 @@
--- What a publisher has published, and whether it may publish more.
-use Rattle.std.specs.Prelude.{List, Bool, refl}
+-- What a publisher has published, and whether it may publish more; lists that begin longer ones.
+use mathlib.Core.List.{IsPrefix}
+use Rattle.std.specs.Prelude.{◌<◌, List, Bool, length, refl}
 use Rattle.std.specs.Coded.{Coded, code_by, coded×, coded_bool}
 use Rattle.mds_catalog.specs.Publication.{Publication}
 use Rattle.mds_snapshot.specs.Codes.{coded_publications}
@@ -12,3 +13,7 @@ pub coded_publishing : Coded Publishing
 coded_publishing =
     code_by (List Publication × Bool) (coded× coded_publications coded_bool) (λ p. (p.publications, p.is_open)) (λ t. record { publications = t.0; is_open = t.1 })
     (λ _. refl)
+
+-- a list begins another, which is longer
+abbrev pub IsShorterFront : List Publication → List Publication → Type 0
+IsShorterFront front list = IsPrefix front list × (length front < length list)

@@ -3,6 +3,7 @@ ghost use Rattle.std.specs.Prelude.{◌≡◌, ◌+◌, ◌<◌, ◌^◌, ◌++�
 ghost use mathlib.Core.List.{IsPrefix};
 ghost use Rattle.mds_catalog.specs.Publication.{publication_of};
 ghost use Rattle.mds_snapshot.specs.History.{head_of};
+ghost use Rattle.mds_snapshot.specs.Publishing.{IsShorterFront};
 
 use logbook::{Gain, Offer, Plain, Play, Rule, Seen, Word};
 use mds_catalog::Batch;
@@ -200,9 +201,9 @@ impl<K: Naming> Front<K> {
         self.trail.again()
     }
 
-    /// Whether the other begins this front; else this one begins the other.
+    /// Whether the other begins this front; else this one begins the other, which is longer.
     pub fn covers(&self, other: &Front<K>) -> bool
-        ensures { MatchBool result (IsPrefix other.now self.now) (IsPrefix self.now other.now) }
+        ensures { MatchBool result (IsPrefix other.now self.now) (IsShorterFront self.now other.now) }
     {
         let mut both = self.trail.seen.again();
         both.learn(&other.trail.seen);

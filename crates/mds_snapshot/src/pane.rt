@@ -75,7 +75,7 @@ impl<K: Naming> Pane<K> {
         self.known.again()
     }
 
-    /// Looks at what is published: one front of the list, which begins with all that was seen and learnt.
+    /// Looks at what is published: a list of publications that begins with all that was seen and learnt.
     ///
     /// # Errors
     ///

@@ -5,6 +5,7 @@ ghost use Rattle.mds_catalog.specs.Publication.{publication_of, is_lawful};
 ghost use Rattle.mds_catalog.specs.Catalogue.{publications_of};
 ghost use Rattle.mds_catalog.specs.Laws.{AreLawful};
 ghost use Rattle.mds_snapshot.specs.Copies.{IsFrontOf};
+ghost use Rattle.mds_snapshot.specs.Publishing.{IsShorterFront};
 
 use crate::history::{Front, Ledger, Listed, Naming, Trail};
 use crate::note::Note;
@@ -111,9 +112,9 @@ impl<K: Naming> Publisher<K> {
         &self.catalogue
     }
 
-    /// Whether all that the pane knows is published here.
+    /// Whether all that the pane knows is published here; if not, it knows all that is, and more.
     pub fn has_published(&self, pane: &Pane<K>) -> bool
-        ensures { MatchBool result (IsPrefix pane.now self.now.publications) (IsPrefix self.now.publications pane.now) }
+        ensures { MatchBool result (IsPrefix pane.now self.now.publications) (IsShorterFront self.now.publications pane.now) }
     {
         self.front.covers(&pane.front())
     }

@@ -7,8 +7,8 @@ use Rattle.mds_reading.specs.declared.node.Node.{Node}
 use Rattle.mds_reading.proofs.Nodes.{node-List, node-Pairs}
 use Rattle.mds_reading.proofs.entries.entries_of.Goals as goal
 
-pub returns-in-List : goal.returns-in-List
-returns-in-List c =
+pub returns-in-List-clause-value : goal.returns-in-List-clause-value
+returns-in-List-clause-value c =
     ap (list_of c.args.field) (ap node_view c.in-List.is ∙ node-List c.in-List.entries)
     ∙ ap Ok (entries-items_of (map node_view c.in-List.entries.items))
     ∙ ap (λ ns. Ok (map node_view ns)) (sym c.deref.ensures.value)
@@ -18,8 +18,8 @@ made_alone : (ns : List Node) → ns ≡ made_or_lent ns []
 made_alone [] = refl
 made_alone (n ∷ ns) = refl
 
-pub returns-in_ok-nodes_of-in-Pairs : goal.returns-in_ok-nodes_of-in-Pairs
-returns-in_ok-nodes_of-in-Pairs c =
+pub returns-in_ok-nodes_of-in-Pairs-clause-value : goal.returns-in_ok-nodes_of-in-Pairs-clause-value
+returns-in_ok-nodes_of-in-Pairs-clause-value c =
     let made = c.in_ok-nodes_of-in-Pairs.field-0.items in
     ap (list_of c.args.field) (ap node_view c.in-Pairs.is ∙ node-Pairs c.in-Pairs.pairs)
     ∙ ap Ok (entries-items_of (map pair_view c.in-Pairs.pairs.items))
