@@ -5,6 +5,9 @@ use Rattle.mds_request.specs.declared.code.Code.TheVariants.{BadLine}
 use Rattle.mds_request.specs.Configuration.{Configuration, read_configuration}
 use Rattle.mds_request.specs.Request.{Request}
 use Rattle.mds_request.specs.Reply.{Reply, is_line, refused}
+use Rattle.mds_diagnosis.specs.declared.detail.Detail.{Detail}
+use Rattle.mds_diagnosis.specs.declared.detail.Detail.TheVariants.{TooLong}
+use Rattle.mds_diagnosis.specs.Wording.{IsFound}
 use Rattle.mds_lines.specs.Input.{is_feed, configuration_of, asked_of, request_on}
 use Rattle.std.specs.Io.KnownBytes.{Appends}
 use Rattle.mds_lines.specs.declared.gather.TheConstants.{LINE_LIMIT}
@@ -52,6 +55,11 @@ module _ {M : Type 0} (step : M → Request → Reply → M → Type 0) where
 abbrev pub IsUnconfigured : List ℕ → Type 0
 IsUnconfigured input =
     let line = configuration_of input in (LINE_LIMIT < length line) ⊎ (is_ok (read_configuration line) ≡ false)
+
+-- what is told of the first line: it is over the limit, this is wrong with it, or there was no memory to say what
+abbrev pub IsTold : Detail → List ℕ → Type 0
+IsTold TooLong input = LINE_LIMIT < length (configuration_of input)
+IsTold detail input = IsFound detail (configuration_of input)
 
 module _ {M : Type 0} (begins : Configuration → M → Type 0) where
   -- a new machine of the configuration that a first line reads as, which isn't over the limit

@@ -21,4 +21,4 @@ pub use gather::LINE_LIMIT;
 pub use line_end::without_end;
 pub use lines::INPUT_LIMIT;
 pub use machine::Machine;
-pub use streams::run;
+pub use streams::{run, run_told};

@@ -7,7 +7,8 @@ ghost use Rattle.mds_request.specs.declared.code.Code.TheVariants.{BadLine};
 ghost use Rattle.mds_lines.specs.Ends.{Writes};
 ghost use Rattle.mds_lines.specs.LineReading.{left, passed, Advances, FailsReading};
 ghost use Rattle.mds_lines.specs.Turning.{Replies, Turns, Begins, filled_lines, written_of};
-ghost use Rattle.mds_lines.specs.Answering.{Configures, IsUnconfigured, Outputs, Answered, Started};
+ghost use Rattle.mds_lines.specs.Answering.{Configures, IsTold, IsUnconfigured, Outputs, Answered, Started};
+ghost use Rattle.mds_diagnosis.specs.Wording.{IsFound};
 ghost use Rattle.mds_lines.specs.declared.gather.TheConstants.{LINE_LIMIT};
 ghost use Rattle.mds_lines.specs.Input.{configuration_of};
 ghost use Rattle.mds_lines.specs.declared.lines.TheConstants.{INPUT_LIMIT};
@@ -18,6 +19,7 @@ use crate::fault::ReplayFault;
 use crate::lines::{Found, LineReader};
 use crate::machine::Machine;
 use crate::write::write_answer;
+use mds_diagnosis::Detail;
 use mds_request::{Code, Config, Reply};
 use std::alloc::Global;
 
@@ -27,11 +29,13 @@ use std::alloc::Global;
 /// a line feed counts. Empty lines behind the first are skipped. A line that is no request, or is
 /// over the limit of 2,097,152 bytes, is answered `400 {"error":"bad_line"}`. The faults are told
 /// by `ReplayFault`; an input of more than 1,073,741,824 bytes is a read fault. After a fault what
-/// was written is the front of the answers, or nothing.
+/// was written is the front of the answers, or nothing. What is wrong with a bad configuration is left
+/// in `detail`.
 pub fn replay<M: Machine, S: Source, W: Sink>(
     alloc: Global,
     source: &mut S,
     sink: &mut W,
+    detail: &mut Detail,
 ) -> Result<(), ReplayFault>
     requires readable { S.failures source.old < 2 ^ 64 - 1 }
     requires writable { W.failures sink.old < 2 ^ 64 - 1 }
@@ -54,6 +58,7 @@ pub fn replay<M: Machine, S: Source, W: Sink>(
         ⊎ IfSome (S.remaining source.old) (λ input. INPUT_LIMIT < length input) }
     ensures write { IsErrOf result ReplayFault.Write → W.failures sink.new ≡ W.failures sink.old + 1 }
     ensures bad_config { IsErrOf result ReplayFault.BadConfig → IfSome (S.remaining source.old) IsUnconfigured }
+    ensures told { IsErrOf result ReplayFault.BadConfig → IfSome (S.remaining source.old) (IsTold detail.new) }
     // Want of memory hides no failed read, and no first line that is over the limit, once something was read.
     ensures memory { IsErrOf result ReplayFault.NoMemory → (source.new ≡ source.old)
         ⊎ ((S.failures source.new ≡ S.failures source.old) × IfSome (S.remaining source.old) (λ input. length (configuration_of input) ≤ LINE_LIMIT)) }
@@ -63,7 +68,7 @@ pub fn replay<M: Machine, S: Source, W: Sink>(
     ensures unwritten_memory { IsErrOf result ReplayFault.NoMemory → sink.new ≡ sink.old }
 {
     let mut reader = LineReader::new(alloc)?;
-    let mut machine = begin::<M, S>(alloc, &mut reader, source)?;
+    let mut machine = begin::<M, S>(alloc, &mut reader, source, detail)?;
     answer_all(&mut reader, &mut machine, source, sink)
 }
 
@@ -72,6 +77,7 @@ fn begin<M: Machine, S: Source>(
     alloc: Global,
     reader: &mut LineReader,
     source: &mut S,
+    detail: &mut Detail,
 ) -> Result<M, ReplayFault>
     requires readable { S.failures source.old < 2 ^ 64 - 1 }
     ensures begins { IfOk result (Begins M.begins (left reader.old (S.remaining source.old)) (left reader.new (S.remaining source.new))) }
@@ -81,26 +87,36 @@ fn begin<M: Machine, S: Source>(
     ensures read { IsErrOf result ReplayFault.Read → FailsReading (S.failures source.old) (S.failures source.new)
         (passed reader.old) (left reader.old (S.remaining source.old)) }
     ensures bad_config { IsErrOf result ReplayFault.BadConfig → IfSome (left reader.old (S.remaining source.old)) IsUnconfigured }
+    ensures told { IsErrOf result ReplayFault.BadConfig → IfSome (left reader.old (S.remaining source.old)) (IsTold detail.new) }
     ensures memory { IsErrOf result ReplayFault.NoMemory → (S.failures source.new ≡ S.failures source.old)
         × IfSome (left reader.old (S.remaining source.old)) (λ input. length (configuration_of input) ≤ LINE_LIMIT) }
     ensures unwritten { IfErr result (λ fault. fault ≢ ReplayFault.Write) }
 {
     match reader.next(source) {
         Err(_) => Err(ReplayFault::Read),
-        Ok(Found::TooLong) => Err(ReplayFault::BadConfig),
-        Ok(Found::End) => configured(alloc, reader.line()),
-        Ok(Found::Line) => configured(alloc, reader.line()),
+        Ok(Found::TooLong) => {
+            *detail = Detail::TooLong;
+            Err(ReplayFault::BadConfig)
+        }
+        Ok(Found::End) => configured(alloc, reader.line(), detail),
+        Ok(Found::Line) => configured(alloc, reader.line(), detail),
     }
 }
 
 /// The machine of the configuration that the text is.
-fn configured<M: Machine>(alloc: Global, text: &[u8]) -> Result<M, ReplayFault>
+fn configured<M: Machine>(alloc: Global, text: &[u8], detail: &mut Detail) -> Result<M, ReplayFault>
     ensures begins { IfOk result (λ machine. length text.now ≤ LINE_LIMIT → Configures M.begins text.now machine) }
     ensures bad_config { IsErrOf result ReplayFault.BadConfig → is_ok (read_configuration text.now) ≡ false }
+    ensures told { IsErrOf result ReplayFault.BadConfig → IsFound detail.new text.now }
     ensures fault { IfErr result (λ fault. (fault ≡ ReplayFault.BadConfig) ⊎ (fault ≡ ReplayFault.NoMemory)) }
 {
-    let config = Config::read(alloc, text)?;
-    Ok(M::begin(alloc, config)?)
+    match Config::read(alloc, text) {
+        Ok(config) => Ok(M::begin(alloc, config)?),
+        Err(fault) => {
+            *detail = Detail::of(alloc, text);
+            Err(ReplayFault::from(fault))
+        }
+    }
 }
 
 /// Answers all lines that are left.

@@ -2,7 +2,8 @@
 //! one answer line goes out for each request.
 #![tactic(auto)]
 
-use mds_lines::run;
+use mds_diagnosis::Detail;
+use mds_lines::{ReplayFault, run_told};
 use mds_verdict::Plain;
 use mds_world::World;
 use std::alloc::Global;
@@ -20,13 +21,19 @@ fn keep_freed_memory(alloc: Global) {
 }
 
 /// Replays standard input to standard output. The exit status is 0; 1 after a fault of reading or
-/// writing; 2 for a bad configuration; 3 for want of memory. After a fault standard error says why.
+/// writing; 2 for a bad configuration; 3 for want of memory. After a fault standard error says why, and of a
+/// bad configuration what is wrong with it, in a second line.
 fn main(rt: HostRuntime) -> ExitCode {
     keep_freed_memory(rt.alloc());
-    match run::<World<Plain>, _, _>(rt.alloc(), rt.reader(), io::writer(&rt)) {
+    let mut detail = Detail::Untold;
+    let writer = io::writer(&rt);
+    match run_told::<World<Plain>, _, _>(rt.alloc(), rt.reader(), writer, &mut detail) {
         Ok(_) => ExitCode::SUCCESS,
         Err(fault) => {
             let _ = eprintln!(rt; "{}", fault.message());
+            if fault == ReplayFault::BadConfig {
+                let _ = eprintln!(rt; "{detail}");
+            }
             ExitCode::from(fault.status())
         }
     }

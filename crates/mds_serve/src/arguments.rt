@@ -1,41 +1,34 @@
 //! What the program is asked to do.
 
-use mds_start::{ServeFault, count_of};
+use mds_start::ServeFault;
 use std::alloc::AllocGlobal;
 use std::env;
 use std::env::Env;
 
-/// The arguments of the program.
-#[derive(Drop)]
-pub struct Arguments {
+/// Where to listen, and how many connections to serve.
+#[derive(Clone, Copy)]
+pub struct Arguments<'a> {
     /// Where to listen.
-    pub address: String,
+    pub address: &'a str,
     /// How many connections to serve; none, without end.
     pub connections: Option<usize>,
 }
 
-/// Reads `ADDRESS [CONNECTIONS]`.
+/// The words behind the program's name.
 ///
 /// # Errors
 ///
-/// The arguments are of another form.
-pub fn read_arguments<R: Env + AllocGlobal>(rt: &R) -> Result<Arguments, ServeFault> {
-    let Ok(mut words) = env::args(rt) else {
+/// `Usage` where they can't be read, `NotOpened` where there is no memory.
+pub fn read_words<R: Env + AllocGlobal>(rt: &R) -> Result<Vec<String>, ServeFault> {
+    let Ok(mut all) = env::args(rt) else {
         return Err(ServeFault::Usage);
     };
-    let _program = words.next();
-    match (words.next(), words.next(), words.next()) {
-        (Some(address), None, _) => Ok(Arguments {
-            address,
-            connections: None,
-        }),
-        (Some(address), Some(count), None) => match count_of(count.as_str()) {
-            Some(count) => Ok(Arguments {
-                address,
-                connections: Some(count),
-            }),
-            None => Err(ServeFault::Usage),
-        },
-        _ => Err(ServeFault::Usage),
+    let _program = all.next();
+    let mut words = Vec::new(rt.alloc());
+    for word in all {
+        if words.push(word).is_err() {
+            return Err(ServeFault::NotOpened);
+        }
     }
+    Ok(words)
 }

@@ -1,5 +1,7 @@
 //! The configuration that comes in on standard input.
 
+use crate::ending::Ending;
+use mds_diagnosis::Detail;
 use mds_lines::{LINE_LIMIT, without_end};
 use mds_request::Config;
 use mds_start::ServeFault;
@@ -10,23 +12,26 @@ use std::io::{BufRead, ErrorKind, Read};
 ///
 /// # Errors
 ///
-/// The line can't be read, is longer than the limit, or is no configuration (`BadConfig`), or there was no
-/// memory (`NotOpened`).
-pub fn read_configuration<S: BufRead + Drop>(
-    alloc: Global,
-    source: S,
-) -> Result<Config, ServeFault> {
+/// The line can't be read, is longer than the limit, or is no configuration (`BadConfig`, with which of these or
+/// what is wrong), or there was no memory (`NotOpened`).
+pub fn read_configuration<S: BufRead + Drop>(alloc: Global, source: S) -> Result<Config, Ending> {
     let mut line = Vec::new(alloc);
     let mut front = source.take(LINE_LIMIT as u64 + 2);
     if let Err(error) = front.read_until(b'\n', &mut line) {
         return Err(match error.kind() {
-            ErrorKind::OutOfMemory => ServeFault::NotOpened,
-            _ => ServeFault::BadConfig,
+            ErrorKind::OutOfMemory => Ending::from(ServeFault::NotOpened),
+            _ => Ending::misconfigured(Detail::Unreadable),
         });
     }
     let text = without_end(&line);
     if text.len() > LINE_LIMIT {
-        return Err(ServeFault::BadConfig);
+        return Err(Ending::misconfigured(Detail::TooLong));
     }
-    Ok(Config::read(alloc, text)?)
+    match Config::read(alloc, text) {
+        Ok(config) => Ok(config),
+        Err(fault) => Err(match ServeFault::from(fault) {
+            ServeFault::BadConfig => Ending::misconfigured(Detail::of(alloc, text)),
+            fault => Ending::from(fault),
+        }),
+    }
 }

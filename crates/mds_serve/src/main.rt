@@ -4,19 +4,28 @@
 
 mod arguments;
 mod configuration;
+mod ending;
 mod running;
 
+use mds_start::{ServeFault, USAGE};
 use running::run;
 use std::process::ExitCode;
 
 /// Serves, and ends with the status 0; 1 where nothing can be listened to, 2 for a bad use or a bad
-/// configuration, 3 where the server couldn't be opened. After a fault standard error says why.
+/// configuration, 3 where the server couldn't be opened. After a fault standard error says why, and of a bad use
+/// or configuration a second line says how the program is called or what is wrong.
 fn main(rt: HostRuntime) -> ExitCode {
     match run(&rt) {
         Ok(()) => ExitCode::SUCCESS,
-        Err(fault) => {
-            let _ = eprintln!(rt; "{}", fault.message());
-            ExitCode::from(fault.status())
+        Err(ending) => {
+            let _ = eprintln!(rt; "{}", ending.fault.message());
+            if ending.fault == ServeFault::Usage {
+                let _ = eprintln!(rt; "{}", USAGE);
+            }
+            if let Some(detail) = ending.detail {
+                let _ = eprintln!(rt; "{detail}");
+            }
+            ExitCode::from(ending.fault.status())
         }
     }
 }

@@ -2,13 +2,14 @@
 ghost use Rattle.std.specs.Prelude.{◌≡◌, ◌<◌};
 ghost use Rattle.mds_snapshot.specs.Opening.{book_of};
 
-use crate::arguments::{Arguments, read_arguments};
+use crate::arguments::{Arguments, read_words};
 use crate::configuration::read_configuration;
+use crate::ending::Ending;
 use mds_doors::{MachineClock, Moments, Queues, bound, serve};
 use mds_hall::Hall;
 use mds_request::Config;
 use mds_snapshot::{Blank, Naming, prepare};
-use mds_start::{ServeFault, workers};
+use mds_start::{Asked, HELP, ServeFault, VERSION, asked_by, workers};
 use std::alloc::AllocGlobal;
 use std::env::Env;
 use std::io::{self, Input, Print};
@@ -20,12 +21,12 @@ use std::thread::{Threads, available_parallelism};
 use std::time::Clock;
 use tokio::runtime::Runtime;
 
-/// Reads the arguments and the configuration, opens the server and serves.
+/// Reads the arguments, and says how the program is called, says its version, or serves.
 ///
 /// # Errors
 ///
 /// The first fault, in the order of `ServeFault`'s cases.
-pub fn run<R>(rt: &R) -> Result<(), ServeFault>
+pub fn run<R>(rt: &R) -> Result<(), Ending>
 where
     R: Wait
         + Threads
@@ -41,16 +42,56 @@ where
         + Copy
         + Drop,
 {
-    let arguments = read_arguments(rt)?;
-    let config = read_configuration(rt.alloc(), rt.reader())?;
+    let words = read_words(rt)?;
+    match asked_by(&words) {
+        Some(Asked::Help) => {
+            let _ = print!(rt; "{}", HELP);
+            Ok(())
+        }
+        Some(Asked::Version) => {
+            let _ = println!(rt; "mds_serve {}", VERSION);
+            Ok(())
+        }
+        Some(
+            Asked::Serve {
+                address,
+                connections,
+            },
+        ) => {
+            let arguments = Arguments {
+                address,
+                connections,
+            };
+            let config = read_configuration(rt.alloc(), rt.reader())?;
+            Ok(prepared(rt, arguments, config)?)
+        }
+        None => Err(Ending::from(ServeFault::Usage)),
+    }
+}
+
+/// Opens the server and serves.
+fn prepared<R>(rt: &R, arguments: Arguments<'_>, config: Config) -> Result<(), ServeFault>
+where
+    R: Wait
+        + Threads
+        + Clock
+        + Net
+        + RandomSource
+        + AllocGlobal
+        + Print
+        + Sync
+        + Send
+        + Copy
+        + Drop,
+{
     let blank = prepare(rt.alloc())?;
-    open::<Brand, R>(rt, &arguments, config, blank)
+    open::<Brand, R>(rt, arguments, config, blank)
 }
 
 /// Opens a hall, serves and ends it.
 fn open<K: Naming + Send + Sync, R>(
     rt: &R,
-    arguments: &Arguments,
+    arguments: Arguments<'_>,
     config: Config,
     blank: Blank,
 ) -> Result<(), ServeFault>
@@ -82,7 +123,7 @@ where
 fn listen<K: Naming + Send + Sync, R, M: Moments + Send + Sync>(
     rt: &R,
     threads: usize,
-    arguments: &Arguments,
+    arguments: Arguments<'_>,
     hall: Hall<K>,
     queues: Queues,
     moments: M,
@@ -102,7 +143,7 @@ where
     requires { 0 < threads }
 {
     let mut runtime = Runtime::with_worker_threads(rt, threads)?;
-    let listener = bound(rt, arguments.address.as_str(), runtime.handle().reactor())?;
+    let listener = bound(rt, arguments.address, runtime.handle().reactor())?;
     let _ = println!(rt; "ready");
     serve(
         rt,

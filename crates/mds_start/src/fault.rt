@@ -16,7 +16,7 @@ pub enum ServeFault {
     BadConfig,
     /// There was no memory to open the server, or it couldn't be opened.
     NotOpened,
-    /// Nothing can be listened to at the address.
+    /// Nothing can be listened to at the address, or threads or the waiting for events couldn't be had.
     NoListener,
 }
 

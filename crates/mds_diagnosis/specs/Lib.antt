@@ -1,0 +1,3 @@
+pub mod Diagnosis
+pub mod Telling
+pub mod Wording

@@ -1,0 +1,21 @@
+-- What readings that say what is wrong owe to their definitions.
+use Rattle.std.specs.Prelude.{◌≡◌, List, ℕ, Result, Ok, Err, string_bytes}
+use Rattle.mds_request.specs.Configuration.{Operator}
+use Rattle.mds_diagnosis.specs.declared.operators.Operator.{Operator as Named}
+use Rattle.mds_diagnosis.specs.declared.stop.Stop.{Stop}
+use Rattle.mds_diagnosis.specs.declared.stop.Stop.TheVariants.{Wrong as Stopped, NoMemory}
+use Rattle.mds_diagnosis.specs.declared.wrong.Wrong.{Wrong}
+
+abbrev pub operator : Named → Operator
+operator o = record { id = o.id; limit = o.limit; token = string_bytes o.token }
+
+-- what is read, seen by `view`, is what is defined
+abbrev pub Shows : {X Y E : Type 0} → (X → Y) → Result X E → Result Y E → Type 0
+Shows view (Ok x) defined = defined ≡ Ok (view x)
+Shows view (Err e) defined = defined ≡ Err e
+
+-- the same, unless memory ran out
+abbrev pub Tells : {X Y : Type 0} → (X → Y) → Result X Stop → Result Y Wrong → Type 0
+Tells view (Ok x) defined = defined ≡ Ok (view x)
+Tells view (Err (Stopped w)) defined = defined ≡ Err w
+Tells view (Err NoMemory) defined = Unit {0}

@@ -1,0 +1,13 @@
+//! What is wrong with a text that is no configuration: the member, and the operator's place. No access token is told.
+#![tactic(auto)]
+
+mod alike;
+mod detail;
+mod judge;
+mod operators;
+mod stop;
+mod wrong;
+
+pub use detail::Detail;
+pub use judge::diagnose;
+pub use wrong::{Flaw, Key, Wrong};
