@@ -1,11 +1,12 @@
 #!/usr/bin/env python3
 """Runs a built mds_replay on scripts whose answers are known from outside the program.
 
-    replays.py PROGRAM
+    replays.py PROGRAM [PART PARTS]
 
-The scripts are tests/replays/NAME.in with NAME.out (its standard output) and NAME.status (its exit status), and those
-that are made here, since they are long: bodies and lines at their limits, fleets and catalogues that are full, and a
-device that takes no bytes. Standard error is empty at status 0 and else one known line. Prints what differs, and last
+The scripts are tests/replays/NAME.in with NAME.out (its standard output), NAME.status (its exit status) and, where it isn't the
+one known line of that status, NAME.err (its standard error), and those that are made here, since they are long: bodies, lines and
+documents at their limits, fleets and catalogues that are full, areas and fleets held against their definitions, and a device that
+takes no bytes. With 2 and 3 the second of three parts of them is run. Prints what differs, and last
 'N passed, M failed'; ends with 1 where one failed.
 """
 
@@ -14,7 +15,8 @@ import subprocess
 import sys
 
 HERE = os.path.dirname(os.path.abspath(__file__))
-SECONDS = 120
+# A program that isn't proved is slower (tests/unproved.py).
+SECONDS = 120 * int(os.environ.get("PATIENCE", "1"))
 
 MESSAGES = {0: b"", 1: b"replay: write fault\n", 2: b"replay: bad configuration\n", 3: b"replay: no memory\n"}
 
@@ -24,6 +26,8 @@ FLEET_LIMIT = 200_000
 DRAFT_LIMIT = 256
 CATALOGUE_LIMIT = 512
 DEVICES_LISTED = 100
+RULE_LIMIT = 64
+POSITION_LIMIT = 20_000
 
 AUTHOR, FIRST, SECOND = "city", "alfa", "bravo"
 
@@ -179,6 +183,269 @@ def ordered(document, moment):
     return f'{{"name":"cap","policy_id":"{uuid}","published_date":{moment},"rules":[],"start_date":0}}'
 
 
+def served_policy(uuid, moment, rules):
+    """A policy of `policy` as it is served, a draft where it has no moment; its rules as they are served."""
+    dated = "" if moment is None else f'"published_date":{moment},'
+    return f'{{"name":"cap","policy_id":"{uuid}",{dated}"rules":[{rules}],"start_date":0}}'
+
+
+def served_geography(uuid, moment, polygons):
+    """A geography of these polygons as it is served, a draft where it has no moment."""
+    geometry = f'{{"coordinates":[{polygons}],"type":"MultiPolygon"}}'
+    feature = f'{{"geometry":{geometry},"properties":null,"type":"Feature"}}'
+    dated = "" if moment is None else f',"published_date":{moment}'
+    collection = f'{{"features":[{feature}],"type":"FeatureCollection"}}'
+    return f'{{"geography_id":"{uuid}","geography_json":{collection},"name":"area"{dated}}}'
+
+
+def area(uuid, kind, coordinates):
+    """A geography of a geometry of this kind."""
+    geometry = f'{{"type":"{kind}","coordinates":{coordinates}}}'
+    return f'{{"geography_id":"{uuid}","name":"area","geography_json":{geometry}}}'
+
+
+def the_most_rules():
+    """64 rules are taken, shown as a draft, published and shown; 65 aren't taken."""
+    names = [f'"name":"cap","rule_id":"{identifier(3, number)}","rule_type":"count"' for number in range(RULE_LIMIT + 1)]
+    rules = [f'{{"geographies":[],{name}}}' for name in names]
+    whole = ",".join(rules[:RULE_LIMIT])
+    draft, shown = f"1000 {AUTHOR} GET /drafts/policies/{CAP}", f"1000 {FIRST} GET /policies/{CAP}"
+    lines = [put("policies", CAP, policy(CAP, ",".join(rules))), draft, put("policies", CAP, policy(CAP, whole)), draft]
+    lines += [publish(1000, policies=[CAP]), shown, draft]
+    answers = ['400 {"error":"too_many_rules"}', '404 {"error":"no_draft"}', NEW]
+    answers += ['200 {"draft":' + served_policy(CAP, None, whole) + "}", published(1000, 1)]
+    answers += ['200 {"policy":' + served_policy(CAP, 1000, whole) + ',"revision":1}', '404 {"error":"no_draft"}']
+    return [configuration(2, 2)] + lines, answers
+
+
+def the_most_positions():
+    """20,000 positions are taken, shown as a draft, published and shown; one more isn't taken."""
+    ring = lambda position, count: "[" + ",".join([position] * count) + "]"
+    square = "[[0,0],[10,0],[10,10],[0,10],[0,0]]"
+    forms = [
+        ("Polygon", "[{}]", "[{}]", "[0,0]", POSITION_LIMIT),
+        ("Polygon", "[{}]", "[{}]", "[0.5,-0.5]", POSITION_LIMIT),
+        ("MultiPolygon", f"[[{square}],[{{}}]]", f"[{square}],[{{}}]", "[0,0]", POSITION_LIMIT - 5),
+    ]
+    lines, answers = [], []
+    for number, (kind, written, polygons, position, most) in enumerate(forms):
+        uuid = identifier(1, number)
+        draft, shown = f"1000 {AUTHOR} GET /drafts/geographies/{uuid}", f"1000 {SECOND} GET /geographies/{uuid}"
+        whole = polygons.format(ring(position, most))
+        for count in (most + 1, most):
+            lines += [put("geographies", uuid, area(uuid, kind, written.format(ring(position, count)))), draft]
+        lines += [publish(1000, geographies=[uuid]), shown]
+        answers += ['400 {"error":"too_many_points"}', '404 {"error":"no_draft"}', NEW]
+        answers += ['200 {"draft":' + served_geography(uuid, None, whole) + "}", published(1000, number + 1)]
+        answers.append('200 {"geography":' + served_geography(uuid, 1000, whole) + f',"revision":{number + 1}}}')
+    return [configuration(2, 2)] + lines, answers
+
+
+def a_chain_of_512_policies():
+    """Eight publications of 64 policies, each in the place of the one 64 places before: the last 64 are in force."""
+    layer, lines, answers = 64, [], []
+    ids = [identifier(2, place * 37 % CATALOGUE_LIMIT) for place in range(CATALOGUE_LIMIT)]
+    moments = [1000 * (1 + place // layer) for place in range(CATALOGUE_LIMIT)]
+    for first in range(0, CATALOGUE_LIMIT, layer):
+        places = range(first, first + layer)
+        for place in places:
+            before = f'"{ids[place - layer]}"' if first else ""
+            lines.append(put("policies", ids[place], policy(ids[place])[:-1] + f',"prev_policies":[{before}]}}'))
+        lines.append(publish(moments[first], policies=[ids[place] for place in places]))
+        answers += [NEW] * layer + [published(moments[first], 1 + first // layer)]
+    revision = CATALOGUE_LIMIT // layer
+    for at in (999, *sorted(set(moments))):
+        entries = ",".join(f'{{"policy_id":"{it}","rules":[]}}' for it, moment in zip(ids, moments) if moment == at)
+        lines.append(f"{at} {FIRST} GET /compliance")
+        answers.append(f'200 {{"at":{at},"policies":[{entries}],"revision":{revision},"version":2}}')
+    for place, (uuid, moment) in enumerate(zip(ids, moments)):
+        before = f'"{ids[place - layer]}"' if place >= layer else ""
+        shown = f'"name":"cap","policy_id":"{uuid}","prev_policies":[{before}],"published_date":{moment},"rules":[],"start_date":0'
+        lines.append(f"1 {SECOND} GET /policies/{uuid}")
+        answers.append(f'200 {{"policy":{{{shown}}},"revision":{revision}}}')
+    return [configuration(2, 2)] + lines, answers
+
+
+def numbers(seed):
+    """A row of 64-bit numbers without a pattern (xorshift)."""
+    number = seed
+    while True:
+        number ^= number << 13 & 0xFFFF_FFFF_FFFF_FFFF
+        number ^= number >> 7
+        number ^= number << 17 & 0xFFFF_FFFF_FFFF_FFFF
+        yield number
+
+
+def reports_and_removals_against_a_list():
+    """12,000 reports and removals of 3,000 devices do to a fleet of 2,000 what the rules say of a plain list."""
+    limit, held, lines, answers = 2000, {}, [], []
+    row = numbers(88_172_645_463_325_252)
+    for now in range(1, 12_000):
+        device, chance, state = identifier(4, next(row) % 3000), next(row), ("available", "on_trip")[next(row) % 2]
+        if chance % 4 == 0:
+            lines.append(f"{now} {FIRST} DELETE /fleet/vehicles/{device}")
+            answers.append(f'200 {{"removed":"{device}"}}' if held.pop(device, None) else '404 {"error":"not_found"}')
+            continue
+        sent = 1 if chance % 32 == 1 else now + 1 if chance % 32 == 2 else now
+        members = f'"device_id":"{device}","vehicle_type":"scooter","vehicle_state":"{state}","timestamp":{sent}'
+        lines.append(f'{now} {FIRST} POST /fleet/events {{{members},"location":{{"lat":5,"lng":5}}}}')
+        if sent > now:
+            answers.append('409 {"error":"future"}')
+        elif device not in held:
+            answers.append(NEW if len(held) < limit else '409 {"error":"fleet_full"}')
+            if len(held) < limit:
+                held[device] = (state, sent, sent)
+        else:
+            kept, timestamp, since = held[device]
+            same = (kept, timestamp) == (state, sent)
+            answers.append('409 {"error":"stale"}' if timestamp > sent else '200 {"result":"%s"}' % ("same" if same else "changed"))
+            if timestamp <= sent:
+                held[device] = (state, sent, since if kept == state else sent)
+    place = '"event_types":[],"location":{"lat":5,"lng":5},"propulsion_types":[]'
+    vehicles = ",".join(
+        f'{{"device_id":"{it}",{place},"since":{since},"timestamp":{sent},"vehicle_state":"{state}","vehicle_type":"scooter"}}'
+        for it, (state, sent, since) in sorted(held.items())
+    )
+    lines.append(f"12000 {FIRST} GET /fleet/vehicles")
+    answers.append(f'200 {{"vehicles":[{vehicles}]}}')
+    return [configuration(limit, 2)] + lines, answers
+
+
+def degrees(units):
+    """Ten-millionths of a degree in decimal notation."""
+    whole, rest = divmod(abs(units), 10**7)
+    return "-" * (units < 0) + str(whole) + (f".{rest:07}".rstrip("0") if rest else "")
+
+
+def reaching(polygons, lat):
+    """The edges of each polygon that reach a latitude; no other counts for a position there."""
+    return [
+        [
+            (start, end)
+            for ring in polygon
+            for start, end in zip(ring, ring[1:] + ring[:1])
+            if min(start[1], end[1]) <= lat <= max(start[1], end[1])
+        ]
+        for polygon in polygons
+    ]
+
+
+def holds(polygons, at):
+    """By the definition, edge after edge: what is on an edge is held, and what a polygon's edges cross oddly to the east."""
+    lng, lat = at
+    for polygon in polygons:
+        odd = False
+        for (from_lng, from_lat), (to_lng, to_lat) in polygon:
+            side = (to_lng - from_lng) * (lat - from_lat) - (to_lat - from_lat) * (lng - from_lng)
+            if side == 0 and min(from_lng, to_lng) <= lng <= max(from_lng, to_lng):
+                return True
+            odd ^= from_lat <= lat < to_lat and side > 0 or to_lat <= lat < from_lat and side < 0
+        if odd:
+            return True
+    return False
+
+
+def on_a_grid(areas, lngs, lats):
+    """Vehicles go along each latitude, one at each longitude: those are counted in an area that it holds by the definition."""
+    lines, answers, names = [], [], [(identifier(1, it), identifier(2, it)) for it in range(len(areas))]
+    for (place, cap), polygons in zip(names, areas):
+        corner = lambda at: f"[{degrees(at[0])},{degrees(at[1])}]"
+        rings = lambda polygon: ",".join("[" + ",".join(map(corner, ring + ring[:1])) + "]" for ring in polygon)
+        lines.append(put("geographies", place, area(place, "MultiPolygon", "[" + ",".join(f"[{rings(it)}]" for it in polygons) + "]")))
+        lines.append(put("policies", cap, policy(cap, count_rule(0).replace(SQUARE, place))))
+        answers += [NEW, NEW]
+    lines.append(publish(1000, geographies=[place for place, _ in names], policies=[cap for _, cap in names]))
+    answers.append(published(1000, 1))
+    for moment, lat in enumerate(lats, 2000):
+        for number, lng in enumerate(lngs):
+            location = f'"location":{{"lat":{degrees(lat)},"lng":{degrees(lng)}}}'
+            members = f'"device_id":"{identifier(4, number)}","vehicle_type":"scooter","vehicle_state":"available","timestamp":{moment}'
+            lines.append(f"{moment} {FIRST} POST /fleet/events {{{members},{location}}}")
+            answers.append(NEW if moment == 2000 else '200 {"result":"changed"}')
+        entries = []
+        for (_, cap), polygons in zip(names, areas):
+            reached = reaching(polygons, lat)
+            told = [f'"{identifier(4, number)}"' for number, lng in enumerate(lngs) if holds(reached, (lng, lat))]
+            listed, status = (f'"devices":[{",".join(told)}],', "violated") if told else ("", "ok")
+            entry = f'{{{listed}"measure":{len(told)},"rule_id":"{RULE}","status":"{status}"}}'
+            entries.append(f'{{"policy_id":"{cap}","rules":[{entry}]}}')
+        lines.append(f"{moment} {FIRST} GET /compliance")
+        answers.append(f'200 {{"at":{moment},"policies":[{",".join(entries)}],"revision":1,"version":2}}')
+    return [configuration(len(lngs), 2)] + lines, answers
+
+
+def walk(start, *sides):
+    """The corners along sides, each a step and how often it is taken, one unit after another."""
+    corners, at = [], start
+    for (lng, lat), count in sides:
+        for _ in range(count):
+            corners.append(at)
+            at = (at[0] + lng, at[1] + lat)
+    return corners
+
+
+EAST, NORTH, WEST, SOUTH = (1, 0), (0, 1), (-1, 0), (0, -1)
+BLOCK = [(0, 0), (16, 0), (16, 16), (0, 16)]
+HOLE = [(4, 4), (8, 4), (8, 8), (4, 8)]
+# it shares a corner with the hole and has corners on the block's sides
+SECOND_HOLE = [(8, 8), (16, 8), (12, 12), (8, 16)]
+STAIRS = [(0, 0), (12, 0), (12, 4), (8, 4), (8, 8), (4, 8), (4, 12), (0, 12)]
+# two long edges, and short ones
+COMB = [(0, 0), (16, 16)] + [(10 + lat % 2, 9 - lat) for lat in range(10)]
+LONG_STAIRS = walk(
+    (0, 0), (EAST, 20), (NORTH, 4), (WEST, 6), (NORTH, 4), (WEST, 6), (NORTH, 4), (WEST, 8), (SOUTH, 12)
+)
+SAW = [(0, 0), (15, 15)] + [(16 - tooth, lat) for tooth in range(16) for lat in (0, 1)]
+
+
+def box(low, high):
+    """The corners round a box, one unit after another."""
+    width, height = high[0] - low[0], high[1] - low[1]
+    return walk(low, (EAST, width), (NORTH, height), (WEST, width), (SOUTH, height))
+
+
+def diamond(middle, size):
+    """The corners round a square on its tip, one unit after another."""
+    return walk((middle[0] + size, middle[1]), ((-1, 1), size), ((-1, -1), size), ((1, -1), size), ((1, 1), size))
+
+
+def small_and_generated_areas():
+    """Holes, stairs, combs and saws, and 96 areas of two rings whose edges cross wherever it comes."""
+    areas = [[], [[BLOCK]], [[BLOCK, HOLE]], [[BLOCK, HOLE, SECOND_HOLE]], [[STAIRS]], [[COMB]]]
+    areas += [[[BLOCK, HOLE], [STAIRS], [COMB]], [[HOLE], [SECOND_HOLE], [HOLE]]]
+    areas += [[[LONG_STAIRS]], [[SAW]], [[LONG_STAIRS], [SAW]]]
+    row = numbers(88_172_645_463_325_252)
+    for turn in range(48):
+        first, second = ([(next(row) % 11, next(row) % 11) for _ in range(3 + turn % 16)] for _ in range(2))
+        areas += [[[first, second]], [[first], [second]]]
+    return on_a_grid(areas, range(-2, 18), range(-2, 18))
+
+
+def areas_of_many_cells():
+    """Boxes with holes and a polygon within one, and squares on their tips: most cells tell what is held."""
+    outer, hole, inner = box((0, 0), (32, 28)), box((7, 8), (24, 20)), box((12, 11), (19, 17))
+    large, small = diamond((20, 20), 20), diamond((24, 20), 9)
+    areas = [[[outer, hole]], [[outer, hole], [inner]], [[large, small]], [[small], [large]]]
+    return on_a_grid(areas, range(-2, 44), range(-2, 44))
+
+
+def areas_far_apart():
+    """Two small polygons with most strips and cells between them empty."""
+    areas = [[[box((0, 0), (16, 16))], [box((0, 1_000_000), (16, 1_000_016))]]]
+    ends = [-1, 0, 1, 15, 16, 17]
+    lats = [*ends, 262_144, 500_000, 999_999, *(1_000_000 + it for it in ends[1:])]
+    return on_a_grid(areas, [-1, 0, 1, 8, 15, 16, 17], lats)
+
+
+def areas_at_the_ends_of_the_map():
+    """Triangles at both poles and on both sides of the antimeridian."""
+    east, north = 1_800_000_000, 900_000_000
+    areas = [[[[(-4, lat), (4, lat), (0, inner)]] for lat, inner in ((north, north - 4), (-north, 4 - north))]]
+    areas[0] += [[[(lng, 0), (lng, 4), (inner, 0)]] for lng, inner in ((east, east - 4), (-east, 4 - east))]
+    near = lambda end: [it for step in (4, 3, 1, 0) for it in (step - end, end - step)] + [-4, -3, -1, 0, 1, 3, 4]
+    return on_a_grid(areas, sorted(near(east)), sorted(near(north)))
+
+
 MADE = [
     bodies_at_the_limit,
     lines_at_the_limit,
@@ -186,20 +453,32 @@ MADE = [
     a_fleet_at_its_limit,
     a_fleet_one_over_a_cap,
     drafts_and_catalogue_full_of_both_kinds,
+    the_most_rules,
+    the_most_positions,
+    a_chain_of_512_policies,
+    reports_and_removals_against_a_list,
+    small_and_generated_areas,
+    areas_of_many_cells,
+    areas_far_apart,
+    areas_at_the_ends_of_the_map,
 ]
 
 
 def kept(name):
-    """A script in files: its input, its output and its status."""
+    """A script in files: its input, its output, its status and its standard error."""
     path = f"{HERE}/replays/{name}"
-    with open(f"{path}.in", "rb") as given, open(f"{path}.out", "rb") as wanted, open(f"{path}.status") as status:
-        return given.read(), wanted.read(), int(status.read())
+    with open(f"{path}.in", "rb") as given, open(f"{path}.out", "rb") as wanted, open(f"{path}.status") as ends:
+        status, said = int(ends.read()), None
+        if os.path.exists(f"{path}.err"):
+            with open(f"{path}.err", "rb") as error:
+                said = error.read()
+        return given.read(), wanted.read(), status, MESSAGES[status] if said is None else said
 
 
 def made(make):
     """A script that is made here."""
     lines, answers = make()
-    return "".join(f"{it}\n" for it in lines).encode(), "".join(f"{it}\n" for it in answers).encode(), 0
+    return "".join(f"{it}\n" for it in lines).encode(), "".join(f"{it}\n" for it in answers).encode(), 0, b""
 
 
 def first_difference(got, wanted):
@@ -217,14 +496,14 @@ def run(program, given, sink=subprocess.PIPE):
 
 def faults(program, name, script):
     """What is wrong with a run of a script, each thing in a line."""
-    given, wanted, status = script()
+    given, wanted, status, said = script()
     ran = run(program, given)
     if ran.returncode != status:
         yield f"{name}: status {ran.returncode}, not {status}"
     if ran.stdout != wanted:
         yield f"{name}: {first_difference(ran.stdout, wanted)}"
-    if ran.stderr != MESSAGES[status]:
-        yield f"{name}: standard error {ran.stderr[:160]!r}"
+    if ran.stderr != said:
+        yield f"{name}: standard error {ran.stderr[:160]!r}, not {said[:160]!r}"
 
 
 def faults_of_a_full_device(program):
@@ -245,13 +524,20 @@ def told(name, found):
         return [f"{name}: {fault!r}"]
 
 
-def main(program):
+def tries(program):
+    """Each script by its name, with its faults; they are looked for once they are asked for."""
     names = sorted({it.rsplit(".", 1)[0] for it in os.listdir(f"{HERE}/replays")})
-    tried = [told(name, faults(program, name, lambda: kept(name))) for name in names]
-    tried += [told(it.__name__, faults(program, it.__name__, lambda: made(it))) for it in MADE]
-    tried.append(told("a_full_device", faults_of_a_full_device(program)))
+    for name in names:
+        yield name, faults(program, name, lambda name=name: kept(name))
+    for make in MADE:
+        yield make.__name__, faults(program, make.__name__, lambda make=make: made(make))
+    yield "a_full_device", faults_of_a_full_device(program)
     if not names:
-        tried.append(["tests/replays: no script"])
+        yield "tests/replays", iter(["tests/replays: no script"])
+
+
+def main(program, part=1, parts=1):
+    tried = [told(name, found) for number, (name, found) in enumerate(tries(program)) if number % parts == part - 1]
     for line in (line for found in tried for line in found):
         print(line)
     failed = sum(bool(found) for found in tried)
@@ -260,6 +546,6 @@ def main(program):
 
 
 if __name__ == "__main__":
-    if len(sys.argv) != 2:
-        sys.exit("usage: replays.py PROGRAM")
-    sys.exit(main(os.path.abspath(sys.argv[1])))
+    if len(sys.argv) not in (2, 4):
+        sys.exit("usage: replays.py PROGRAM [PART PARTS]")
+    sys.exit(main(os.path.abspath(sys.argv[1]), *map(int, sys.argv[2:])))

@@ -1,19 +1,12 @@
-//! Tests of documents, from texts to policies, and of what a request is answered: matching, books, verdicts, catalogues, drafts,
-//! requests, the world, replays. They use public items alone, and stand here so that their proof doesn't prove those crates again.
+//! Tests of the core that scripts can't make: calls that the replay doesn't make, growths that are refused, threads, and readers and
+//! writers that fail. They use public items alone, and stand here so that their proof doesn't prove those crates again. What requests
+//! and their replies show is in `tests/replays`.
 #![tactic(auto)]
 
 #[cfg(test)]
 mod area;
 #[cfg(test)]
-mod catalog;
-#[cfg(test)]
-mod coordinate;
-#[cfg(test)]
-mod decimal;
-#[cfg(test)]
 mod drafts;
-#[cfg(test)]
-mod fields;
 #[cfg(test)]
 mod fleet;
 #[cfg(test)]
@@ -21,13 +14,7 @@ mod geography;
 #[cfg(test)]
 mod matching;
 #[cfg(test)]
-mod number;
-#[cfg(test)]
 mod parallel;
-#[cfg(test)]
-mod policy;
-#[cfg(test)]
-mod polygon;
 #[cfg(test)]
 mod reading;
 #[cfg(test)]
@@ -38,7 +25,5 @@ mod request;
 mod square;
 #[cfg(test)]
 mod text;
-#[cfg(test)]
-mod verdict;
 #[cfg(test)]
 mod world;

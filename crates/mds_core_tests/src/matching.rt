@@ -1,218 +1,23 @@
-//! Zones, windows and matching, at local times worked out by hand.
+//! Zones at local times worked out by hand, and the first rule that a vehicle meets. Windows, words and bounds are in scripts.
 
-use crate::square::{NOON, Square, instant, joined, known, one_square, position, word};
+use crate::square::{NOON, instant, known, one_square, position, word};
 use mds_match::{Local, ResolvedPolicy, Vehicle, Zone, ZoneFault, first, meets, open_at};
-use mds_policy::{Policy, Rule};
+use mds_policy::Policy;
 use std::alloc::Global;
 use std::process::Abort;
 
-/// An electric scooter, available after a trip, at a longitude on the tenth parallel.
+/// A scooter at a longitude on the tenth parallel.
 fn scooter(rt: &impl Abort, alloc: Global, lng: i64) -> Vehicle {
     Vehicle {
         device: known(rt, "00000000-0000-4000-8000-000000000401"),
         vehicle_type: word(rt, "scooter"),
-        propulsion: vec![in alloc; word(rt, "electric")].expect(rt, "memory"),
+        propulsion: Vec::new(alloc),
         state: word(rt, "available"),
-        events: vec![in alloc; word(rt, "trip_end")].expect(rt, "memory"),
+        events: Vec::new(alloc),
         timestamp: instant(rt, 2000),
         position: position(rt, lng, 100_000_000),
         since: instant(rt, 2000),
     }
-}
-
-/// The text of a policy of one rule on the square's count, up to further members of the rule.
-const ONE_RULE: &str =
-    r#"{"policy_id":"00000000-0000-4000-8000-000000000201","name":"cap","start_date":1000,"rules":[{"rule_id":"00000000-0000-4000-8000-000000000301","name":"cap","rule_type":"count","geographies":["00000000-0000-4000-8000-000000000101"]"#;
-
-/// A policy of one rule on the square's count, with these members behind its own.
-fn policy(rt: &impl Abort, alloc: Global, more: &str) -> Policy {
-    let text = joined(alloc, &[ONE_RULE, more, "}]}"]).expect(rt, "memory");
-    Policy::read(alloc, text.as_bytes()).expect(rt, "a policy")
-}
-
-fn rule_of<'a>(rt: &impl Abort, policy: &'a Policy) -> &'a Rule {
-    policy.rules().first().expect(rt, "a rule")
-}
-
-const NIGHT: &str = r#","start_time":"22:00","end_time":"05:00:00","days":["fri"]"#;
-
-const FROM: &str = r#","start_time":"22:00""#;
-
-const UNTIL: &str = r#","end_time":"23:59""#;
-
-/// Members of a rule, a local time, and whether the rule is open then.
-const WINDOWS: &[(&str, Local, bool)] = &[
-    (
-        NIGHT,
-        Local {
-            weekday: 5,
-            second: 18000,
-        },
-        false,
-    ),
-    (
-        NIGHT,
-        Local {
-            weekday: 5,
-            second: 79199,
-        },
-        false,
-    ),
-    (
-        NIGHT,
-        Local {
-            weekday: 5,
-            second: 79200,
-        },
-        true,
-    ),
-    (
-        NIGHT,
-        Local {
-            weekday: 6,
-            second: 18000,
-        },
-        true,
-    ),
-    (
-        NIGHT,
-        Local {
-            weekday: 6,
-            second: 18001,
-        },
-        false,
-    ),
-    (
-        NIGHT,
-        Local {
-            weekday: 6,
-            second: 79200,
-        },
-        false,
-    ),
-    (
-        FROM,
-        Local {
-            weekday: 0,
-            second: 86399,
-        },
-        true,
-    ),
-    (
-        FROM,
-        Local {
-            weekday: 1,
-            second: 0,
-        },
-        false,
-    ),
-    (
-        UNTIL,
-        Local {
-            weekday: 1,
-            second: 86340,
-        },
-        true,
-    ),
-    (
-        UNTIL,
-        Local {
-            weekday: 1,
-            second: 86341,
-        },
-        false,
-    ),
-    (
-        "",
-        Local {
-            weekday: 7,
-            second: 43200,
-        },
-        false,
-    ),
-];
-
-/// Whether a rule with these members is open at a local time.
-fn is_open(rt: &impl Abort, alloc: Global, more: &str, local: Local) -> bool {
-    let policy = policy(rt, alloc, more);
-    open_at(rule_of(rt, &policy), local)
-}
-
-#[test]
-fn windows(rt: HostRuntime) {
-    for (more, local, wanted) in WINDOWS {
-        assert!(rt;
-            is_open(&rt, rt.alloc(), more, *local) == *wanted,
-            "{more} on {} at {}",
-            local.weekday,
-            local.second
-        );
-    }
-}
-
-/// Members of a rule, and whether a scooter in the square meets it.
-const RULES: &[(&str, bool)] = &[
-    ("", true),
-    (r#","vehicle_types":["bicycle"]"#, false),
-    (r#","vehicle_types":["bicycle","scooter"]"#, true),
-    (r#","propulsion_types":["human","electric"]"#, true),
-    (r#","propulsion_types":["human"]"#, false),
-    (r#","states":{"available":[],"reserved":[]}"#, true),
-    (r#","states":{"available":["trip_end"]}"#, true),
-    (
-        r#","states":{"available":["trip_start"],"reserved":[]}"#,
-        false,
-    ),
-    (r#","start_time":"12:00:01""#, false),
-];
-
-/// Whether a vehicle meets a rule, and the rule's policy once that is resolved.
-fn is_met(
-    rt: &impl Abort,
-    alloc: Global,
-    places: &Square,
-    policy: &Policy,
-    vehicle: &Vehicle,
-) -> (bool, bool) {
-    let resolved = ResolvedPolicy::new(alloc, policy, places, NOON).expect(rt, "memory");
-    let is_first = resolved.first(vehicle).is_some();
-    (meets(rule_of(rt, policy), places, vehicle, NOON), is_first)
-}
-
-/// The vehicle meets a rule with these members, or it doesn't.
-fn expect_met(
-    rt: &impl Abort,
-    alloc: Global,
-    places: &Square,
-    vehicle: &Vehicle,
-    case: (&str, bool),
-) {
-    let (more, wanted) = case;
-    let policy = policy(rt, alloc, more);
-    let (is_met, is_first) = is_met(rt, alloc, places, &policy, vehicle);
-    assert!(rt; is_met == wanted && is_first == wanted, "{more}");
-}
-
-/// A scooter at this longitude meets those of the rules that it should.
-fn expect_all_met(
-    rt: &impl Abort,
-    alloc: Global,
-    places: &Square,
-    lng: i64,
-    rules: &[(&str, bool)],
-) {
-    let vehicle = scooter(rt, alloc, lng);
-    for case in rules {
-        expect_met(rt, alloc, places, &vehicle, *case);
-    }
-}
-
-#[test]
-fn vehicles(rt: HostRuntime) {
-    let alloc = rt.alloc();
-    let places = one_square(&rt, alloc).expect(&rt, "memory");
-    expect_all_met(&rt, alloc, &places, 100_000_000, RULES);
-    expect_all_met(&rt, alloc, &places, 100_000_001, &[("", false)]);
 }
 
 /// A rule on speed and two on counts, all in the square.
@@ -226,6 +31,9 @@ fn expect_first(rt: &impl Abort, alloc: Global, policy: &Policy, lng: i64, wante
     let resolved = ResolvedPolicy::new(alloc, policy, &places, NOON).expect(rt, "memory");
     assert!(rt; first(policy, &places, &vehicle, NOON) == wanted);
     assert!(rt; resolved.first(&vehicle) == wanted);
+    let last = policy.rules().last().expect(rt, "a rule");
+    assert!(rt; open_at(last, NOON));
+    assert!(rt; meets(last, &places, &vehicle, NOON) == wanted.is_some());
 }
 
 #[test]

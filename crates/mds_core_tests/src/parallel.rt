@@ -1,20 +1,19 @@
-//! Verdicts by one thread and by several, over vehicles in one square; also with one growth refused.
+//! Verdicts by one thread and by several, over vehicles in one square, with one growth refused.
 
 ghost use Rattle.std.specs.Thread.{IsSync};
 
 use crate::square::{NOON, Square, device, instant, known, one_square, position, word};
 use mds_match::Vehicle;
 use mds_parallel::{Chunked, by_threads};
-use mds_policy::{Policy, PolicyFault};
+use mds_policy::Policy;
 use mds_text::Moment;
 use mds_verdict::{Evaluator, Plain, RuleVerdict, Status};
 use std::alloc::{AllocError, Global};
 use std::process::Abort;
-use std::test::Fail;
 use std::thread::Threads;
 
-const CAP: &[u8] =
-    br#"{"policy_id":"00000000-0000-4000-8000-000000000201","name":"cap","start_date":1000,"rules":[{"rule_id":"00000000-0000-4000-8000-000000000301","name":"cap","rule_type":"count","geographies":["00000000-0000-4000-8000-000000000101"],"maximum":1}]}"#;
+const CAP: &str =
+    r#"{"policy_id":"00000000-0000-4000-8000-000000000201","name":"cap","start_date":1000,"rules":[{"rule_id":"00000000-0000-4000-8000-000000000301","name":"cap","rule_type":"count","geographies":["00000000-0000-4000-8000-000000000101"],"maximum":1}]}"#;
 
 /// What verdicts are asked of: at noon and at a moment, on a fleet in the square.
 #[derive(Drop)]
@@ -25,11 +24,7 @@ struct City {
     moment: Moment,
 }
 
-/// An available scooter at 5 degrees east and north.
-fn scooter(rt: &impl Abort, alloc: Global, number: u32) -> Vehicle {
-    vehicle(rt, alloc, number, "scooter", "available")
-}
-
+/// A vehicle at 5 degrees east and north.
 fn vehicle(rt: &impl Abort, alloc: Global, number: u32, kind: &str, state: &str) -> Vehicle {
     Vehicle {
         device: device(rt, number),
@@ -43,28 +38,102 @@ fn vehicle(rt: &impl Abort, alloc: Global, number: u32, kind: &str, state: &str)
     }
 }
 
-/// Scooters with the device numbers before this one.
-fn fleet_of(rt: &impl Abort, alloc: Global, size: u32) -> Result<Vec<Vehicle>, AllocError> {
-    let mut fleet = Vec::with_capacity(alloc, size as usize)?;
-    for number in 0..size {
-        fleet.push(scooter(rt, alloc, number))?;
+/// So many vehicles: 78 times 64, and 11 more.
+const VEHICLES: u32 = 5003;
+
+/// Vehicle types, one for each of 64 rules.
+const TYPES: [&str; 64] = [
+    "00", "01", "02", "03", "04", "05", "06", "07", "08", "09", "10", "11", "12", "13", "14", "15",
+    "16", "17", "18", "19", "20", "21", "22", "23", "24", "25", "26", "27", "28", "29", "30", "31",
+    "32", "33", "34", "35", "36", "37", "38", "39", "40", "41", "42", "43", "44", "45", "46", "47",
+    "48", "49", "50", "51", "52", "53", "54", "55", "56", "57", "58", "59", "60", "61", "62", "63",
+];
+
+/// Vehicles of 64 types in turn, in one of two states.
+fn fleet(rt: &impl Abort, alloc: Global) -> Result<Vec<Vehicle>, AllocError> {
+    let mut fleet = Vec::with_capacity(alloc, VEHICLES as usize)?;
+    for number in 0..VEHICLES {
+        let state = if number % 3 == 0 {
+            "available"
+        } else {
+            "reserved"
+        };
+        let kind = TYPES[(number % 64) as usize];
+        fleet.push(vehicle(rt, alloc, number, kind, state))?;
     }
     Ok(fleet)
 }
 
-/// So many scooters, where at most one may be.
-fn crowded(rt: &impl Abort, alloc: Global, size: u32) -> Result<City, PolicyFault> {
-    Ok(City {
-        places: one_square(rt, alloc)?,
-        policy: Policy::read(alloc, CAP)?,
-        fleet: fleet_of(rt, alloc, size)?,
-        moment: instant(rt, 2000),
-    })
+const CAPS: &str =
+    r#"{"policy_id":"00000000-0000-4000-8000-000000000201","name":"caps","start_date":1000,"rules":["#;
+
+/// A rule on each vehicle type, in three pieces with its number between them.
+const RULE: [&str; 3] = [
+    r#"{"rule_id":"00000000-0000-4000-8000-0000000003"#,
+    r#"","name":"cap","rule_type":"count","geographies":["00000000-0000-4000-8000-000000000101"],"maximum":78,"vehicle_types":[""#,
+    r#""]},"#,
+];
+
+/// The text of a policy of 64 rules, each on one vehicle type: at most 78 vehicles of each in the square.
+fn caps(alloc: Global) -> Result<String, AllocError> {
+    let mut text = String::from_str(alloc, CAPS)?;
+    for kind in &TYPES {
+        for piece in [RULE[0], kind, RULE[1], kind, RULE[2]] {
+            text.push_str(piece)?;
+        }
+    }
+    text.pop();
+    text.push_str("]}")?;
+    Ok(text)
 }
 
-/// What the fleet is lent as.
+/// The policy of a text, if there is memory.
+fn policy(alloc: Global, text: &str) -> Option<Policy> {
+    Policy::read(alloc, text.as_bytes()).ok()
+}
+
+/// The policy of a text, read once more where there was no memory.
+fn policy_at_last(rt: &impl Abort, alloc: Global, text: &str) -> Policy {
+    match policy(alloc, text) {
+        Some(policy) => policy,
+        None => policy(alloc, text).expect(rt, "a policy"),
+    }
+}
+
+fn places_at_last(rt: &impl Abort, alloc: Global) -> Square {
+    match one_square(rt, alloc) {
+        Ok(places) => places,
+        Err(_) => one_square(rt, alloc).expect(rt, "memory"),
+    }
+}
+
+fn fleet_at_last(rt: &impl Abort, alloc: Global) -> Vec<Vehicle> {
+    match fleet(rt, alloc) {
+        Ok(fleet) => fleet,
+        Err(_) => fleet(rt, alloc).expect(rt, "memory"),
+    }
+}
+
+/// The fleet under the policy of a text.
+fn make_city(rt: &impl Abort, alloc: Global, text: &str) -> City {
+    City {
+        places: places_at_last(rt, alloc),
+        policy: policy_at_last(rt, alloc, text),
+        fleet: fleet_at_last(rt, alloc),
+        moment: instant(rt, 2000),
+    }
+}
+
+/// What the fleet is lent as, if there is memory.
 fn lent<'a>(alloc: Global, city: &'a City) -> Result<Vec<&'a Vehicle>, AllocError> {
     city.fleet.iter().collect::<Vec<&Vehicle>>(alloc)
+}
+
+fn lent_at_last<'a>(rt: &impl Abort, alloc: Global, city: &'a City) -> Vec<&'a Vehicle> {
+    match lent(alloc, city) {
+        Ok(vehicles) => vehicles,
+        Err(_) => lent(alloc, city).expect(rt, "memory"),
+    }
 }
 
 /// The verdicts by one thread.
@@ -101,235 +170,133 @@ fn by_chunks<R: Threads + Sync>(
     chunked.verdicts(alloc, policy, places, vehicles, NOON, city.moment)
 }
 
-/// One verdict on the rule, with this status and measure.
-fn expect(rt: &impl Abort, found: &[RuleVerdict], status: Status, measure: u64) {
+/// The cap is exceeded by so many vehicles, of which the first 100 are told.
+fn expect_exceeded(rt: &impl Abort, found: &[RuleVerdict]) {
     assert!(rt; found.len() == 1);
     for verdict in found {
         assert!(rt; verdict.rule == known(rt, "00000000-0000-4000-8000-000000000301"));
-        assert!(rt; verdict.status == status && verdict.measure == measure);
-    }
-}
-
-/// The first 100 devices of `fleet_of`.
-fn expect_devices(rt: &impl Abort, found: &[RuleVerdict]) {
-    for verdict in found {
+        assert!(rt; verdict.status == Status::Violated && verdict.measure == 5003);
         assert!(rt; verdict.devices.len() == 100);
-        for (wanted, listed) in (0..100).zip(&verdict.devices) {
-            assert!(rt; *listed == device(rt, wanted));
-        }
+        expect_every(rt, verdict, 0, 1);
     }
 }
 
-/// More vehicles than one: the rule is violated, and the first 100 devices are told.
-fn expect_violated(rt: &impl Abort, found: &[RuleVerdict], measure: u64) {
-    expect(rt, found, Status::Violated, measure);
-    expect_devices(rt, found);
-}
-
-/// Vehicles are judged alike by one thread, by several and in chunks.
-fn judges_alike<R: Abort + Threads + Sync>(
-    chunked: &Chunked<R>,
-    alloc: Global,
-    city: &City,
-    vehicles: &[&Vehicle],
-) -> Result<(), AllocError>
-    requires { IsSync R.row }
-{
-    let rt = &chunked.0;
-    expect_violated(rt, &by_one(alloc, city, vehicles)?, 5003);
-    expect_violated(rt, &by_several(rt, alloc, city, vehicles)?, 5003);
-    expect_violated(rt, &by_chunks(chunked, alloc, city, vehicles)?, 5003);
-    Ok(())
-}
-
-#[test]
-fn as_one_thread(rt: HostRuntime) {
-    let alloc = rt.alloc();
-    let city = crowded(&rt, alloc, 5003).expect(&rt, "a city");
-    let vehicles = lent(alloc, &city).expect(&rt, "memory");
-    let chunked = Chunked(rt);
-    judges_alike(&chunked, alloc, &city, &vehicles).expect(&chunked.0, "memory");
-}
-
-/// No vehicles, and so few that threads aren't worth it.
-fn judges_little<R: Abort + Threads + Sync>(
-    chunked: &Chunked<R>,
-    alloc: Global,
-    city: &City,
-    vehicles: &[&Vehicle],
-) -> Result<(), AllocError>
-    requires { IsSync R.row }
-{
-    let rt = &chunked.0;
-    expect(rt, &by_chunks(chunked, alloc, city, &[])?, Status::Ok, 0);
-    expect(rt, &by_several(rt, alloc, city, &[])?, Status::Ok, 0);
-    expect_violated(rt, &by_chunks(chunked, alloc, city, vehicles)?, 101);
-    Ok(())
-}
-
-#[test]
-fn little_work(rt: HostRuntime) {
-    let alloc = rt.alloc();
-    let city = crowded(&rt, alloc, 101).expect(&rt, "a city");
-    let vehicles = lent(alloc, &city).expect(&rt, "memory");
-    let chunked = Chunked(rt);
-    judges_little(&chunked, alloc, &city, &vehicles).expect(&chunked.0, "memory");
-}
-
-const CAPS: &str =
-    r#"{"policy_id":"00000000-0000-4000-8000-000000000201","name":"caps","start_date":1000,"rules":["#;
-
-/// A rule, up to the end of its identifier.
-const RULE_ID: &str = r#"{"rule_id":"00000000-0000-4000-8000-"#;
-
-/// A rule behind its identifier, up to the number of its vehicle type.
-const COUNTED: &str =
-    r#"","name":"cap","rule_type":"count","geographies":["00000000-0000-4000-8000-000000000101"],"maximum":78,"vehicle_types":["type_"#;
-
-/// The rule on the vehicle type of this number.
-fn counted(alloc: Global, number: u32) -> Result<String, AllocError> {
-    format!(in alloc; "{RULE_ID}{number:012}{COUNTED}{number}\"]}}")
-}
-
-/// The text of a policy of 64 rules, each on one vehicle type.
-fn caps_text(alloc: Global) -> Result<String, AllocError> {
-    let mut text = String::from_str(alloc, CAPS)?;
-    for number in 0..64 {
-        if number > 0 {
-            text.push_str(",")?;
-        }
-        text.push_str(&counted(alloc, number)?)?;
-    }
-    text.push_str("]}")?;
-    Ok(text)
-}
-
-/// A policy of 64 rules, each on one vehicle type: at most 78 vehicles of each in the square.
-fn caps(alloc: Global) -> Result<Policy, PolicyFault> {
-    let text = caps_text(alloc)?;
-    Policy::read(alloc, text.as_bytes())
-}
-
-/// A vehicle of one of 64 types in turn, in one of two states.
-fn mixed(rt: &impl Abort, alloc: Global, number: u32) -> Result<Vehicle, AllocError> {
-    let kind = format!(in alloc; "type_{}", number % 64)?;
-    let state = if number % 3 == 0 {
-        "available"
-    } else {
-        "reserved"
-    };
-    Ok(vehicle(rt, alloc, number, kind.as_str(), state))
-}
-
-/// Vehicles of 64 types in turn: 78 times 64, and 11 more.
-fn mixed_fleet(rt: &impl Abort, alloc: Global) -> Result<Vec<Vehicle>, AllocError> {
-    let mut fleet = Vec::with_capacity(alloc, 5003)?;
-    for number in 0..5003 {
-        fleet.push(mixed(rt, alloc, number)?)?;
-    }
-    Ok(fleet)
-}
-
-/// The mixed fleet, of each type of which at most 78 may be.
-fn diverse(rt: &impl Abort, alloc: Global) -> Result<City, PolicyFault> {
-    Ok(City {
-        places: one_square(rt, alloc)?,
-        policy: caps(alloc)?,
-        fleet: mixed_fleet(rt, alloc)?,
-        moment: instant(rt, 2000),
-    })
-}
-
-/// Each chunk has more pairs of type and state than are kept, and each rule vehicles of every chunk.
-#[test]
-fn much_work(rt: HostRuntime) {
-    let alloc = rt.alloc();
-    let city = diverse(&rt, alloc).expect(&rt, "a city");
-    let vehicles = lent(alloc, &city).expect(&rt, "memory");
-    let chunked = Chunked(rt);
-    let found = by_chunks(&chunked, alloc, &city, &vehicles);
-    expect_types(&chunked.0, &found.expect(&chunked.0, "memory"));
-}
-
-/// A verdict on the vehicles of each of the 64 types.
-fn expect_types(rt: &impl Abort, found: &[RuleVerdict]) {
-    assert!(rt; found.len() == 64);
-    for (kind, verdict) in (0..64).zip(found) {
-        expect_measure(rt, verdict, kind);
-        expect_of_type(rt, verdict, kind);
-    }
-}
-
-/// The status and the measure of the type of this number in `mixed_fleet`, and how many devices are told.
-fn expect_measure(rt: &impl Abort, verdict: &RuleVerdict, kind: u32) {
-    let (status, measure, told) = if kind < 11 {
-        (Status::Violated, 79, 79)
-    } else {
-        (Status::Ok, 78, 0)
-    };
-    assert!(rt; verdict.status == status && verdict.measure == measure);
-    assert!(rt; verdict.devices.len() == told);
-}
-
-/// The devices that are told are of vehicles of the type of this number in `mixed_fleet`.
-fn expect_of_type(rt: &impl Abort, verdict: &RuleVerdict, kind: u32) {
-    let mut wanted: u32 = kind;
+/// The devices that are told begin with this number, each so far from the one before.
+fn expect_every(rt: &impl Abort, verdict: &RuleVerdict, first: u32, step: u32) {
+    let mut wanted: u32 = first;
     for listed in &verdict.devices {
         assert!(rt; *listed == device(rt, wanted));
-        wanted = wanted.wrapping_add(64);
+        wanted = wanted.wrapping_add(step);
     }
 }
 
-/// The verdicts by threads; a second try where the first found no memory.
-fn surely_by_several<R: Threads + Sync>(
+/// Vehicles are judged by threads, by the second try at the latest.
+fn expect_by_several<R: Abort + Threads + Sync>(
     rt: &R,
     alloc: Global,
     city: &City,
     vehicles: &[&Vehicle],
-) -> Result<Vec<RuleVerdict>, AllocError> {
+) {
     match by_several(rt, alloc, city, vehicles) {
-        Ok(found) => Ok(found),
-        Err(_) => by_several(rt, alloc, city, vehicles),
+        Ok(found) => expect_exceeded(rt, &found),
+        Err(_) => expect_exceeded(
+            rt,
+            &by_several(rt, alloc, city, vehicles).expect(rt, "memory"),
+        ),
     }
 }
 
-/// The verdicts in chunks; a second try where the first found no memory.
-fn surely_by_chunks<R: Threads + Sync>(
-    chunked: &Chunked<R>,
-    alloc: Global,
-    city: &City,
-    vehicles: &[&Vehicle],
-) -> Result<Vec<RuleVerdict>, AllocError>
-    requires { IsSync R.row }
-{
-    match by_chunks(chunked, alloc, city, vehicles) {
-        Ok(found) => Ok(found),
-        Err(_) => by_chunks(chunked, alloc, city, vehicles),
+/// Vehicles are judged by one thread, by the second try at the latest.
+fn expect_by_one(rt: &impl Abort, alloc: Global, city: &City, vehicles: &[&Vehicle]) {
+    match by_one(alloc, city, vehicles) {
+        Ok(found) => expect_exceeded(rt, &found),
+        Err(_) => expect_exceeded(rt, &by_one(alloc, city, vehicles).expect(rt, "memory")),
     }
 }
 
-/// Vehicles are judged by threads and in chunks, by the second try at the latest.
-fn judges<R: Abort + Threads + Sync>(
-    chunked: &Chunked<R>,
-    alloc: Global,
-    city: &City,
-    vehicles: &[&Vehicle],
-) -> Result<(), AllocError>
-    requires { IsSync R.row }
-{
-    let rt = &chunked.0;
-    expect_violated(rt, &surely_by_several(rt, alloc, city, vehicles)?, 5003);
-    expect_violated(rt, &surely_by_chunks(chunked, alloc, city, vehicles)?, 5003);
-    Ok(())
+/// No vehicles are judged by threads too.
+fn expect_none<R: Abort + Threads + Sync>(rt: &R, alloc: Global, city: &City) {
+    let found = match by_several(rt, alloc, city, &[]) {
+        Ok(found) => found,
+        Err(_) => by_several(rt, alloc, city, &[]).expect(rt, "memory"),
+    };
+    for verdict in &found {
+        assert!(rt; verdict.status == Status::Ok && verdict.measure == 0);
+    }
 }
 
 /// With one growth refused, wherever it is, vehicles are judged or there is no memory; then they are
-/// judged.
+/// judged, alike by threads and by one.
 #[test]
-fn judges_or_wants_memory(rt: HostRuntime) -> Result<(), Fail> {
+fn judges_or_wants_memory(rt: HostRuntime) {
     let alloc = rt.alloc();
-    let city = crowded(&rt, alloc, 5003)?;
-    let vehicles = lent(alloc, &city)?;
-    judges(&Chunked(rt), alloc, &city, &vehicles)?;
-    Ok(())
+    let city = make_city(&rt, alloc, CAP);
+    let vehicles = lent_at_last(&rt, alloc, &city);
+    expect_by_several(&rt, alloc, &city, &vehicles);
+    expect_by_one(&rt, alloc, &city, &vehicles);
+    expect_none(&rt, alloc, &city);
+}
+
+/// The verdicts in chunks, at the second try at the latest.
+fn by_chunks_at_last<R: Abort + Threads + Sync>(
+    chunked: &Chunked<R>,
+    alloc: Global,
+    city: &City,
+    vehicles: &[&Vehicle],
+) -> Vec<RuleVerdict>
+    requires { IsSync R.row }
+{
+    match by_chunks(chunked, alloc, city, vehicles) {
+        Ok(found) => found,
+        Err(_) => by_chunks(chunked, alloc, city, vehicles).expect(&chunked.0, "memory"),
+    }
+}
+
+/// Little work is left to one thread.
+#[test]
+fn judges_little_or_wants_memory(rt: HostRuntime) {
+    let alloc = rt.alloc();
+    let city = make_city(&rt, alloc, CAP);
+    let vehicles = lent_at_last(&rt, alloc, &city);
+    let chunked = Chunked(rt);
+    let found = by_chunks_at_last(&chunked, alloc, &city, &vehicles);
+    expect_exceeded(&chunked.0, &found);
+}
+
+fn caps_at_last(rt: &impl Abort, alloc: Global) -> String {
+    match caps(alloc) {
+        Ok(text) => text,
+        Err(_) => caps(alloc).expect(rt, "memory"),
+    }
+}
+
+/// A verdict on the vehicles of each of the 64 types: of the first 11 there are 79, of the others 78.
+fn expect_types(rt: &impl Abort, found: &[RuleVerdict]) {
+    assert!(rt; found.len() == 64);
+    for (kind, verdict) in (0..64).zip(found) {
+        let (status, measure, told) = if kind < 11 {
+            (Status::Violated, 79, 79)
+        } else {
+            (Status::Ok, 78, 0)
+        };
+        assert!(rt; verdict.status == status && verdict.measure == measure);
+        assert!(rt; verdict.devices.len() == told);
+        expect_every(rt, verdict, kind, 64);
+    }
+}
+
+/// Work that is worth threads: each chunk has more pairs of type and state than are kept, and each rule vehicles of every chunk.
+/// Where a growth is refused to the threads, one thread judges.
+#[test]
+fn judges_much_or_wants_memory(rt: HostRuntime) {
+    let alloc = rt.alloc();
+    let text = caps_at_last(&rt, alloc);
+    let city = make_city(&rt, alloc, text.as_str());
+    let vehicles = lent_at_last(&rt, alloc, &city);
+    let chunked = Chunked(rt);
+    let found = by_chunks(&chunked, alloc, &city, &vehicles);
+    expect_types(
+        &chunked.0,
+        &found.expect(&chunked.0, "verdicts by one thread at least"),
+    );
 }

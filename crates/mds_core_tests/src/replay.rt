@@ -6,10 +6,6 @@ use std::alloc::Global;
 use std::io::{self, ErrorKind, Read, Write};
 use std::process::Abort;
 
-/// A configuration of two operators.
-const CONFIGURATION: &[u8] =
-    br#"{"author":"city","operators":[{"id":"00000000-0000-4000-8000-0000000000a1","limit":2,"token":"alfa"},{"id":"00000000-0000-4000-8000-0000000000b1","limit":2,"token":"bravo"}],"zone":"Z"}"#;
-
 /// At most one vehicle in a square: a first one is reported, then a second.
 const CAP: &[u8] =
     br#"{"author":"city","operators":[{"id":"00000000-0000-4000-8000-0000000000a1","limit":2,"token":"alfa"},{"id":"00000000-0000-4000-8000-0000000000b1","limit":2,"token":"bravo"}],"zone":"Z"}
@@ -102,72 +98,6 @@ impl Write for Drip {
 /// What is written for a script.
 fn replayed(alloc: Global, script: &[u8]) -> Result<Vec<u8>, ReplayFault> {
     run::<World<Plain>, _, _>(alloc, script, Vec::new(alloc))
-}
-
-/// The bytes of both, one after the other.
-fn joined(rt: &impl Abort, alloc: Global, front: &[u8], back: &[u8]) -> Vec<u8> {
-    let mut bytes = Vec::new(alloc);
-    bytes.extend_from_slice(front).expect(rt, "memory");
-    bytes.extend_from_slice(back).expect(rt, "memory");
-    bytes
-}
-
-/// Whether the lines behind the configuration have this answer.
-fn is_answered(rt: &impl Abort, alloc: Global, lines: &[u8], answer: &[u8]) -> bool {
-    let script = joined(rt, alloc, CONFIGURATION, lines);
-    let written = replayed(alloc, &script).expect(rt, "a replay");
-    written.as_slice() == answer
-}
-
-/// The script's first line is no configuration.
-fn has_no_configuration(rt: &impl Abort, alloc: Global, script: &[u8]) {
-    let ended = replayed(alloc, script).map(drop);
-    assert!(rt; ended == Err(ReplayFault::BadConfig));
-}
-
-#[test]
-fn wants_a_configuration(rt: HostRuntime) {
-    let alloc = rt.alloc();
-    has_no_configuration(&rt, alloc, b"");
-    has_no_configuration(&rt, alloc, b"{}\n");
-    has_no_configuration(&rt, alloc, &CONFIGURATION[..40]);
-    // an empty first line isn't skipped
-    let blank = joined(&rt, alloc, b"\n", CAP);
-    has_no_configuration(&rt, alloc, &blank);
-}
-
-const NO_VEHICLES: &[u8] = b"200 {\"vehicles\":[]}\n";
-
-const BAD_LINE: &[u8] = b"400 {\"error\":\"bad_line\"}\n";
-
-const NO_ROUTE: &[u8] = b"404 {\"error\":\"no_route\"}\n";
-
-/// What stands behind the configuration, and what is answered.
-const LINES: &[(&[u8], &[u8])] = &[
-    // a carriage return before the line feed is dropped, and so is a line that is empty then
-    (b"\n1 alfa GET /fleet/vehicles\r\n\r\n\n", NO_VEHICLES),
-    // a last line without a line feed counts, and keeps its carriage return
-    (b"\n1 alfa GET /fleet/vehicles", NO_VEHICLES),
-    (b"\n1 alfa GET /fleet/vehicles\r", NO_ROUTE),
-    // a fourth space with nothing behind it
-    (b"\n1 alfa GET /fleet/vehicles \n", NO_VEHICLES),
-    // leading zeros of the moment; fourteen digits are too many, and 2100 is too late
-    (b"\n0000000000001 alfa GET /fleet/vehicles\n", NO_VEHICLES),
-    (b"\n00000000000001 alfa GET /fleet/vehicles\n", BAD_LINE),
-    (b"\n4102444800000 alfa GET /fleet/vehicles\n", BAD_LINE),
-    (b"\n1  GET /fleet/vehicles\n", BAD_LINE),
-    (b"\n1 alfa GET\n", BAD_LINE),
-    (b"\n-1 alfa GET /fleet/vehicles\n", BAD_LINE),
-];
-
-#[test]
-fn cuts_lines(rt: HostRuntime) {
-    for (number, (lines, answer)) in LINES.iter().enumerate() {
-        assert!(rt;
-            is_answered(&rt, rt.alloc(), lines, answer),
-            "case {number}"
-        );
-    }
 }
 
 const SIZES: &[usize] = &[1, 2, 7, 1000];

@@ -1,4 +1,4 @@
-//! Squares on the map, identifiers, words, positions and texts for the tests of vehicles.
+//! Identifiers, words, moments, positions and a square for the tests of the core.
 
 ghost use Rattle.std.specs.Prelude.{[], cond, bytes_eq};
 
@@ -81,19 +81,14 @@ fn digit(value: u32) -> u8 {
     }
 }
 
-/// From one corner to the other.
-pub(crate) fn rectangle(
-    rt: &impl Abort,
-    alloc: Global,
-    low: i64,
-    high: i64,
-) -> Result<Area, AllocError> {
-    let corner = position(rt, low, low);
+/// A square from 0 to 10 degrees.
+fn area(rt: &impl Abort, alloc: Global) -> Result<Area, AllocError> {
+    let corner = position(rt, 0, 0);
     let corners = [
         corner,
-        position(rt, high, low),
-        position(rt, high, high),
-        position(rt, low, high),
+        position(rt, 100_000_000, 0),
+        position(rt, 100_000_000, 100_000_000),
+        position(rt, 0, 100_000_000),
         corner,
     ];
     let ring = Ring::new(Vec::from_array(alloc, corners)?).expect(rt, "a ring");
@@ -101,20 +96,10 @@ pub(crate) fn rectangle(
     Area::new(alloc, vec![in alloc; polygon]?)
 }
 
-/// From 0 to 10 degrees.
+/// The square of this name.
 pub(crate) fn one_square(rt: &impl Abort, alloc: Global) -> Result<Square, AllocError> {
-    let square = rectangle(rt, alloc, 0, 100_000_000)?;
     Ok(Square {
         id: known(rt, "00000000-0000-4000-8000-000000000101"),
-        square,
+        square: area(rt, alloc)?,
     })
-}
-
-/// These pieces of a text, one after the other.
-pub(crate) fn joined(alloc: Global, pieces: &[&str]) -> Result<String, AllocError> {
-    let mut text = String::new(alloc);
-    for piece in pieces {
-        text.push_str(piece)?;
-    }
-    Ok(text)
 }

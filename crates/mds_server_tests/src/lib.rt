@@ -3,9 +3,11 @@
 #![tactic(auto)]
 
 #[cfg(test)]
-mod city;
+mod asking;
 #[cfg(test)]
 mod desk;
+#[cfg(test)]
+mod fleet;
 #[cfg(test)]
 mod hall;
 #[cfg(test)]
@@ -13,4 +15,4 @@ mod loopback;
 #[cfg(test)]
 mod snapshot;
 #[cfg(test)]
-mod waiting;
+mod threads;

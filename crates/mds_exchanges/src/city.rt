@@ -1,0 +1,276 @@
+//! A city of two operators, where a policy is published, met, broken and withdrawn.
+use crate::Exchange;
+
+/// Two operators, alfa and bravo, each with two vehicles at most; the author is city.
+pub const CONFIGURATION: &[u8] =
+    br#"{"author":"city","operators":[{"id":"00000000-0000-4000-8000-0000000000a1","limit":2,"token":"alfa"},{"id":"00000000-0000-4000-8000-0000000000b1","limit":2,"token":"bravo"}],"zone":"Z"}"#;
+
+/// A square from 0 to 10 degrees.
+pub const SQUARE: &str =
+    r#"{"geography_id":"00000000-0000-4000-8000-000000000101","name":"square","geography_json":{"type":"Polygon","coordinates":[[[0,0],[10,0],[10,10],[0,10],[0,0]]]}}"#;
+
+/// At most one vehicle in the square, from 1000 on.
+pub const CAP: &str =
+    r#"{"policy_id":"00000000-0000-4000-8000-000000000201","name":"cap","start_date":1000,"rules":[{"rule_id":"00000000-0000-4000-8000-000000000301","name":"cap","rule_type":"count","geographies":["00000000-0000-4000-8000-000000000101"],"maximum":1}]}"#;
+
+/// Nothing is published.
+pub const NO_POLICIES: Exchange = Exchange {
+    at: 900,
+    token: "city",
+    method: "GET",
+    target: "/policies",
+    body: "",
+    status: 200,
+    reply: r#"{"policies":[],"revision":0}"#,
+};
+
+/// Nothing is published, for an operator too.
+pub const NO_GEOGRAPHIES: Exchange = Exchange {
+    at: 900,
+    token: "alfa",
+    method: "GET",
+    target: "/geographies",
+    body: "",
+    status: 200,
+    reply: r#"{"geographies":[],"revision":0}"#,
+};
+
+/// Alfa asks before anything is published.
+pub const NOTHING_FOR_ALFA: Exchange = Exchange {
+    at: 2000,
+    token: "alfa",
+    method: "GET",
+    target: "/compliance",
+    body: "",
+    status: 200,
+    reply: r#"{"at":2000,"policies":[],"revision":0,"version":2}"#,
+};
+
+/// Bravo asks before anything is published.
+pub const NOTHING_FOR_BRAVO: Exchange = Exchange {
+    at: 2000,
+    token: "bravo",
+    method: "GET",
+    target: "/compliance",
+    body: "",
+    status: 200,
+    reply: r#"{"at":2000,"policies":[],"revision":0,"version":2}"#,
+};
+
+/// The square is put as a draft.
+pub const PUT_SQUARE: Exchange = Exchange {
+    at: 1000,
+    token: "city",
+    method: "PUT",
+    target: "/drafts/geographies/00000000-0000-4000-8000-000000000101",
+    body: SQUARE,
+    status: 200,
+    reply: r#"{"result":"new"}"#,
+};
+
+/// The cap is put as a draft.
+pub const PUT_CAP: Exchange = Exchange {
+    at: 1000,
+    token: "city",
+    method: "PUT",
+    target: "/drafts/policies/00000000-0000-4000-8000-000000000201",
+    body: CAP,
+    status: 200,
+    reply: r#"{"result":"new"}"#,
+};
+
+/// Both drafts are published.
+pub const PUBLISH: Exchange = Exchange {
+    at: 1000,
+    token: "city",
+    method: "POST",
+    target: "/publish",
+    body: r#"{"geographies":["00000000-0000-4000-8000-000000000101"],"policies":["00000000-0000-4000-8000-000000000201"]}"#,
+    status: 200,
+    reply: r#"{"published_date":1000,"revision":1}"#,
+};
+
+/// The published square is listed.
+pub const GEOGRAPHIES: Exchange = Exchange {
+    at: 1000,
+    token: "alfa",
+    method: "GET",
+    target: "/geographies",
+    body: "",
+    status: 200,
+    reply: r#"{"geographies":[{"geography_id":"00000000-0000-4000-8000-000000000101","geography_json":{"features":[{"geometry":{"coordinates":[[[[0,0],[10,0],[10,10],[0,10],[0,0]]]],"type":"MultiPolygon"},"properties":null,"type":"Feature"}],"type":"FeatureCollection"},"name":"square","published_date":1000}],"revision":1}"#,
+};
+
+/// The published cap is shown.
+pub const POLICY: Exchange = Exchange {
+    at: 1000,
+    token: "alfa",
+    method: "GET",
+    target: "/policies/00000000-0000-4000-8000-000000000201",
+    body: "",
+    status: 200,
+    reply: r#"{"policy":{"name":"cap","policy_id":"00000000-0000-4000-8000-000000000201","published_date":1000,"rules":[{"geographies":["00000000-0000-4000-8000-000000000101"],"maximum":1,"name":"cap","rule_id":"00000000-0000-4000-8000-000000000301","rule_type":"count"}],"start_date":1000},"revision":1}"#,
+};
+
+/// The cap isn't in force before its start.
+pub const TOO_EARLY: Exchange = Exchange {
+    at: 999,
+    token: "alfa",
+    method: "GET",
+    target: "/compliance",
+    body: "",
+    status: 200,
+    reply: r#"{"at":999,"policies":[],"revision":1,"version":2}"#,
+};
+
+/// No vehicle of alfa is counted.
+pub const NONE_FOR_ALFA: Exchange = Exchange {
+    at: 2000,
+    token: "alfa",
+    method: "GET",
+    target: "/compliance",
+    body: "",
+    status: 200,
+    reply: r#"{"at":2000,"policies":[{"policy_id":"00000000-0000-4000-8000-000000000201","rules":[{"measure":0,"rule_id":"00000000-0000-4000-8000-000000000301","status":"ok"}]}],"revision":1,"version":2}"#,
+};
+
+/// No vehicle of bravo is counted.
+pub const NONE_FOR_BRAVO: Exchange = Exchange {
+    at: 2000,
+    token: "bravo",
+    method: "GET",
+    target: "/compliance",
+    body: "",
+    status: 200,
+    reply: r#"{"at":2000,"policies":[{"policy_id":"00000000-0000-4000-8000-000000000201","rules":[{"measure":0,"rule_id":"00000000-0000-4000-8000-000000000301","status":"ok"}]}],"revision":1,"version":2}"#,
+};
+
+/// Bravo asks long afterwards, and has no vehicle.
+pub const FAR: Exchange = Exchange {
+    at: 4000000000000,
+    token: "bravo",
+    method: "GET",
+    target: "/compliance",
+    body: "",
+    status: 200,
+    reply: r#"{"at":4000000000000,"policies":[{"policy_id":"00000000-0000-4000-8000-000000000201","rules":[{"measure":0,"rule_id":"00000000-0000-4000-8000-000000000301","status":"ok"}]}],"revision":1,"version":2}"#,
+};
+
+/// Alfa's first vehicle is in the square.
+pub const REPORT_FIRST: Exchange = Exchange {
+    at: 2000,
+    token: "alfa",
+    method: "POST",
+    target: "/fleet/events",
+    body: r#"{"device_id":"00000000-0000-4000-8000-000000000401","vehicle_type":"scooter","propulsion_types":["electric"],"vehicle_state":"available","event_types":["trip_end"],"timestamp":2000,"location":{"lat":5,"lng":5}}"#,
+    status: 200,
+    reply: r#"{"result":"new"}"#,
+};
+
+/// One vehicle is within the cap.
+pub const WITHIN: Exchange = Exchange {
+    at: 2000,
+    token: "alfa",
+    method: "GET",
+    target: "/compliance",
+    body: "",
+    status: 200,
+    reply: r#"{"at":2000,"policies":[{"policy_id":"00000000-0000-4000-8000-000000000201","rules":[{"measure":1,"rule_id":"00000000-0000-4000-8000-000000000301","status":"ok"}]}],"revision":1,"version":2}"#,
+};
+
+/// Alfa's second vehicle is in the square.
+pub const REPORT_SECOND: Exchange = Exchange {
+    at: 2001,
+    token: "alfa",
+    method: "POST",
+    target: "/fleet/events",
+    body: r#"{"device_id":"00000000-0000-4000-8000-000000000402","vehicle_type":"scooter","propulsion_types":["electric"],"vehicle_state":"available","event_types":["trip_end"],"timestamp":2001,"location":{"lat":5,"lng":5}}"#,
+    status: 200,
+    reply: r#"{"result":"new"}"#,
+};
+
+/// Two vehicles are over the cap, and are named.
+pub const EXCEEDED: Exchange = Exchange {
+    at: 2001,
+    token: "alfa",
+    method: "GET",
+    target: "/compliance",
+    body: "",
+    status: 200,
+    reply: r#"{"at":2001,"policies":[{"policy_id":"00000000-0000-4000-8000-000000000201","rules":[{"devices":["00000000-0000-4000-8000-000000000401","00000000-0000-4000-8000-000000000402"],"measure":2,"rule_id":"00000000-0000-4000-8000-000000000301","status":"violated"}]}],"revision":1,"version":2}"#,
+};
+
+/// Both of alfa's vehicles are listed.
+pub const VEHICLES: Exchange = Exchange {
+    at: 2001,
+    token: "alfa",
+    method: "GET",
+    target: "/fleet/vehicles",
+    body: "",
+    status: 200,
+    reply: r#"{"vehicles":[{"device_id":"00000000-0000-4000-8000-000000000401","event_types":["trip_end"],"location":{"lat":5,"lng":5},"propulsion_types":["electric"],"since":2000,"timestamp":2000,"vehicle_state":"available","vehicle_type":"scooter"},{"device_id":"00000000-0000-4000-8000-000000000402","event_types":["trip_end"],"location":{"lat":5,"lng":5},"propulsion_types":["electric"],"since":2001,"timestamp":2001,"vehicle_state":"available","vehicle_type":"scooter"}]}"#,
+};
+
+/// The cap is withdrawn.
+pub const WITHDRAW: Exchange = Exchange {
+    at: 3000,
+    token: "city",
+    method: "POST",
+    target: "/publish",
+    body: r#"{"withdraw":["00000000-0000-4000-8000-000000000201"]}"#,
+    status: 200,
+    reply: r#"{"published_date":3000,"revision":2}"#,
+};
+
+/// The cap is in force until its withdrawal.
+pub const BEFORE_THE_WITHDRAWAL: Exchange = Exchange {
+    at: 2999,
+    token: "alfa",
+    method: "GET",
+    target: "/compliance/00000000-0000-4000-8000-000000000201",
+    body: "",
+    status: 200,
+    reply: r#"{"at":2999,"policy":{"policy_id":"00000000-0000-4000-8000-000000000201","rules":[{"devices":["00000000-0000-4000-8000-000000000401","00000000-0000-4000-8000-000000000402"],"measure":2,"rule_id":"00000000-0000-4000-8000-000000000301","status":"violated"}]},"revision":2,"version":2}"#,
+};
+
+/// The cap isn't in force from its withdrawal on.
+pub const AFTER_THE_WITHDRAWAL: Exchange = Exchange {
+    at: 3000,
+    token: "alfa",
+    method: "GET",
+    target: "/compliance",
+    body: "",
+    status: 200,
+    reply: r#"{"at":3000,"policies":[],"revision":2,"version":2}"#,
+};
+
+/// Both drafts are put.
+pub const DRAFTS: &[Exchange] = &[PUT_SQUARE, PUT_CAP];
+
+/// Both drafts are put and published.
+pub const SET_UP: &[Exchange] = &[PUT_SQUARE, PUT_CAP, PUBLISH];
+
+/// After `SET_UP`, alfa's requests: it keeps within the cap and then crosses it.
+pub const CROSSED: &[Exchange] = &[REPORT_FIRST, WITHIN, REPORT_SECOND, EXCEEDED];
+
+/// A whole history, from nothing published to the withdrawal.
+pub const HISTORY: &[Exchange] = &[
+    NO_POLICIES,
+    NO_GEOGRAPHIES,
+    PUT_SQUARE,
+    PUT_CAP,
+    PUBLISH,
+    GEOGRAPHIES,
+    POLICY,
+    TOO_EARLY,
+    REPORT_FIRST,
+    WITHIN,
+    REPORT_SECOND,
+    EXCEEDED,
+    VEHICLES,
+    NONE_FOR_BRAVO,
+    FAR,
+    WITHDRAW,
+    BEFORE_THE_WITHDRAWAL,
+    AFTER_THE_WITHDRAWAL,
+];
