@@ -1,34 +1,64 @@
-# demo   the main job on real input: a policy is published, a vehicle reported, compliance asked for
-# build  proves mds_replay with all that it stands on, and builds it
-# serve  the server on 127.0.0.1:8080 for the city of examples/city.json, with three lines to paste that ask it
-# test   the whole gate: every proof from nothing, the edits that must fail, the tests, the programs, the scripts
-# openapi  checks docs/openapi.yaml against the protocol and the scripts; not part of the gate (Debian's python3-yaml, python3-jsonschema)
-# bench  times mds_replay on generated input, and two programs in Rust beside it; not part of the gate (minutes)
-# stress  publishes 500 batches at mds_serve while 8 operators ask, checks each reply against a replay, and tells times; not part of the gate (some seconds, once proved)
+# demo     the main job on real input: a policy is published, a vehicle reported, compliance asked for
+# test     all tests, and both programs on scripts and messages, before any proof: it proves nothing
+# prove    the gate: every proof from nothing, the edits that must fail, then scripts, messages and stress on the proved programs
+# edits    further edits that must fail, those of edits/: part of a release, not of the gate (CRATE=mds_text: those of one crate)
+# build    proves mds_replay with all that it stands on, and builds it
+# serve    the server on 127.0.0.1:8080 for the city of examples/city.json, with three lines to paste that ask it
+# openapi  checks docs/openapi.yaml against the protocol and the scripts (Debian's python3-yaml, python3-jsonschema)
+# bench    times mds_replay on generated input, and two programs in Rust beside it (minutes, once built)
+# stress   publishes 500 batches at mds_serve while 8 operators ask, and checks each reply against a replay (seconds, once built)
+# dist     packs the built programs: a tar and a Debian package in out/dist (seconds, once built)
+# dist-try  installs that package into a clean Debian root and asks its server (as root, minutes)
+# help     these lines
 
-.PHONY: demo build server serve test openapi bench stress
+.PHONY: demo test prove edits build server serve openapi bench stress dist dist-try help
+
+# What each takes where nothing is built, on a machine that does nothing else.
+DEMO_TIME := about a minute
+TEST_TIME := up to 12 minutes on two processors
+PROVE_TIME := about 90 minutes on four processors
+EDITS_TIME := about an hour
+BUILD_TIME := about 40 minutes
+SERVE_TIME := about an hour
 
 PROGRAM := crates/mds_replay/out/mds_replay
 SCRIPT := examples/first-verdict.replay
 SERVER := crates/mds_serve/out/mds_serve
 
-# The proved program where it is built and no source is newer, else the sources before their proof.
+# Whether a proved program is built and no source is newer.
+is_built = [ -x $(1) ] && [ -z "$$(find crates.txt crates -path '*/out' -prune -o -newer $(1) \( -name '*.rt' -o -name crates.txt \) -print)" ]
+
+# The proved program, else the sources before their proof.
 demo:
-	@if [ -x $(PROGRAM) ] && [ -z "$$(find crates.txt crates -path '*/out' -prune -o -newer $(PROGRAM) \( -name '*.rt' -o -name crates.txt \) -print)" ]; then \
+	@if $(call is_built,$(PROGRAM)); then \
 		$(PROGRAM) < $(SCRIPT); \
 	else \
-		echo "mds_replay isn't built (make build): this runs its sources before their proof" >&2; \
+		echo "mds_replay isn't built (make build): this runs its sources before their proof, which takes $(DEMO_TIME)" >&2; \
 		said=$$(mktemp); cd crates/mds_replay; \
 		rt try < ../../$(SCRIPT) 2> $$said | grep '^[1-5][0-9][0-9] ' || { cat $$said >&2; rm -f $$said; exit 1; }; \
 		rm -f $$said; \
 	fi
 
+test:
+	@echo "make test proves nothing: it runs sources before their proof. make prove proves them ($(PROVE_TIME))."
+	@echo "It takes $(TEST_TIME). Each part prints what it found once it is over."
+	@python3 -B tests/quick.py
+
+prove:
+	@echo "make prove proves every crate from nothing, in $(PROVE_TIME); each crate prints its lines once it is proved."
+	@bash tests/gate
+
+edits:
+	@bash tests/edits "$(EDITS_TIME)" $(CRATE)
+
 build:
+	@$(call is_built,$(PROGRAM)) || echo "this proves mds_replay and all below it, in $(BUILD_TIME) where nothing is built" >&2
 	cd crates/mds_replay && rt run < stdin > /dev/null
 
 # Proves and builds mds_serve with all that it stands on, where a source is newer.
 server:
-	@if [ ! -x $(SERVER) ] || [ -n "$$(find crates.txt crates -path '*/out' -prune -o -newer $(SERVER) \( -name '*.rt' -o -name crates.txt \) -print)" ]; then \
+	@if ! { $(call is_built,$(SERVER)); }; then \
+		echo "this proves mds_serve and all below it, in $(SERVE_TIME) where nothing is built" >&2; \
 		cd crates/mds_serve && rt run -- 127.0.0.1:0 0 < stdin > /dev/null; \
 	fi
 
@@ -36,9 +66,6 @@ server:
 serve: server
 	@cat examples/serve.curl
 	@$(SERVER) 127.0.0.1:8080 < examples/city.json
-
-test:
-	@bash tests/gate
 
 bench: build
 	python3 -B bench/measure.py
@@ -48,3 +75,12 @@ stress: build server
 
 openapi:
 	/usr/bin/python3 -B tests/openapi.py docs/PROTOCOL.md
+
+dist: build server
+	@bash dist/build
+
+dist-try:
+	@bash dist/try
+
+help:
+	@sed -n 's/^# \([a-z-]*  \)/make \1/p' Makefile

@@ -5,8 +5,9 @@
 
 What is accepted as an answer stands in the protocol, and where a message is no HTTP in RFC 9110 and 9112: where these leave a
 choice, each of its sides is accepted. After each broken or hostile message the next request on a new connection is answered as if
-it hadn't come. The scripts of tests/replays are run too, those whose answers don't depend on when a request comes. Takes about 80
-seconds, since the deadlines are waited for. Prints what differs, and last 'N passed, M failed'; ends with 1 where one failed.
+it hadn't come. The scripts of tests/replays are run too, those whose answers don't depend on when a request comes; the others are
+named. Takes about 80 seconds, since the deadlines are waited for. Prints what differs, and last 'N passed, M failed'; ends with 1
+where one failed.
 """
 
 import contextlib
@@ -15,20 +16,19 @@ import math
 import os
 import re
 import resource
-import socket
 import subprocess
 import sys
 import threading
 import time
 from concurrent.futures import ThreadPoolExecutor
 
+from ends import ENDS, REFUSED, TOLD_AT_ONCE, an_address_that_is_taken, an_end, is_refused, is_told_at_once, so_many_connections
 from messages import BODIES, BODY_LIMIT, CLOSE, HEADS, METHOD, NEW, NO_POLICY, NO_ROUTE, REPORT, TOKEN, TOO_LARGE
 from messages import chunked, code, head, sized
-from wire import AUTHOR, FIRST, SECOND, SECONDS, Answer, Closed, Server, configuration, identifier, report, request
+from wire import AUTHOR, FIRST, PATIENCE, SECOND, SECONDS, Answer, Closed, Server, identifier, report, request
 
 HERE = os.path.dirname(os.path.abspath(__file__))
 
-LINE_LIMIT = 2_097_152
 CONNECTION_LIMIT = 4096
 HEAD_SECONDS, BODY_SECONDS, IDLE_SECONDS = 10, 30, 60
 EARLY, LATE = 2, 10  # how far from its deadline a connection may be closed, on a busy machine
@@ -204,10 +204,13 @@ def on_a_circle(turn, east=0):
 
 
 def what_makes_questions_long(server):
-    """Draws 16 rings of 15,000 positions that cross, publishes 8 policies of 64 rules over them, and reports 2,000 vehicles."""
-    rings = {}
+    """Draws 16 rings of 15,000 positions that cross, publishes 8 policies of 64 rules over them, and reports 2,000 vehicles.
+
+    Fewer positions and vehicles make them as long where the program isn't proved.
+    """
+    rings, corners = {}, 15_000 // PATIENCE
     for number in range(16):
-        positions = [on_a_circle(it / 15_000, number * 1e-6) for it in range(15_000)]
+        positions = [on_a_circle(it / corners, number * 1e-6) for it in range(corners)]
         rings[identifier(1, number)] = ",".join(f"[{lng:.7f},{lat:.7f}]" for lng, lat in [*positions, positions[0]])
     for name, ring in rings.items():
         text = f'{{"geography_id":"{name}","name":"g","geography_json":{{"type":"Polygon","coordinates":[[{ring}]]}}}}'
@@ -223,7 +226,7 @@ def what_makes_questions_long(server):
         yield server.ask("PUT", f"/drafts/policies/{policy}", AUTHOR, text.encode())
     yield server.ask("POST", "/publish", AUTHOR, json.dumps({"geographies": names, "policies": policies}).encode())
     with server.link() as link:
-        for number in range(2_000):
+        for number in range(2_000 // PATIENCE):
             lng, lat = on_a_circle(number * 0.2705628)
             text = report(number).replace(b'{"lat":5,"lng":5}', f'{{"lat":{lat:.7f},"lng":{lng:.7f}}}'.encode())
             link.send(request("POST", "/fleet/events", body=text))
@@ -359,6 +362,9 @@ def a_slow_body_in_time(server):
 
 def more_connections_than_may_be(program):
     """One connection more than may be waits or is closed, and the server goes on."""
+    if not can_hold(2 * CONNECTION_LIMIT):
+        yield f"isn't tried: too few files may be open (ulimit -n) for {CONNECTION_LIMIT} connections"
+        return
     with Server(program) as server, contextlib.ExitStack() as stack:
         held = []
         for _ in range(CONNECTION_LIMIT):
@@ -390,76 +396,6 @@ def can_hold(count):
         return False
     resource.setrlimit(resource.RLIMIT_NOFILE, (count, most))
     return True
-
-
-# --- The program's ends --------------------------------------------------------------------------------------------
-
-
-def ended(program, arguments, given):
-    """Status, standard output and standard error of a run that ends by itself."""
-    ran = subprocess.run([program, *arguments], input=given, stdout=subprocess.PIPE, stderr=subprocess.PIPE, timeout=3 * SECONDS)
-    return ran.returncode, ran.stdout, ran.stderr
-
-
-ENDS = {
-    "no argument": ((), b"", 2, "serve: usage"),
-    "three arguments": (("127.0.0.1:0", "0", "0"), None, 2, "serve: usage"),
-    "connections that are no number": (("127.0.0.1:0", "x"), None, 2, "serve: usage"),
-    "connections with a sign": (("127.0.0.1:0", "-1"), None, 2, "serve: usage"),
-    "connections with a blank": (("127.0.0.1:0", " 1"), None, 2, "serve: usage"),
-    "connections of ten digits": (("127.0.0.1:0", "0000000000"), None, 2, "serve: usage"),
-    "empty connections": (("127.0.0.1:0", ""), None, 2, "serve: usage"),
-    "usage before the configuration": (("nowhere", "x"), b"{", 2, "serve: usage"),
-    "an empty input": (("127.0.0.1:0", "0"), b"", 2, "serve: bad configuration"),
-    "an empty first line": (("127.0.0.1:0", "0"), b"\n" + configuration(), 2, "serve: bad configuration"),
-    "a configuration that is cut off": (("127.0.0.1:0", "0"), configuration()[:60], 2, "serve: bad configuration"),
-    "a configuration over the limit of a line": (
-        ("127.0.0.1:0", "0"),
-        configuration().strip().ljust(LINE_LIMIT + 1) + b"\n",
-        2,
-        "serve: bad configuration",
-    ),
-    "the configuration before the address": (("nowhere", "0"), b"{", 2, "serve: bad configuration"),
-    "an address that is none": (("nowhere", "0"), None, 1, "serve: no listener"),
-    "an address without a port": (("127.0.0.1", "0"), None, 1, "serve: no listener"),
-    "an empty address": (("", "0"), None, 1, "serve: no listener"),
-    "an address of another machine": (("192.0.2.1:0", "0"), None, 1, "serve: no listener"),
-    "no connection": (("127.0.0.1:0", "0"), None, 0, None),
-    "no connection, nine digits": (("127.0.0.1:0", "000000000"), None, 0, None),
-    "a configuration without a line feed": (("127.0.0.1:0", "0"), configuration().strip(), 0, None),
-    "a configuration with CR LF": (("127.0.0.1:0", "0"), configuration().strip() + b"\r\n", 0, None),
-    "a configuration at the limit of a line": (("127.0.0.1:0", "0"), configuration().strip().ljust(LINE_LIMIT) + b"\n", 0, None),
-}
-
-
-def an_end(program, arguments, given, status, said):
-    wanted = (status, b"" if said else b"ready\n", f"{said}\n".encode() if said else b"")
-    found = ended(program, arguments, configuration() if given is None else given)
-    if found != wanted:
-        yield f"ends with {found}, not {wanted}"
-
-
-def an_address_that_is_taken(program):
-    with socket.socket() as other:
-        other.bind(("127.0.0.1", 0))
-        other.listen()
-        address = f"127.0.0.1:{other.getsockname()[1]}"
-        yield from an_end(program, (address, "0"), None, 1, "serve: no listener")
-
-
-def so_many_connections(program):
-    """It serves as many connections as it was told, and ends well."""
-    with Server(program, arguments=["3"]) as server:
-        for _ in range(2):
-            if not server.ask("GET", "/policies").is_by_the_server(*NO_POLICY):
-                yield "a connection isn't served"
-        if server.process.poll() is not None:
-            yield "it ends before its last connection"
-        server.ask("GET", "/policies")
-        with contextlib.suppress(subprocess.TimeoutExpired):
-            server.process.wait(SECONDS)
-        if (found := server.stop()) != (0, b"", b""):
-            yield f"ends with {found}"
 
 
 # --- Scripts -------------------------------------------------------------------------------------------------------
@@ -509,9 +445,12 @@ def script(name):
         first, _, rest = given.read().partition(b"\n")
         replies = wanted.read().split(b"\n")[:-1]
         lines = [it for it in (it.removesuffix(b"\r") for it in rest.split(b"\n")) if it]
+        ends = int(status.read())
+        if not ends and len(lines) != len(replies):
+            raise ValueError(f"{name}: {len(lines)} lines and {len(replies)} replies")
         pairs = [(it.split(b" ", 4) + [b""], reply) for it, reply in zip(lines, replies) if reply != b'400 {"error":"bad_line"}']
         requests = [(int(it[0]), *it[1:5]) for it, _ in pairs]
-        return first + b"\n", requests, [reply for _, reply in pairs], int(status.read())
+        return first + b"\n", requests, [reply for _, reply in pairs], ends
 
 
 def without_moments(reply):
@@ -540,17 +479,26 @@ def a_script(program, given, requests, replies):
 
 
 def scripts(program):
-    """Each script that can be run, with its faults; and how many are left out."""
-    left = 0
+    """Each script that can be run, with its faults; and which are left out."""
+    left = []
     for name in sorted({it.rsplit(".", 1)[0] for it in os.listdir(f"{HERE}/replays")}):
         given, requests, replies, status = script(name)
         if status:
-            yield name, an_end(program, ("127.0.0.1:0", "0"), given.strip(b"\n"), status, "serve: bad configuration")
+            yield name, is_refused(program, given.strip(b"\n"), status, refusal(name))
         elif moments_matter(requests):
-            left += 1
+            left.append(name)
         else:
             yield name, a_script(program, given, requests, replies)
-    print(f"{left} scripts whose answers depend on their moments are left out")
+    print(f"{len(left)} scripts are left out, since their answers depend on their moments: {', '.join(left)}")
+
+
+def refusal(name):
+    """What mds_serve says of a script's configuration: what mds_replay says, under its own name."""
+    path = f"{HERE}/replays/{name}.err"
+    if not os.path.exists(path):
+        return "serve: bad configuration"
+    with open(path, encoding="ascii") as said:
+        return said.read().removesuffix("\n").replace("replay: ", "serve: ", 1)
 
 
 # --- All of it -----------------------------------------------------------------------------------------------------
@@ -594,14 +542,15 @@ def programs(tried, program):
     """Runs of the program, each for itself."""
     for name, (arguments, given, status, said) in ENDS.items():
         tried.one(name, an_end(program, arguments, given, status, said))
+    for name, (given, said) in REFUSED.items():
+        tried.one(name, is_refused(program, given, 2, said))
+    for name, (words, said) in TOLD_AT_ONCE.items():
+        tried.one(name, is_told_at_once(program, words, said))
     for case in (an_address_that_is_taken, so_many_connections):
         tried.one(case.__name__, case(program))
     for name, found in scripts(program):
         tried.one(name, found)
-    if can_hold(2 * CONNECTION_LIMIT):
-        tried.one("more_connections_than_may_be", more_connections_than_may_be(program))
-    else:
-        print(f"more_connections_than_may_be isn't tried: too few files may be open for {CONNECTION_LIMIT} connections")
+    tried.one("more_connections_than_may_be", more_connections_than_may_be(program))
 
 
 def everything(tried, program, stack):

@@ -28,6 +28,7 @@ DESCRIPTION = f"{HERE}/../docs/openapi.yaml"
 PROTOCOL = f"{HERE}/../docs/PROTOCOL.md"
 SCRIPTS = f"{HERE}/replays"
 
+LAST_MOMENT = 4102444799999
 METHODS = ("get", "put", "post", "delete")
 EVERYWHERE = {"400", "401", "413", "503"}
 JSON = "application/json"
@@ -86,7 +87,7 @@ class Description:
         """The operation of a request and its name, or what is answered beside them."""
         for template, item in self.root["paths"].items():
             if re.fullmatch(re.sub(r"\\{\w+\\}", "[^/]+", re.escape(template)), path):
-                if method.lower() in METHODS and method.lower() in item:
+                if method.isupper() and method.lower() in METHODS and method.lower() in item:
                     return f"{method} {template}", item[method.lower()]
                 return "x-other-methods", self.root["x-other-methods"]
         return "x-other-paths", self.root["x-other-paths"]
@@ -201,10 +202,16 @@ def statuses(description, text):
     return f"{len(wanted)} statuses and codes of the protocol"
 
 
+def is_moment(text):
+    """A moment at the front of a line: 1 to 13 digits, up to the end of 2099."""
+    return re.fullmatch(rb"[0-9]{1,13}", text) is not None and int(text) <= LAST_MOMENT
+
+
 def exchanges(path):
     """Each request of a script, as method, path and body, or None for a line that is none; with its status and reply."""
     with open(f"{path}.in", "rb") as given, open(f"{path}.out", "rb") as answers:
-        lines = [it.removesuffix(b"\r") for it in given.read().split(b"\n")[1:]]
+        *lines, last = given.read().split(b"\n")[1:]
+        lines = [*(it.removesuffix(b"\r") for it in lines), last]
         replies = answers.read().split(b"\n")[:-1]
     lines = [it for it in lines if it]
     if len(lines) != len(replies):
@@ -212,7 +219,7 @@ def exchanges(path):
     for line, reply in zip(lines, replies):
         fields = line.split(b" ", 4)
         request = None
-        if len(fields) >= 4 and all(fields[:4]):
+        if len(fields) >= 4 and all(fields[:4]) and is_moment(fields[0]):
             request = fields[2].decode(), fields[3].partition(b"?")[0].decode(), b"".join(fields[4:])
         status, _, body = reply.partition(b" ")
         yield request, status.decode(), body
@@ -253,10 +260,11 @@ class Seen:
         schema = description.media(operation["responses"][status])["schema"]
         self.faults += [f"{name}: a reply {status} of {route}: {it}" for it in description.faults(schema, reply)]
         if status == "200" and "requestBody" in operation:
-            document = json.loads(request[2])
-            self.bodies.setdefault(route, []).append(document)
+            self.bodies.setdefault(route, []).append(json.loads(request[2]))
             self.taken += 1
             schema = description.media(operation["requestBody"])["schema"]
+            # a number that isn't plain is read as a text
+            document = json.loads(request[2], parse_float=str)
             self.faults += [f"{name}: a body of {route}: {it}" for it in description.faults(schema, document)]
 
 

@@ -9,7 +9,9 @@ import struct
 import subprocess
 import time
 
-SECONDS = 10  # for anything that has no deadline of its own
+# How many times as long as for the proved program is waited for one that isn't proved, which is slower (tests/unproved.py).
+PATIENCE = int(os.environ.get("PATIENCE", "1"))
+SECONDS = 10 * PATIENCE  # for anything that has no deadline of its own
 
 AUTHOR, FIRST, SECOND = "city", "alfa", "bravo"
 

@@ -1,0 +1,171 @@
+#!/usr/bin/env python3
+"""What `make test` does: all tests, and both programs on all scripts and messages, before any proof. It proves nothing.
+
+    quick.py
+
+The tests of each crate that has some are built and run by `rt try --test`, and mds_replay and mds_serve are built by `rt try`
+(tests/unproved.py), as many at once as there are processors and memory; a proved program is taken where it is built and no source is
+newer. Then come the scripts (replays.py), the messages (http.py), a short stress (stress.py), some refused growths of memory
+(growths.py) and the check of docs/openapi.yaml (openapi.py), which has failed where its two Debian packages are missing. What a part
+prints comes once the part is over. Last comes 'N passed, M failed' over all parts; ends with 1 where one failed.
+"""
+
+import os
+import re
+import subprocess
+import sys
+import tempfile
+import threading
+import time
+
+import unproved
+
+HERE = os.path.dirname(os.path.abspath(__file__))
+MEMORY = 3 << 30  # bytes for one part, at most
+SCRIPT_PARTS = 3
+GROWTH_SECONDS = 30  # for the growths of each crate's tests
+SLOW = "8"  # how many times as long a part waits for a program that isn't proved
+WORD = re.compile(r"^(\d+) passed, (\d+) failed$", re.M)
+TESTS = re.compile(r"^test result: \w+\. (\d+) passed; (\d+) failed;", re.M)
+
+
+class Part:
+    """One thing to do: its name, how long it takes about, the parts that it waits for, and the call that does it."""
+
+    def __init__(self, name, minutes, needs, call):
+        self.name, self.minutes, self.needs, self.call = name, minutes, needs, call
+        self.begun, self.ended, self.passed, self.failed = False, False, 0, 0
+
+    def do(self, printing):
+        with printing:
+            print(f"begins: {self.name}, about {self.minutes} min", flush=True)
+        begun = time.monotonic()
+        lost = [it.name for it in self.needs if it.failed]
+        try:
+            self.passed, self.failed, text = self.call() if not lost else (0, 1, f"not done, since this failed: {lost[0]}\n")
+        except (OSError, ValueError, subprocess.SubprocessError) as fault:
+            self.passed, self.failed, text = 0, 1, f"{fault!r}\n"
+        with printing:
+            print(f"== {self.name}, in {time.monotonic() - begun:.0f} s: {self.passed} passed, {self.failed} failed")
+            print("".join(f"   {line}\n" for line in text.splitlines()), end="", flush=True)
+
+
+def counted(status, text, pattern):
+    """The counts that a part printed last. A part that printed none, or ended badly without a failure, has failed."""
+    found = pattern.findall(text)
+    passed, failed = map(int, found[-1]) if found else (0, 1)
+    return passed, failed or int(status != 0), text
+
+
+def tests_of(name, program):
+    """Builds and runs the tests of a crate; those that passed are counted alone."""
+    status, text = unproved.build(name, program, tests=True)
+    passed, failed, text = counted(status, text, TESTS)
+    kept = [line for line in text.splitlines() if not re.fullmatch(r"test \S+ \.\.\. ok|tests: \d+", line)]
+    return passed, failed, "\n".join(kept)
+
+
+def program_of(name, program):
+    """Builds a program, and runs it on the crate's own input."""
+    status, text = unproved.build(name, program)
+    return int(status == 0), int(status != 0), text if status else ""
+
+
+def script(name, *words, slow=True):
+    """Runs one of the Python files beside this one."""
+    words = [sys.executable, "-B", f"{HERE}/{name}", *words]
+    how = {"stdin": subprocess.DEVNULL, "stdout": subprocess.PIPE, "stderr": subprocess.STDOUT, "errors": "replace"}
+    ran = subprocess.run(words, env={**os.environ, "PATIENCE": SLOW if slow else "1"}, check=False, **how)
+    return counted(ran.returncode, ran.stdout, WORD)
+
+
+def description():
+    """The check of docs/openapi.yaml, with the Python that Debian's packages belong to."""
+    words = ["/usr/bin/python3", "-B", f"{HERE}/openapi.py"]
+    ran = subprocess.run(words, stdout=subprocess.PIPE, stderr=subprocess.STDOUT, errors="replace", check=False)
+    return int(ran.returncode == 0), int(ran.returncode != 0), ran.stdout
+
+
+def crates_with_tests():
+    """The crates that have a test, those with most lines first."""
+    found = {}
+    for path in unproved.sources():
+        name = os.path.relpath(path, unproved.crate("")).split(os.sep)[0]
+        with open(path, encoding="utf-8") as text:
+            source = text.read()
+        lines, has = found.get(name, (0, False))
+        found[name] = lines + source.count("\n"), has or "#[test]" in source
+    return sorted((name for name, (_, has) in found.items() if has), key=lambda name: -found[name][0])
+
+
+def parts(room):
+    """All parts, the longest chain first."""
+    made, built, slow = [], {}, {}
+
+    def add(name, minutes, needs, call):
+        made.append(Part(name, minutes, needs, call))
+        return [made[-1]]
+
+    for name, minutes in (("mds_serve", 3), ("mds_replay", 1.5)):
+        program = unproved.proved(name)
+        needs = [] if program else add(f"{name} is built unproved", minutes, [], lambda name=name: program_of(name, f"{room}/{name}"))
+        built[name], slow[name] = (program or f"{room}/{name}", needs), not program
+    (serve, served), (replay, replayed) = built["mds_serve"], built["mds_replay"]
+    either = slow["mds_serve"] or slow["mds_replay"]
+    stress = ("stress.py", "20", "4", "--serve", serve, "--replay", replay)
+    for part in range(1, SCRIPT_PARTS + 1):
+        words = ("replays.py", replay, str(part), str(SCRIPT_PARTS))
+        call = lambda words=words: script(*words, slow=slow["mds_replay"])
+        add(f"scripts, part {part} of {SCRIPT_PARTS}", 3, replayed, call)
+    add("messages", 4, served, lambda: script("http.py", serve, slow=slow["mds_serve"]))
+    for name in crates_with_tests():
+        program = f"{room}/{name}-tests"
+        needs = add(f"the tests of {name}", 2, [], lambda name=name, program=program: tests_of(name, program))
+        words = ("growths.py", program, str(GROWTH_SECONDS))
+        add(f"some growths refused to {name}", GROWTH_SECONDS / 60, needs, lambda words=words: script(*words))
+    add("a short stress", 0.5, served + replayed, lambda: script(*stress, slow=either))
+    add("the description of the protocol", 0.1, [], description)
+    return made
+
+
+def lanes():
+    """How many parts may run at once."""
+    with open("/proc/meminfo", encoding="ascii") as text:
+        free = 1024 * int(re.search(r"MemAvailable:\s+(\d+)", text.read())[1])
+    return max(1, min(len(os.sched_getaffinity(0)), free // MEMORY))
+
+
+def work(todo, changed, printing):
+    """Does one part after another, each once those that it waits for have ended."""
+    while True:
+        with changed:
+            while not (ready := [it for it in todo if not it.begun and all(need.ended for need in it.needs)]):
+                if all(it.begun for it in todo):
+                    return
+                changed.wait()
+            ready[0].begun = True
+        try:
+            ready[0].do(printing)
+        finally:
+            with changed:
+                ready[0].ended = True
+                changed.notify_all()
+
+
+def main():
+    begun = time.monotonic()
+    with tempfile.TemporaryDirectory(prefix="make-test-") as room:
+        todo, changed, printing = parts(room), threading.Condition(), threading.Lock()
+        workers = [threading.Thread(target=work, args=(todo, changed, printing)) for _ in range(lanes())]
+        for it in workers:
+            it.start()
+        for it in workers:
+            it.join()
+    passed, failed = sum(it.passed for it in todo), sum(it.failed for it in todo)
+    print(f"in {(time.monotonic() - begun) / 60:.1f} minutes; nothing is proved by this (make prove)")
+    print(f"{passed} passed, {failed} failed")
+    return 1 if failed else 0
+
+
+if __name__ == "__main__":
+    sys.exit(main())
