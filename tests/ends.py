@@ -8,6 +8,8 @@ from messages import NO_POLICY
 from wire import SECONDS, Server, configuration
 
 LINE_LIMIT = 2_097_152
+USAGE = "serve: usage\nusage: mds_serve ADDRESS [CONNECTIONS] < CONFIGURATION (mds_serve --help says more)"
+BAD = "serve: bad configuration"
 
 
 def ended(program, arguments, given):
@@ -17,24 +19,26 @@ def ended(program, arguments, given):
 
 
 ENDS = {
-    "no argument": ((), b"", 2, "serve: usage"),
-    "three arguments": (("127.0.0.1:0", "0", "0"), None, 2, "serve: usage"),
-    "connections that are no number": (("127.0.0.1:0", "x"), None, 2, "serve: usage"),
-    "connections with a sign": (("127.0.0.1:0", "-1"), None, 2, "serve: usage"),
-    "connections with a blank": (("127.0.0.1:0", " 1"), None, 2, "serve: usage"),
-    "connections of ten digits": (("127.0.0.1:0", "0000000000"), None, 2, "serve: usage"),
-    "empty connections": (("127.0.0.1:0", ""), None, 2, "serve: usage"),
-    "usage before the configuration": (("nowhere", "x"), b"{", 2, "serve: usage"),
-    "an empty input": (("127.0.0.1:0", "0"), b"", 2, "serve: bad configuration"),
-    "an empty first line": (("127.0.0.1:0", "0"), b"\n" + configuration(), 2, "serve: bad configuration"),
-    "a configuration that is cut off": (("127.0.0.1:0", "0"), configuration()[:60], 2, "serve: bad configuration"),
+    "no argument": ((), b"", 2, USAGE),
+    "three arguments": (("127.0.0.1:0", "0", "0"), None, 2, USAGE),
+    "connections that are no number": (("127.0.0.1:0", "x"), None, 2, USAGE),
+    "connections with a sign": (("127.0.0.1:0", "-1"), None, 2, USAGE),
+    "connections with a blank": (("127.0.0.1:0", " 1"), None, 2, USAGE),
+    "connections of ten digits": (("127.0.0.1:0", "0000000000"), None, 2, USAGE),
+    "empty connections": (("127.0.0.1:0", ""), None, 2, USAGE),
+    "an address that begins with a sign": (("-x",), None, 2, USAGE),
+    "help and a number": (("--help", "0"), None, 2, USAGE),
+    "usage before the configuration": (("nowhere", "x"), b"{", 2, USAGE),
+    "an empty input": (("127.0.0.1:0", "0"), b"", 2, f"{BAD}\nnot JSON"),
+    "an empty first line": (("127.0.0.1:0", "0"), b"\n" + configuration(), 2, f"{BAD}\nnot JSON"),
+    "a configuration that is cut off": (("127.0.0.1:0", "0"), configuration()[:60], 2, f"{BAD}\nnot JSON"),
     "a configuration over the limit of a line": (
         ("127.0.0.1:0", "0"),
         configuration().strip().ljust(LINE_LIMIT + 1) + b"\n",
         2,
-        "serve: bad configuration",
+        f"{BAD}\nlonger than 2097152 bytes",
     ),
-    "the configuration before the address": (("nowhere", "0"), b"{", 2, "serve: bad configuration"),
+    "the configuration before the address": (("nowhere", "0"), b"{", 2, f"{BAD}\nnot JSON"),
     "an address that is none": (("nowhere", "0"), None, 1, "serve: no listener"),
     "an address without a port": (("127.0.0.1", "0"), None, 1, "serve: no listener"),
     "an empty address": (("", "0"), None, 1, "serve: no listener"),
@@ -54,16 +58,11 @@ def an_end(program, arguments, given, status, said):
         yield f"ends with {found}, not {wanted}"
 
 
-# Configurations that are refused, each with all that standard error has to say.
-REFUSED = {
-    "a configuration of nothing": (b"\n", "serve: bad configuration"),
-    "a configuration that is no JSON": (b"{", "serve: bad configuration"),
-    "a configuration that is no object": (b"[]", "serve: bad configuration"),
-    "a configuration without members": (b"{}", "serve: bad configuration"),
-}
-
 # Arguments at which the program tells something and ends, before it reads anything, each with what it prints first.
-TOLD_AT_ONCE = {}
+TOLD_AT_ONCE = {
+    "help": (("--help",), b"mds_serve ADDRESS [CONNECTIONS]"),
+    "the version": (("--version",), b"mds_serve 1.0.0\n"),
+}
 
 
 def is_refused(program, given, status, said):

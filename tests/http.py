@@ -22,7 +22,7 @@ import threading
 import time
 from concurrent.futures import ThreadPoolExecutor
 
-from ends import ENDS, REFUSED, TOLD_AT_ONCE, an_address_that_is_taken, an_end, is_refused, is_told_at_once, so_many_connections
+from ends import ENDS, TOLD_AT_ONCE, an_address_that_is_taken, an_end, is_refused, is_told_at_once, so_many_connections
 from messages import BODIES, BODY_LIMIT, CLOSE, HEADS, METHOD, NEW, NO_POLICY, NO_ROUTE, REPORT, TOKEN, TOO_LARGE
 from messages import chunked, code, head, sized
 from wire import AUTHOR, FIRST, PATIENCE, SECOND, SECONDS, Answer, Closed, Server, identifier, report, request
@@ -542,8 +542,6 @@ def programs(tried, program):
     """Runs of the program, each for itself."""
     for name, (arguments, given, status, said) in ENDS.items():
         tried.one(name, an_end(program, arguments, given, status, said))
-    for name, (given, said) in REFUSED.items():
-        tried.one(name, is_refused(program, given, 2, said))
     for name, (words, said) in TOLD_AT_ONCE.items():
         tried.one(name, is_told_at_once(program, words, said))
     for case in (an_address_that_is_taken, so_many_connections):

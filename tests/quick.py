@@ -113,11 +113,11 @@ def parts(room):
     (serve, served), (replay, replayed) = built["mds_serve"], built["mds_replay"]
     either = slow["mds_serve"] or slow["mds_replay"]
     stress = ("stress.py", "20", "4", "--serve", serve, "--replay", replay)
+    add("messages", 4, served, lambda: script("http.py", serve, slow=slow["mds_serve"]))
     for part in range(1, SCRIPT_PARTS + 1):
         words = ("replays.py", replay, str(part), str(SCRIPT_PARTS))
         call = lambda words=words: script(*words, slow=slow["mds_replay"])
         add(f"scripts, part {part} of {SCRIPT_PARTS}", 3, replayed, call)
-    add("messages", 4, served, lambda: script("http.py", serve, slow=slow["mds_serve"]))
     for name in crates_with_tests():
         program = f"{room}/{name}-tests"
         needs = add(f"the tests of {name}", 2, [], lambda name=name, program=program: tests_of(name, program))

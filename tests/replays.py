@@ -516,6 +516,14 @@ def faults_of_a_full_device(program):
         yield f"a_full_device: status {ran.returncode}, standard error {ran.stderr[:160]!r}"
 
 
+def faults_of_a_long_configuration(program):
+    """A first line over the limit of a line is no configuration, whatever it says, and the program says so."""
+    given = configuration(2, 2).encode().ljust(LINE_LIMIT + 1) + b"\n"
+    ran = run(program, given)
+    if (ran.returncode, ran.stdout, ran.stderr) != (2, b"", MESSAGES[2] + b"longer than 2097152 bytes\n"):
+        yield f"a_long_configuration: status {ran.returncode}, standard error {ran.stderr[:160]!r}"
+
+
 def told(name, found):
     """The faults, or why they can't be told."""
     try:
@@ -532,6 +540,7 @@ def tries(program):
     for make in MADE:
         yield make.__name__, faults(program, make.__name__, lambda make=make: made(make))
     yield "a_full_device", faults_of_a_full_device(program)
+    yield "a_long_configuration", faults_of_a_long_configuration(program)
     if not names:
         yield "tests/replays", iter(["tests/replays: no script"])
 
