@@ -444,13 +444,19 @@ def script(name):
     with open(f"{path}.in", "rb") as given, open(f"{path}.out", "rb") as wanted, open(f"{path}.status") as status:
         first, _, rest = given.read().partition(b"\n")
         replies = wanted.read().split(b"\n")[:-1]
-        lines = [it for it in (it.removesuffix(b"\r") for it in rest.split(b"\n")) if it]
+        *whole, last = rest.split(b"\n")
+        lines = [it for it in [*(it.removesuffix(b"\r") for it in whole), last] if it]
         ends = int(status.read())
         if not ends and len(lines) != len(replies):
             raise ValueError(f"{name}: {len(lines)} lines and {len(replies)} replies")
         pairs = [(it.split(b" ", 4) + [b""], reply) for it, reply in zip(lines, replies) if reply != b'400 {"error":"bad_line"}']
         requests = [(int(it[0]), *it[1:5]) for it, _ in pairs]
         return first + b"\n", requests, [reply for _, reply in pairs], ends
+
+
+def are_in_http(requests):
+    """Whether HTTP carries the targets of a script as they are, and its answers their bodies."""
+    return all(method != b"HEAD" and re.fullmatch(rb"/[!-~]*", target) for _, _, method, target, _ in requests)
 
 
 def without_moments(reply):
@@ -480,16 +486,19 @@ def a_script(program, given, requests, replies):
 
 def scripts(program):
     """Each script that can be run, with its faults; and which are left out."""
-    left = []
+    left, other = [], []
     for name in sorted({it.rsplit(".", 1)[0] for it in os.listdir(f"{HERE}/replays")}):
         given, requests, replies, status = script(name)
         if status:
             yield name, is_refused(program, given.strip(b"\n"), status, refusal(name))
+        elif not are_in_http(requests):
+            other.append(name)
         elif moments_matter(requests):
             left.append(name)
         else:
             yield name, a_script(program, given, requests, replies)
     print(f"{len(left)} scripts are left out, since their answers depend on their moments: {', '.join(left)}")
+    print(f"{len(other)} scripts are left out, since HTTP has no such targets or no such bodies: {', '.join(other)}")
 
 
 def refusal(name):
