@@ -438,25 +438,24 @@ def moments_matter(requests):
     return False
 
 
+def is_sent(fields):
+    """Whether a request of a script can be sent as one of HTTP that has a body for its answer."""
+    return len(fields) > 3 and fields[2] != b"HEAD" and re.fullmatch(rb"/[!-~]*", fields[3])
+
+
 def script(name):
-    """The configuration of a script, its requests, their replies, and its status. Lines that are no request are left out."""
+    """The configuration of a script, its requests, their replies, its status, and how many lines are left out: what HTTP can't carry."""
     path = f"{HERE}/replays/{name}"
     with open(f"{path}.in", "rb") as given, open(f"{path}.out", "rb") as wanted, open(f"{path}.status") as status:
         first, _, rest = given.read().partition(b"\n")
-        replies = wanted.read().split(b"\n")[:-1]
         *whole, last = rest.split(b"\n")
         lines = [it for it in [*(it.removesuffix(b"\r") for it in whole), last] if it]
-        ends = int(status.read())
-        if not ends and len(lines) != len(replies):
-            raise ValueError(f"{name}: {len(lines)} lines and {len(replies)} replies")
-        pairs = [(it.split(b" ", 4) + [b""], reply) for it, reply in zip(lines, replies) if reply != b'400 {"error":"bad_line"}']
-        requests = [(int(it[0]), *it[1:5]) for it, _ in pairs]
-        return first + b"\n", requests, [reply for _, reply in pairs], ends
-
-
-def are_in_http(requests):
-    """Whether HTTP carries the targets of a script as they are, and its answers their bodies."""
-    return all(method != b"HEAD" and re.fullmatch(rb"/[!-~]*", target) for _, _, method, target, _ in requests)
+        replies, ends = wanted.read().split(b"\n")[:-1], int(status.read())
+    if not ends and len(lines) != len(replies):
+        raise ValueError(f"{name}: {len(lines)} lines and {len(replies)} replies")
+    pairs = [(it.split(b" ", 4) + [b""], reply) for it, reply in zip(lines, replies) if reply != b'400 {"error":"bad_line"}']
+    requests = [(int(it[0]), *it[1:5]) for it, _ in pairs if is_sent(it)]
+    return first + b"\n", requests, [reply for it, reply in pairs if is_sent(it)], ends, len(replies) - len(requests)
 
 
 def without_moments(reply):
@@ -488,7 +487,7 @@ def scripts(program):
     """Each script that can be run, with its faults; and which are left out."""
     left, other = [], []
     for name in sorted({it.rsplit(".", 1)[0] for it in os.listdir(f"{HERE}/replays")}):
-        given, requests, replies, status = script(name)
+        given, requests, replies, status, lines[name] = script(name)
         if status:
             yield name, is_refused(program, given.strip(b"\n"), status, refusal(name))
         elif not are_in_http(requests):
@@ -498,6 +497,8 @@ def scripts(program):
         else:
             yield name, a_script(program, given, requests, replies)
     print(f"{len(left)} scripts are left out, since their answers depend on their moments: {', '.join(left)}")
+    told = [f"{count} of {name}" for name, count in lines.items() if count and name not in left]
+    print(f"lines are left out that are no request of HTTP: {', '.join(told)}")
     print(f"{len(other)} scripts are left out, since HTTP has no such targets or no such bodies: {', '.join(other)}")
 
 
