@@ -6,8 +6,8 @@ use Rattle.mds_reading.proofs.Nodes.{node-Object}
 use Rattle.mds_policy.specs.Reading.{states_of, states_member}
 use Rattle.mds_policy.proofs.states.states_member.Goals as goal
 
-pub returns-in-Object : goal.returns-in-Object
-returns-in-Object c =
+pub returns-in-Object-clause-value : goal.returns-in-Object-clause-value
+returns-in-Object-clause-value c =
     let whole : states_member States (node_view c.args.value.now) ≡ states_of (members_of (map node_member_view c.deref.result.now)) =
     ap (states_member States) (ap node_view c.in-Object.is ∙ node-Object c.in-Object.members) ∙ ap (λ ms. states_of (members_of (map node_member_view ms))) (sym c.deref.ensures.value) in
     rw whole c.states_of.ensures
