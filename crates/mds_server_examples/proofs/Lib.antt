@@ -1,0 +1,3 @@
+pub mod AtDesk
+pub mod AtHall
+pub mod AtRoom

@@ -1,0 +1,17 @@
+use Rattle.std.proofs.Common.{[]}
+use Rattle.mds_fronts.proofs.Runs.{run_of_turns}
+use Rattle.mds_examples.proofs.Rows.{no_rows}
+use Rattle.mds_examples.specs.Requests.{alfa, configuration}
+use Rattle.mds_examples.specs.Vehicles.{one_row}
+use Rattle.mds_server_examples.specs.Turns.{three_turns}
+use Rattle.mds_server_examples.proofs.AtDesk.{three, meaning}
+use Rattle.mds_server_examples.proofs.desks.runs.Goals as goal
+
+pub returns-clause-turns : goal.returns-clause-turns
+returns-clause-turns c = three
+
+pub returns-clause-run : goal.returns-clause-run
+returns-clause-run c = run_of_turns configuration 0 alfa [] no_rows three_turns one_row three
+
+pub returns-clause-rows : goal.returns-clause-rows
+returns-clause-rows c = meaning.1

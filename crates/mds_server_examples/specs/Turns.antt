@@ -1,0 +1,76 @@
+-- Turns at the first operator's desk, and histories that they are part of.
+use Rattle.std.specs.Prelude.{ℕ, zero, suc, List, [], ◌∷◌, codes}
+use Rattle.mds_catalog.specs.Publication.{Publication}
+use Rattle.mds_fronts.specs.Fronts.{Turn}
+use Rattle.mds_machine.specs.Step.{Exchange}
+use Rattle.mds_machine.specs.Views.{Seen, asked, published}
+use Rattle.mds_request.specs.Reply.{Reply}
+use Rattle.mds_request.specs.Request.{Request}
+use Rattle.mds_examples.specs.Histories.{cap_put, square_put, both_published, exchange, question, answer}
+use Rattle.mds_examples.specs.Ids.{cap_id}
+use Rattle.mds_examples.specs.Machine.{ask, compliance, done, error, report}
+use Rattle.mds_examples.specs.Publications.{first_publication, withdrawal, then_withdrawn}
+
+abbrev pub turn : Request → List Publication → Reply → Turn
+turn request front reply = record { request = request; front = front; reply = reply }
+
+-- the square and the cap, and nothing else
+abbrev pub first_front : List Publication
+first_front = first_publication ∷ []
+
+-- a vehicle in the square, before anything is published
+abbrev pub reported : Turn
+reported = turn (report 2000 (codes "401")) [] (done (codes "new"))
+
+-- it counts, once the cap is published
+abbrev pub counted : Turn
+counted = turn question first_front answer
+
+-- the cap is withdrawn
+abbrev pub nothing_in_force : Turn
+nothing_in_force = turn (ask 3000 (codes "alfa")) then_withdrawn (compliance (codes "3000") [] (codes "2"))
+
+abbrev pub three_turns : List Turn
+three_turns = reported ∷ counted ∷ nothing_in_force ∷ []
+
+-- the same turn, but for want of memory
+abbrev pub without_memory : Turn → Turn
+without_memory t = record t { reply = error 503 (codes "no_memory") }
+
+-- and for want of a snapshot, at what was known
+abbrev pub without_snapshot : Turn → Turn
+without_snapshot t = record t { reply = error 503 (codes "no_snapshot") }
+
+-- another operator's request, and a path that isn't there
+abbrev pub by_another : Turn
+by_another = turn (ask 2000 (codes "bravo")) first_front (error 401 (codes "token"))
+
+abbrev pub without_route : Turn
+without_route = turn (record question { target = codes "/nowhere" }) first_front (error 404 (codes "no_route"))
+
+-- the view that the three turns continue the empty one to
+abbrev pub seen_by_three : List Seen
+seen_by_three =
+    asked (report 2000 (codes "401")) ∷ published first_publication ∷ asked question
+    ∷ published (withdrawal 3000 cap_id) ∷ asked (ask 3000 (codes "alfa")) ∷ []
+
+-- the author's exchanges
+abbrev pub at_the_room : List Exchange
+at_the_room = square_put ∷ cap_put ∷ both_published ∷ []
+
+-- the first operator's two exchanges, put among the author's
+abbrev pub two_turns : List Turn
+two_turns = reported ∷ counted ∷ []
+
+abbrev pub own_exchanges : List Exchange
+own_exchanges = exchange (report 2000 (codes "401")) (done (codes "new")) ∷ exchange question answer ∷ []
+
+abbrev pub whole : List Exchange
+whole =
+    square_put ∷ exchange (report 2000 (codes "401")) (done (codes "new")) ∷ cap_put ∷ both_published
+    ∷ exchange question answer ∷ []
+
+-- no operator but the first is asked anything
+abbrev pub turns_of : ℕ → List Turn
+turns_of zero = two_turns
+turns_of (suc place) = []

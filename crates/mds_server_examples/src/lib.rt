@@ -1,0 +1,14 @@
+//! The definitions of running desks and of the server tried on worked examples, as `mds_examples` tries those
+//! below. Each function's contract is an example, or a few of one kind, and each clause is named by what it
+//! shows. The functions themselves do nothing.
+#![tactic(auto)]
+
+pub mod asked;
+pub mod counts;
+pub mod desks;
+pub mod early;
+pub mod fronts;
+pub mod histories;
+pub mod learning;
+pub mod limits;
+pub mod rooms;

@@ -1,0 +1,29 @@
+//! What the author's room does.
+#![tactic(auto, unfolding(mds_examples::specs::Computed::documents))]
+
+ghost use Rattle.std.specs.Prelude.{[], codes};
+ghost use Rattle.mds_fronts.specs.Room.{IsRoomTurn, AreRoomTurns};
+ghost use Rattle.mds_examples.specs.Histories.{no_drafts};
+ghost use Rattle.mds_examples.specs.Machine.{ask, done, error, put_square, square_drafted};
+ghost use Rattle.mds_examples.specs.Requests.{configuration};
+ghost use Rattle.mds_server_examples.specs.Turns.{first_front, at_the_room};
+
+/// The author's geography is put, or there is no memory for it; an operator's request is refused.
+pub fn turns()
+    ensures put { IsRoomTurn configuration (no_drafts, []) put_square (done (codes "new")) (square_drafted, []) }
+    ensures memory { IsRoomTurn configuration (no_drafts, []) put_square (error 503 (codes "no_memory")) (no_drafts, []) }
+    ensures of_an_operator { IsRoomTurn configuration (square_drafted, []) (ask 2000 (codes "alfa")) (error 401 (codes "token")) (square_drafted, []) }
+{}
+
+/// No turn of the room is want of memory that leaves a draft, a success that leaves none, or want of memory for
+/// an operator.
+pub fn no_turns()
+    ensures kept { ¬ (IsRoomTurn configuration (no_drafts, []) put_square (error 503 (codes "no_memory")) (square_drafted, [])) }
+    ensures lost { ¬ (IsRoomTurn configuration (no_drafts, []) put_square (done (codes "new")) (no_drafts, [])) }
+    ensures of_an_operator { ¬ (IsRoomTurn configuration (no_drafts, []) (ask 2000 (codes "alfa")) (error 503 (codes "no_memory")) (no_drafts, [])) }
+{}
+
+/// A geography and a policy are put, and published together: one publication, and no drafts.
+pub fn publication()
+    ensures turns { AreRoomTurns configuration (no_drafts, []) at_the_room (no_drafts, first_front) }
+{}
