@@ -206,21 +206,21 @@ def on_a_circle(turn, east=0):
 def what_makes_questions_long(server):
     """Draws 16 rings of 15,000 positions that cross, publishes 8 policies of 64 rules over them, and reports 2,000 vehicles.
 
-    Fewer positions and vehicles make them as long where the program isn't proved.
+    Fewer of each make questions long enough where the program isn't proved.
     """
-    rings, corners = {}, 15_000 // PATIENCE
+    rings, corners, count = {}, 15_000 // PATIENCE, 64 // PATIENCE
     for number in range(16):
         positions = [on_a_circle(it / corners, number * 1e-6) for it in range(corners)]
         rings[identifier(1, number)] = ",".join(f"[{lng:.7f},{lat:.7f}]" for lng, lat in [*positions, positions[0]])
     for name, ring in rings.items():
         text = f'{{"geography_id":"{name}","name":"g","geography_json":{{"type":"Polygon","coordinates":[[{ring}]]}}}}'
         yield server.ask("PUT", f"/drafts/geographies/{name}", AUTHOR, text.encode())
-    names, policies = list(rings), [identifier(2, number) for number in range(8)]
+    names, policies = list(rings), [identifier(2, number) for number in range(max(1, 8 // PATIENCE))]
     for number, policy in enumerate(policies):
         rules = [
-            {"rule_id": identifier(3, 64 * number + it), "name": "r", "rule_type": "count", "maximum": 2_000}
+            {"rule_id": identifier(3, count * number + it), "name": "r", "rule_type": "count", "maximum": 2_000}
             | {"geographies": names[it % 16 :] + names[: it % 16]}
-            for it in range(64)
+            for it in range(count)
         ]
         text = json.dumps({"policy_id": policy, "name": "p", "start_date": 1000, "rules": rules})
         yield server.ask("PUT", f"/drafts/policies/{policy}", AUTHOR, text.encode())
@@ -484,22 +484,20 @@ def a_script(program, given, requests, replies):
 
 
 def scripts(program):
-    """Each script that can be run, with its faults; and which are left out."""
-    left, other = [], []
+    """Each script that can be run, with its faults; and which are left out, and lines of which."""
+    left, lines = [], {}
     for name in sorted({it.rsplit(".", 1)[0] for it in os.listdir(f"{HERE}/replays")}):
-        given, requests, replies, status, lines[name] = script(name)
+        given, requests, replies, status, count = script(name)
+        lines[name] = 0 if status else count
         if status:
             yield name, is_refused(program, given.strip(b"\n"), status, refusal(name))
-        elif not are_in_http(requests):
-            other.append(name)
         elif moments_matter(requests):
             left.append(name)
         else:
             yield name, a_script(program, given, requests, replies)
     print(f"{len(left)} scripts are left out, since their answers depend on their moments: {', '.join(left)}")
     told = [f"{count} of {name}" for name, count in lines.items() if count and name not in left]
-    print(f"lines are left out that are no request of HTTP: {', '.join(told)}")
-    print(f"{len(other)} scripts are left out, since HTTP has no such targets or no such bodies: {', '.join(other)}")
+    print(f"lines are left out that HTTP can't carry: {', '.join(told)}")
 
 
 def refusal(name):

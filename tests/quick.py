@@ -10,8 +10,11 @@ newer. Then come the scripts (replays.py), the messages (http.py), a short stres
 prints comes once the part is over. Last comes 'N passed, M failed' over all parts; ends with 1 where one failed.
 """
 
+import contextlib
+import glob
 import os
 import re
+import signal
 import subprocess
 import sys
 import tempfile
@@ -113,14 +116,14 @@ def parts(room):
     (serve, served), (replay, replayed) = built["mds_serve"], built["mds_replay"]
     either = slow["mds_serve"] or slow["mds_replay"]
     stress = ("stress.py", "20", "4", "--serve", serve, "--replay", replay)
-    add("messages", 4, served, lambda: script("http.py", serve, slow=slow["mds_serve"]))
+    add("messages", 5, served, lambda: script("http.py", serve, slow=slow["mds_serve"]))
     for part in range(1, SCRIPT_PARTS + 1):
         words = ("replays.py", replay, str(part), str(SCRIPT_PARTS))
         call = lambda words=words: script(*words, slow=slow["mds_replay"])
-        add(f"scripts, part {part} of {SCRIPT_PARTS}", 3, replayed, call)
+        add(f"scripts, part {part} of {SCRIPT_PARTS}", 2, replayed, call)
     for name in crates_with_tests():
         program = f"{room}/{name}-tests"
-        needs = add(f"the tests of {name}", 2, [], lambda name=name, program=program: tests_of(name, program))
+        needs = add(f"the tests of {name}", 3, [], lambda name=name, program=program: tests_of(name, program))
         words = ("growths.py", program, str(GROWTH_SECONDS))
         add(f"some growths refused to {name}", GROWTH_SECONDS / 60, needs, lambda words=words: script(*words))
     add("a short stress", 0.5, served + replayed, lambda: script(*stress, slow=either))
@@ -152,15 +155,27 @@ def work(todo, changed, printing):
                 changed.notify_all()
 
 
+def end_all():
+    """Tells what still runs to end and to clear up, as by Ctrl-C."""
+    for path in glob.glob("/proc/self/task/*/children"):
+        with contextlib.suppress(OSError), open(path, encoding="ascii") as children:
+            for child in map(int, children.read().split()):
+                os.kill(child, signal.SIGINT)
+
+
 def main():
     begun = time.monotonic()
+    signal.signal(signal.SIGTERM, lambda number, _: sys.exit(128 + number))
     with tempfile.TemporaryDirectory(prefix="make-test-") as room:
         todo, changed, printing = parts(room), threading.Condition(), threading.Lock()
-        workers = [threading.Thread(target=work, args=(todo, changed, printing)) for _ in range(lanes())]
-        for it in workers:
-            it.start()
-        for it in workers:
-            it.join()
+        workers = [threading.Thread(target=work, args=(todo, changed, printing), daemon=True) for _ in range(lanes())]
+        try:
+            for it in workers:
+                it.start()
+            for it in workers:
+                it.join()
+        finally:
+            end_all()
     passed, failed = sum(it.passed for it in todo), sum(it.failed for it in todo)
     print(f"in {(time.monotonic() - begun) / 60:.1f} minutes; nothing is proved by this (make prove)")
     print(f"{passed} passed, {failed} failed")
