@@ -17,7 +17,7 @@
 DEMO_TIME := about a minute
 TEST_TIME := up to 12 minutes on two processors
 PROVE_TIME := about 90 minutes on four processors
-EDITS_TIME := about an hour
+EDITS_TIME := about three hours
 BUILD_TIME := about 40 minutes
 SERVE_TIME := about an hour
 
