@@ -15,8 +15,8 @@
 
 # What each takes where nothing is built, on a machine that does nothing else.
 DEMO_TIME := about a minute
-TEST_TIME := up to 12 minutes on two processors
-PROVE_TIME := about 90 minutes on four processors
+TEST_TIME := about 11 minutes on two processors
+PROVE_TIME := about an hour and a half on four processors
 EDITS_TIME := about three hours
 BUILD_TIME := about 40 minutes
 SERVE_TIME := about an hour
