@@ -103,7 +103,7 @@ impl<K: Naming> Hall<K> {
     }
 
     /// The latest note.
-    pub fn note<R: Wait>(&self, rt: &R) -> Option<Note<K>> {
+    pub(crate) fn note<R: Wait>(&self, rt: &R) -> Option<Note<K>> {
         let latest = self.latest.lock(rt);
         match &*latest {
             Some(note) => Some(note.again()),
@@ -122,15 +122,14 @@ impl<K: Naming> Hall<K> {
         reply
     }
 
-    /// Ends the author's room: no request can come any more. It gives the desks, at which nothing is shown then.
-    pub fn finish<R: Wait>(self, rt: &R) -> Vec<Mutex<Desk<K>>> {
+    /// Ends the author's room: no request can come any more.
+    pub fn finish<R: Wait>(self, rt: &R) {
         let Self {
             config: _config,
             room,
-            desks,
+            desks: _desks,
             latest: _latest,
         } = self;
         ManuallyDrop::into_inner(room.into_inner()).finish(rt);
-        desks
     }
 }

@@ -2,51 +2,129 @@
 ghost use Rattle.std.specs.Prelude.{◌≡◌};
 ghost use Rattle.mds_snapshot.specs.Opening.{book_of};
 
-use crate::asking::{Host, NO_MEMORY, NO_SNAPSHOT, is_reply, request};
-use crate::fleet;
+use crate::city::{BOTH, CAP, CONFIGURATION, NEW, SQUARE};
 use bytes::Bytes;
 use futures::executor::block_on;
 use http::header::{AUTHORIZATION, CONTENT_TYPE};
 use http::request::Parts;
 use http::{HeaderMap, HeaderValue, Method, Response, Uri, Version};
 use http_body_util::{BodyExt, Full};
-use mds_desk::{Desk, OpenGate};
-use mds_exchanges::{
-    CONFIGURATION, Exchange, HISTORY, NONE_FOR_ALFA, PUBLISH, PUT_CAP, PUT_SQUARE, REPORT_FIRST,
-};
-use mds_hall::{Arrived, Hall, desk_turn, respond};
+use mds_hall::{Arrived, Hall, respond};
 use mds_parallel::Chunked;
 use mds_request::Config;
-use mds_snapshot::{Blank, Naming, Note, prepare};
+use mds_snapshot::{Blank, Naming, prepare};
 use mds_text::Moment;
-use mds_verdict::Plain;
-use std::alloc::{AllocError, Global};
+use std::alloc::{AllocError, AllocGlobal, Global};
 use std::marker::Brand;
 use std::process::Abort;
+use std::random::RandomSource;
+use std::sync::Wait;
 use std::test::Fail;
+use std::thread::Threads;
 
+mod early;
 mod overlapping;
+mod session;
 
-const CLOCK: &str = r#"{"error":"clock"}"#;
+/// A status, and a body that is JSON.
+struct Answer {
+    status: u16,
+    body: &'static str,
+}
 
-const BAD_BODY: &str = r#"{"error":"bad_body"}"#;
+const TAKEN: &Answer = &Answer {
+    status: 200,
+    body: NEW,
+};
 
-const TOO_LARGE: &str = r#"{"error":"too_large"}"#;
+const PUBLISHED: &Answer = &Answer {
+    status: 200,
+    body: r#"{"published_date":1000,"revision":1}"#,
+};
+
+/// No vehicle is counted, at 2000.
+const NONE_COUNTED: &Answer = &Answer {
+    status: 200,
+    body: r#"{"at":2000,"policies":[{"policy_id":"00000000-0000-4000-8000-000000000201","rules":[{"measure":0,"rule_id":"00000000-0000-4000-8000-000000000301","status":"ok"}]}],"revision":1,"version":2}"#,
+};
+
+const TOKEN: &Answer = &Answer {
+    status: 401,
+    body: r#"{"error":"token"}"#,
+};
+
+const COMPLIANCE: &str = "/compliance";
+
+const ALFA: &str = "Bearer alfa";
+
+const BRAVO: &str = "Bearer bravo";
+
+const CITY: &str = "Bearer city";
 
 const JSON: &[u8] = b"application/json";
+
+/// A request at a moment, and its answer.
+struct Exchange {
+    at: i64,
+    credentials: Option<&'static str>,
+    target: &'static str,
+    body: &'static str,
+    answer: &'static Answer,
+}
+
+/// What is put before it is published.
+const DRAFTS: &[Exchange] = &[
+    Exchange {
+        at: 1000,
+        credentials: Some(CITY),
+        target: "/drafts/geographies/00000000-0000-4000-8000-000000000101",
+        body: SQUARE,
+        answer: TAKEN,
+    },
+    Exchange {
+        at: 1000,
+        credentials: Some(CITY),
+        target: "/drafts/policies/00000000-0000-4000-8000-000000000201",
+        body: CAP,
+        answer: TAKEN,
+    },
+];
+
+const PUBLISH: &Exchange = &Exchange {
+    at: 1000,
+    credentials: Some(CITY),
+    target: "/publish",
+    body: BOTH,
+    answer: PUBLISHED,
+};
+
+/// Bravo's question, who has no vehicle.
+const ASKED_BY_BRAVO: &Exchange = &Exchange {
+    at: 2000,
+    credentials: Some(BRAVO),
+    target: COMPLIANCE,
+    body: "",
+    answer: NONE_COUNTED,
+};
+
+/// What tests ask of the runtime, besides that threads may share it.
+trait Host: Wait + Threads + RandomSource + AllocGlobal + Abort + Copy {}
+
+impl<R: Wait + Threads + RandomSource + AllocGlobal + Abort + Copy> Host for R {}
 
 /// What is done in a hall.
 #[derive(Clone, Copy)]
 enum Visit {
-    History,
-    Arrivals,
-    Fleet,
+    OwnQuestions,
+    EachForm,
+    EachArrival,
+    LargeAndUnknown,
     BesideAHeldQuestion,
 }
 
-fn visited<R: Host + Sync>(rt: &R, configuration: &[u8], visit: Visit) -> Result<(), Fail> {
+fn visited<R: Host + Sync>(rt: &R, visit: Visit) -> Result<(), Fail> {
     let alloc = rt.alloc();
-    let config = Config::read(alloc, configuration)?;
+    let config = Config::read(alloc, CONFIGURATION)?;
     let blank = prepare(alloc)?;
     opened::<Brand, R>(rt, alloc, config, blank, visit)
 }
@@ -62,38 +140,43 @@ fn opened<K: Naming + Send + Sync, R: Host + Sync>(
 {
     let hall = Hall::<K>::new(rt, alloc, config, blank)?;
     match visit {
-        Visit::History => history(rt, alloc, &hall),
-        Visit::Arrivals => arrivals(rt, alloc, &hall),
-        Visit::Fleet => whole_fleet(rt, alloc, &hall),
+        Visit::OwnQuestions => session::own_questions(rt, alloc, &hall),
+        Visit::EachForm => session::each_form(rt, alloc, &hall),
+        Visit::EachArrival => early::each_arrival(rt, alloc, &hall),
+        Visit::LargeAndUnknown => early::large_and_unknown(rt, alloc, &hall),
         Visit::BesideAHeldQuestion => overlapping::beside_a_held_question(rt, alloc, &hall),
     }
-    for desk in hall.finish(rt) {
-        assert_ended(rt, &mut desk.into_inner());
-    }
+    hall.finish(rt);
     Ok(())
 }
 
-/// The room of this desk is ended.
-fn assert_ended<K: Naming>(rt: &impl Abort, desk: &mut Desk<K>) {
-    let request = request(&NONE_FOR_ALFA).expect(rt, "a moment");
-    let reply = desk.answer(&request, &mut OpenGate, &Plain);
-    assert!(rt; is_reply(&reply, 503, NO_SNAPSHOT));
+/// Puts credentials into a head's fields, and says whether there was memory for that.
+fn is_signed(alloc: Global, fields: &mut HeaderMap, credentials: &str) -> bool {
+    match HeaderValue::from_str(alloc, credentials) {
+        Ok(value) => fields.insert(AUTHORIZATION, value).is_ok(),
+        Err(_) => false,
+    }
 }
 
-/// The fields of a head with this access token.
-fn fields(alloc: Global, token: &str) -> Option<HeaderMap> {
-    let credentials = format!(in alloc; "Bearer {token}").ok()?;
-    let value = HeaderValue::from_str(alloc, credentials.as_str()).ok()?;
+/// The fields of a head with these credentials, if any.
+fn fields(alloc: Global, credentials: Option<&str>) -> Option<HeaderMap> {
     let mut fields = HeaderMap::new(alloc);
-    fields.insert(AUTHORIZATION, value).ok()?;
-    Some(fields)
+    let is_whole = match credentials {
+        Some(credentials) => is_signed(alloc, &mut fields, credentials),
+        None => true,
+    };
+    if is_whole { Some(fields) } else { None }
 }
 
-/// The head of an exchange's request.
-fn parts(alloc: Global, exchange: &Exchange) -> Option<Parts> {
-    let method = Method::from_bytes(alloc, exchange.method.as_bytes()).ok()?;
-    let uri = Uri::from_static(exchange.target).ok()?;
-    let headers = fields(alloc, exchange.token)?;
+/// A head with these credentials, if any.
+fn parts(
+    alloc: Global,
+    method: Method,
+    target: &'static str,
+    credentials: Option<&str>,
+) -> Option<Parts> {
+    let uri = Uri::from_static(target).ok()?;
+    let headers = fields(alloc, credentials)?;
     Some(Parts {
         method,
         uri,
@@ -123,181 +206,70 @@ fn is_headed(response: &Response<Full<Bytes>>, status: u16) -> bool {
     }
 }
 
-/// Whether the response has this status, and this body that is JSON.
+/// Whether the response is this answer.
 fn is_answer<R: Host>(
     rt: &R,
     response: Result<Response<Full<Bytes>>, AllocError>,
-    status: u16,
-    body: &str,
+    answer: &Answer,
 ) -> bool {
     let Ok(response) = response else {
         return false;
     };
-    let is_headed = is_headed(&response, status);
+    let is_headed = is_headed(&response, answer.status);
     match body_of(rt, response) {
-        Some(said) => is_headed && said.as_slice() == body.as_bytes(),
+        Some(said) => is_headed && said.as_slice() == answer.body.as_bytes(),
         None => false,
     }
 }
 
-/// What the hall, whose vehicles are judged by threads, gives to the head of an exchange's request and to what arrived with it.
-fn given<K: Naming, R: Host + Sync>(
+/// Whether the hall, whose vehicles are judged by several threads, gives this answer to a head, if there is
+/// one, and to what arrived with it.
+fn gives<K: Naming, R: Host + Sync>(
     rt: &R,
     alloc: Global,
     hall: &Hall<K>,
-    exchange: &Exchange,
+    parts: Option<Parts>,
     arrived: Arrived,
     at: Option<Moment>,
-) -> Result<Response<Full<Bytes>>, AllocError> {
-    let Some(parts) = parts(alloc, exchange) else {
-        return Err(AllocError);
+    answer: &Answer,
+) -> bool {
+    let Some(parts) = parts else {
+        return false;
     };
-    respond(rt, alloc, &parts, arrived, at, hall, &Chunked(*rt))
+    let response = respond(rt, alloc, &parts, arrived, at, hall, &Chunked(*rt));
+    is_answer(rt, response, answer)
 }
 
-/// Whether the hall gives the exchange's answer to its request.
+/// Whether the hall gives the exchange's answer to its request with this method.
 fn answers<K: Naming, R: Host + Sync>(
     rt: &R,
     alloc: Global,
     hall: &Hall<K>,
+    method: Method,
     exchange: &Exchange,
 ) -> bool {
+    let parts = parts(alloc, method, exchange.target, exchange.credentials);
     let body = whole(exchange.body);
-    let response = given(rt, alloc, hall, exchange, body, Moment::new(exchange.at));
-    is_answer(rt, response, exchange.status, exchange.reply)
+    let at = Moment::new(exchange.at);
+    gives(rt, alloc, hall, parts, body, at, exchange.answer)
 }
 
-/// The hall gives the exchange's answer to its request.
+/// The hall gives the exchange's answer to its request with this method.
 fn assert_answers<K: Naming, R: Host + Sync>(
     rt: &R,
     alloc: Global,
     hall: &Hall<K>,
+    method: Method,
     exchange: &Exchange,
 ) {
-    let is_answered = answers(rt, alloc, hall, exchange);
-    assert!(rt; is_answered, "no {} at {}", exchange.reply, exchange.at);
+    let is_answered = answers(rt, alloc, hall, method, exchange);
+    assert!(rt; is_answered, "no {}", exchange.answer.body);
 }
 
-/// The hall gives each exchange's answer to its request.
-fn assert_answers_each<K: Naming, R: Host + Sync>(
-    rt: &R,
-    alloc: Global,
-    hall: &Hall<K>,
-    exchanges: &[Exchange],
-) {
-    for exchange in exchanges {
-        assert_answers(rt, alloc, hall, exchange);
+/// The author's requests that publish the policy and its square at 1000.
+fn set_up<K: Naming, R: Host + Sync>(rt: &R, alloc: Global, hall: &Hall<K>) {
+    for exchange in DRAFTS {
+        assert_answers(rt, alloc, hall, Method::PUT, exchange);
     }
-}
-
-/// What is published is noted.
-fn history<K: Naming, R: Host + Sync>(rt: &R, alloc: Global, hall: &Hall<K>) {
-    assert!(rt; hall.note(rt).is_none());
-    assert_answers_each(rt, alloc, hall, HISTORY);
-    assert!(rt; hall.note(rt).is_some());
-}
-
-/// A history of the author and two operators, each of whom is answered for itself.
-#[test]
-fn a_history_is_answered(rt: HostRuntime) -> Result<(), Fail> {
-    visited(&rt, CONFIGURATION, Visit::History)
-}
-
-/// Whether alfa's question with what arrived has this answer.
-fn tells<K: Naming, R: Host + Sync>(
-    rt: &R,
-    alloc: Global,
-    hall: &Hall<K>,
-    arrived: Arrived,
-    at: Option<Moment>,
-    wanted: (u16, &str),
-) -> bool {
-    let response = given(rt, alloc, hall, &NONE_FOR_ALFA, arrived, at);
-    is_answer(rt, response, wanted.0, wanted.1)
-}
-
-fn arrivals<K: Naming, R: Host + Sync>(rt: &R, alloc: Global, hall: &Hall<K>) {
-    let at = Moment::new(2000);
-    assert!(rt; tells(rt, alloc, hall, whole(""), None, (503, CLOCK)));
-    assert!(rt; tells(rt, alloc, hall, Arrived::Broken, None, (503, CLOCK)));
-    assert!(rt; tells(rt, alloc, hall, Arrived::Broken, at, (400, BAD_BODY)));
-    assert!(rt; tells(rt, alloc, hall, Arrived::TooLong, at, (413, TOO_LARGE)));
-    assert!(rt; tells(rt, alloc, hall, Arrived::NoMemory, at, (503, NO_MEMORY)));
-}
-
-/// A clock without a moment comes first, then what became of the body.
-#[test]
-fn each_arrival_has_its_answer(rt: HostRuntime) -> Result<(), Fail> {
-    visited(&rt, CONFIGURATION, Visit::Arrivals)
-}
-
-/// Whether the hall takes a text, where there was memory for it, with this head at 2000.
-fn takes<K: Naming, R: Host + Sync>(
-    rt: &R,
-    alloc: Global,
-    hall: &Hall<K>,
-    parts: &Parts,
-    text: Result<String, AllocError>,
-) -> bool {
-    let Ok(text) = text else {
-        return false;
-    };
-    let Ok(body) = Bytes::from_vec(text.into_bytes()) else {
-        return false;
-    };
-    let (body, at) = (Arrived::Whole(body), Moment::new(2000));
-    match respond(rt, alloc, parts, body, at, hall, &Chunked(*rt)) {
-        Ok(response) => is_headed(&response, 200),
-        Err(_) => false,
-    }
-}
-
-/// The fleet's policy is published with the square, and each vehicle is reported.
-fn whole_fleet<K: Naming, R: Host + Sync>(rt: &R, alloc: Global, hall: &Hall<K>) {
-    assert_answers(rt, alloc, hall, &PUT_SQUARE);
-    let draft = parts(alloc, &PUT_CAP).expect(rt, "a head");
-    assert!(rt; takes(rt, alloc, hall, &draft, fleet::policy(alloc)));
-    assert_answers(rt, alloc, hall, &PUBLISH);
-    let report = parts(alloc, &REPORT_FIRST).expect(rt, "a head");
-    for number in 0..fleet::VEHICLES {
-        assert!(rt; takes(rt, alloc, hall, &report, fleet::report(alloc, number)));
-    }
-    let wanted = fleet::compliance(alloc).expect(rt, "memory");
-    let at = Moment::new(2000);
-    assert!(rt; tells(rt, alloc, hall, whole(""), at, (200, wanted.as_str())));
-}
-
-/// As many vehicles and rules as make the work worth threads.
-#[test]
-fn a_fleet_is_judged_by_threads(rt: HostRuntime) -> Result<(), Fail> {
-    visited(&rt, fleet::CONFIGURATION, Visit::Fleet)
-}
-
-/// One desk learns of a note, and answers an HTTP request.
-pub(crate) fn turn<K: Naming, R: Host + Sync>(
-    rt: &R,
-    alloc: Global,
-    desk: &mut Desk<K>,
-    note: Note<K>,
-) {
-    let asked = parts(alloc, &NONE_FOR_ALFA).expect(rt, "a head");
-    let at = Moment::new(2000).expect(rt, "a moment");
-    let judge = &Chunked(*rt);
-    let response = desk_turn(
-        alloc,
-        &asked,
-        b"",
-        at,
-        desk,
-        Some(&note),
-        &mut OpenGate,
-        judge,
-    );
-    assert!(rt; is_answer(rt, response, 200, NONE_FOR_ALFA.reply));
-}
-
-/// An operator's question is held while another operator and the author are answered.
-#[test]
-fn others_are_answered_beside_a_held_question(rt: HostRuntime) -> Result<(), Fail> {
-    visited(&rt, CONFIGURATION, Visit::BesideAHeldQuestion)
+    assert_answers(rt, alloc, hall, Method::POST, PUBLISH);
 }

@@ -3,11 +3,9 @@
 #![tactic(auto)]
 
 #[cfg(test)]
-mod asking;
+mod city;
 #[cfg(test)]
 mod desk;
-#[cfg(test)]
-mod fleet;
 #[cfg(test)]
 mod hall;
 #[cfg(test)]
@@ -15,4 +13,4 @@ mod loopback;
 #[cfg(test)]
 mod snapshot;
 #[cfg(test)]
-mod threads;
+mod waiting;

@@ -2,8 +2,7 @@
 ghost use Rattle.std.specs.Prelude.{◌≡◌};
 ghost use Rattle.mds_snapshot.specs.Opening.{book_of};
 
-use mds_doors::{MachineClock, Moments, Queues, bound, serve};
-use mds_exchanges::{CONFIGURATION, Exchange, GEOGRAPHIES, PUBLISH, PUT_CAP, PUT_SQUARE};
+use mds_doors::{Moments, Queues, bound, serve};
 use mds_hall::Hall;
 use mds_request::Config;
 use mds_snapshot::{Blank, Naming, prepare};
@@ -21,8 +20,43 @@ use std::time::Clock;
 use tokio::net::TcpListener;
 use tokio::runtime::Runtime;
 
-/// Both drafts are put and published, and an operator asks for the geographies.
-const EXCHANGES: &[Exchange] = &[PUT_SQUARE, PUT_CAP, PUBLISH, GEOGRAPHIES];
+const CONFIGURATION: &[u8] =
+    br#"{"author":"city","operators":[{"id":"00000000-0000-4000-8000-0000000000a1","limit":2,"token":"alfa"},{"id":"00000000-0000-4000-8000-0000000000b1","limit":2,"token":"bravo"}],"zone":"Z"}"#;
+
+/// A request, and the body of its answer.
+struct Exchange {
+    line: &'static str,
+    token: &'static str,
+    body: &'static str,
+    answer: &'static str,
+}
+
+const EXCHANGES: &[Exchange] = &[
+    Exchange {
+        line: "PUT /drafts/geographies/00000000-0000-4000-8000-000000000101",
+        token: "city",
+        body: r#"{"geography_id":"00000000-0000-4000-8000-000000000101","name":"square","geography_json":{"type":"Polygon","coordinates":[[[0,0],[10,0],[10,10],[0,10],[0,0]]]}}"#,
+        answer: r#"{"result":"new"}"#,
+    },
+    Exchange {
+        line: "PUT /drafts/policies/00000000-0000-4000-8000-000000000201",
+        token: "city",
+        body: r#"{"policy_id":"00000000-0000-4000-8000-000000000201","name":"cap","start_date":1000,"rules":[{"rule_id":"00000000-0000-4000-8000-000000000301","name":"cap","rule_type":"count","geographies":["00000000-0000-4000-8000-000000000101"],"maximum":1}]}"#,
+        answer: r#"{"result":"new"}"#,
+    },
+    Exchange {
+        line: "POST /publish",
+        token: "city",
+        body: r#"{"geographies":["00000000-0000-4000-8000-000000000101"],"policies":["00000000-0000-4000-8000-000000000201"]}"#,
+        answer: r#"{"published_date":2000,"revision":1}"#,
+    },
+    Exchange {
+        line: "GET /compliance",
+        token: "alfa",
+        body: "",
+        answer: r#"{"at":2000,"policies":[{"policy_id":"00000000-0000-4000-8000-000000000201","rules":[{"measure":0,"rule_id":"00000000-0000-4000-8000-000000000301","status":"ok"}]}],"revision":1,"version":2}"#,
+    },
+];
 
 /// A clock that always gives this moment.
 #[derive(Clone, Copy)]
@@ -52,14 +86,13 @@ fn connected<R: Net<Stream = TcpStream> + AllocGlobal>(
     Ok(Asked {
         stream: TcpStream::connect(rt, address)?,
         request: format!(in alloc;
-            "{} {} HTTP/1.1\r\nhost: localhost\r\nauthorization: Bearer {}\r\ncontent-length: {}\r\nconnection: close\r\n\r\n{}",
-            exchange.method,
-            exchange.target,
+            "{} HTTP/1.1\r\nhost: localhost\r\nauthorization: Bearer {}\r\ncontent-length: {}\r\nconnection: close\r\n\r\n{}",
+            exchange.line,
             exchange.token,
             exchange.body.len(),
             exchange.body
         )?,
-        answer: format!(in alloc; "\r\n\r\n{}", exchange.reply)?,
+        answer: format!(in alloc; "\r\n\r\n{}", exchange.answer)?,
     })
 }
 
@@ -140,7 +173,7 @@ where
         + Drop,
     requires { book_of blank ≡ K.book }
 {
-    let moment = Moment::new(1000).expect(rt, "a moment");
+    let moment = Moment::new(2000).expect(rt, "a moment");
     let scene = scene_of(rt)?;
     let queues = Queues::new(rt.alloc(), &config)?;
     let hall = Hall::<K>::new(rt, rt.alloc(), config, blank)?;
@@ -183,10 +216,9 @@ where
     )
 }
 
-/// A policy is published, and an operator asks for its square.
+/// A policy is published, and an operator asks for compliance.
 #[test]
 fn answers_over_loopback(rt: HostRuntime) -> Result<(), Fail> {
-    assert!(rt; MachineClock(&rt).now().is_some());
     let config = Config::read(rt.alloc(), CONFIGURATION)?;
     let blank = prepare(rt.alloc())?;
     served::<Brand, _>(&rt, config, blank)

@@ -1,12 +1,10 @@
-//! What is published, and the panes on it.
 ghost use Rattle.std.specs.Prelude.{◌≡◌};
 ghost use Rattle.mds_snapshot.specs.Opening.{book_of};
 
 use mds_catalog::{Batch, Catalogue};
-use mds_exchanges::{CAP, SQUARE};
 use mds_geography::Geography;
 use mds_policy::Policy;
-use mds_snapshot::{Blank, Naming, Note, OpenFault, Pane, Publisher, READER_PLACES, open, prepare};
+use mds_snapshot::{Blank, Naming, Note, OpenFault, Pane, Publisher, open, prepare};
 use mds_text::{Id, Moment};
 use std::alloc::{AllocError, Global};
 use std::marker::Brand;
@@ -20,9 +18,15 @@ const P1: &str = "00000000-0000-4000-8000-000000000201";
 
 const P2: &str = "00000000-0000-4000-8000-000000000202";
 
-/// A policy that takes the place of the cap.
+/// A policy on the square, and another that takes its place.
+const CAP: &[u8] =
+    br#"{"policy_id":"00000000-0000-4000-8000-000000000201","name":"cap","start_date":1000,"rules":[{"rule_id":"00000000-0000-4000-8000-000000000301","name":"cap","rule_type":"count","geographies":["00000000-0000-4000-8000-000000000101"],"maximum":1}]}"#;
+
 const NEXT: &[u8] =
     br#"{"policy_id":"00000000-0000-4000-8000-000000000202","name":"next","start_date":86401000,"prev_policies":["00000000-0000-4000-8000-000000000201"],"rules":[{"rule_id":"00000000-0000-4000-8000-000000000302","name":"cap","rule_type":"count","geographies":["00000000-0000-4000-8000-000000000101"],"maximum":1}]}"#;
+
+const SQUARE: &[u8] =
+    br#"{"geography_id":"00000000-0000-4000-8000-000000000101","name":"square","geography_json":{"type":"Polygon","coordinates":[[[0,0],[10,0],[10,10],[0,10],[0,0]]]}}"#;
 
 fn id(rt: &impl Abort, text: &str) -> Id {
     Id::read(text).expect(rt, "an identifier")
@@ -30,7 +34,7 @@ fn id(rt: &impl Abort, text: &str) -> Id {
 
 /// The square alone; none, memory ran out.
 fn geographies(alloc: Global) -> Option<Vec<Arc<Geography>>> {
-    let square = Geography::read(alloc, SQUARE.as_bytes()).ok()?;
+    let square = Geography::read(alloc, SQUARE).ok()?;
     let square = Arc::new(alloc, square).ok()?;
     vec![in alloc; square].ok()
 }
@@ -42,43 +46,33 @@ fn policies(alloc: Global, text: &[u8]) -> Option<Vec<Arc<Policy>>> {
     vec![in alloc; policy].ok()
 }
 
-/// A batch of these documents, and of what is withdrawn; none, memory ran out.
+/// A batch of these documents; none, memory ran out.
 fn batch(
     alloc: Global,
-    at: i64,
+    at: Moment,
     geographies: Vec<Arc<Geography>>,
     policies: Vec<Arc<Policy>>,
-    withdrawn: Vec<Id>,
 ) -> Option<Arc<Batch>> {
-    let at = Moment::new(at)?;
-    let batch = Batch::new(alloc, at, geographies, policies, withdrawn).ok()?;
+    let batch = Batch::new(alloc, at, geographies, policies, Vec::new(alloc)).ok()?;
     Arc::new(alloc, batch).ok()
 }
 
 /// The first policy with the square; none, memory ran out.
 fn first(alloc: Global) -> Option<Arc<Batch>> {
-    let policies = policies(alloc, CAP.as_bytes())?;
-    let geographies = geographies(alloc)?;
-    batch(alloc, 1000, geographies, policies, Vec::new(alloc))
+    let at = Moment::new(1000)?;
+    let policies = policies(alloc, CAP)?;
+    batch(alloc, at, geographies(alloc)?, policies)
 }
 
 /// The policy that takes its place, a second later; none, memory ran out.
 fn second(alloc: Global) -> Option<Arc<Batch>> {
+    let at = Moment::new(2000)?;
     let policies = policies(alloc, NEXT)?;
-    batch(alloc, 2000, Vec::new(alloc), policies, Vec::new(alloc))
+    batch(alloc, at, Vec::new(alloc), policies)
 }
 
-/// The withdrawal of the first policy, a second later; none, memory ran out.
-fn third(alloc: Global) -> Option<Arc<Batch>> {
-    let withdrawn = vec![in alloc; Id::read(P1)?].ok()?;
-    batch(alloc, 3000, Vec::new(alloc), Vec::new(alloc), withdrawn)
-}
-
-/// Batches that may be published one after another.
-type Batches = (Arc<Batch>, Arc<Batch>, Arc<Batch>);
-
-fn batches(alloc: Global) -> Option<Batches> {
-    Some((first(alloc)?, second(alloc)?, third(alloc)?))
+fn both(alloc: Global) -> Option<(Arc<Batch>, Arc<Batch>)> {
+    Some((first(alloc)?, second(alloc)?))
 }
 
 /// Publishes a batch that has to be lawful.
@@ -125,74 +119,129 @@ fn told<K: Naming>(rt: &impl Abort, mut pane: Pane<K>, note: &Note<K>, length: u
     shown(rt, pane, length)
 }
 
-/// Prepares, at the first or the second try, and opens that.
-fn prepared<R: Wait + Abort>(rt: &R, alloc: Global, batches: &Batches) -> Result<(), Fail> {
-    let blank = match prepare(alloc) {
-        Ok(blank) => blank,
-        Err(_) => prepare(alloc)?,
-    };
-    opened::<Brand, R>(rt, alloc, blank, batches);
+#[test]
+fn notes_reach_each_pane(rt: HostRuntime) -> Result<(), Fail> {
+    let blank = prepare(rt.alloc())?;
+    opened::<Brand, _>(&rt, rt.alloc(), blank)
+}
+
+fn opened<K: Naming, R: Wait + Abort>(rt: &R, alloc: Global, blank: Blank) -> Result<(), Fail>
+    requires { book_of blank ≡ K.book }
+{
+    let (mut publisher, panes) = open::<K, R>(rt, alloc, blank, 2)?;
+    let batches = both(alloc).expect(rt, "batches");
+    let pane = in_turn(rt, &mut publisher, panes, &batches);
+    publisher.finish(rt);
+    assert!(rt; pane.look().is_err());
     Ok(())
 }
 
-/// Opens, unless memory ran out, and publishes two batches. Once it is closed it refuses the third, and once it is ended
-/// nothing is shown.
-fn opened<K: Naming, R: Wait + Abort>(rt: &R, alloc: Global, blank: Blank, batches: &Batches)
-    requires { book_of blank ≡ K.book }
-{
-    match open::<K, R>(rt, alloc, blank, READER_PLACES) {
-        Ok((mut publisher, panes)) => {
-            let (pane, older) = at_each_place(rt, &mut publisher, panes, &batches.0);
-            let pane = told_late(rt, &mut publisher, &batches.1, pane, &older);
-            let mut closed = publisher.closed();
-            assert!(rt; publish(rt, &mut closed, &batches.2).is_err());
-            assert_front(rt, closed.catalogue(), 2);
-            let pane = shown(rt, pane, 2);
-            closed.finish(rt);
-            assert!(rt; pane.look().is_err());
-        }
-        Err(fault) => assert!(rt; fault == OpenFault::NoMemory),
-    }
+/// A pane's first look: nothing is published.
+fn fresh<K: Naming>(rt: &impl Abort, panes: &mut Vec<Pane<K>>) -> Pane<K> {
+    shown(rt, panes.pop().expect(rt, "a pane"), 0)
 }
 
-/// Nothing is shown at a pane. Then a batch is published, of which each pane learns: one of them is given back.
-fn at_each_place<K: Naming, R: Wait + Abort>(
+fn in_turn<K: Naming, R: Wait + Abort>(
     rt: &R,
     publisher: &mut Publisher<K>,
     mut panes: Vec<Pane<K>>,
-    batch: &Arc<Batch>,
-) -> (Pane<K>, Note<K>) {
-    assert!(rt; panes.len() == READER_PLACES);
-    let kept = shown(rt, panes.pop().expect(rt, "a pane"), 0);
-    let note = published(rt, publisher, batch);
-    for pane in panes {
-        told(rt, pane, &note.again(), 1);
-    }
-    (told(rt, kept, &note, 1), note)
+    batches: &(Arc<Batch>, Arc<Batch>),
+) -> Pane<K> {
+    assert!(rt; panes.len() == 2);
+    let left = fresh(rt, &mut panes);
+    let right = fresh(rt, &mut panes);
+    let note = published(rt, publisher, &batches.0);
+    let right = told(rt, right, &note.again(), 1);
+    let left = told(rt, left, &note, 1);
+    told_late(rt, publisher, &batches.1, left, &note);
+    shown(rt, right, 2)
 }
 
-/// A further batch is published. An older note takes nothing away from what a pane learnt.
+/// An older note takes nothing away from what a pane learnt.
 fn told_late<K: Naming, R: Wait + Abort>(
     rt: &R,
     publisher: &mut Publisher<K>,
     batch: &Arc<Batch>,
     mut pane: Pane<K>,
     older: &Note<K>,
-) -> Pane<K> {
+) {
     pane.learn(&published(rt, publisher, batch));
-    assert!(rt; publisher.has_published(&pane));
+    told(rt, pane, older, 2);
     assert_front(rt, publisher.catalogue(), 2);
-    told(rt, pane, older, 2)
 }
 
-/// With one growth refused, wherever it is: what isn't opened wants memory; publications, notes, what is learnt and looks take
-/// none.
+/// With one growth refused, wherever it is: what isn't opened wants memory; publications, notes, what is
+/// learnt and looks take none.
 #[test]
-fn learning_and_looking_want_no_memory(rt: HostRuntime) -> Result<(), Fail> {
+fn survives_want_of_memory(rt: HostRuntime) -> Result<(), Fail> {
     let alloc = rt.alloc();
-    let batches = match batches(alloc) {
+    let batches = match both(alloc) {
         Some(batches) => batches,
-        None => batches(alloc).ok_or("batches")?,
+        None => both(alloc).ok_or("batches")?,
     };
     prepared(&rt, alloc, &batches)
+}
+
+/// Prepares, at the first or the second try, and opens that.
+fn prepared<R: Wait + Abort>(
+    rt: &R,
+    alloc: Global,
+    batches: &(Arc<Batch>, Arc<Batch>),
+) -> Result<(), Fail> {
+    let blank = match prepare(alloc) {
+        Ok(blank) => blank,
+        Err(_) => prepare(alloc)?,
+    };
+    wanting::<Brand, R>(rt, alloc, blank, batches);
+    Ok(())
+}
+
+fn wanting<K: Naming, R: Wait + Abort>(
+    rt: &R,
+    alloc: Global,
+    blank: Blank,
+    batches: &(Arc<Batch>, Arc<Batch>),
+)
+    requires { book_of blank ≡ K.book }
+{
+    match open::<K, R>(rt, alloc, blank, 64) {
+        Ok((mut publisher, panes)) => {
+            let pane = at_each_place(rt, &mut publisher, panes, &batches.0);
+            let mut closed = publisher.closed();
+            refused(rt, &mut closed, pane, &batches.1);
+            closed.finish(rt);
+        }
+        Err(fault) => assert!(rt; fault == OpenFault::NoMemory),
+    }
+}
+
+/// Publishes a batch, of which each pane learns. It gives one of them back.
+fn at_each_place<K: Naming, R: Wait + Abort>(
+    rt: &R,
+    publisher: &mut Publisher<K>,
+    mut panes: Vec<Pane<K>>,
+    batch: &Arc<Batch>,
+) -> Pane<K> {
+    assert!(rt; panes.len() == 64);
+    let note = published(rt, publisher, batch);
+    let kept = told(rt, panes.pop().expect(rt, "a pane"), &note, 1);
+    for pane in panes {
+        told(rt, pane, &note.again(), 1);
+    }
+    assert_front(rt, publisher.catalogue(), 1);
+    kept
+}
+
+/// A publisher that is closed refuses every batch, and keeps its list and its catalogue.
+fn refused<K: Naming, R: Wait + Abort>(
+    rt: &R,
+    closed: &mut Publisher<K>,
+    pane: Pane<K>,
+    batch: &Arc<Batch>,
+) {
+    for _ in 0..2 {
+        assert!(rt; publish(rt, closed, batch).is_err());
+    }
+    shown(rt, pane, 1);
+    assert_front(rt, closed.catalogue(), 1);
 }

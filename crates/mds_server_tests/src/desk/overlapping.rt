@@ -1,46 +1,163 @@
-//! A desk answers a run of requests. Its first look is held until another desk has answered; then the author publishes.
-use super::*;
-use crate::threads::{Errand, Holding, Signals, beside, is_set_in_time};
-use mds_exchanges::{DRAFTS, GEOGRAPHIES, NO_GEOGRAPHIES};
-use std::sync::atomic::Ordering;
-use std::thread::Threads;
+//! Desks and the room in threads that overlap: one waits for what another does, within a limit.
+ghost use Rattle.std.specs.Prelude.{◌≡◌};
+ghost use Rattle.mds_snapshot.specs.Opening.{book_of};
 
-/// A desk whose first look is held until the other has answered.
+use super::looks::{EMPTY, POLICIES};
+use super::*;
+use crate::waiting::is_set_in_time;
+use mds_desk::Gate;
+use std::sync::atomic::{AtomicBool, Ordering};
+use std::thread::{Threads, join};
+
+/// What one thread tells another.
+#[derive(Drop)]
+struct Signals {
+    /// A desk has looked.
+    looked: AtomicBool,
+    /// Another desk has answered.
+    answered: AtomicBool,
+}
+
+impl Signals {
+    fn new() -> Signals {
+        Signals {
+            looked: AtomicBool::new(false),
+            answered: AtomicBool::new(false),
+        }
+    }
+}
+
+/// What is done in a thread of its own.
+trait Errand {
+    type Outcome;
+
+    fn run(self) -> Self::Outcome;
+}
+
+/// Runs an errand in a thread of its own, and does something else meanwhile.
+fn beside<R: Threads, E: Errand<Outcome = A> + Send + Drop, A: Send, B, F: FnOnce() -> B>(
+    rt: &R,
+    errand: E,
+    meanwhile: F,
+) -> (A, B)
+    requires { F.pre meanwhile }
+{
+    join(rt, move || -> A { errand.run() }, meanwhile)
+}
+
+/// Holds a look until the other desk has answered, and knows whether it did so in time.
+#[derive(Drop)]
+struct Holding<'a> {
+    signals: &'a Signals,
+    in_time: bool,
+}
+
+impl Gate for Holding<'_> {
+    fn held(&mut self) {
+        self.signals.looked.store(true, Ordering::SeqCst);
+        self.in_time = is_set_in_time(&self.signals.answered);
+    }
+}
+
+/// A desk whose look is held until another desk has answered.
+#[derive(Drop)]
+struct HeldDesk<'a, K: Naming> {
+    desk: &'a mut Desk<K>,
+    signals: &'a Signals,
+}
+
+impl<K: Naming> Errand for HeldDesk<'_, K> {
+    type Outcome = Option<Reply>;
+
+    /// The reply, where the other desk answered while this one's look was held.
+    fn run(self) -> Option<Reply> {
+        let exchange = NONE_FOR_ALFA;
+        let request = request(Moment::new(exchange.at)?, exchange);
+        let mut gate = Holding {
+            signals: self.signals,
+            in_time: false,
+        };
+        let reply = self.desk.answer(&request, &mut gate, &Plain);
+        if gate.in_time { Some(reply) } else { None }
+    }
+}
+
+/// The reply, asked for once the other desk's look is held.
+fn answered_meanwhile<K: Naming>(desk: &mut Desk<K>, signals: &Signals) -> Option<Reply> {
+    if !is_set_in_time(&signals.looked) {
+        return None;
+    }
+    let exchange = NONE_FOR_BRAVO;
+    let request = request(Moment::new(exchange.at)?, exchange);
+    let reply = desk.answer(&request, &mut OpenGate, &Plain);
+    signals.answered.store(true, Ordering::SeqCst);
+    Some(reply)
+}
+
+/// Puts both documents and publishes them, of which both desks learn.
+fn set_up_for_both<K: Naming, R: Wait + Abort>(
+    rt: &R,
+    room: &mut AuthorRoom<K>,
+    alfa: &mut Desk<K>,
+    bravo: &mut Desk<K>,
+) {
+    let note = set_up(rt, room);
+    alfa.learn(&note);
+    bravo.learn(&note);
+}
+
+fn two_desks<K: Naming + Send + Sync, R: Threads + Wait + Abort>(
+    rt: &R,
+    room: &mut AuthorRoom<K>,
+    alfa: &mut Desk<K>,
+    bravo: &mut Desk<K>,
+) {
+    set_up_for_both(rt, room, alfa, bravo);
+    let signals = Signals::new();
+    let held = HeldDesk {
+        desk: alfa,
+        signals: &signals,
+    };
+    let (first, second) = beside(rt, held, || answered_meanwhile(bravo, &signals));
+    assert_success(rt, &first.expect(rt, "alfa in time"), NONE_FOR_ALFA);
+    assert_success(rt, &second.expect(rt, "bravo in time"), NONE_FOR_BRAVO);
+}
+
+/// Lets the author publish at its first call.
+#[derive(Drop)]
+struct Starting<'a> {
+    signals: &'a Signals,
+}
+
+impl Gate for Starting<'_> {
+    fn held(&mut self) {
+        self.signals.looked.store(true, Ordering::SeqCst);
+    }
+}
+
+/// A desk that answers three requests while the author publishes.
 #[derive(Drop)]
 struct RunningDesk<'a, K: Naming> {
     desk: &'a mut Desk<K>,
     signals: &'a Signals,
 }
 
-impl<K: Naming> RunningDesk<'_, K> {
-    /// The revisions of three replies, where the other desk answered in time.
-    fn revisions(&mut self) -> Option<[u64; 3]> {
-        let requests = [
-            request(&GEOGRAPHIES)?,
-            request(&GEOGRAPHIES)?,
-            request(&GEOGRAPHIES)?,
-        ];
-        let mut gate = Holding {
-            signals: self.signals,
-            in_time: false,
-        };
-        let replies = self.desk.run(&requests, &mut gate, &Plain).ok()?;
-        if gate.in_time {
-            revisions(&replies)
-        } else {
-            None
-        }
-    }
-}
-
 impl<K: Naming> Errand for RunningDesk<'_, K> {
     type Outcome = Option<[u64; 3]>;
 
     /// The revisions of the replies, each of which lists just what is published at it.
-    fn run(mut self) -> Option<[u64; 3]> {
-        let revisions = self.revisions();
-        self.signals.held.store(true, Ordering::SeqCst);
-        revisions
+    fn run(self) -> Option<[u64; 3]> {
+        let moment = Moment::new(POLICIES.at)?;
+        let requests = [
+            request(moment, POLICIES),
+            request(moment, POLICIES),
+            request(moment, POLICIES),
+        ];
+        let mut gate = Starting {
+            signals: self.signals,
+        };
+        let replies = self.desk.run(&requests, &mut gate, &Plain).ok()?;
+        revisions(&replies)
     }
 }
 
@@ -54,52 +171,39 @@ fn revisions(replies: &[Reply]) -> Option<[u64; 3]> {
 
 /// The revision of a reply that lists just what is published at it.
 fn listed(reply: &Reply) -> Option<u64> {
-    if is_reply(reply, 200, NO_GEOGRAPHIES.reply) {
-        Some(0)
-    } else if is_reply(reply, 200, GEOGRAPHIES.reply) {
-        Some(1)
-    } else {
-        None
+    match reply.body() {
+        _ if reply.status() != 200 => None,
+        body if body == EMPTY.as_bytes() => Some(0),
+        body if body == POLICIES.success.as_bytes() => Some(1),
+        _ => None,
     }
 }
 
-/// Once the other desk's look is held: what this one answers.
-fn answered_meanwhile<K: Naming>(desk: &mut Desk<K>, signals: &Signals) -> Option<Reply> {
-    if !is_set_in_time(&signals.held) {
-        return None;
-    }
-    let request = request(&NOTHING_FOR_BRAVO)?;
-    Some(desk.answer(&request, &mut OpenGate, &Plain))
-}
-
-/// What the other desk answers, and what the author is then answered.
+/// Publishes once the desk has looked.
 fn published_meanwhile<K: Naming, R: Wait>(
     rt: &R,
     room: &mut AuthorRoom<K>,
-    desk: &mut Desk<K>,
     signals: &Signals,
-) -> Option<(Reply, Reply, Note<K>)> {
-    let answered = answered_meanwhile(desk, signals);
-    signals.answered.store(true, Ordering::SeqCst);
-    let (reply, note) = room.answer(rt, &request(&PUBLISH)?);
-    Some((answered?, reply, note?))
+) -> Option<(Reply, Note<K>)> {
+    if !is_set_in_time(&signals.looked) {
+        return None;
+    }
+    let (reply, note) = room.answer(rt, &request(Moment::new(PUBLISH.at)?, PUBLISH));
+    Some((reply, note?))
 }
 
-/// The revisions of a run, while the other desk answers and the author publishes in this thread.
+/// The revisions of a run, while the author publishes in this thread.
 fn published_beside<K: Naming + Send + Sync, R: Threads + Wait>(
     rt: &R,
     room: &mut AuthorRoom<K>,
-    alfa: &mut Desk<K>,
-    bravo: &mut Desk<K>,
-) -> (Option<[u64; 3]>, Option<(Reply, Reply, Note<K>)>) {
+    desk: &mut Desk<K>,
+) -> (Option<[u64; 3]>, Option<(Reply, Note<K>)>) {
     let signals = Signals::new();
     let running = RunningDesk {
-        desk: alfa,
+        desk,
         signals: &signals,
     };
-    beside(rt, running, || {
-        published_meanwhile(rt, room, bravo, &signals)
-    })
+    beside(rt, running, || published_meanwhile(rt, room, &signals))
 }
 
 /// The first reply lists nothing, and what is listed goes on to be.
@@ -109,20 +213,64 @@ fn assert_rise(rt: &impl Abort, revisions: [u64; 3]) {
     assert!(rt; second <= third);
 }
 
-pub(super) fn publication_between<K: Naming + Send + Sync, R: Threads + Wait + Abort>(
+fn publication_between<K: Naming + Send + Sync, R: Threads + Wait + Abort>(
     rt: &R,
     room: &mut AuthorRoom<K>,
     alfa: &mut Desk<K>,
-    bravo: &mut Desk<K>,
 ) {
-    for exchange in DRAFTS {
-        assert!(rt; told(rt, room, exchange).is_none());
+    draft(rt, room);
+    let (revisions, published) = published_beside(rt, room, alfa);
+    assert_rise(rt, revisions.expect(rt, "three replies"));
+    let (reply, note) = published.expect(rt, "a publication in time");
+    assert_success(rt, &reply, PUBLISH);
+    alfa.learn(&note);
+    assert_answers(rt, alfa, POLICIES);
+}
+
+/// What two threads do with a room and its desks.
+#[derive(Clone, Copy)]
+enum Overlap {
+    TwoDesks,
+    PublicationBetweenLooks,
+}
+
+/// Has it done with what is furnished for the configuration.
+fn overlapped<K: Naming + Send + Sync, R: Threads + Wait + Abort>(
+    rt: &R,
+    alloc: Global,
+    config: Config,
+    blank: Blank,
+    overlap: Overlap,
+) -> Result<(), Fail>
+    requires { book_of blank ≡ K.book }
+{
+    let (mut room, desks) = furnish::<K, R>(rt, alloc, config, blank)?;
+    let (mut alfa, mut bravo) = two(rt, desks);
+    match overlap {
+        Overlap::TwoDesks => two_desks(rt, &mut room, &mut alfa, &mut bravo),
+        Overlap::PublicationBetweenLooks => publication_between(rt, &mut room, &mut alfa),
     }
-    let (revisions, published) = published_beside(rt, room, alfa, bravo);
-    assert_rise(rt, revisions.expect(rt, "three replies in time"));
-    let (answered, reply, note) = published.expect(rt, "a publication in time");
-    assert_reply(rt, &answered, &NOTHING_FOR_BRAVO);
-    assert_reply(rt, &reply, &PUBLISH);
-    learn(Some(note), alfa, bravo);
-    assert_answers(rt, alfa, &GEOGRAPHIES);
+    drop(alfa);
+    drop(bravo);
+    room.finish(rt);
+    Ok(())
+}
+
+/// Has it done with what was prepared.
+fn staged<R: Threads + Wait + Abort>(rt: &R, alloc: Global, overlap: Overlap) -> Result<(), Fail> {
+    let config = Config::read(alloc, CONFIGURATION)?;
+    let blank = prepare(alloc)?;
+    overlapped::<Brand, R>(rt, alloc, config, blank, overlap)
+}
+
+/// One desk answers while another's look is held.
+#[test]
+fn answers_beside_a_held_look(rt: HostRuntime) -> Result<(), Fail> {
+    staged(&rt, rt.alloc(), Overlap::TwoDesks)
+}
+
+/// The author publishes while a desk answers a run of requests.
+#[test]
+fn a_publication_between_the_looks_of_a_run(rt: HostRuntime) -> Result<(), Fail> {
+    staged(&rt, rt.alloc(), Overlap::PublicationBetweenLooks)
 }

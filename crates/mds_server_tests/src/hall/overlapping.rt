@@ -1,9 +1,58 @@
 //! An operator's question is held while another operator and the author are answered.
 use super::*;
-use crate::threads::{Errand, Holding, Signals, beside, is_set_in_time};
-use mds_exchanges::{NONE_FOR_BRAVO, SET_UP};
+use crate::waiting::is_set_in_time;
+use mds_desk::Gate;
 use mds_hall::respond_with;
-use std::sync::atomic::Ordering;
+use mds_verdict::Plain;
+use std::sync::atomic::{AtomicBool, Ordering};
+use std::thread::join;
+
+/// The author's draft of a policy that takes the place of the other.
+const DRAFT_OF_NEXT: &Exchange = &Exchange {
+    at: 2000,
+    credentials: Some(CITY),
+    target: "/drafts/policies/00000000-0000-4000-8000-000000000202",
+    body: r#"{"policy_id":"00000000-0000-4000-8000-000000000202","name":"next","start_date":86401000,"prev_policies":["00000000-0000-4000-8000-000000000201"],"rules":[{"rule_id":"00000000-0000-4000-8000-000000000302","name":"cap","rule_type":"count","geographies":["00000000-0000-4000-8000-000000000101"],"maximum":1}]}"#,
+    answer: TAKEN,
+};
+
+/// What the threads tell each other: that the question is held, and that the others have their answers.
+#[derive(Drop)]
+struct Signals {
+    held: AtomicBool,
+    answered: AtomicBool,
+}
+
+/// Holds a question until the others have their answers.
+#[derive(Drop)]
+struct Holding<'a> {
+    signals: &'a Signals,
+    in_time: bool,
+}
+
+impl Gate for Holding<'_> {
+    fn held(&mut self) {
+        self.signals.held.store(true, Ordering::SeqCst);
+        self.in_time = is_set_in_time(&self.signals.answered);
+    }
+}
+
+/// What is done in a thread of its own.
+trait Errand {
+    /// Whether it went as wanted.
+    fn run(self) -> bool;
+}
+
+/// Runs an errand in a thread of its own, and does something else meanwhile. Says how each went.
+fn beside<R: Threads, E: Errand + Send + Drop, F: FnOnce() -> bool>(
+    rt: &R,
+    errand: E,
+    meanwhile: F,
+) -> (bool, bool)
+    requires { F.pre meanwhile }
+{
+    join(rt, move || -> bool { errand.run() }, meanwhile)
+}
 
 /// Alfa's question, held until the others have their answers.
 #[derive(Drop)]
@@ -14,10 +63,10 @@ struct HeldQuestion<'a, K: Naming, R> {
     signals: &'a Signals,
 }
 
-impl<K: Naming, R: Host> HeldQuestion<'_, K, R> {
+impl<K: Naming, R: Host> Errand for HeldQuestion<'_, K, R> {
     /// Whether it has its answer, and was held in time.
-    fn is_answered(&self) -> bool {
-        let Some(asked) = parts(self.alloc, &NONE_FOR_ALFA) else {
+    fn run(self) -> bool {
+        let Some(asked) = parts(self.alloc, Method::GET, COMPLIANCE, Some(ALFA)) else {
             return false;
         };
         let mut gate = Holding {
@@ -29,19 +78,8 @@ impl<K: Naming, R: Host> HeldQuestion<'_, K, R> {
         let response = respond_with(
             self.rt, self.alloc, &asked, body, at, self.hall, &mut gate, &Plain,
         );
-        let is_answered = is_answer(self.rt, response, 200, NONE_FOR_ALFA.reply);
+        let is_answered = is_answer(self.rt, response, NONE_COUNTED);
         gate.in_time && is_answered
-    }
-}
-
-impl<K: Naming, R: Host> Errand for HeldQuestion<'_, K, R> {
-    type Outcome = bool;
-
-    /// Whether it has its answer, and was held in time.
-    fn run(self) -> bool {
-        let is_answered = self.is_answered();
-        self.signals.held.store(true, Ordering::SeqCst);
-        is_answered
     }
 }
 
@@ -52,10 +90,12 @@ fn are_answered<K: Naming, R: Host + Sync>(
     hall: &Hall<K>,
     signals: &Signals,
 ) -> bool {
-    let all = is_set_in_time(&signals.held)
-        && answers(rt, alloc, hall, &NONE_FOR_BRAVO)
-        && answers(rt, alloc, hall, &PUT_CAP);
-    signals.answered.store(true, Ordering::SeqCst);
+    if !is_set_in_time(&signals.held) {
+        return false;
+    }
+    let all = answers(rt, alloc, hall, Method::GET, ASKED_BY_BRAVO)
+        && answers(rt, alloc, hall, Method::PUT, DRAFT_OF_NEXT);
+    signals.answered.store(all, Ordering::SeqCst);
     all
 }
 
@@ -64,8 +104,11 @@ pub(super) fn beside_a_held_question<K: Naming + Send + Sync, R: Host + Sync>(
     alloc: Global,
     hall: &Hall<K>,
 ) {
-    assert_answers_each(rt, alloc, hall, SET_UP);
-    let signals = Signals::new();
+    set_up(rt, alloc, hall);
+    let signals = Signals {
+        held: AtomicBool::new(false),
+        answered: AtomicBool::new(false),
+    };
     let question = HeldQuestion {
         rt,
         alloc,
@@ -75,4 +118,9 @@ pub(super) fn beside_a_held_question<K: Naming + Send + Sync, R: Host + Sync>(
     let (held, answered) = beside(rt, question, || are_answered(rt, alloc, hall, &signals));
     assert!(rt; answered);
     assert!(rt; held);
+}
+
+#[test]
+fn others_are_answered_beside_a_held_question(rt: HostRuntime) -> Result<(), Fail> {
+    visited(&rt, Visit::BesideAHeldQuestion)
 }

@@ -1,0 +1,126 @@
+//! Worked scripts, asked one after another.
+use super::*;
+
+const TOKEN: &str = r#"{"error":"token"}"#;
+
+/// The other operator asks long afterwards, and has no vehicle of its own.
+const FAR: &Exchange = &Exchange {
+    at: 4000000000000,
+    token: "bravo",
+    verb: Verb::Get,
+    target: "/compliance",
+    body: "",
+    success: r#"{"at":4000000000000,"policies":[{"policy_id":"00000000-0000-4000-8000-000000000201","rules":[{"measure":0,"rule_id":"00000000-0000-4000-8000-000000000301","status":"ok"}]}],"revision":1,"version":2}"#,
+};
+
+const TOO_EARLY: &Exchange = &Exchange {
+    at: 999,
+    token: "alfa",
+    verb: Verb::Get,
+    target: "/compliance",
+    body: "",
+    success: r#"{"at":999,"policies":[],"revision":1,"version":2}"#,
+};
+
+struct AnotherToken;
+
+impl Scene for AnotherToken {
+    fn play<K: Naming, R: Wait + Abort>(
+        &self,
+        rt: &R,
+        _alloc: Global,
+        room: &mut AuthorRoom<K>,
+        alfa: &mut Desk<K>,
+        _bravo: &mut Desk<K>,
+    ) -> Result<bool, AllocError> {
+        assert_refused(rt, &asked(rt, alfa, NOTHING_FOR_BRAVO), 401, TOKEN);
+        assert_unnoted(rt, &room_turn(rt, room, NOTHING_FOR_ALFA), 401, TOKEN);
+        assert_answers(rt, alfa, NOTHING_FOR_ALFA);
+        Ok(true)
+    }
+}
+
+#[test]
+fn another_token_is_refused(rt: HostRuntime) -> Result<(), Fail> {
+    assert!(rt; stage(&rt, rt.alloc(), &AnotherToken)?);
+    Ok(())
+}
+
+struct FirstSession;
+
+impl Scene for FirstSession {
+    fn play<K: Naming, R: Wait + Abort>(
+        &self,
+        rt: &R,
+        _alloc: Global,
+        room: &mut AuthorRoom<K>,
+        alfa: &mut Desk<K>,
+        _bravo: &mut Desk<K>,
+    ) -> Result<bool, AllocError> {
+        set_up_for(rt, room, alfa);
+        assert_answers_each(rt, alfa, LINES);
+        Ok(true)
+    }
+}
+
+#[test]
+fn answers_a_first_session(rt: HostRuntime) -> Result<(), Fail> {
+    assert!(rt; stage(&rt, rt.alloc(), &FirstSession)?);
+    Ok(())
+}
+
+struct MomentsGoBack;
+
+impl Scene for MomentsGoBack {
+    fn play<K: Naming, R: Wait + Abort>(
+        &self,
+        rt: &R,
+        _alloc: Global,
+        room: &mut AuthorRoom<K>,
+        alfa: &mut Desk<K>,
+        bravo: &mut Desk<K>,
+    ) -> Result<bool, AllocError> {
+        let note = set_up(rt, room);
+        alfa.learn(&note);
+        bravo.learn(&note.again());
+        assert_answers(rt, alfa, REPORT_FIRST);
+        assert_answers(rt, bravo, FAR);
+        assert_answers(rt, alfa, WITHIN);
+        assert_answers(rt, alfa, TOO_EARLY);
+        Ok(true)
+    }
+}
+
+/// A desk counts the vehicles of its own operator, and a moment may lie before an earlier one.
+#[test]
+fn counts_its_own_vehicles_at_any_moment(rt: HostRuntime) -> Result<(), Fail> {
+    assert!(rt; stage(&rt, rt.alloc(), &MomentsGoBack)?);
+    Ok(())
+}
+
+const SERVED: &[&Exchange; 2] = &[GEOGRAPHIES, POLICY];
+
+struct Served;
+
+impl Scene for Served {
+    fn play<K: Naming, R: Wait + Abort>(
+        &self,
+        rt: &R,
+        _alloc: Global,
+        room: &mut AuthorRoom<K>,
+        alfa: &mut Desk<K>,
+        _bravo: &mut Desk<K>,
+    ) -> Result<bool, AllocError> {
+        set_up_for(rt, room, alfa);
+        let requests = two_requests(rt, SERVED);
+        let replies = alfa.run(&requests, &mut OpenGate, &Plain)?;
+        assert_successes(rt, &replies, SERVED);
+        Ok(true)
+    }
+}
+
+#[test]
+fn serves_what_it_learnt(rt: HostRuntime) -> Result<(), Fail> {
+    assert!(rt; stage(&rt, rt.alloc(), &Served)?);
+    Ok(())
+}

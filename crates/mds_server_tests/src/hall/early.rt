@@ -1,0 +1,110 @@
+//! What is refused before a desk or the author's room is asked.
+use super::*;
+use mds_request::MOST_BODY;
+
+const TOO_LARGE: &Answer = &Answer {
+    status: 413,
+    body: r#"{"error":"too_large"}"#,
+};
+
+const BAD_BODY: &Answer = &Answer {
+    status: 400,
+    body: r#"{"error":"bad_body"}"#,
+};
+
+const CLOCK: &Answer = &Answer {
+    status: 503,
+    body: r#"{"error":"clock"}"#,
+};
+
+const NO_MEMORY: &Answer = &Answer {
+    status: 503,
+    body: r#"{"error":"no_memory"}"#,
+};
+
+const NOWHERE: &str = "/nowhere";
+
+const NOBODY: &str = "Bearer nobody";
+
+/// Whether alfa's question with what arrived has this answer.
+fn tells_alfa<K: Naming, R: Host + Sync>(
+    rt: &R,
+    alloc: Global,
+    hall: &Hall<K>,
+    arrived: Arrived,
+    at: Option<Moment>,
+    answer: &Answer,
+) -> bool {
+    let parts = parts(alloc, Method::GET, COMPLIANCE, Some(ALFA));
+    gives(rt, alloc, hall, parts, arrived, at, answer)
+}
+
+pub(super) fn each_arrival<K: Naming, R: Host + Sync>(rt: &R, alloc: Global, hall: &Hall<K>) {
+    assert!(rt;
+        tells_alfa(
+            rt,
+            alloc,
+            hall,
+            Arrived::Broken,
+            Moment::new(2000),
+            BAD_BODY
+        )
+    );
+    assert!(rt; tells_alfa(rt, alloc, hall, Arrived::Broken, None, CLOCK));
+    assert!(rt;
+        tells_alfa(
+            rt,
+            alloc,
+            hall,
+            Arrived::TooLong,
+            Moment::new(2000),
+            TOO_LARGE
+        )
+    );
+    assert!(rt;
+        tells_alfa(
+            rt,
+            alloc,
+            hall,
+            Arrived::NoMemory,
+            Moment::new(2000),
+            NO_MEMORY
+        )
+    );
+}
+
+#[test]
+fn each_arrival_has_its_answer(rt: HostRuntime) -> Result<(), Fail> {
+    visited(&rt, Visit::EachArrival)
+}
+
+/// A body of so many spaces.
+fn spaces(alloc: Global, length: usize) -> Result<Arrived, AllocError> {
+    let spaces = vec![in alloc; b' '; length]?;
+    Ok(Arrived::Whole(Bytes::from_vec(spaces)?))
+}
+
+/// Whether nobody's request with a body of so many spaces has this answer.
+fn tells_nobody<K: Naming, R: Host + Sync>(
+    rt: &R,
+    alloc: Global,
+    hall: &Hall<K>,
+    length: usize,
+    answer: &Answer,
+) -> bool {
+    let Ok(spaces) = spaces(alloc, length) else {
+        return false;
+    };
+    let parts = parts(alloc, Method::GET, NOWHERE, Some(NOBODY));
+    gives(rt, alloc, hall, parts, spaces, Moment::new(2000), answer)
+}
+
+pub(super) fn large_and_unknown<K: Naming, R: Host + Sync>(rt: &R, alloc: Global, hall: &Hall<K>) {
+    assert!(rt; tells_nobody(rt, alloc, hall, MOST_BODY, TOKEN));
+    assert!(rt; tells_nobody(rt, alloc, hall, MOST_BODY + 1, TOO_LARGE));
+}
+
+#[test]
+fn a_large_body_comes_before_the_token(rt: HostRuntime) -> Result<(), Fail> {
+    visited(&rt, Visit::LargeAndUnknown)
+}

@@ -1,0 +1,185 @@
+//! A policy is published, and an operator asks for compliance.
+ghost use Rattle.std.specs.Prelude.{◌≡◌};
+ghost use Rattle.mds_snapshot.specs.Opening.{book_of};
+
+use super::*;
+use crate::desk;
+use mds_desk::{Desk, OpenGate, furnish};
+use mds_hall::desk_turn;
+use mds_snapshot::Note;
+
+/// A vehicle in the square.
+const VEHICLE: &str =
+    r#"{"device_id":"00000000-0000-4000-8000-000000000401","vehicle_type":"scooter","vehicle_state":"available","timestamp":1500,"location":{"lat":5,"lng":5}}"#;
+
+/// One vehicle is counted, at 2000.
+const ONE_COUNTED: &Answer = &Answer {
+    status: 200,
+    body: r#"{"at":2000,"policies":[{"policy_id":"00000000-0000-4000-8000-000000000201","rules":[{"measure":1,"rule_id":"00000000-0000-4000-8000-000000000301","status":"ok"}]}],"revision":1,"version":2}"#,
+};
+
+const REPORT: &Exchange = &Exchange {
+    at: 2000,
+    credentials: Some(ALFA),
+    target: "/fleet/events",
+    body: VEHICLE,
+    answer: TAKEN,
+};
+
+/// Alfa's question, bravo's and nobody's.
+const QUESTIONS: &[&Exchange] = &[
+    &Exchange {
+        at: 2000,
+        credentials: Some(ALFA),
+        target: COMPLIANCE,
+        body: "",
+        answer: ONE_COUNTED,
+    },
+    ASKED_BY_BRAVO,
+    &Exchange {
+        at: 2000,
+        credentials: None,
+        target: COMPLIANCE,
+        body: "",
+        answer: TOKEN,
+    },
+];
+
+/// Alfa has a vehicle in the square, and bravo has none.
+pub(super) fn own_questions<K: Naming, R: Host + Sync>(rt: &R, alloc: Global, hall: &Hall<K>) {
+    set_up(rt, alloc, hall);
+    assert_answers(rt, alloc, hall, Method::POST, REPORT);
+    for question in QUESTIONS {
+        assert_answers(rt, alloc, hall, Method::GET, question);
+    }
+}
+
+#[test]
+fn counts_the_vehicles_of_who_asks(rt: HostRuntime) -> Result<(), Fail> {
+    visited(&rt, Visit::OwnQuestions)
+}
+
+const VEHICLES: &str = "/fleet/vehicles";
+
+/// The target of alfa's vehicles, which aren't any.
+const ALL_VEHICLES: &str = "/fleet/vehicles?all";
+
+const NO_VEHICLES: &Answer = &Answer {
+    status: 200,
+    body: r#"{"vehicles":[]}"#,
+};
+
+/// Credentials, and what is answered to them: they are alfa's, or unknown.
+const CREDENTIALS: &[(&str, &Answer)] = &[
+    ("bearer alfa", NO_VEHICLES),
+    ("BEARER alfa", NO_VEHICLES),
+    ("Bearer  alfa", TOKEN),
+    ("Bearer\talfa", TOKEN),
+    ("Beareralfa", TOKEN),
+    ("Bearer alfa bravo", TOKEN),
+    ("Basic alfa", TOKEN),
+    ("Bearer", TOKEN),
+];
+
+/// Whether a question for vehicles, with this head, has this answer.
+fn lists<K: Naming, R: Host + Sync>(
+    rt: &R,
+    alloc: Global,
+    hall: &Hall<K>,
+    parts: Option<Parts>,
+    answer: &Answer,
+) -> bool {
+    let at = Moment::new(2000);
+    gives(rt, alloc, hall, parts, whole(""), at, answer)
+}
+
+/// A head with alfa's credentials in each of two fields.
+fn signed_twice(alloc: Global) -> Option<Parts> {
+    let mut parts = parts(alloc, Method::GET, VEHICLES, Some(ALFA))?;
+    let again = HeaderValue::from_static(ALFA);
+    match parts.headers.append(AUTHORIZATION, again) {
+        Ok(_) => Some(parts),
+        Err(_) => None,
+    }
+}
+
+/// Nobody is known by two fields with credentials.
+pub(super) fn each_form<K: Naming, R: Host + Sync>(rt: &R, alloc: Global, hall: &Hall<K>) {
+    for (credentials, answer) in CREDENTIALS {
+        let asked = parts(alloc, Method::GET, ALL_VEHICLES, Some(credentials));
+        let is_answered = lists(rt, alloc, hall, asked, answer);
+        assert!(rt; is_answered, "{credentials}");
+    }
+    assert!(rt; lists(rt, alloc, hall, signed_twice(alloc), TOKEN));
+}
+
+#[test]
+fn reads_bearer_tokens_alone(rt: HostRuntime) -> Result<(), Fail> {
+    visited(&rt, Visit::EachForm)
+}
+
+/// The same at a desk by itself.
+#[test]
+fn answers_at_a_desk(rt: HostRuntime) -> Result<(), Fail> {
+    let alloc = rt.alloc();
+    let config = Config::read(alloc, CONFIGURATION)?;
+    at_desk::<Brand, _>(&rt, alloc, config, prepare(alloc)?)
+}
+
+fn at_desk<K: Naming, R: Host + Sync>(
+    rt: &R,
+    alloc: Global,
+    config: Config,
+    blank: Blank,
+) -> Result<(), Fail>
+    requires { book_of blank ≡ K.book }
+{
+    let (mut room, mut desks) = furnish::<K, R>(rt, alloc, config, blank)?;
+    let outcome = match desks.first_mut() {
+        Some(desk) => Ok(two_questions(rt, alloc, desk, &desk::set_up(rt, &mut room))),
+        None => Err(Fail::from("a desk")),
+    };
+    drop(desks);
+    room.finish(rt);
+    outcome
+}
+
+/// Whether a desk that has a note gives this answer to a question at 2000.
+fn tells<K: Naming, R: Host + Sync>(
+    rt: &R,
+    alloc: Global,
+    credentials: Option<&str>,
+    desk: &mut Desk<K>,
+    note: &Note<K>,
+    answer: &Answer,
+) -> bool {
+    let Some(at) = Moment::new(2000) else {
+        return false;
+    };
+    let Some(parts) = parts(alloc, Method::GET, COMPLIANCE, credentials) else {
+        return false;
+    };
+    let judge = &Chunked(*rt);
+    let response = desk_turn(
+        alloc,
+        &parts,
+        b"",
+        at,
+        desk,
+        Some(note),
+        &mut OpenGate,
+        judge,
+    );
+    is_answer(rt, response, answer)
+}
+
+/// Alfa asks, and then nobody does.
+fn two_questions<K: Naming, R: Host + Sync>(
+    rt: &R,
+    alloc: Global,
+    desk: &mut Desk<K>,
+    note: &Note<K>,
+) {
+    assert!(rt; tells(rt, alloc, Some(ALFA), desk, note, NONE_COUNTED));
+    assert!(rt; tells(rt, alloc, None, desk, note, TOKEN));
+}
