@@ -1,0 +1,12 @@
+//! A file of records: each with the length of its text and a sum over it and all texts before it, read up to the
+//! first place where no whole record stands.
+#![tactic(auto)]
+
+pub mod laws;
+mod reading;
+mod record;
+mod sum;
+
+pub use reading::{Reading, Record, read};
+pub use record::{HEAD, MOST_TEXT, fits, push};
+pub use sum::sum_over;
