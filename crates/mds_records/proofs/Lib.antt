@@ -1,3 +1,4 @@
 pub mod Records
 pub mod Written
 pub mod Found
+pub mod Marked

@@ -1,9 +1,9 @@
 -- What was written whole is read first.
-use Rattle.std.proofs.Common.{◌≡◌, ℕ, ◌+◌, List, [], ◌∷◌, ◌++◌, Some, refl, sym, ap, subst, ◌∙◌, append_assoc}
+use Rattle.std.proofs.Common.{◌≡◌, ℕ, ◌+◌, ◌≤◌, List, [], ◌∷◌, ◌++◌, Some, arith, refl, sym, ap, subst, ◌∙◌, append_assoc}
 use Rattle.std.specs.List.{AllByRecursion}
 use Rattle.mds_records.specs.Sum.{sum_over, sums_over}
 use Rattle.mds_records.specs.Laws.{IsFrontOf, IsTornFrom}
-use Rattle.mds_records.specs.Records.{Reads, Fits, written, record_of, first_at}
+use Rattle.mds_records.specs.Records.{Reads, Fits, written, record_of, extent, first_at}
 use Rattle.mds_records.proofs.Records.{not_none, some_is, first_again}
 
 -- where the first record reads so, what is read are its text and then what is read behind it
@@ -35,3 +35,13 @@ torn_front before (text ∷ pending) (read ∷ found) tail torn r =
     let on : Reads (sum_over before text) r.0 found = subst (λ (x : List ℕ). Reads (sum_over before x) r.0 found) t.0 r.2 in
     let others = torn_front (sum_over before text) pending found r.0 t.1 on in
     (others.0, ap (λ (x : List (List ℕ)). text ∷ x) others.1 ∙ ap (λ (x : List ℕ). x ∷ (found ++ others.0)) (sym t.0))
+
+pub extent_joined : (texts more : List (List ℕ)) → extent (texts ++ more) ≡ extent texts + extent more
+extent_joined [] more = omega arith
+extent_joined (text ∷ texts) more = omega (arith, extent_joined texts more)
+
+-- what was synced is within what is read
+pub synced_within : (before : ℕ) (synced found : List (List ℕ)) (tail : List ℕ) → AllByRecursion Fits synced → Reads before (written before synced ++ tail) found → extent synced ≤ extent found
+synced_within before synced found tail fits r =
+    let w = written_first before synced found tail fits r in
+    rw w.1 (omega (arith, extent_joined synced w.0))

@@ -1,8 +1,10 @@
--- What is read of a file that was cut short, torn or filled with zeros.
-use Rattle.std.specs.Prelude.{◌≡◌, ℕ, List, [], ◌∷◌, ◌++◌, take, replicate, Some, None}
+-- What is read of a file that was cut short, torn or filled with zeros, and how such a file ends.
+use Rattle.std.specs.Prelude.{◌≡◌, ◌≢◌, ℕ, ◌+◌, ◌^◌, ◌<◌, ◌≤◌, List, [], ◌∷◌, ◌++◌, length, take, drop, replicate, Some, None}
 use Rattle.std.specs.List.{AllByRecursion}
 use Rattle.mds_records.specs.Sum.{sum_over, sums_over}
-use Rattle.mds_records.specs.Records.{Fits, Reads, written, first_at}
+use Rattle.mds_records.specs.Records.{Fits, Reads, written, extent, first_at}
+use Rattle.mds_records.specs.Marks.{mark_of, said_at, ending_of}
+use Rattle.mds_records.specs.declared.marks.Ending.TheVariants.{Damaged}
 
 -- the list begins with these
 abbrev pub IsFrontOf : List (List ℕ) → List (List ℕ) → Type 0
@@ -38,3 +40,28 @@ ReadsWhatWasSynced =
 -- In zeros no text is read.
 abbrev pub ReadsNoZeros : Type 0
 ReadsNoZeros = (before count : ℕ) (found : List (List ℕ)) → Reads before (replicate count 0) found → found ≡ []
+
+-- Where what was synced stays, whatever else a crash left, it lies within the records that are read: what is cut lies behind it.
+abbrev pub CutsNothingSynced : Type 0
+CutsNothingSynced =
+    (before : ℕ) (synced found : List (List ℕ)) (tail : List ℕ) → AllByRecursion Fits synced
+    → Reads before (written before synced ++ tail) found → extent synced ≤ extent found
+
+-- Wherever behind the whole records a mark stands that says that the file was synced beyond them, the file ends as damaged.
+abbrev pub FindsDamage : Type 0
+FindsDamage =
+    (whole synced : ℕ) (front rest : List ℕ) → whole + length front < 2 ^ 64 → synced < 2 ^ 64 → whole < synced
+    → (said : ℕ) × (ending_of whole (front ++ (mark_of (whole + length front) synced ++ rest)) ≡ Damaged said) × (synced ≤ said)
+
+-- each mark among these bytes, which stand at this position, says at most this
+abbrev pub SayAtMost : ℕ → ℕ → List ℕ → Type 0
+SayAtMost most position bytes =
+    (front rest : List ℕ) (said : ℕ) → bytes ≡ front ++ rest → said_at (position + length front) rest ≡ Some said → said ≤ most
+
+-- Where what was synced stays, and no mark behind the whole records says more than that it was synced, no damage is told.
+abbrev pub TellsNoFalseDamage : Type 0
+TellsNoFalseDamage =
+    (before : ℕ) (synced found : List (List ℕ)) (tail : List ℕ) (said : ℕ) → AllByRecursion Fits synced
+    → Reads before (written before synced ++ tail) found
+    → SayAtMost (extent synced) (extent found) (drop (extent found) (written before synced ++ tail))
+    → ending_of (extent found) (drop (extent found) (written before synced ++ tail)) ≢ Damaged said

@@ -1,3 +1,4 @@
 pub mod Sum
 pub mod Records
+pub mod Marks
 pub mod Laws

@@ -3,10 +3,13 @@
 #![tactic(auto)]
 
 pub mod laws;
+mod marks;
+mod numbers;
 mod reading;
 mod record;
 mod sum;
 
+pub use marks::{Ending, MARK, ending_of, push_mark};
 pub use reading::{Reading, Record, read};
 pub use record::{HEAD, MOST_TEXT, fits, push};
 pub use sum::sum_over;

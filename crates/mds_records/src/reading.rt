@@ -3,6 +3,7 @@ ghost use Rattle.std.specs.Prelude.{◌≡◌, ℕ, List, map, IfOk, option_map}
 ghost use Rattle.mds_records.specs.Sum.{sums_over};
 ghost use Rattle.mds_records.specs.Records.{Reads, first_at, text_at, extent, offsets_from};
 
+use crate::numbers::number;
 use crate::record::{HEAD, MOST_TEXT};
 use crate::sum::sum_over;
 use std::alloc::{AllocError, Global};
@@ -54,11 +55,7 @@ fn first(before: u64, bytes: &[u8]) -> Option<(&[u8], &[u8])>
     let (size, bytes) = bytes.split_at(4);
     let (claimed, bytes) = bytes.split_at(8);
     let size = u32::from_be_bytes([size[0], size[1], size[2], size[3]]);
-    let claimed = u64::from_be_bytes([
-        claimed[0], claimed[1], claimed[2], claimed[3], claimed[4], claimed[5], claimed[6],
-        claimed[7],
-    ]);
-    text_in(before, size as usize, claimed, bytes)
+    text_in(before, size as usize, number(claimed), bytes)
 }
 
 /// The records in front of the bytes, which stand behind what has the sum `before`. Where the bytes are a whole file,
