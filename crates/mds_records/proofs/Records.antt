@@ -100,6 +100,7 @@ length_read text fits = from_be_bytes-to_be_bytes_4 (length text) (omega (arith,
 
 -- a record that was written is read, whatever stands behind it
 pub first_again : (before : ℕ) (text rest : List ℕ) → Fits text → first_at before (record_of before text ++ rest) ≡ Some (text, rest)
+unfolding record_of
 first_again before text rest fits =
     let size = to_be_bytes w32 (length text) in
     let claimed = to_be_bytes w64 (sum_over before text) in
@@ -126,6 +127,7 @@ cut_of before left count size claimed text rest four eight size-is is lt =
 
 -- a record that was cut short isn't read
 pub first_cut : (before count : ℕ) (text rest : List ℕ) → Fits text → count < 12 + length text → first_at before (take count (record_of before text ++ rest)) ≡ None
+unfolding record_of
 first_cut before count text rest fits lt =
     let size = to_be_bytes w32 (length text) in
     let claimed = to_be_bytes w64 (sum_over before text) in
@@ -135,6 +137,7 @@ first_cut before count text rest fits lt =
     ]
 
 pub record_length : (before : ℕ) (text : List ℕ) → length (record_of before text) ≡ 12 + length text
+unfolding record_of
 record_length before text = omega (arith, length-append (to_be_bytes w32 (length text) ++ to_be_bytes w64 (sum_over before text)) text)
 
 pub take_behind : (count : ℕ) (front rest : List ℕ) → length front ≤ count → take count (front ++ rest) ≡ front ++ take (count - length front) rest

@@ -1,4 +1,5 @@
 pub mod Sum
 pub mod Records
 pub mod Marks
+pub mod Groups
 pub mod Laws

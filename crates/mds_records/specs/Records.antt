@@ -10,7 +10,7 @@ pub record Fits (text : List ℕ) : Type 0 where
   pub short : length text ≤ MOST_TEXT
 
 -- a record: the text's length in four bytes and its sum in eight, both with the highest byte first, and the text
-abbrev pub record_of : ℕ → List ℕ → List ℕ
+unfoldable pub record_of : ℕ → List ℕ → List ℕ
 record_of before text = to_be_bytes w32 (length text) ++ to_be_bytes w64 (sum_over before text) ++ text
 
 -- the records of these texts behind what has the sum `before`

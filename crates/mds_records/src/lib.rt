@@ -2,6 +2,7 @@
 //! first place where no whole record stands.
 #![tactic(auto)]
 
+mod group;
 pub mod laws;
 mod marks;
 mod numbers;
@@ -9,6 +10,7 @@ mod reading;
 mod record;
 mod sum;
 
+pub use group::{Group, are_taken, group_of, is_plain};
 pub use marks::{Ending, MARK, ending_of, push_mark};
 pub use reading::{Reading, Record, read};
 pub use record::{HEAD, MOST_TEXT, fits, push};

@@ -20,6 +20,7 @@ pub fn fits(text: &[u8]) -> bool
 }
 
 /// The record of a text behind what has the sum `before`.
+#[tactic(auto, unfolding(crate::specs::Records::record_of))]
 fn record(alloc: Global, before: u64, text: &[u8]) -> Result<Vec<u8>, AllocError>
     requires { Fits text.now }
     ensures { IfOk result (λ v. v.items ≡ record_of before text.now) }
