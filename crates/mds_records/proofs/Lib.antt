@@ -1,4 +1,5 @@
 pub mod Records
 pub mod Written
 pub mod Found
+pub mod Joined
 pub mod Marked

@@ -3,7 +3,7 @@ use Rattle.std.proofs.Common.{◌≡◌, ℕ, ◌+◌, ◌-◌, ◌%◌, ◌^◌
 use Rattle.std.specs.Prelude.{◌&&◌, nat_lt, nat_le, ◌==◌}
 use Rattle.std.specs.Int.{w32, w64, from_be_bytes, to_be_bytes}
 use Rattle.std.proofs.lemmas.Bool.{cases_lt, le-ltb}
-use Rattle.std.proofs.lemmas.List.{take_at, drop_at, length-append, length-take, length-drop, take-replicate, length-replicate}
+use Rattle.std.proofs.lemmas.List.{take_at, drop_at, length-append, length-take, length-take-le, length-drop, take-append-drop, take-replicate, length-replicate}
 use Rattle.std.proofs.Math.Seq.{take-append-add}
 use Rattle.std.proofs.lemmas.Nat.{from_be_bytes-to_be_bytes_4, from_be_bytes-to_be_bytes_8}
 use Rattle.mds_records.specs.Sum.{sum_over}
@@ -53,6 +53,24 @@ text_extent before size claimed bytes text behind e =
     let within : size ≤ length bytes = grind (arith, b.2) in
     rw (← text-is, ← behind-is) (omega (arith, length-take size bytes, filled, within), omega (arith, length-take size bytes, length-drop size bytes, within))
 
+-- a text that is read stands in front, and is read whatever stands behind it
+text_front : (before size claimed : ℕ) (bytes text behind : List ℕ) → text_at before size claimed bytes ≡ Some (text, behind)
+    → (bytes ≡ text ++ behind) × ((other : List ℕ) → text_at before size claimed (text ++ other) ≡ Some (text, other))
+unfolding text_at
+text_front before size claimed bytes text behind e =
+    let g = chosen (nat_lt 0 size && nat_le size MOST_TEXT && nat_le size (length bytes) && (sum_over before (take size bytes) == claimed)) (take size bytes, drop size bytes) (text, behind) e in
+    let b = all_true (nat_lt 0 size) (nat_le size MOST_TEXT) (nat_le size (length bytes)) (sum_over before (take size bytes) == claimed) g.0 in
+    let text-is : take size bytes ≡ text = ap (λ (p : Read). p.0) g.1 in
+    let behind-is : drop size bytes ≡ behind = ap (λ (p : Read). p.1) g.1 in
+    let within : size ≤ length bytes = grind (arith, b.2) in
+    let long : length text ≡ size = rw (← text-is) (length-take-le size bytes within) in
+    let same : (sum_over before text == claimed) ≡ true = ap (λ (t : List ℕ). sum_over before t == claimed) (sym text-is) ∙ b.3 in (
+      sym (take-append-drop size bytes) ∙ ap (λ (t : List ℕ). t ++ drop size bytes) text-is ∙ ap (λ (d : List ℕ). text ++ d) behind-is,
+      λ other.
+          let there : nat_le size (length (text ++ other)) ≡ true = grind (arith, length-append text other, long) in
+          rw (take_at text other size long, drop_at text other size long, b.0, b.1, there, same) refl,
+    )
+
 -- a record that is read takes its head and its text
 pub first_extent : (before : ℕ) (bytes text behind : List ℕ) → first_at before bytes ≡ Some (text, behind)
     → length bytes ≡ 12 + length text + length behind
@@ -70,6 +88,35 @@ unfolding first_at
 first_of before size claimed rest four eight =
     let long : ltb (length (size ++ (claimed ++ rest))) 12 ≡ false = le-ltb _ _ (omega (arith, length-append size (claimed ++ rest), length-append claimed rest, four, eight)) in
     rw (long, take_at size (claimed ++ rest) 4 four, drop_at size (claimed ++ rest) 4 four, take_at claimed rest 8 eight, drop_at claimed rest 8 eight) refl
+
+regrouped : (size claimed text rest : List ℕ) → (size ++ claimed ++ text) ++ rest ≡ size ++ (claimed ++ (text ++ rest))
+regrouped size claimed text rest = append_assoc (size ++ claimed) text rest ∙ append_assoc size claimed (text ++ rest)
+
+pub record IsFront (before : ℕ) (bytes text behind : List ℕ) : Type 0 where
+  pub front : List ℕ
+  pub long : length front ≡ 12 + length text
+  pub split : bytes ≡ front ++ behind
+  pub again : (other : List ℕ) → first_at before (front ++ other) ≡ Some (text, other)
+
+-- a record that is read stands in front, and is read whatever stands behind it
+pub first_front : (before : ℕ) (bytes text behind : List ℕ) → first_at before bytes ≡ Some (text, behind) → IsFront before bytes text behind
+unfolding first_at
+first_front before bytes text behind e =
+    let size = take 4 bytes in
+    let claimed = take 8 (drop 4 bytes) in
+    let g = passed (nat_lt (length bytes) 12) (text_at before (from_be_bytes w32 size) (from_be_bytes w64 claimed) (drop 8 (drop 4 bytes))) (text, behind) e in
+    let long : ltb (length bytes) 12 ≡ false = g.0 in
+    let enough : 12 ≤ length bytes = grind (arith, long) in
+    let four : length size ≡ 4 = length-take-le 4 bytes (omega (arith, enough)) in
+    let eight : length claimed ≡ 8 = length-take-le 8 (drop 4 bytes) (omega (arith, enough, length-drop 4 bytes)) in
+    let t = text_front before (from_be_bytes w32 size) (from_be_bytes w64 claimed) (drop 8 (drop 4 bytes)) text behind g.1 in
+    let rejoined : bytes ≡ size ++ (claimed ++ (text ++ behind)) = sym (take-append-drop 4 bytes) ∙ ap (λ (d : List ℕ). size ++ d) (sym (take-append-drop 8 (drop 4 bytes)) ∙ ap (λ (d : List ℕ). claimed ++ d) t.0) in
+    record {
+      front = size ++ claimed ++ text;
+      long = omega (arith, length-append (size ++ claimed) text, length-append size claimed, four, eight);
+      split = rejoined ∙ sym (regrouped size claimed text behind);
+      again = λ other. ap (first_at before) (regrouped size claimed text other) ∙ first_of before size claimed (text ++ other) four eight ∙ t.1 other;
+    }
 
 whole_text : (before : ℕ) (text rest : List ℕ) → Fits text → text_at before (length text) (sum_over before text) (text ++ rest) ≡ Some (text, rest)
 unfolding text_at
@@ -91,9 +138,6 @@ unfolding text_at
 cut_text before size claimed bytes lt =
     let short : nat_le size (length bytes) ≡ false = grind (arith, lt) in
     rw short (too_short (nat_lt 0 size) (nat_le size MOST_TEXT) (sum_over before (take size bytes) == claimed) (take size bytes, drop size bytes))
-
-regrouped : (size claimed text rest : List ℕ) → (size ++ claimed ++ text) ++ rest ≡ size ++ (claimed ++ (text ++ rest))
-regrouped size claimed text rest = append_assoc (size ++ claimed) text rest ∙ append_assoc size claimed (text ++ rest)
 
 length_read : (text : List ℕ) → Fits text → from_be_bytes w32 (to_be_bytes w32 (length text)) ≡ length text
 length_read text fits = from_be_bytes-to_be_bytes_4 (length text) (omega (arith, fits.short))

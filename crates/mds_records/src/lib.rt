@@ -4,14 +4,20 @@
 
 mod group;
 pub mod laws;
+mod log;
 mod marks;
+mod medium;
+mod memory;
 mod numbers;
 mod reading;
 mod record;
 mod sum;
 
 pub use group::{Group, are_taken, group_of, is_plain};
+pub use log::{AppendFault, Log, NotSynced, ReadFault};
 pub use marks::{Ending, MARK, ending_of, push_mark};
+pub use medium::{Medium, MediumFault};
+pub use memory::Memory;
 pub use reading::{Reading, Record, read};
 pub use record::{HEAD, MOST_TEXT, fits, push};
 pub use sum::sum_over;

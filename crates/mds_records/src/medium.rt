@@ -1,0 +1,47 @@
+//! What keeps a journal's bytes.
+use std::alloc::{AllocError, Global};
+
+/// Why a medium gave nothing, or isn't known to have kept what it was given.
+#[derive(Clone, Copy, Debug, PartialEq, Eq)]
+pub enum MediumFault {
+    /// A read, a write or a sync failed.
+    Failed,
+    /// Memory ran out.
+    NoMemory,
+}
+
+impl From<AllocError> for MediumFault {
+    fn from(_: AllocError) -> MediumFault {
+        MediumFault::NoMemory
+    }
+}
+
+/// What keeps a journal's bytes: a file, or memory in tests. The clauses are those of a medium that keeps what it is
+/// given; of a file nothing is known.
+pub trait Medium: Drop {
+    ghost use Rattle.std.specs.Prelude.{ℕ, List, ◌++◌, take, IfOk, OnOk};
+
+    /// It holds these bytes, as far as is known.
+    ghost holds: { Self → List ℕ → Type 0 };
+
+    /// What it holds is on the disk, as far as is known.
+    ghost is_synced: { Self → Type 0 };
+
+    /// All its bytes.
+    fn read(&mut self, alloc: Global) -> Result<Vec<u8>, MediumFault>
+        ensures bytes { IfOk result (λ v. holds self.new v.items) }
+        ensures unchanged { (bytes : List ℕ) → holds self.old bytes → holds self.new bytes };
+
+    /// Adds bytes at its end. After an error it is unknown what it holds.
+    fn append(&mut self, bytes: &[u8]) -> Result<(), MediumFault>
+        ensures { OnOk result ((before : List ℕ) → holds self.old before → holds self.new (before ++ bytes.now)) };
+
+    /// Cuts it to a length. After an error it is unknown what it holds.
+    fn cut(&mut self, len: u64) -> Result<(), MediumFault>
+        ensures { OnOk result ((before : List ℕ) → holds self.old before → holds self.new (take len before)) };
+
+    /// Waits until what it holds is on the disk.
+    fn sync(&mut self) -> Result<(), MediumFault>
+        ensures synced { OnOk result (is_synced self.new) }
+        ensures unchanged { (bytes : List ℕ) → holds self.old bytes → holds self.new bytes };
+}

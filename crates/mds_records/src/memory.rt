@@ -1,0 +1,69 @@
+//! A medium in memory, for tests.
+ghost use Rattle.std.specs.Prelude.{◌≡◌, true};
+
+use crate::medium::{Medium, MediumFault};
+use std::alloc::Global;
+
+/// Bytes in memory. Each call is counted; when `calls_left` is 0 it fails, and so does each one after it.
+#[derive(Debug, Drop)]
+pub struct Memory {
+    /// The bytes.
+    pub bytes: Vec<u8>,
+    /// How many calls are still answered.
+    pub calls_left: u32,
+    /// Whether what it holds was synced.
+    pub is_synced: bool,
+}
+
+impl Memory {
+    /// Counts a call, and tells whether it is answered.
+    fn is_answered(&mut self) -> bool
+        ensures bytes { self.new.bytes ≡ self.old.bytes }
+        ensures synced { self.new.is_synced ≡ self.old.is_synced }
+    {
+        if self.calls_left == 0 {
+            return false;
+        }
+        self.calls_left -= 1;
+        true
+    }
+}
+
+impl Medium for Memory {
+    ghost holds = { λ m bytes. m.bytes.items ≡ bytes };
+
+    ghost is_synced = { λ m. m.is_synced ≡ true };
+
+    fn read(&mut self, alloc: Global) -> Result<Vec<u8>, MediumFault> {
+        if !self.is_answered() {
+            return Err(MediumFault::Failed);
+        }
+        Ok(Vec::from_slice(alloc, &self.bytes)?)
+    }
+
+    fn append(&mut self, bytes: &[u8]) -> Result<(), MediumFault> {
+        if !self.is_answered() {
+            return Err(MediumFault::Failed);
+        }
+        self.is_synced = false;
+        self.bytes.extend_from_slice(bytes)?;
+        Ok(())
+    }
+
+    fn cut(&mut self, len: u64) -> Result<(), MediumFault> {
+        if !self.is_answered() {
+            return Err(MediumFault::Failed);
+        }
+        self.is_synced = false;
+        self.bytes.truncate(len as usize);
+        Ok(())
+    }
+
+    fn sync(&mut self) -> Result<(), MediumFault> {
+        if !self.is_answered() {
+            return Err(MediumFault::Failed);
+        }
+        self.is_synced = true;
+        Ok(())
+    }
+}
