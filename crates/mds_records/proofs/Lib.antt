@@ -2,4 +2,5 @@ pub mod Records
 pub mod Written
 pub mod Found
 pub mod Joined
+pub mod Listed
 pub mod Marked

@@ -3,6 +3,7 @@
 #![tactic(auto)]
 
 mod group;
+mod journal;
 pub mod laws;
 mod log;
 mod marks;
@@ -12,8 +13,11 @@ mod numbers;
 mod reading;
 mod record;
 mod sum;
+#[cfg(test)]
+mod tests;
 
 pub use group::{Group, are_taken, group_of, is_plain};
+pub use journal::{Journal, OpenFault};
 pub use log::{AppendFault, Log, NotSynced, ReadFault};
 pub use marks::{Ending, MARK, ending_of, push_mark};
 pub use medium::{Medium, MediumFault};

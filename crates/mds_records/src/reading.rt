@@ -1,5 +1,5 @@
 //! Records are read, up to the first place where no whole one stands.
-ghost use Rattle.std.specs.Prelude.{◌≡◌, ℕ, List, map, IfOk, option_map};
+ghost use Rattle.std.specs.Prelude.{◌≡◌, ◌≤◌, ℕ, List, length, map, IfOk, option_map};
 ghost use Rattle.mds_records.specs.Sum.{sums_over};
 ghost use Rattle.mds_records.specs.Records.{Reads, first_at, text_at, extent, offsets_from};
 
@@ -69,6 +69,7 @@ pub fn read(alloc: Global, before: u64, bytes: &[u8]) -> Result<Reading<'_>, All
     ensures offsets { IfOk result (λ found.
         map (λ x. x.offset) found.records.items ≡ offsets_from 0 (map (λ x. x.text.now) found.records.items)) }
     ensures whole { IfOk result (λ found. found.whole ≡ extent (map (λ x. x.text.now) found.records.items)) }
+    ensures within { IfOk result (λ found. found.whole ≤ length bytes.now) }
     ensures sum { IfOk result (λ found. found.sum ≡ sums_over before (map (λ x. x.text.now) found.records.items)) }
 {
     let mut records = Vec::new(alloc);

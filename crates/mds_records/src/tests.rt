@@ -1,0 +1,151 @@
+//! Tests. The expected bytes come from another program's SipHash-1-3 with both keys 0.
+use crate::group::group_of;
+use crate::journal::{Journal, OpenFault};
+use crate::log::{AppendFault, Log};
+use crate::marks::{Ending, ending_of};
+use crate::memory::Memory;
+use crate::reading::read;
+use crate::record::push;
+use std::alloc::{AllocError, Global};
+
+const FIRST: &[u8] = &[0, 0, 0, 3, 37, 19, 247, 30, 17, 226, 15, 101, 111, 110, 101];
+
+const SECOND: &[u8] = &[
+    0, 0, 0, 4, 148, 107, 124, 29, 70, 202, 85, 225, 116, 119, 111, 33,
+];
+
+/// The record of the mark at the beginning of a file.
+const MARKED: &[u8] = &[
+    0, 0, 0, 32, 130, 165, 51, 246, 22, 181, 93, 151, 255, 115, 121, 110, 99, 101, 100, 58, 0, 0,
+    0, 0, 0, 0, 0, 12, 0, 0, 0, 0, 0, 0, 0, 0, 152, 3, 180, 189, 217, 174, 131, 34,
+];
+
+fn two_records(alloc: Global) -> Result<Vec<u8>, AllocError> {
+    let mut bytes = Vec::new(alloc);
+    let sum = push(alloc, &mut bytes, 0, b"one")?;
+    push(alloc, &mut bytes, sum, b"two!")?;
+    Ok(bytes)
+}
+
+fn texts(alloc: Global, text: &[u8]) -> Result<Vec<Vec<u8>>, AllocError> {
+    let mut texts = Vec::new(alloc);
+    texts.push(Vec::from_slice(alloc, text)?)?;
+    Ok(texts)
+}
+
+#[test]
+fn records_are_written(rt: HostRuntime) {
+    let bytes = two_records(rt.alloc()).expect(&rt, "memory");
+    assert!(rt; bytes.starts_with(FIRST) && bytes.ends_with(SECOND));
+    assert!(rt; bytes.len() == 31);
+    let one = texts(rt.alloc(), b"one").expect(&rt, "memory");
+    let group = group_of(rt.alloc(), 0, 0, 0, &one).expect(&rt, "memory");
+    assert!(rt; group.bytes.starts_with(MARKED) && group.bytes.len() == 59);
+}
+
+#[test]
+fn cut_files_are_read(rt: HostRuntime) {
+    let alloc = rt.alloc();
+    let bytes = two_records(alloc).expect(&rt, "memory");
+    for len in 0..32usize {
+        let found = read(alloc, 0, &bytes[..len]).expect(&rt, "memory");
+        let count = if len < 15 {
+            0
+        } else if len < 31 {
+            1
+        } else {
+            2
+        };
+        assert!(rt; found.records.len() == count);
+    }
+    let found = read(alloc, 0, &bytes).expect(&rt, "memory");
+    assert!(rt; found.whole == 31 && found.sum == 10_694_778_205_304_935_905);
+    let last = found.records.last().expect(&rt, "a record");
+    assert!(rt; last.offset == 27 && last.text == b"two!".as_slice());
+}
+
+#[test]
+fn changed_files_are_read(rt: HostRuntime) {
+    let alloc = rt.alloc();
+    for place in 0..31usize {
+        let mut bytes = two_records(alloc).expect(&rt, "memory");
+        bytes[place] ^= 1;
+        let found = read(alloc, 0, &bytes).expect(&rt, "memory");
+        let count = if place < 15 { 0 } else { 1 };
+        assert!(rt; found.records.len() == count);
+    }
+}
+
+#[test]
+fn endings_are_told(rt: HostRuntime) {
+    assert!(rt; ending_of(0, &[]) == Ending::Whole);
+    assert!(rt; ending_of(0, FIRST) == Ending::Torn);
+    // The mark says that nothing was synced, so it tells no damage before it.
+    assert!(rt; ending_of(0, MARKED) == Ending::Torn);
+}
+
+/// A journal of two groups, of which the first was synced before the second; so many calls are answered.
+fn journal_of_two(alloc: Global, calls_left: u32) -> Option<Journal<Memory>> {
+    let medium = Memory {
+        bytes: Vec::new(alloc),
+        calls_left,
+        is_synced: true,
+    };
+    let mut journal = Journal::open(alloc, medium).ok()?;
+    journal.append(0, &texts(alloc, b"one").ok()?).ok()?;
+    journal.sync().ok()?;
+    journal.append(1, &texts(alloc, b"two!").ok()?).ok()?;
+    Some(journal)
+}
+
+#[test]
+fn journals_count(rt: HostRuntime) {
+    let mut journal = journal_of_two(rt.alloc(), 10).expect(&rt, "a journal");
+    let one = texts(rt.alloc(), b"one").expect(&rt, "memory");
+    assert!(rt; journal.append(0, &one) == Err(AppendFault::Conflict));
+    let none = texts(rt.alloc(), b"").expect(&rt, "memory");
+    assert!(rt; journal.append(2, &none) == Err(AppendFault::Untaken));
+    assert!(rt; journal.append(2, &one) == Ok(3));
+}
+
+#[test]
+fn journals_are_read(rt: HostRuntime) {
+    let mut journal = journal_of_two(rt.alloc(), 10).expect(&rt, "a journal");
+    let found = journal.read_from(1).expect(&rt, "texts");
+    assert!(rt; found.len() == 1 && found[0].as_slice() == b"two!".as_slice());
+    assert!(rt; journal.sync() == Ok(2));
+    let mut journal = Journal::open(rt.alloc(), journal.into_medium()).expect(&rt, "a journal");
+    let found = journal.read_from(0).expect(&rt, "texts");
+    assert!(rt; found.len() == 2 && found[0].as_slice() == b"one".as_slice());
+}
+
+#[test]
+fn torn_journals_are_cut(rt: HostRuntime) {
+    let mut medium = journal_of_two(rt.alloc(), 10)
+        .expect(&rt, "a journal")
+        .into_medium();
+    // The first group has 59 bytes, the mark of the second 44, its text 16, of which one is lost.
+    medium.bytes.truncate(118);
+    let mut journal = Journal::open(rt.alloc(), medium).expect(&rt, "a journal");
+    assert!(rt; journal.sync() == Ok(1));
+    assert!(rt; journal.into_medium().bytes.len() == 103);
+}
+
+#[test]
+fn damaged_journals_are_refused(rt: HostRuntime) {
+    let mut medium = journal_of_two(rt.alloc(), 10)
+        .expect(&rt, "a journal")
+        .into_medium();
+    medium.bytes[50] ^= 1;
+    let fault = Journal::open(rt.alloc(), medium).err();
+    assert!(rt; fault == Some(OpenFault::Damaged(59)));
+}
+
+#[test]
+fn failing_journals_stop(rt: HostRuntime) {
+    let mut journal = journal_of_two(rt.alloc(), 5).expect(&rt, "a journal");
+    assert!(rt; journal.sync().is_err());
+    let one = texts(rt.alloc(), b"one").expect(&rt, "memory");
+    assert!(rt; journal.append(2, &one) == Err(AppendFault::Unknown));
+    assert!(rt; journal.read_from(0).is_err());
+}
