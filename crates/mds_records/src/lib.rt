@@ -2,6 +2,7 @@
 //! first place where no whole record stands.
 #![tactic(auto)]
 
+mod file;
 mod group;
 mod journal;
 pub mod laws;
@@ -16,6 +17,7 @@ mod sum;
 #[cfg(test)]
 mod tests;
 
+pub use file::Stored;
 pub use group::{Group, are_taken, group_of, is_plain};
 pub use journal::{Journal, OpenFault};
 pub use log::{AppendFault, Log, NotSynced, ReadFault};

@@ -1,0 +1,59 @@
+//! A medium in a file.
+use crate::medium::{Medium, MediumFault};
+use std::alloc::Global;
+use std::fs::OpenFile;
+use std::io::{Read, Seek, SeekFrom, Write};
+
+/// A file. It is opened for reading and for writing, and nothing else writes to it. Of what it holds nothing is known
+/// in the proofs: that the disk keeps what it said it synced is a premise.
+#[derive(Debug, Drop)]
+pub struct Stored<F: Read + Write + Seek + OpenFile + Drop> {
+    file: F,
+}
+
+impl<F: Read + Write + Seek + OpenFile + Drop> Stored<F> {
+    /// The medium in this file.
+    pub fn new(file: F) -> Stored<F> {
+        Stored { file }
+    }
+}
+
+impl<F: Read + Write + Seek + OpenFile + Drop> Medium for Stored<F> {
+    ghost use Rattle.std.specs.Prelude.{⊤};
+
+    ghost holds = { λ _ _. ⊤ };
+
+    ghost is_synced = { λ _. ⊤ };
+
+    fn read(&mut self, alloc: Global) -> Result<Vec<u8>, MediumFault> {
+        if self.file.seek(SeekFrom::Start(0)).is_err() {
+            return Err(MediumFault::Failed);
+        }
+        let mut bytes = Vec::new(alloc);
+        match self.file.read_to_end(&mut bytes) {
+            Ok(_) => Ok(bytes),
+            Err(_) => Err(MediumFault::Failed),
+        }
+    }
+
+    fn append(&mut self, bytes: &[u8]) -> Result<(), MediumFault> {
+        if self.file.seek(SeekFrom::End(0)).is_err() || self.file.write_all(bytes).is_err() {
+            return Err(MediumFault::Failed);
+        }
+        Ok(())
+    }
+
+    fn cut(&mut self, len: u64) -> Result<(), MediumFault> {
+        match self.file.set_len(len) {
+            Ok(()) => Ok(()),
+            Err(_) => Err(MediumFault::Failed),
+        }
+    }
+
+    fn sync(&mut self) -> Result<(), MediumFault> {
+        match self.file.sync_data() {
+            Ok(()) => Ok(()),
+            Err(_) => Err(MediumFault::Failed),
+        }
+    }
+}
