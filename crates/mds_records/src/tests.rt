@@ -1,5 +1,5 @@
 //! Tests. The expected bytes come from another program's SipHash-1-3 with both keys 0.
-use crate::group::group_of;
+use crate::group::{are_taken, group_of};
 use crate::journal::{Journal, OpenFault};
 use crate::log::{AppendFault, Log};
 use crate::marks::{Ending, ending_of};
@@ -33,12 +33,20 @@ fn texts(alloc: Global, text: &[u8]) -> Result<Vec<Vec<u8>>, AllocError> {
     Ok(texts)
 }
 
+/// Changes the lowest bit of a byte.
+fn flip(bytes: &mut Vec<u8>, place: usize) {
+    if let Some(byte) = bytes.get_mut(place) {
+        *byte ^= 1;
+    }
+}
+
 #[test]
 fn records_are_written(rt: HostRuntime) {
     let bytes = two_records(rt.alloc()).expect(&rt, "memory");
     assert!(rt; bytes.starts_with(FIRST) && bytes.ends_with(SECOND));
     assert!(rt; bytes.len() == 31);
     let one = texts(rt.alloc(), b"one").expect(&rt, "memory");
+    assert!(rt; are_taken(&one));
     let group = group_of(rt.alloc(), 0, 0, 0, &one).expect(&rt, "memory");
     assert!(rt; group.bytes.starts_with(MARKED) && group.bytes.len() == 59);
 }
@@ -48,7 +56,8 @@ fn cut_files_are_read(rt: HostRuntime) {
     let alloc = rt.alloc();
     let bytes = two_records(alloc).expect(&rt, "memory");
     for len in 0..32usize {
-        let found = read(alloc, 0, &bytes[..len]).expect(&rt, "memory");
+        let front = bytes.get(..len).expect(&rt, "a front");
+        let found = read(alloc, 0, front).expect(&rt, "memory");
         let count = if len < 15 {
             0
         } else if len < 31 {
@@ -69,7 +78,7 @@ fn changed_files_are_read(rt: HostRuntime) {
     let alloc = rt.alloc();
     for place in 0..31usize {
         let mut bytes = two_records(alloc).expect(&rt, "memory");
-        bytes[place] ^= 1;
+        flip(&mut bytes, place);
         let found = read(alloc, 0, &bytes).expect(&rt, "memory");
         let count = if place < 15 { 0 } else { 1 };
         assert!(rt; found.records.len() == count);
@@ -136,7 +145,7 @@ fn damaged_journals_are_refused(rt: HostRuntime) {
     let mut medium = journal_of_two(rt.alloc(), 10)
         .expect(&rt, "a journal")
         .into_medium();
-    medium.bytes[50] ^= 1;
+    flip(&mut medium.bytes, 50);
     let fault = Journal::open(rt.alloc(), medium).err();
     assert!(rt; fault == Some(OpenFault::Damaged(59)));
 }
