@@ -1,5 +1,6 @@
 -- One turn of a loop over operators.
-use Rattle.std.proofs.Common.{◌≡◌, ℕ, ◌+◌, ◌<◌, Bool, true, false, cond, List, [], ◌∷◌, ◌++◌, length, map, drop, get_or, Option, Some, Result, Ok, Err, refl, sym, ap, ◌∙◌, append_assoc}
+use Rattle.std.proofs.Common.{◌≡◌, ℕ, ◌+◌, ◌<◌, Bool, true, false, cond, List, [], ◌∷◌, ◌++◌, length}
+use Rattle.std.proofs.Common.{map, drop, get_or, Option, Some, Result, Ok, Err, refl, sym, ap, ◌∙◌, append_assoc}
 use Rattle.std.proofs.lemmas.List.{drop_more, map-append}
 use Rattle.std.specs.List.{position_from}
 use Rattle.mds_text.specs.Tree.{Json}
@@ -35,7 +36,8 @@ push_front done a (Ok xs) = ap Ok (append_assoc done (a ∷ []) xs)
 push_front done a (Err w) = refl
 
 -- an operator that was read goes behind those before it
-pub read_on : {X : Type 0} (see : X → Json) (n : ℕ) (xs : List X) (i : ℕ) (x : X) (done more : List Operator) (a : Operator) → i < length xs → x ≡ get_or xs i x → says_at n (operator_of (see x)) ≡ Ok a → more ≡ done ++ a ∷ []
+pub read_on : {X : Type 0} (see : X → Json) (n : ℕ) (xs : List X) (i : ℕ) (x : X) (done more : List Operator) (a : Operator) → i < length xs →
+    x ≡ get_or xs i x → says_at n (operator_of (see x)) ≡ Ok a → more ≡ done ++ a ∷ []
     → with_front more (each_from (n + 1) (map see (drop (i + 1) xs))) ≡ with_front done (each_from n (map see (drop i xs)))
 read_on see n xs i x done more a within here is grown =
     ap (λ front. with_front front (each_from (n + 1) (map see (drop (i + 1) xs)))) grown
@@ -44,7 +46,8 @@ read_on see n xs i x done more a within here is grown =
     ∙ sym (ap (λ ts. with_front done (each_from n ts)) (at see xs i x within here))
 
 -- one with a flaw ends the reading
-pub read_ends : {X : Type 0} (see : X → Json) (n : ℕ) (xs : List X) (i : ℕ) (x : X) (done : List Operator) (w : Wrong) → i < length xs → x ≡ get_or xs i x → says_at n (operator_of (see x)) ≡ Err w
+pub read_ends : {X : Type 0} (see : X → Json) (n : ℕ) (xs : List X) (i : ℕ) (x : X) (done : List Operator) (w : Wrong) → i < length xs →
+    x ≡ get_or xs i x → says_at n (operator_of (see x)) ≡ Err w
     → with_front done (each_from n (map see (drop i xs))) ≡ Err w
 read_ends see n xs i x done w within here is =
     ap (λ ts. with_front done (each_from n ts)) (at see xs i x within here)

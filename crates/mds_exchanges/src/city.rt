@@ -6,12 +6,17 @@ pub const CONFIGURATION: &[u8] =
     br#"{"author":"city","operators":[{"id":"00000000-0000-4000-8000-0000000000a1","limit":2,"token":"alfa"},{"id":"00000000-0000-4000-8000-0000000000b1","limit":2,"token":"bravo"}],"zone":"Z"}"#;
 
 /// A square from 0 to 10 degrees.
-pub const SQUARE: &str =
-    r#"{"geography_id":"00000000-0000-4000-8000-000000000101","name":"square","geography_json":{"type":"Polygon","coordinates":[[[0,0],[10,0],[10,10],[0,10],[0,0]]]}}"#;
+pub const SQUARE: &str = concat!(
+    r#"{"geography_id":"00000000-0000-4000-8000-000000000101","name":"square","geography_json":{"type":"Polygon","#,
+    r#""coordinates":[[[0,0],[10,0],[10,10],[0,10],[0,0]]]}}"#,
+);
 
 /// At most one vehicle in the square, from 1000 on.
-pub const CAP: &str =
-    r#"{"policy_id":"00000000-0000-4000-8000-000000000201","name":"cap","start_date":1000,"rules":[{"rule_id":"00000000-0000-4000-8000-000000000301","name":"cap","rule_type":"count","geographies":["00000000-0000-4000-8000-000000000101"],"maximum":1}]}"#;
+pub const CAP: &str = concat!(
+    r#"{"policy_id":"00000000-0000-4000-8000-000000000201","name":"cap","start_date":1000,"#,
+    r#""rules":[{"rule_id":"00000000-0000-4000-8000-000000000301","name":"cap","rule_type":"count","#,
+    r#""geographies":["00000000-0000-4000-8000-000000000101"],"maximum":1}]}"#,
+);
 
 /// Nothing is published.
 pub const NO_POLICIES: Exchange = Exchange {
@@ -98,7 +103,11 @@ pub const GEOGRAPHIES: Exchange = Exchange {
     target: "/geographies",
     body: "",
     status: 200,
-    reply: r#"{"geographies":[{"geography_id":"00000000-0000-4000-8000-000000000101","geography_json":{"features":[{"geometry":{"coordinates":[[[[0,0],[10,0],[10,10],[0,10],[0,0]]]],"type":"MultiPolygon"},"properties":null,"type":"Feature"}],"type":"FeatureCollection"},"name":"square","published_date":1000}],"revision":1}"#,
+    reply: concat!(
+        r#"{"geographies":[{"geography_id":"00000000-0000-4000-8000-000000000101","#,
+        r#""geography_json":{"features":[{"geometry":{"coordinates":[[[[0,0],[10,0],[10,10],[0,10],[0,0]]]],"type":"MultiPolygon"},"#,
+        r#""properties":null,"type":"Feature"}],"type":"FeatureCollection"},"name":"square","published_date":1000}],"revision":1}"#,
+    ),
 };
 
 /// The published cap is shown.
@@ -109,7 +118,11 @@ pub const POLICY: Exchange = Exchange {
     target: "/policies/00000000-0000-4000-8000-000000000201",
     body: "",
     status: 200,
-    reply: r#"{"policy":{"name":"cap","policy_id":"00000000-0000-4000-8000-000000000201","published_date":1000,"rules":[{"geographies":["00000000-0000-4000-8000-000000000101"],"maximum":1,"name":"cap","rule_id":"00000000-0000-4000-8000-000000000301","rule_type":"count"}],"start_date":1000},"revision":1}"#,
+    reply: concat!(
+        r#"{"policy":{"name":"cap","policy_id":"00000000-0000-4000-8000-000000000201","published_date":1000,"#,
+        r#""rules":[{"geographies":["00000000-0000-4000-8000-000000000101"],"maximum":1,"name":"cap","#,
+        r#""rule_id":"00000000-0000-4000-8000-000000000301","rule_type":"count"}],"start_date":1000},"revision":1}"#,
+    ),
 };
 
 /// The cap isn't in force before its start.
@@ -131,7 +144,10 @@ pub const NONE_FOR_ALFA: Exchange = Exchange {
     target: "/compliance",
     body: "",
     status: 200,
-    reply: r#"{"at":2000,"policies":[{"policy_id":"00000000-0000-4000-8000-000000000201","rules":[{"measure":0,"rule_id":"00000000-0000-4000-8000-000000000301","status":"ok"}]}],"revision":1,"version":2}"#,
+    reply: concat!(
+        r#"{"at":2000,"policies":[{"policy_id":"00000000-0000-4000-8000-000000000201","rules":[{"measure":0,"#,
+        r#""rule_id":"00000000-0000-4000-8000-000000000301","status":"ok"}]}],"revision":1,"version":2}"#,
+    ),
 };
 
 /// No vehicle of bravo is counted.
@@ -142,7 +158,10 @@ pub const NONE_FOR_BRAVO: Exchange = Exchange {
     target: "/compliance",
     body: "",
     status: 200,
-    reply: r#"{"at":2000,"policies":[{"policy_id":"00000000-0000-4000-8000-000000000201","rules":[{"measure":0,"rule_id":"00000000-0000-4000-8000-000000000301","status":"ok"}]}],"revision":1,"version":2}"#,
+    reply: concat!(
+        r#"{"at":2000,"policies":[{"policy_id":"00000000-0000-4000-8000-000000000201","rules":[{"measure":0,"#,
+        r#""rule_id":"00000000-0000-4000-8000-000000000301","status":"ok"}]}],"revision":1,"version":2}"#,
+    ),
 };
 
 /// Bravo asks long afterwards, and has no vehicle.
@@ -153,7 +172,10 @@ pub const FAR: Exchange = Exchange {
     target: "/compliance",
     body: "",
     status: 200,
-    reply: r#"{"at":4000000000000,"policies":[{"policy_id":"00000000-0000-4000-8000-000000000201","rules":[{"measure":0,"rule_id":"00000000-0000-4000-8000-000000000301","status":"ok"}]}],"revision":1,"version":2}"#,
+    reply: concat!(
+        r#"{"at":4000000000000,"policies":[{"policy_id":"00000000-0000-4000-8000-000000000201","rules":[{"measure":0,"#,
+        r#""rule_id":"00000000-0000-4000-8000-000000000301","status":"ok"}]}],"revision":1,"version":2}"#,
+    ),
 };
 
 /// Alfa's first vehicle is in the square.
@@ -162,7 +184,10 @@ pub const REPORT_FIRST: Exchange = Exchange {
     token: "alfa",
     method: "POST",
     target: "/fleet/events",
-    body: r#"{"device_id":"00000000-0000-4000-8000-000000000401","vehicle_type":"scooter","propulsion_types":["electric"],"vehicle_state":"available","event_types":["trip_end"],"timestamp":2000,"location":{"lat":5,"lng":5}}"#,
+    body: concat!(
+        r#"{"device_id":"00000000-0000-4000-8000-000000000401","vehicle_type":"scooter","propulsion_types":["electric"],"#,
+        r#""vehicle_state":"available","event_types":["trip_end"],"timestamp":2000,"location":{"lat":5,"lng":5}}"#,
+    ),
     status: 200,
     reply: r#"{"result":"new"}"#,
 };
@@ -175,7 +200,10 @@ pub const WITHIN: Exchange = Exchange {
     target: "/compliance",
     body: "",
     status: 200,
-    reply: r#"{"at":2000,"policies":[{"policy_id":"00000000-0000-4000-8000-000000000201","rules":[{"measure":1,"rule_id":"00000000-0000-4000-8000-000000000301","status":"ok"}]}],"revision":1,"version":2}"#,
+    reply: concat!(
+        r#"{"at":2000,"policies":[{"policy_id":"00000000-0000-4000-8000-000000000201","rules":[{"measure":1,"#,
+        r#""rule_id":"00000000-0000-4000-8000-000000000301","status":"ok"}]}],"revision":1,"version":2}"#,
+    ),
 };
 
 /// Alfa's second vehicle is in the square.
@@ -184,7 +212,10 @@ pub const REPORT_SECOND: Exchange = Exchange {
     token: "alfa",
     method: "POST",
     target: "/fleet/events",
-    body: r#"{"device_id":"00000000-0000-4000-8000-000000000402","vehicle_type":"scooter","propulsion_types":["electric"],"vehicle_state":"available","event_types":["trip_end"],"timestamp":2001,"location":{"lat":5,"lng":5}}"#,
+    body: concat!(
+        r#"{"device_id":"00000000-0000-4000-8000-000000000402","vehicle_type":"scooter","propulsion_types":["electric"],"#,
+        r#""vehicle_state":"available","event_types":["trip_end"],"timestamp":2001,"location":{"lat":5,"lng":5}}"#,
+    ),
     status: 200,
     reply: r#"{"result":"new"}"#,
 };
@@ -197,7 +228,11 @@ pub const EXCEEDED: Exchange = Exchange {
     target: "/compliance",
     body: "",
     status: 200,
-    reply: r#"{"at":2001,"policies":[{"policy_id":"00000000-0000-4000-8000-000000000201","rules":[{"devices":["00000000-0000-4000-8000-000000000401","00000000-0000-4000-8000-000000000402"],"measure":2,"rule_id":"00000000-0000-4000-8000-000000000301","status":"violated"}]}],"revision":1,"version":2}"#,
+    reply: concat!(
+        r#"{"at":2001,"policies":[{"policy_id":"00000000-0000-4000-8000-000000000201","#,
+        r#""rules":[{"devices":["00000000-0000-4000-8000-000000000401","00000000-0000-4000-8000-000000000402"],"measure":2,"#,
+        r#""rule_id":"00000000-0000-4000-8000-000000000301","status":"violated"}]}],"revision":1,"version":2}"#,
+    ),
 };
 
 /// Both of alfa's vehicles are listed.
@@ -208,7 +243,13 @@ pub const VEHICLES: Exchange = Exchange {
     target: "/fleet/vehicles",
     body: "",
     status: 200,
-    reply: r#"{"vehicles":[{"device_id":"00000000-0000-4000-8000-000000000401","event_types":["trip_end"],"location":{"lat":5,"lng":5},"propulsion_types":["electric"],"since":2000,"timestamp":2000,"vehicle_state":"available","vehicle_type":"scooter"},{"device_id":"00000000-0000-4000-8000-000000000402","event_types":["trip_end"],"location":{"lat":5,"lng":5},"propulsion_types":["electric"],"since":2001,"timestamp":2001,"vehicle_state":"available","vehicle_type":"scooter"}]}"#,
+    reply: concat!(
+        r#"{"vehicles":[{"device_id":"00000000-0000-4000-8000-000000000401","event_types":["trip_end"],"location":{"lat":5,"#,
+        r#""lng":5},"propulsion_types":["electric"],"since":2000,"timestamp":2000,"vehicle_state":"available","#,
+        r#""vehicle_type":"scooter"},{"device_id":"00000000-0000-4000-8000-000000000402","event_types":["trip_end"],"#,
+        r#""location":{"lat":5,"lng":5},"propulsion_types":["electric"],"since":2001,"timestamp":2001,"vehicle_state":"available","#,
+        r#""vehicle_type":"scooter"}]}"#,
+    ),
 };
 
 /// The cap is withdrawn.
@@ -230,7 +271,11 @@ pub const BEFORE_THE_WITHDRAWAL: Exchange = Exchange {
     target: "/compliance/00000000-0000-4000-8000-000000000201",
     body: "",
     status: 200,
-    reply: r#"{"at":2999,"policy":{"policy_id":"00000000-0000-4000-8000-000000000201","rules":[{"devices":["00000000-0000-4000-8000-000000000401","00000000-0000-4000-8000-000000000402"],"measure":2,"rule_id":"00000000-0000-4000-8000-000000000301","status":"violated"}]},"revision":2,"version":2}"#,
+    reply: concat!(
+        r#"{"at":2999,"policy":{"policy_id":"00000000-0000-4000-8000-000000000201","#,
+        r#""rules":[{"devices":["00000000-0000-4000-8000-000000000401","00000000-0000-4000-8000-000000000402"],"measure":2,"#,
+        r#""rule_id":"00000000-0000-4000-8000-000000000301","status":"violated"}]},"revision":2,"version":2}"#,
+    ),
 };
 
 /// The cap isn't in force from its withdrawal on.
