@@ -1,4 +1,6 @@
-ghost use Rattle.std.specs.Prelude.{◌≡◌};
+ghost use Rattle.std.specs.Prelude.{◌≡◌, ◌≢◌, MatchBool};
+ghost use mathlib.Core.List.{IsPrefix};
+ghost use Rattle.mds_snapshot.specs.Publishing.{IsShorterFront};
 
 use crate::history::{Front, Naming};
 use std::marker::Model;
@@ -35,6 +37,22 @@ impl<K: Naming> Note<K> {
         Note {
             front: self.front.again(),
         }
+    }
+
+    /// Whether the other's list begins this one's; if not, this one's begins the other's, which is longer.
+    /// Both are of one opening. Takes no memory.
+    pub fn covers(&self, other: &Note<K>) -> bool
+        ensures { MatchBool result (IsPrefix other.now self.now) (IsShorterFront self.now other.now) }
+    {
+        self.front.covers(&other.front)
+    }
+
+    /// Whether both are of one list. Takes no memory.
+    #[tactic(auto, using(crate::proofs::Fronts::one_list, crate::proofs::Fronts::longer))]
+    pub fn is_of_list(&self, other: &Note<K>) -> bool
+        ensures { MatchBool result (self.now ≡ other.now) (self.now ≢ other.now) }
+    {
+        self.covers(other) && other.covers(self)
     }
 
     pub(crate) fn front(&self) -> Front<K>

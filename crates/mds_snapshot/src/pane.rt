@@ -124,6 +124,13 @@ impl<K: Naming> Look<K> {
         &self.reading.get().catalogue
     }
 
+    /// A note of the front. Takes no memory.
+    pub fn note(&self) -> Note<K>
+        ensures { result ≡ self.now }
+    {
+        Note::of(self.front.again())
+    }
+
     /// Gives the pane back, which has seen this front.
     pub fn leave(self) -> Pane<K>
         ensures { result ≡ self }

@@ -112,6 +112,13 @@ impl<K: Naming> Publisher<K> {
         &self.catalogue
     }
 
+    /// A note of the list. Takes no memory.
+    pub fn note(&self) -> Note<K>
+        ensures { result ≡ self.now.publications }
+    {
+        Note::of(self.front.again())
+    }
+
     /// Whether all that the pane knows is published here; if not, it knows all that is, and more.
     pub fn has_published(&self, pane: &Pane<K>) -> bool
         ensures { MatchBool result (IsPrefix pane.now self.now.publications) (IsShorterFront self.now.publications pane.now) }
