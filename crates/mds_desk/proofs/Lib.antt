@@ -4,4 +4,5 @@ pub mod Desks
 pub mod Made
 pub mod Routing
 pub mod Running
+mod Shelving
 pub mod Turning

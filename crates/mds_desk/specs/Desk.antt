@@ -10,6 +10,7 @@ use Rattle.mds_request.specs.Request.{Request}
 use Rattle.mds_request.specs.Reply.{Reply, refused}
 use Rattle.mds_request.specs.declared.code.Code.TheVariants.{NoMemory, NoSnapshot}
 use Rattle.mds_fronts.specs.Desks.{desk_does, IsTurn, IsRun}
+use Rattle.mds_snapshot.specs.declared.history.Naming.{Ghosts}
 use Rattle.mds_desk.specs.declared.desk.Desk.{Desk}
 
 -- a desk between two requests
@@ -22,11 +23,11 @@ pub record DeskState : Type 0 where
   -- the operator's rows
   pub rows : Rows
 
-abbrev pub state_of : {K : Type 0} → Desk K → DeskState
+abbrev pub state_of : {K : Type 0} {g : Ghosts K} → Desk K g → DeskState
 state_of d =
     record {
-      configuration = configuration d.config.value;
-      place = d.place;
+      configuration = configuration d.seat.config.value;
+      place = d.seat.place;
       known = d.pane;
       rows = d.book.rows;
     }

@@ -4,7 +4,8 @@ ghost use Rattle.std.specs.Prelude.{◌≡◌, ◌⊎◌};
 use crate::desk::Desk;
 use crate::operator::refusal_of_another;
 use mds_drafts::Drafts;
-use mds_request::{Actor, AuthorCall, Call, Code, Config, Reply, Request, Routes, read_call};
+use mds_request::{Actor, AuthorCall, Call, Code, Config, Request, Routes, read_call};
+use mds_shelf::{Answer, Ready, SharedShelf, ready_for_author};
 use mds_snapshot::{Naming, Note, Publisher};
 use mds_world::{AuthorAct, author_step};
 use std::alloc::{AllocError, Global};
@@ -18,6 +19,7 @@ pub struct AuthorRoom<K: Naming> {
     routes: Arc<Routes>,
     drafts: Drafts,
     publisher: Publisher<K>,
+    shelf: SharedShelf<K>,
 }
 
 impl<K: Naming> AuthorRoom<K> {
@@ -30,15 +32,17 @@ impl<K: Naming> AuthorRoom<K> {
     ghost use Rattle.mds_snapshot.specs.Publishing.{IsShorterFront};
     ghost use Rattle.mds_machine.specs.Answer.{Gives};
     ghost use Rattle.mds_machine.specs.Author.{author_does};
+    ghost use Rattle.mds_shelf.specs.Ready.{AnswersAuthor};
     ghost use Rattle.mds_desk.specs.Desk.{state_of};
     ghost use Rattle.mds_desk.specs.Room.{room_of, new_room, held_in, IsNoted, TakesRoomTurn};
 
-    /// The room over this publisher, without a draft.
+    /// The room over this publisher and shelf, without a draft.
     pub(crate) fn new(
         alloc: Global,
         config: Arc<Config>,
         routes: Arc<Routes>,
         publisher: Publisher<K>,
+        shelf: SharedShelf<K>,
     ) -> AuthorRoom<K>
         requires { publisher ≡ record { publications = []; is_open = true } }
         ensures { room_of result ≡ new_room (configuration config.value) }
@@ -49,6 +53,7 @@ impl<K: Naming> AuthorRoom<K> {
             routes,
             drafts: Drafts::new(alloc),
             publisher,
+            shelf,
         }
     }
 
@@ -59,29 +64,54 @@ impl<K: Naming> AuthorRoom<K> {
     /// nothing. The reply to a publication is made before it is published, so that nothing is published
     /// without its success being told. Once memory ran out in the publishing itself, each further
     /// publication is answered 503.
-    pub fn answer<R: Wait>(&mut self, rt: &R, request: &Request<'_>) -> (Reply, Option<Note<K>>)
+    pub fn answer<R: Wait>(&mut self, rt: &R, request: &Request<'_>) -> (Answer, Option<Note<K>>)
         ensures { TakesRoomTurn (room_of self.old) (request_of request.now) result.0 result.1 (room_of self.new) }
     {
         match self.config.actor(request.token) {
             Actor::Author => match read_call(&self.routes, &self.config, request) {
                 Ok(Call::Author(call)) => self.called(rt, &call, request),
-                Ok(Call::Operator(_, _)) => (Reply::from(Code::Role), None),
-                Err(code) => (Reply::from(code), None),
+                Ok(Call::Operator(_, _)) => (Answer::from(Code::Role), None),
+                Err(code) => (Answer::from(code), None),
             },
             _ => {
                 let code = refusal_of_another(&self.routes, &self.config, request);
-                (Reply::from(code), None)
+                (Answer::from(code), None)
             }
         }
     }
 
-    /// Answers a call of the author. The drafts of a publication are taken out after it.
+    /// Answers a call of the author: with the body that lies ready for it, or by carrying it out.
     fn called<R: Wait>(
         &mut self,
         rt: &R,
         call: &AuthorCall,
         request: &Request<'_>,
-    ) -> (Reply, Option<Note<K>>)
+    ) -> (Answer, Option<Note<K>>)
+        ensures same { (room_of self.new).configuration ≡ (room_of self.old).configuration }
+        ensures answer { Gives (Unit {0}) (held_in (room_of self.old))
+            (author_does (room_of self.old).drafts (room_of self.old).publications call.now (request_of request.now)) result.0 (held_in (room_of self.new)) }
+        ensures noted { IsNoted (room_of self.old).publications result.1 (room_of self.new).publications }
+        ensures stays_closed { (room_of self.old).is_open ≡ false → ((room_of self.new).is_open ≡ false) × (result.1 ≡ None) }
+        ensures stays_open { (room_of self.old).is_open ≡ true → ((room_of self.new).is_open ≡ true) ⊎ (result.0 ≡ refused NoMemory) }
+        ensures open_noted { IfSome result.1 (λ list. (room_of self.new).is_open ≡ true) }
+    {
+        let asked = ready_for_author(self.publisher.catalogue(), call);
+        match self.shelf.find(&asked, &self.publisher.note()) {
+            Some(body) => (Answer::ready(body), None),
+            None => self.carried_out(rt, asked, call, request),
+        }
+    }
+
+    /// Carries a call of the author out. The drafts of a publication are taken out after it. A reply to what
+    /// was asked of the published documents lies ready from then on, until the next publication.
+    fn carried_out<R: Wait>(
+        &mut self,
+        rt: &R,
+        asked: Option<Ready>,
+        call: &AuthorCall,
+        request: &Request<'_>,
+    ) -> (Answer, Option<Note<K>>)
+        requires { IfSome asked (AnswersAuthor (room_of self.old).publications call.now) }
         ensures same { (room_of self.new).configuration ≡ (room_of self.old).configuration }
         ensures answer { Gives (Unit {0}) (held_in (room_of self.old))
             (author_does (room_of self.old).drafts (room_of self.old).publications call.now (request_of request.now)) result.0 (held_in (room_of self.new)) }
@@ -92,17 +122,21 @@ impl<K: Naming> AuthorRoom<K> {
     {
         let catalogue = self.publisher.catalogue();
         match author_step(self.alloc, &mut self.drafts, catalogue, call, request) {
-            AuthorAct::Answer(reply) => (reply, None),
+            AuthorAct::Answer(reply) => {
+                let note = self.publisher.note();
+                (self.shelf.answer(self.alloc, asked, &note, reply), None)
+            }
             AuthorAct::Publish(batch, reply) => {
                 let Ok(share) = Arc::try_clone(&batch) else {
-                    return (Reply::from(Code::NoMemory), None);
+                    return (Answer::from(Code::NoMemory), None);
                 };
                 match self.publisher.publish(rt, share) {
                     Ok(note) => {
                         self.drafts.take_out(&batch);
-                        (reply, Some(note))
+                        self.shelf.turn_to(&note);
+                        (Answer::from(reply), Some(note))
                     }
-                    Err(_) => (Reply::from(Code::NoMemory), None),
+                    Err(_) => (Answer::from(Code::NoMemory), None),
                 }
             }
         }
@@ -137,6 +171,7 @@ impl<K: Naming> AuthorRoom<K> {
             routes: _routes,
             drafts: _drafts,
             publisher,
+            shelf: _shelf,
         } = self;
         publisher.finish(rt);
     }

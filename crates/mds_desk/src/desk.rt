@@ -1,31 +1,29 @@
 //! An operator's own place.
-ghost use Rattle.std.specs.Prelude.{◌≡◌, ◌<◌, length, Some, option_map, slice_get};
+ghost use Rattle.std.specs.Prelude.{◌≡◌, Some, option_map, slice_get};
 ghost use Rattle.mds_request.specs.Configuration.{configuration};
 
 use crate::gate::Gate;
 use crate::operator::answered;
+use crate::seat::Seat;
 use core::mem::replace_with;
 use mds_catalog::Catalogue;
 use mds_fleet::Book;
-use mds_request::{Code, Config, Reply, Request, Routes};
+use mds_request::{Code, Request};
+use mds_shelf::Answer;
 use mds_snapshot::{Naming, Note, Pane};
 use mds_verdict::Evaluator;
-use std::alloc::{AllocError, Global};
-use std::sync::Arc;
+use std::alloc::AllocError;
 
 /// An operator's own place: its book, and its pane on what is published. It is answered here without
-/// waiting for a lock. Contracts see the configuration, the operator's place in it, the publications that
+/// waiting for a lock: what is published lies ready on a shelf that all desks share, and a shelf that is
+/// taken is passed by. Contracts see the configuration, the operator's place in it, the publications that
 /// were seen or learnt, and the operator's rows.
 #[derive(Drop)]
 pub struct Desk<K: Naming> {
-    alloc: Global,
-    config: Arc<Config>,
-    routes: Arc<Routes>,
-    place: usize,
+    seat: Seat<K>,
     book: Book,
     pane: Pane<K>,
-    ghost within: { place < length (configuration config.value).operators },
-    ghost limit: { Some book.limit ≡ option_map (λ o. o.limit) (slice_get (configuration config.value).operators place) },
+    ghost limit: { Some book.limit ≡ option_map (λ o. o.limit) (slice_get (configuration seat.config.value).operators seat.place) },
 }
 
 impl<K: Naming> Desk<K> {
@@ -33,28 +31,14 @@ impl<K: Naming> Desk<K> {
     ghost use Rattle.mds_request.specs.Request.{request_of};
     ghost use Rattle.mds_desk.specs.Desk.{state_of, new_desk, TakesTurn, TakesRun, Learns};
 
-    /// The desk of the operator at this place of the configuration, which knows of no publication and has
-    /// no vehicle.
-    pub(crate) fn new(
-        alloc: Global,
-        config: Arc<Config>,
-        routes: Arc<Routes>,
-        place: usize,
-        pane: Pane<K>,
-    ) -> Desk<K>
-        requires within { place < length (configuration config.value).operators }
-        requires unknowing { pane ≡ [] }
-        ensures { state_of result ≡ new_desk (configuration config.value) place }
+    /// The desk of the operator at this seat, which knows of no publication and has no vehicle.
+    pub(crate) fn new(seat: Seat<K>, pane: Pane<K>) -> Desk<K>
+        requires { pane ≡ [] }
+        ensures { state_of result ≡ new_desk (configuration seat.config.value) seat.place }
     {
-        let limit = config.operators()[place].limit as u32;
-        Desk {
-            alloc,
-            config,
-            routes,
-            place,
-            book: Book::new(alloc, limit),
-            pane,
-        }
+        let limit = seat.config.operators()[seat.place].limit as u32;
+        let book = Book::new(seat.alloc, limit);
+        Desk { seat, book, pane }
     }
 
     pub(crate) fn pane(&self) -> &Pane<K>
@@ -75,7 +59,7 @@ impl<K: Naming> Desk<K> {
         request: &Request<'_>,
         gate: &mut G,
         evaluator: &E,
-    ) -> Reply
+    ) -> Answer
         requires { E.may_judge }
         ensures { TakesTurn (state_of self.old) (request_of request.now) result (state_of self.new) }
     {
@@ -99,17 +83,17 @@ impl<K: Naming> Desk<K> {
         requests: &[Request<'_>],
         gate: &mut G,
         evaluator: &E,
-    ) -> Result<Vec<Reply>, AllocError>
+    ) -> Result<Vec<Answer>, AllocError>
         requires { E.may_judge }
         ensures run { IfOk result (λ replies. TakesRun (state_of self.old) (map request_of requests.now) replies.items (state_of self.new)) }
         ensures unchanged { OnErr result (self.new ≡ self.old) }
     {
-        let mut replies = Vec::with_capacity(self.alloc, requests.len())?;
+        let mut answers = Vec::with_capacity(self.seat.alloc, requests.len())?;
         for request in requests {
-            let reply = self.answer(request, gate, evaluator);
-            replies.push_reserved(reply);
+            let answer = self.answer(request, gate, evaluator);
+            answers.push_reserved(answer);
         }
-        Ok(replies)
+        Ok(answers)
     }
 
     /// Learns what was published: later requests are answered at fronts that begin with the note's list
@@ -125,45 +109,33 @@ impl<K: Naming> Desk<K> {
         request: &Request<'_>,
         gate: &mut G,
         evaluator: &E,
-    ) -> (Desk<K>, Reply)
+    ) -> (Desk<K>, Answer)
         requires { E.may_judge }
         ensures { TakesTurn (state_of self) (request_of request.now) result.1 (state_of result.0) }
     {
         let Self {
-            alloc,
-            config,
-            routes,
-            place,
+            seat,
             mut book,
             pane,
         } = self;
         match pane.look() {
             Ok(look) => {
                 gate.held();
-                let catalogue = look.catalogue();
-                let reply = answered(
-                    alloc, &mut book, catalogue, &config, &routes, place, request, evaluator,
-                );
+                let answer = answered(&seat, &mut book, &look, request, evaluator);
                 let desk = Desk {
-                    alloc,
-                    config,
-                    routes,
-                    place,
+                    seat,
                     book,
                     pane: look.leave(),
                 };
-                (desk, reply)
+                (desk, answer)
             }
             Err(none) => {
                 let desk = Desk {
-                    alloc,
-                    config,
-                    routes,
-                    place,
+                    seat,
                     book,
                     pane: none.pane,
                 };
-                (desk, Reply::from(Code::NoSnapshot))
+                (desk, Answer::from(Code::NoSnapshot))
             }
         }
     }

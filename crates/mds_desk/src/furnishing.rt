@@ -7,7 +7,9 @@ ghost use Rattle.mds_desk.specs.Room.{room_of, new_room};
 
 use crate::author::AuthorRoom;
 use crate::desk::Desk;
+use crate::seat::Seat;
 use mds_request::{Config, Routes};
+use mds_shelf::SharedShelf;
 use mds_snapshot::{Blank, Naming, OpenFault, Pane, open};
 use std::alloc::{AllocError, Global};
 use std::sync::{Arc, Wait};
@@ -17,6 +19,7 @@ fn desks<K: Naming>(
     alloc: Global,
     config: &Arc<Config>,
     routes: &Arc<Routes>,
+    shelf: &SharedShelf<K>,
     panes: Vec<Pane<K>>,
 ) -> Result<Vec<Desk<K>>, AllocError>
     requires { panes.items ≡ replicate (length (configuration config.now.value).operators) [] }
@@ -27,13 +30,22 @@ fn desks<K: Naming>(
         let place = desks.len();
         let config = Arc::try_clone(config)?;
         let routes = Arc::try_clone(routes)?;
-        desks.push_reserved(Desk::new(alloc, config, routes, place, pane));
+        let shelf = shelf.share()?;
+        let seat = Seat {
+            alloc,
+            config,
+            routes,
+            shelf,
+            place,
+        };
+        desks.push_reserved(Desk::new(seat, pane));
     }
     Ok(desks)
 }
 
 /// The author's room, without a draft and a publication, and the desk of each operator, in the
 /// configuration's order, without a vehicle. They are of the one opening that the blank is; K names it.
+/// They share one shelf, on which nothing lies ready yet.
 ///
 /// # Errors
 ///
@@ -54,9 +66,13 @@ pub fn furnish<K: Naming, R: Wait>(
         return Err(OpenFault::NoMemory);
     };
     let (publisher, panes) = open::<K, R>(rt, alloc, blank, config.operators().len())?;
-    match desks(alloc, &config, &routes, panes) {
+    let Ok(shelf) = SharedShelf::new(alloc, publisher.note()) else {
+        publisher.finish(rt);
+        return Err(OpenFault::NoMemory);
+    };
+    match desks(alloc, &config, &routes, &shelf, panes) {
         Ok(desks) => {
-            let room = AuthorRoom::new(alloc, config, routes, publisher);
+            let room = AuthorRoom::new(alloc, config, routes, publisher, shelf);
             Ok((room, desks))
         }
         Err(_) => {

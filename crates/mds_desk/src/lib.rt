@@ -8,6 +8,7 @@ mod furnishing;
 mod gate;
 pub mod laws;
 mod operator;
+mod seat;
 
 pub use author::AuthorRoom;
 pub use desk::Desk;

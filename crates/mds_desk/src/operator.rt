@@ -1,20 +1,23 @@
-//! What an operator is answered, over its own book and a published catalogue alone.
-ghost use Rattle.std.specs.Prelude.{◌≡◌, ◌⊎◌, ◌<◌, length, IfSome, Some, option_map, slice_get};
-ghost use Rattle.mds_catalog.specs.Catalogue.{publications_of};
+//! What an operator is answered, over its own book and a front of what is published alone.
+ghost use Rattle.std.specs.Prelude.{◌≡◌, ◌⊎◌, IfSome, Some, option_map, slice_get};
 ghost use Rattle.mds_request.specs.Call.{call_of};
 ghost use Rattle.mds_request.specs.Configuration.{configuration};
 ghost use Rattle.mds_request.specs.Request.{request_of};
 ghost use Rattle.mds_request.specs.Reply.{refused};
 ghost use Rattle.mds_request.specs.declared.code.Code.TheVariants.{NoMemory};
+ghost use Rattle.mds_machine.specs.Answer.{Gives};
 ghost use Rattle.mds_machine.specs.Meaning.{own_step};
+ghost use Rattle.mds_machine.specs.Operator.{operator_does};
 ghost use Rattle.mds_fronts.specs.Desks.{refusal_of, desk_does};
 
+use crate::seat::Seat;
 use mds_catalog::Catalogue;
 use mds_fleet::Book;
-use mds_request::{Actor, Call, Code, Config, Reply, Request, Routes, read_call};
+use mds_request::{Actor, Call, Code, Config, OperatorCall, Request, Routes, read_call};
+use mds_shelf::{Answer, ready_for_operator};
+use mds_snapshot::{Look, Naming};
 use mds_verdict::Evaluator;
 use mds_world::operator_step;
-use std::alloc::Global;
 
 /// The refusal of a request that carries another's access token: too large a body comes first.
 pub(crate) fn refusal_of_another(routes: &Routes, config: &Config, request: &Request<'_>) -> Code
@@ -26,57 +29,84 @@ pub(crate) fn refusal_of_another(routes: &Routes, config: &Config, request: &Req
     }
 }
 
-/// Answers the operator's own request.
-fn own<E: Evaluator<Catalogue>>(
-    alloc: Global,
+/// Answers the operator's own call: with the body that lies ready for it, or with a reply of its own, which
+/// lies ready from then on where it tells what is published.
+fn called<K: Naming, E: Evaluator<Catalogue>>(
+    seat: &Seat<K>,
     book: &mut Book,
-    catalogue: &Catalogue,
-    config: &Config,
-    routes: &Routes,
-    place: usize,
+    look: &Look<K>,
+    call: &OperatorCall,
     request: &Request<'_>,
     evaluator: &E,
-) -> Reply
+) -> Answer
     requires ready { E.may_judge }
-    requires place { place < length (configuration config.now).operators }
-    requires limit { Some book.old.limit ≡ option_map (λ o. o.limit) (slice_get (configuration config.now).operators place) }
-    ensures answer { IfSome (slice_get (configuration config.now).operators place) (λ o.
-        let own = own_step (configuration config.now) o (publications_of catalogue.now) book.old.rows (request_of request.now) in
+    requires limit { Some book.old.limit
+        ≡ option_map (λ o. o.limit) (slice_get (configuration seat.now.config.value).operators seat.now.place) }
+    ensures answer { IfSome (slice_get (configuration seat.now.config.value).operators seat.now.place) (λ o.
+        Gives (Unit {0}) book.old.rows (operator_does (configuration seat.now.config.value).zone o look.now book.old.rows call.now (request_of request.now))
+        result book.new.rows) }
+    ensures limit { book.new.limit ≡ book.old.limit }
+{
+    let catalogue = look.catalogue();
+    let asked = ready_for_operator(seat.alloc, catalogue, seat.operator(), call);
+    let note = look.note();
+    if let Some(body) = seat.shelf.find(&asked, &note) {
+        return Answer::ready(body);
+    }
+    let reply = operator_step(
+        seat.alloc,
+        book,
+        catalogue,
+        &seat.config,
+        seat.place,
+        call,
+        request,
+        evaluator,
+    );
+    seat.shelf.answer(seat.alloc, asked, &note, reply)
+}
+
+/// Answers the operator's own request.
+fn own<K: Naming, E: Evaluator<Catalogue>>(
+    seat: &Seat<K>,
+    book: &mut Book,
+    look: &Look<K>,
+    request: &Request<'_>,
+    evaluator: &E,
+) -> Answer
+    requires ready { E.may_judge }
+    requires limit { Some book.old.limit
+        ≡ option_map (λ o. o.limit) (slice_get (configuration seat.now.config.value).operators seat.now.place) }
+    ensures answer { IfSome (slice_get (configuration seat.now.config.value).operators seat.now.place) (λ o.
+        let own = own_step (configuration seat.now.config.value) o look.now book.old.rows (request_of request.now) in
         ((result ≡ own.0) × (book.new.rows ≡ own.1)) ⊎ ((result ≡ refused NoMemory) × (book.new.rows ≡ book.old.rows))) }
     ensures limit { book.new.limit ≡ book.old.limit }
 {
-    match read_call(routes, config, request) {
-        Ok(Call::Operator(_, call)) => operator_step(
-            alloc, book, catalogue, config, place, &call, request, evaluator,
-        ),
-        Ok(Call::Author(_)) => Reply::from(Code::Role),
-        Err(code) => Reply::from(code),
+    match read_call(&seat.routes, &seat.config, request) {
+        Ok(Call::Operator(_, call)) => called(seat, book, look, &call, request, evaluator),
+        Ok(Call::Author(_)) => Answer::from(Code::Role),
+        Err(code) => Answer::from(code),
     }
 }
 
-/// Answers a request at the desk of the operator at this place of the configuration.
-pub(crate) fn answered<E: Evaluator<Catalogue>>(
-    alloc: Global,
+/// Answers a request at the desk of the operator at this seat.
+pub(crate) fn answered<K: Naming, E: Evaluator<Catalogue>>(
+    seat: &Seat<K>,
     book: &mut Book,
-    catalogue: &Catalogue,
-    config: &Config,
-    routes: &Routes,
-    place: usize,
+    look: &Look<K>,
     request: &Request<'_>,
     evaluator: &E,
-) -> Reply
+) -> Answer
     requires ready { E.may_judge }
-    requires place { place < length (configuration config.now).operators }
-    requires limit { Some book.old.limit ≡ option_map (λ o. o.limit) (slice_get (configuration config.now).operators place) }
-    ensures answer { IfSome (slice_get (configuration config.now).operators place) (λ o.
-        let does = desk_does (configuration config.now) place o (publications_of catalogue.now) book.old.rows (request_of request.now) in
+    requires limit { Some book.old.limit
+        ≡ option_map (λ o. o.limit) (slice_get (configuration seat.now.config.value).operators seat.now.place) }
+    ensures answer { IfSome (slice_get (configuration seat.now.config.value).operators seat.now.place) (λ o.
+        let does = desk_does (configuration seat.now.config.value) seat.now.place o look.now book.old.rows (request_of request.now) in
         ((result ≡ does.0) × (book.new.rows ≡ does.1)) ⊎ ((result ≡ refused NoMemory) × (book.new.rows ≡ book.old.rows))) }
     ensures limit { book.new.limit ≡ book.old.limit }
 {
-    match config.actor(request.token) {
-        Actor::Operator(asker) if asker == place => own(
-            alloc, book, catalogue, config, routes, place, request, evaluator,
-        ),
-        _ => Reply::from(refusal_of_another(routes, config, request)),
+    match seat.config.actor(request.token) {
+        Actor::Operator(asker) if asker == seat.place => own(seat, book, look, request, evaluator),
+        _ => Answer::from(refusal_of_another(&seat.routes, &seat.config, request)),
     }
 }

@@ -1,0 +1,31 @@
+//! An operator's place among what all desks of a server share.
+ghost use Rattle.std.specs.Prelude.{◌≡◌, ◌<◌, length, Some, option_map, slice_get};
+ghost use Rattle.mds_request.specs.Configuration.{configuration};
+
+use mds_request::{Config, Routes};
+use mds_shelf::SharedShelf;
+use mds_snapshot::Naming;
+use mds_text::Id;
+use std::alloc::Global;
+use std::sync::Arc;
+
+/// What a desk shares with the others and with the author's room, and its operator's place in the
+/// configuration.
+#[derive(Drop)]
+pub(crate) struct Seat<K: Naming> {
+    pub(crate) alloc: Global,
+    pub(crate) config: Arc<Config>,
+    pub(crate) routes: Arc<Routes>,
+    pub(crate) shelf: SharedShelf<K>,
+    pub(crate) place: usize,
+    ghost within: { place < length (configuration config.value).operators },
+}
+
+impl<K: Naming> Seat<K> {
+    /// The operator's identifier.
+    pub(crate) fn operator(&self) -> Id
+        ensures { Some result ≡ option_map (λ o. o.id) (slice_get (configuration self.now.config.value).operators self.now.place) }
+    {
+        self.config.operators()[self.place].id
+    }
+}

@@ -1,0 +1,8 @@
+-- The answer that a made reply, or a body that lay ready, stands for.
+use Rattle.mds_request.specs.Reply.{Reply, success}
+use Rattle.mds_shelf.specs.declared.answer.Source.{Source}
+use Rattle.mds_shelf.specs.declared.answer.Source.TheVariants.{Made, Ready}
+
+abbrev pub reply_of : Source → Reply
+reply_of (Made reply) = reply
+reply_of (Ready body) = success body

@@ -1,0 +1,10 @@
+-- What lies on a shelf.
+use Rattle.std.specs.Prelude.{List}
+use Rattle.std.specs.List.{All}
+use Rattle.mds_catalog.specs.Publication.{Publication}
+use Rattle.mds_shelf.specs.declared.shelf.Entry.{Entry}
+use Rattle.mds_shelf.specs.Ready.{IsBodyOf}
+
+-- each body is that of its key at this front
+abbrev pub AreBodies : List Publication → List Entry → Type 0
+AreBodies front entries = All (λ e. IsBodyOf front e.key e.body) entries

@@ -1,0 +1,121 @@
+//! What can be asked of the published documents, and which call asks for it.
+ghost use Rattle.std.specs.Prelude.{◌≡◌, false, IfSome};
+ghost use Rattle.std.specs.List.{list_all};
+ghost use Rattle.std.specs.Option.{option_map_or};
+ghost use Rattle.mds_catalog.specs.Catalogue.{publications_of, lent_policy};
+ghost use Rattle.mds_catalog.specs.Publication.{find_policy, is_geography_published};
+ghost use Rattle.mds_machine.specs.Published.{is_shown};
+ghost use Rattle.mds_request.specs.declared.call.OperatorCall.TheVariants as called;
+ghost use Rattle.mds_shelf.specs.Ready.{is_everyones, AnswersOperator, AnswersAuthor};
+
+use mds_catalog::{Catalogue, Published, is_meant_for};
+use mds_policy::Policy;
+use mds_request::{AuthorCall, OperatorCall};
+use mds_text::Id;
+use std::alloc::Global;
+
+/// What can be asked of the documents that are published at one front: whoever asks for it is told the
+/// same, whatever the moment.
+#[derive(Clone, Copy, PartialEq, Eq)]
+pub enum Ready {
+    /// All policies, as the author sees them.
+    AllPolicies,
+    /// The policies that are meant for everyone.
+    EveryonesPolicies,
+    /// The policies that are meant for this operator.
+    PoliciesFor(Id),
+    /// The policy of this identifier.
+    Policy(Id),
+    /// All geographies.
+    Geographies,
+    /// The geography of this identifier.
+    Geography(Id),
+}
+
+/// Whether a policy is meant for everyone: it names no operator (MDS 2.0 Policy, `provider_ids`).
+fn is_everyones(policy: &Published<'_, Policy>) -> bool
+    ensures { result ≡ is_everyones (lent_policy policy.now) }
+{
+    policy.document.providers().is_empty()
+}
+
+/// Whether each of these policies is.
+fn are_everyones(policies: &[Published<'_, Policy>]) -> bool
+    ensures { result ≡ list_all (λ p. is_everyones (lent_policy p)) policies.now }
+{
+    policies.iter().all(|policy| is_everyones(policy))
+}
+
+/// The policies that an operator is shown: everyone's, where none is meant for it by name. None, where
+/// there is no memory to look through them.
+fn policies_for(alloc: Global, catalogue: &Catalogue, operator: Id) -> Option<Ready>
+    ensures { IfSome result (AnswersOperator (publications_of catalogue.now) operator called.Policies) }
+{
+    let Ok(policies) = catalogue.policies(alloc, Some(operator)) else {
+        return None;
+    };
+    if are_everyones(&policies) {
+        Some(Ready::EveryonesPolicies)
+    } else {
+        Some(Ready::PoliciesFor(operator))
+    }
+}
+
+/// Whether the policy of this identifier is published, and shown to an operator, or to the author, who is
+/// none and is shown any.
+fn is_policy_shown(catalogue: &Catalogue, operator: Option<Id>, id: Id) -> bool
+    ensures { result ≡ option_map_or (is_shown operator) (find_policy (publications_of catalogue.now) id) false }
+{
+    match (catalogue.policy(id), operator) {
+        (Some(found), Some(operator)) => is_meant_for(found.document, operator),
+        (Some(_), None) => true,
+        (None, _) => false,
+    }
+}
+
+/// Whether the geography of this identifier is published.
+fn is_geography_shown(catalogue: &Catalogue, id: Id) -> bool
+    ensures { result ≡ is_geography_published (publications_of catalogue.now) id }
+{
+    catalogue.geography(id).is_some()
+}
+
+/// What answers this call of an operator, by its identifier, over the published catalogue: the documents
+/// that are meant for it. None for any other call, for a document that isn't published or isn't meant for
+/// the operator, and where there is no memory to look through the policies.
+pub fn ready_for_operator(
+    alloc: Global,
+    catalogue: &Catalogue,
+    operator: Id,
+    call: &OperatorCall,
+) -> Option<Ready>
+    ensures { IfSome result (AnswersOperator (publications_of catalogue.now) operator call.now) }
+{
+    match *call {
+        OperatorCall::Policies => policies_for(alloc, catalogue, operator),
+        OperatorCall::Policy(id) if is_policy_shown(catalogue, Some(operator), id) => {
+            Some(Ready::Policy(id))
+        }
+        OperatorCall::Geographies => Some(Ready::Geographies),
+        OperatorCall::Geography(id) if is_geography_shown(catalogue, id) => {
+            Some(Ready::Geography(id))
+        }
+        _ => None,
+    }
+}
+
+/// What answers this call of the author over the published catalogue: its published documents. None for any
+/// other call, and for a document that isn't published.
+pub fn ready_for_author(catalogue: &Catalogue, call: &AuthorCall) -> Option<Ready>
+    ensures { IfSome result (AnswersAuthor (publications_of catalogue.now) call.now) }
+{
+    match *call {
+        AuthorCall::Policies => Some(Ready::AllPolicies),
+        AuthorCall::Policy(id) if is_policy_shown(catalogue, None, id) => Some(Ready::Policy(id)),
+        AuthorCall::Geographies => Some(Ready::Geographies),
+        AuthorCall::Geography(id) if is_geography_shown(catalogue, id) => {
+            Some(Ready::Geography(id))
+        }
+        _ => None,
+    }
+}

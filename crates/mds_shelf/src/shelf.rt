@@ -1,0 +1,100 @@
+//! The bodies that lie ready, all of one front.
+ghost use Rattle.std.specs.Prelude.{◌≡◌, ◌⊎◌, IfSome};
+ghost use mathlib.Core.List.{IsPrefix};
+ghost use Rattle.mds_shelf.specs.Ready.{IsBodyOf};
+
+use crate::ready::Ready;
+use bytes::Bytes;
+use mds_snapshot::{Naming, Note};
+use std::alloc::Global;
+use std::marker::Model;
+
+/// A body, and what it is the body of.
+#[derive(Drop)]
+pub(crate) struct Entry {
+    key: Ready,
+    body: Bytes,
+}
+
+/// Bodies that lie ready, of one front of what is published, one of each key at most. Contracts see the
+/// front.
+#[derive(Drop)]
+pub struct Shelf<K: Naming> {
+    note: Note<K>,
+    entries: Vec<Entry>,
+}
+
+impl<K: Naming> Model for Shelf<K> {
+    ghost use Rattle.std.specs.Prelude.{List};
+    ghost use Rattle.mds_catalog.specs.Publication.{Publication};
+    ghost use Rattle.mds_snapshot.specs.Codes.{coded_publications};
+
+    ghost Value = { List Publication };
+
+    ghost coded = { coded_publications };
+
+    ghost use Rattle.mds_shelf.specs.Shelf.{AreBodies};
+
+    ghost view = { λ s. s.note };
+
+    ghost invariant = { λ s. AreBodies s.note s.entries.items };
+}
+
+impl<K: Naming> Shelf<K> {
+    /// An empty shelf, of the note's front.
+    pub fn new(alloc: Global, note: Note<K>) -> Shelf<K>
+        ensures { result ≡ note }
+    {
+        Shelf {
+            note,
+            entries: Vec::new(alloc),
+        }
+    }
+
+    /// A share of the body that lies ready under a key, where the shelf is of the note's front. None, too,
+    /// where no share could be made.
+    pub fn find(&self, key: &Ready, note: &Note<K>) -> Option<Bytes>
+        ensures { IfSome result (IsBodyOf note.now key.now) }
+    {
+        if !self.note.is_of_list(note) {
+            return None;
+        }
+        for entry in &self.entries {
+            if entry.key == *key {
+                return entry.body.clone().ok();
+            }
+        }
+        None
+    }
+
+    /// Empties the shelf for a later front; one that the shelf's own front covers changes nothing.
+    pub fn turn_to(&mut self, note: &Note<K>)
+        ensures kept { IsPrefix self.old self.new }
+        ensures told { IsPrefix note.now self.new }
+        ensures one { (self.new ≡ self.old) ⊎ (self.new ≡ note.now) }
+    {
+        if !self.note.covers(note) {
+            self.entries.clear();
+            self.note = note.again();
+        }
+    }
+
+    /// Keeps a body of the note's front: a later front empties the shelf first, and a body of an earlier one
+    /// isn't kept, nor a second one under a key. Where there is no memory for it, it isn't kept either.
+    pub fn keep(&mut self, note: &Note<K>, key: Ready, body: Bytes)
+        requires { IsBodyOf note.now key body }
+        ensures kept { IsPrefix self.old self.new }
+        ensures told { IsPrefix note.now self.new }
+        ensures one { (self.new ≡ self.old) ⊎ (self.new ≡ note.now) }
+    {
+        self.turn_to(note);
+        if self.note.is_of_list(note) && !self.has(&key) {
+            let _ = self.entries.push(Entry { key, body });
+        }
+    }
+
+    /// Whether a body lies ready under a key.
+    fn has(&self, key: &Ready) -> bool {
+        self.entries.iter().any(|entry| entry.key == *key)
+    }
+}
