@@ -5,12 +5,13 @@ use denote.Param.Send.{IsSend, IsSync}
 use denote.Param.SendFields.{as_row_send, as_row_sync, declared_send, declared_sync}
 use Rattle.std.proofs.Crossing.{send, sync}
 use Rattle.mds_snapshot.specs.declared.history.Naming.{Ghosts}
+use Rattle.mds_hall.specs.declared.named.Named.{Ghosts as Names}
 use Rattle.mds_hall.proofs.Halls.{hall_send, hall_sync}
 use Rattle.mds_doors.specs.contracts.reception.Reception as Reception
 
-module _ (K R E M : RattleType) (g : Ghosts K.Denot) where
-  pub reception_send : IsSend R → IsSend E → IsSend M → IsSend (Reception.the_row K R E M g)
-  reception_send r e m = declared_send (Reception.the_type K R E M g) (as_row_send (row_field R) r, (send, (hall_send K g, (as_row_send (row_field E) e, (as_row_send (row_field M) m, tt)))))
+module _ (K R E M : RattleType) (n : Names K.Denot) (g : Ghosts K.Denot) where
+  pub reception_send : IsSend R → IsSend E → IsSend M → IsSend (Reception.the_row K R E M n g)
+  reception_send r e m = declared_send (Reception.the_type K R E M n g) (as_row_send (row_field R) r, (send, (hall_send K n g, (as_row_send (row_field E) e, (as_row_send (row_field M) m, tt)))))
 
-  pub reception_sync : IsSync R → IsSync E → IsSync M → IsSync (Reception.the_row K R E M g)
-  reception_sync r e m = declared_sync (Reception.the_type K R E M g) (as_row_sync (row_field R) r, (sync, (hall_sync K g, (as_row_sync (row_field E) e, (as_row_sync (row_field M) m, tt)))))
+  pub reception_sync : IsSync R → IsSync E → IsSync M → IsSync (Reception.the_row K R E M n g)
+  reception_sync r e m = declared_sync (Reception.the_type K R E M n g) (as_row_sync (row_field R) r, (sync, (hall_sync K n g, (as_row_sync (row_field E) e, (as_row_sync (row_field M) m, tt)))))

@@ -9,9 +9,8 @@ use crate::serving::{Seating, serve_all};
 use futures::StreamExt;
 use hyper::rt::TokioTimer;
 use hyper::server::conn::http1::Builder;
-use mds_hall::Hall;
+use mds_hall::{Hall, Named};
 use mds_parallel::Chunked;
-use mds_snapshot::Naming;
 use std::alloc::AllocGlobal;
 use std::hash::RandomState;
 use std::io;
@@ -69,7 +68,7 @@ impl<R: Clock + RandomSource + AllocGlobal + Copy> Fittings<R> {
 /// # Errors
 ///
 /// The server couldn't be started, or what waits for events failed.
-pub fn serve<K: Naming + Send + Sync, R, M: Moments + Send + Sync>(
+pub fn serve<K: Named + Send + Sync, R, M: Moments + Send + Sync>(
     rt: &R,
     runtime: &mut Runtime,
     listener: TcpListener,

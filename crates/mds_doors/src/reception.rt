@@ -6,15 +6,14 @@ use http::Response;
 use http::request::Parts;
 use http_body_util::Full;
 use mds_catalog::Catalogue;
-use mds_hall::{Arrived, Hall, respond};
-use mds_snapshot::Naming;
+use mds_hall::{Arrived, Hall, Named, respond};
 use mds_verdict::Evaluator;
 use std::alloc::{AllocError, Global};
 use std::sync::Wait;
 
 /// A hall, what judges its vehicles, and the clock that gives each request its moment.
 #[derive(Drop)]
-pub struct Reception<K: Naming, R, E, M> {
+pub struct Reception<K: Named, R, E, M> {
     pub rt: R,
     pub alloc: Global,
     pub hall: Hall<K>,
@@ -22,7 +21,7 @@ pub struct Reception<K: Naming, R, E, M> {
     pub moments: M,
 }
 
-impl<K: Naming, R: Wait + Drop, E: Evaluator<Catalogue> + Drop, M: Moments> Answers
+impl<K: Named, R: Wait + Drop, E: Evaluator<Catalogue> + Drop, M: Moments> Answers
     for Reception<K, R, E, M> {
     ghost may_answer = { E.may_judge };
 

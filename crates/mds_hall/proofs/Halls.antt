@@ -7,25 +7,49 @@ use Rattle.mds_snapshot.specs.declared.history.Naming.{Ghosts}
 use Rattle.mds_desk.proofs.Desks.{desk_send, room_send}
 use Rattle.mds_request.proofs.config.Config.TheSendSync as config
 use Rattle.mds_snapshot.proofs.note.Note.TheSendSync as note
+use Rattle.mds_hall.specs.declared.named.Named.{Ghosts as Names}
+use Rattle.mds_hall.specs.contracts.places.HallDesk as HallDesk
+use Rattle.mds_hall.specs.contracts.places.DeskLock as DeskLock
+use Rattle.mds_hall.specs.contracts.places.HallRoom as HallRoom
 use Rattle.mds_hall.specs.contracts.hall.Hall as Hall
 
-module _ (K : RattleType) (g : Ghosts K.Denot) where
-  pub hall_send : IsSend (Hall.the_row K g)
+module _ (K : RattleType) (n : Names K.Denot) (g : Ghosts K.Denot) where
+  desk_crosses : IsSend (HallDesk.the_row K n g)
+  desk_crosses =
+      let d = desk_send K g in
+      declared_send (HallDesk.the_type K n g) (search (sendable, crosses) depth 20, (search (sendable, crosses) depth 20, tt))
+
+  room_crosses : IsSend (HallRoom.the_row K n g)
+  room_crosses =
+      let r = room_send K g in
+      declared_send (HallRoom.the_type K n g) (search (sendable, crosses) depth 20, tt)
+
+  lock_send : IsSend (DeskLock.the_row K n g)
+  lock_send =
+      let d = desk_crosses in
+      declared_send (DeskLock.the_type K n g) (search (sendable, crosses) depth 20, (search (sendable, crosses) depth 20, tt))
+
+  lock_sync : IsSync (DeskLock.the_row K n g)
+  lock_sync =
+      let d = desk_crosses in
+      declared_sync (DeskLock.the_type K n g) (search (sendable, crosses) depth 20, (search (sendable, crosses) depth 20, tt))
+
+  pub hall_send : IsSend (Hall.the_row K n g)
   hall_send =
       let cs = config.the_send in
       let cy = config.the_sync in
-      let d = desk_send K g in
-      let r = room_send K g in
-      let n = note.the_send K g in
-      declared_send (Hall.the_type K g)
+      let d = lock_send in
+      let r = room_crosses in
+      let t = note.the_send K g in
+      declared_send (Hall.the_type K n g)
       (search (sendable, crosses) depth 20, (search (sendable, crosses) depth 20, (search (sendable, crosses) depth 20, (search (sendable, crosses) depth 20, tt))))
 
-  pub hall_sync : IsSync (Hall.the_row K g)
+  pub hall_sync : IsSync (Hall.the_row K n g)
   hall_sync =
       let cs = config.the_send in
       let cy = config.the_sync in
-      let d = desk_send K g in
-      let r = room_send K g in
-      let n = note.the_send K g in
-      declared_sync (Hall.the_type K g)
+      let d = lock_sync in
+      let r = room_crosses in
+      let t = note.the_send K g in
+      declared_sync (Hall.the_type K n g)
       (search (sendable, crosses) depth 20, (search (sendable, crosses) depth 20, (search (sendable, crosses) depth 20, (search (sendable, crosses) depth 20, tt))))

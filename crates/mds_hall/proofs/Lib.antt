@@ -1,3 +1,4 @@
 mod Askers
 pub mod Halls
-mod Seats
+mod Placing
+mod Turns

@@ -1,14 +1,34 @@
--- What an HTTP request is answered before a desk or the author's room is asked.
-use Rattle.std.specs.Prelude.{ℕ, List, Option, IfSome}
+-- What an HTTP request is answered.
+use Rattle.std.specs.Prelude.{ℕ, List, Option, IfSome, MatchOption}
 use Rattle.http.specs.declared.request.Parts.{Parts}
 use Rattle.http.specs.declared.response.Response.{Response}
 use Rattle.http_body_util.specs.declared.full.Full.{Full}
-use Rattle.mds_request.specs.Configuration.{Configuration}
-use Rattle.mds_request.specs.Reply.{refused}
+use Rattle.mds_request.specs.Configuration.{Configuration, actor_of}
+use Rattle.mds_request.specs.Request.{Request}
+use Rattle.mds_request.specs.Reply.{Reply, refused}
+use Rattle.mds_request.specs.declared.config.Actor.{Actor}
+use Rattle.mds_request.specs.declared.config.Actor.TheVariants.{Author, Operator, Nobody}
+use Rattle.mds_hall.specs.Asked.{request_in}
 use Rattle.mds_hall.specs.declared.early.Arrived.{Arrived}
 use Rattle.mds_hall.specs.Early.{early}
+use Rattle.mds_hall.specs.Heard.{body_in}
 use Rattle.mds_hall.specs.Response.{Says}
+use Rattle.mds_hall.specs.Turn.{DeskReplies, RoomReplies, SaysOne}
 
--- the first early refusal that applies is said
+-- One turn of who asks, on this request, gives the reply: of the operator's own desk or of the author's room. Nobody has one.
+abbrev pub TurnGives : Configuration → Actor → Request → Reply → Type 0
+TurnGives configuration (Operator place) request reply = DeskReplies configuration place request reply
+TurnGives configuration Author request reply = RoomReplies configuration request reply
+TurnGives configuration Nobody request reply = ⊥
+
+-- the response says what a turn of the one whose access token the request carries gives
+abbrev pub IsCarriedOut : Configuration → Request → Response (Full (List ℕ)) → Type 0
+IsCarriedOut configuration request response = SaysOne (TurnGives configuration (actor_of configuration request.token) request) response
+
+-- The first early refusal that applies is said. Where none does, the request that the head and the body are at this moment
+-- is carried out.
 abbrev pub Responds : Configuration → Parts → Arrived → Option ℕ → Response (Full (List ℕ)) → Type 0
-Responds configuration parts arrived at response = IfSome (early configuration parts arrived at) (λ code. Says response (refused code))
+Responds configuration parts arrived at response =
+    MatchOption (early configuration parts arrived at)
+    (IfSome at (λ moment. IsCarriedOut configuration (request_in parts (body_in arrived) moment) response))
+    (λ code. Says response (refused code))

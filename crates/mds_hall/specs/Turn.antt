@@ -1,14 +1,16 @@
--- A request at an operator's desk.
+-- A request at an operator's desk, and in the author's room.
 use Rattle.std.specs.Prelude.{◌≡◌, ℕ, List, Option, Some, None, Result, IfOk}
 use Rattle.http.specs.declared.response.Response.{Response}
 use Rattle.http_body_util.specs.declared.full.Full.{Full}
 use Rattle.mds_catalog.specs.Publication.{Publication}
+use Rattle.mds_request.specs.Configuration.{Configuration}
 use Rattle.mds_request.specs.Request.{Request}
 use Rattle.mds_request.specs.Reply.{Reply}
 use Rattle.mds_desk.specs.Desk.{DeskState, Learns, TakesTurn}
+use Rattle.mds_desk.specs.Room.{RoomState, TakesRoomTurn}
 use Rattle.mds_hall.specs.Response.{Says}
 
--- the desk is told of a list of publications, if there is one
+-- The desk is told of a list of publications, if there is one.
 abbrev pub IsTold : DeskState → Option (List Publication) → DeskState → Type 0
 IsTold d None next = next ≡ d
 IsTold d (Some list) next = Learns d list next
@@ -21,3 +23,27 @@ pub record Answers {E : Type 0} (d : DeskState) (note : Option (List Publication
   pub learns : IsTold d note told
   pub turn : TakesTurn told request reply next
   pub says : IfOk result (λ response. Says response reply)
+
+-- it is the desk of the operator at this place of this configuration
+pub record IsDeskAt (configuration : Configuration) (place : ℕ) (d : DeskState) : Type 0 where
+  pub configured : d.configuration ≡ configuration
+  pub placed : d.place ≡ place
+
+-- One turn of the desk of the operator at this place of this configuration, on this request, gives the reply.
+pub record DeskReplies (configuration : Configuration) (place : ℕ) (request : Request) (reply : Reply) : Type 0 where
+  pub before : DeskState
+  pub after : DeskState
+  pub is_its : IsDeskAt configuration place before
+  pub turn : TakesTurn before request reply after
+
+-- One turn of the author's room of this configuration, on this request, gives the reply, and a note where it publishes.
+pub record RoomReplies (configuration : Configuration) (request : Request) (reply : Reply) : Type 0 where
+  pub before : RoomState
+  pub after : RoomState
+  pub note : Option (List Publication)
+  pub is_its : before.configuration ≡ configuration
+  pub turn : TakesRoomTurn before request reply note after
+
+-- the response says a reply of this kind
+abbrev pub SaysOne : (Reply → Type 0) → Response (Full (List ℕ)) → Type 0
+SaysOne Kind response = (reply : Reply) × Kind reply × Says response reply

@@ -3,19 +3,19 @@ ghost use Rattle.std.specs.Prelude.{IfOk};
 ghost use Rattle.mds_request.specs.Configuration.{configuration};
 ghost use Rattle.mds_hall.specs.Respond.{Responds};
 
-use crate::asked::{request, token};
-use crate::early::{Arrived, heard};
-use crate::hall::{Hall, taken};
+use crate::asked::token;
+use crate::early::{Arrived, hear};
+use crate::hall::Hall;
+use crate::named::Named;
 use crate::response::response;
-use crate::turn::desk_turn;
 use bytes::Bytes;
 use http::Response;
 use http::request::Parts;
 use http_body_util::Full;
 use mds_catalog::Catalogue;
 use mds_desk::{Gate, OpenGate};
-use mds_request::{Actor, Code, Reply};
-use mds_snapshot::Naming;
+use mds_request::{Actor, Code};
+use mds_shelf::Answer;
 use mds_text::Moment;
 use mds_verdict::Evaluator;
 use std::alloc::{AllocError, Global};
@@ -27,7 +27,7 @@ use std::sync::Wait;
 /// # Errors
 ///
 /// There was no memory for the response. The request may have been carried out.
-pub fn respond<K: Naming, R: Wait, E: Evaluator<Catalogue>>(
+pub fn respond<K: Named, R: Wait, E: Evaluator<Catalogue>>(
     rt: &R,
     alloc: Global,
     parts: &Parts,
@@ -56,7 +56,7 @@ pub fn respond<K: Naming, R: Wait, E: Evaluator<Catalogue>>(
 /// # Errors
 ///
 /// There was no memory for the response. The request may have been carried out.
-pub fn respond_with<K: Naming, R: Wait, G: Gate, E: Evaluator<Catalogue>>(
+pub fn respond_with<K: Named, R: Wait, G: Gate, E: Evaluator<Catalogue>>(
     rt: &R,
     alloc: Global,
     parts: &Parts,
@@ -69,29 +69,22 @@ pub fn respond_with<K: Naming, R: Wait, G: Gate, E: Evaluator<Catalogue>>(
     requires { E.may_judge }
     ensures { IfOk result (Responds (configuration hall.now.config.value) parts.now arrived at) }
 {
-    let (at, body) = match heard(arrived, at) {
+    let heard = match hear(parts, arrived, at) {
         Ok(heard) => heard,
-        Err(code) => return response(alloc, Reply::from(code)),
+        Err(code) => return response(alloc, Answer::from(code)),
     };
     match hall.asker(token(&parts.headers)) {
         Actor::Author => {
-            let reply = hall.authored(rt, &request(parts, &body, at));
+            let reply = hall.authored(rt, heard);
             response(alloc, reply)
         }
         Actor::Operator(place) => {
-            let mut desk = taken(rt, hall.desk(place));
+            let Some(mut desk) = hall.desk(place).taken(rt) else {
+                return Err(AllocError);
+            };
             let note = hall.note(rt);
-            desk_turn(
-                alloc,
-                parts,
-                &body,
-                at,
-                &mut desk,
-                note.as_ref(),
-                gate,
-                evaluator,
-            )
+            desk.answer(alloc, heard, note.as_ref(), gate, evaluator)
         }
-        Actor::Nobody => response(alloc, Reply::from(Code::Token)),
+        Actor::Nobody => response(alloc, Answer::from(Code::Token)),
     }
 }

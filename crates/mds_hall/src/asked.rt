@@ -23,8 +23,10 @@ fn bearer(credentials: &[u8]) -> &[u8]
     }
 }
 
-/// The access token that a head carries: that of its only `authorization` field.
-pub(crate) fn token(headers: &HeaderMap) -> &[u8]
+/// The access token that a head carries: that of its only `authorization` field. A head without such a
+/// field, with several, or with credentials of another scheme than `Bearer` carries the empty one, which is
+/// nobody's.
+pub fn token(headers: &HeaderMap) -> &[u8]
     ensures { result.now ≡ token_of headers.now }
 {
     let mut fields = headers.get_all(AUTHORIZATION).iter();

@@ -1,63 +1,71 @@
 //! The author's room and the desks of a server, each behind a lock of its own.
-ghost use Rattle.std.specs.Prelude.{◌≡◌, ◌<◌, IfOk, length, vec_len};
+ghost use Rattle.std.specs.Prelude.{◌≡◌, ◌<◌, IfOk, Some, length, map};
+ghost use Rattle.std.specs.List.{range_with_len};
 ghost use Rattle.mds_request.specs.Configuration.{configuration, actor_of};
+ghost use Rattle.mds_desk.specs.Desk.{state_of, new_desks};
 ghost use Rattle.mds_snapshot.specs.Opening.{book_of};
 ghost use Rattle.mds_hall.specs.Asker.{IsWithin};
+ghost use Rattle.mds_hall.specs.Heard.{request_heard};
+ghost use Rattle.mds_hall.specs.Turn.{RoomReplies};
 
-use mds_desk::{AuthorRoom, Desk, furnish};
-use mds_request::{Actor, Config, Reply, Request};
-use mds_snapshot::{Blank, Naming, Note, OpenFault};
+use crate::early::Heard;
+use crate::named::Named;
+use crate::places::{DeskLock, HallRoom};
+use mds_desk::{Desk, furnish};
+use mds_request::{Actor, Config};
+use mds_shelf::Answer;
+use mds_snapshot::{Blank, Note, OpenFault};
 use std::alloc::{AllocError, Global};
-use std::mem::ManuallyDrop;
-use std::sync::{Arc, Mutex, MutexGuard, Wait};
-use std::thread::yield_now;
-
-/// How often the lock of a desk is tried, and another thread let run, before a thread sleeps for it.
-const TRIES: usize = 32;
+use std::sync::{Arc, Mutex, Wait};
 
 /// The author's room and a desk for each operator, each behind a lock of its own, and the latest note of
 /// what is published, behind a third. An operator's request takes its desk's lock, then the note's for as
 /// long as the note is copied; the author's takes the room's, and within it the note's. End it by `finish`.
 #[derive(Drop)]
-pub struct Hall<K: Naming> {
+pub struct Hall<K: Named> {
     config: Arc<Config>,
-    room: Mutex<ManuallyDrop<AuthorRoom<K>>>,
-    desks: Vec<Mutex<Desk<K>>>,
+    room: Mutex<HallRoom<K>>,
+    desks: Vec<DeskLock<K>>,
     latest: Mutex<Option<Note<K>>>,
-    ghost seats: { vec_len desks ≡ length (configuration config.value).operators },
+    ghost configured: { configuration config.value ≡ K.configuration },
+    ghost in_order: { map (λ desk. desk.place) desks.items ≡ range_with_len 0 (length (configuration config.value).operators) },
 }
 
-/// Each desk behind a lock.
+/// Each desk behind a lock, in the configuration's order.
 ///
 /// # Errors
 ///
 /// Memory ran out.
-fn locked<K: Naming>(alloc: Global, desks: Vec<Desk<K>>) -> Result<Vec<Mutex<Desk<K>>>, AllocError>
-    ensures { IfOk result (λ locked. vec_len locked ≡ vec_len desks) }
+fn locked<K: Named>(alloc: Global, desks: Vec<Desk<K>>) -> Result<Vec<DeskLock<K>>, AllocError>
+    requires { map state_of desks.items ≡ new_desks K.configuration }
+    ensures { IfOk result (λ locked. map (λ desk. desk.place) locked.items ≡ range_with_len 0 (length K.configuration.operators)) }
 {
     let mut locked = Vec::with_capacity(alloc, desks.len())?;
     for desk in desks {
-        locked.push(Mutex::new(desk))?;
+        let place = locked.len();
+        locked.push(DeskLock::new(place, desk))?;
     }
     Ok(locked)
 }
 
-/// The desk behind this lock. Most answers take less time than it takes to put a thread to sleep and to
-/// wake it, so a thread sleeps only where the desk stays taken.
-pub(crate) fn taken<'a, K: Naming, R: Wait>(
-    rt: &R,
-    desk: &'a Mutex<Desk<K>>,
-) -> MutexGuard<'a, Desk<K>> {
-    for _ in 0..TRIES {
-        if let Some(desk) = desk.try_lock() {
-            return desk;
-        }
-        yield_now();
+/// A note of the same list as the latest, if there is one.
+fn copied<K: Named>(latest: &Option<Note<K>>) -> Option<Note<K>>
+    ensures { result ≡ latest.now }
+{
+    match latest {
+        Some(note) => Some(note.again()),
+        None => None,
     }
-    desk.lock(rt)
 }
 
-impl<K: Naming> Hall<K> {
+/// Keeps a note as the latest.
+fn keep<K: Named>(latest: &mut Option<Note<K>>, note: Note<K>)
+    ensures { latest.new ≡ Some note }
+{
+    *latest = Some(note);
+}
+
+impl<K: Named> Hall<K> {
     /// Opens what was prepared, for a configuration.
     ///
     /// # Errors
@@ -69,14 +77,15 @@ impl<K: Naming> Hall<K> {
         config: Config,
         blank: Blank,
     ) -> Result<Hall<K>, OpenFault>
-        requires { book_of blank ≡ K.book }
+        requires book { book_of blank ≡ K.book }
+        requires configured { configuration config ≡ K.configuration }
         ensures { IfOk result (λ hall. configuration hall.config.value ≡ configuration config) }
     {
         let (room, desks) = furnish::<K, R>(rt, alloc, config, blank)?;
         match (room.configuration(), locked(alloc, desks)) {
             (Ok(config), Ok(desks)) => Ok(Hall {
                 config,
-                room: Mutex::new(unsafe { ManuallyDrop::new_unchecked(room) }),
+                room: Mutex::new(HallRoom::new(room)),
                 desks,
                 latest: Mutex::new(None),
             }),
@@ -88,38 +97,49 @@ impl<K: Naming> Hall<K> {
     }
 
     /// Whose access token it is.
-    pub(crate) fn asker(&self, token: &[u8]) -> Actor
+    pub fn asker(&self, token: &[u8]) -> Actor
         ensures value { result ≡ actor_of (configuration self.now.config.value) token.now }
         ensures within { IsWithin (length (configuration self.now.config.value).operators) result }
     {
         self.config.actor(token)
     }
 
-    /// The desk of the operator at this place of the configuration.
-    pub(crate) fn desk(&self, place: usize) -> &Mutex<Desk<K>>
+    /// The lock of the desk of the operator at this place of the configuration.
+    pub(crate) fn desk(&self, place: usize) -> &DeskLock<K>
         requires { place < length (configuration self.now.config.value).operators }
+        ensures { result.now.place ≡ place }
     {
         &self.desks[place]
     }
 
     /// The latest note.
-    pub(crate) fn note<R: Wait>(&self, rt: &R) -> Option<Note<K>> {
+    pub fn note<R: Wait>(&self, rt: &R) -> Option<Note<K>> {
         let latest = self.latest.lock(rt);
-        match &*latest {
-            Some(note) => Some(note.again()),
-            None => None,
-        }
+        copied(&*latest)
     }
 
-    /// Answers a request in the author's room. A publication's note is the latest before the next request
-    /// of the author is answered.
-    pub(crate) fn authored<R: Wait>(&self, rt: &R, request: &Request<'_>) -> Reply {
+    /// Answers a request by one turn of the author's room. A publication's note is the latest before the
+    /// next request of the author is answered.
+    pub(crate) fn authored<R: Wait>(&self, rt: &R, heard: Heard<'_>) -> Answer
+        ensures { RoomReplies (configuration self.now.config.value) (request_heard heard.entry) result }
+    {
         let mut room = self.room.lock(rt);
-        let (reply, note) = room.answer(rt, request);
+        let (reply, note) = room.answer(rt, heard);
         if let Some(note) = note {
-            *self.latest.lock(rt) = Some(note);
+            keep(&mut *self.latest.lock(rt), note);
         }
         reply
+    }
+
+    /// A share of the configuration, one of which the room and each desk has too.
+    ///
+    /// # Errors
+    ///
+    /// No further share could be made.
+    pub fn configuration(&self) -> Result<Arc<Config>, AllocError>
+        ensures { IfOk result (λ c. configuration c.value ≡ configuration self.now.config.value) }
+    {
+        Arc::try_clone(&self.config)
     }
 
     /// Ends the author's room: no request can come any more.
@@ -130,6 +150,6 @@ impl<K: Naming> Hall<K> {
             desks: _desks,
             latest: _latest,
         } = self;
-        ManuallyDrop::into_inner(room.into_inner()).finish(rt);
+        room.into_inner().finish(rt);
     }
 }

@@ -1,4 +1,4 @@
-//! The response that says a reply.
+//! The response that says an answer.
 ghost use Rattle.std.specs.Prelude.{IfOk};
 ghost use Rattle.mds_hall.specs.Response.{Says};
 
@@ -6,22 +6,22 @@ use bytes::Bytes;
 use http::header::CONTENT_TYPE;
 use http::{HeaderValue, Response, StatusCode};
 use http_body_util::Full;
-use mds_request::Reply;
+use mds_shelf::Answer;
 use std::alloc::{AllocError, Global};
 
-/// The response with this reply's status and body, as JSON.
+/// The response with this answer's status and body, as JSON.
 ///
 /// # Errors
 ///
 /// Memory ran out.
-pub(crate) fn response(alloc: Global, reply: Reply) -> Result<Response<Full<Bytes>>, AllocError>
-    ensures { IfOk result (λ response. Says response reply) }
+pub(crate) fn response(alloc: Global, answer: Answer) -> Result<Response<Full<Bytes>>, AllocError>
+    ensures { IfOk result (λ response. Says response answer) }
 {
-    // Each reply's status has three digits.
-    let Ok(status) = StatusCode::from_u16(reply.status()) else {
+    // Each answer's status has three digits.
+    let Ok(status) = StatusCode::from_u16(answer.status()) else {
         return Err(AllocError);
     };
-    let body = Bytes::from_vec(reply.into_body(alloc)?)?;
+    let body = answer.into_bytes(alloc)?;
     let mut response = Response::new(alloc, Full::new(body));
     *response.status_mut() = status;
     let json = HeaderValue::from_static("application/json");

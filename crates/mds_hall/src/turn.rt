@@ -1,6 +1,7 @@
 //! A request at an operator's desk.
 ghost use Rattle.std.specs.Prelude.{option_copied};
-ghost use Rattle.mds_desk.specs.Desk.{state_of};
+ghost use Rattle.mds_request.specs.Request.{request_of};
+ghost use Rattle.mds_desk.specs.Desk.{state_of, IsSameDesk};
 ghost use Rattle.mds_hall.specs.Asked.{request_in};
 ghost use Rattle.mds_hall.specs.Turn.{Answers, IsTold};
 
@@ -12,6 +13,7 @@ use http::request::Parts;
 use http_body_util::Full;
 use mds_catalog::Catalogue;
 use mds_desk::{Desk, Gate};
+use mds_request::Request;
 use mds_snapshot::{Naming, Note};
 use mds_text::Moment;
 use mds_verdict::Evaluator;
@@ -24,6 +26,29 @@ fn tell<K: Naming>(desk: &mut Desk<K>, note: Option<&Note<K>>)
     if let Some(note) = note {
         desk.learn(note);
     }
+}
+
+/// Answers a request at a desk, which stays the desk of the same operator: the desk learns the note, where
+/// there is one, answers the request, and the response says its reply. Vehicles are judged by the evaluator.
+///
+/// # Errors
+///
+/// There was no memory for the response. The request may have been carried out.
+pub(crate) fn turn<K: Naming, G: Gate, E: Evaluator<Catalogue>>(
+    alloc: Global,
+    request: &Request<'_>,
+    desk: &mut Desk<K>,
+    note: Option<&Note<K>>,
+    gate: &mut G,
+    evaluator: &E,
+) -> Result<Response<Full<Bytes>>, AllocError>
+    requires { E.may_judge }
+    ensures turn { Answers (state_of desk.old) (option_copied note.entry) (request_of request.now) result (state_of desk.new) }
+    ensures same { IsSameDesk (state_of desk.old) (state_of desk.new) }
+{
+    tell(desk, note);
+    let reply = desk.answer(request, gate, evaluator);
+    response(alloc, reply)
 }
 
 /// Answers the HTTP request of this head and body at a desk: the desk learns the note, where there is one,
@@ -46,7 +71,6 @@ pub fn desk_turn<K: Naming, G: Gate, E: Evaluator<Catalogue>>(
     requires { E.may_judge }
     ensures { Answers (state_of desk.old) (option_copied note.entry) (request_in parts.now body.now at) result (state_of desk.new) }
 {
-    tell(desk, note);
-    let reply = desk.answer(&request(parts, body, at), gate, evaluator);
-    response(alloc, reply)
+    let request = request(parts, body, at);
+    turn(alloc, &request, desk, note, gate, evaluator)
 }

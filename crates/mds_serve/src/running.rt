@@ -1,14 +1,15 @@
 //! From the arguments and the configuration to the last connection.
 ghost use Rattle.std.specs.Prelude.{◌≡◌, ◌<◌};
+ghost use Rattle.mds_request.specs.Configuration.{configuration};
 ghost use Rattle.mds_snapshot.specs.Opening.{book_of};
 
 use crate::arguments::{Arguments, read_words};
 use crate::configuration::read_configuration;
 use crate::ending::Ending;
 use mds_doors::{MachineClock, Moments, Queues, bound, serve};
-use mds_hall::Hall;
+use mds_hall::{Hall, Named};
 use mds_request::Config;
-use mds_snapshot::{Blank, Naming, prepare};
+use mds_snapshot::{Blank, prepare};
 use mds_start::{Asked, HELP, ServeFault, VERSION, asked_by, workers};
 use std::alloc::AllocGlobal;
 use std::env::Env;
@@ -89,7 +90,7 @@ where
 }
 
 /// Opens a hall, serves and ends it.
-fn open<K: Naming + Send + Sync, R>(
+fn open<K: Named + Send + Sync, R>(
     rt: &R,
     arguments: Arguments<'_>,
     config: Config,
@@ -107,7 +108,8 @@ where
         + Send
         + Copy
         + Drop,
-    requires { book_of blank ≡ K.book }
+    requires book { book_of blank ≡ K.book }
+    requires configured { configuration config ≡ K.configuration }
 {
     let queues = Queues::new(rt.alloc(), &config)?;
     let processors = available_parallelism(rt).map_or(1, |n| n.get());
@@ -120,7 +122,7 @@ where
 }
 
 /// Binds, says so, serves by so many threads and ends the hall.
-fn listen<K: Naming + Send + Sync, R, M: Moments + Send + Sync>(
+fn listen<K: Named + Send + Sync, R, M: Moments + Send + Sync>(
     rt: &R,
     threads: usize,
     arguments: Arguments<'_>,

@@ -21,7 +21,9 @@ use Rattle.mds_examples.specs.Vehicles.{first_report, in_the_square, one_row}
 use Rattle.mds_server_examples.specs.Turns.{first_front, reported, counted, nothing_in_force, three_turns, two_turns, seen_by_three}
 
 -- any text that reads as the report
-report_at : (target body : List ℕ) → call_of configuration (request 2000 (codes "alfa") Post target body) ≡ Ok (report_call 0) → read_report body ≡ Ok (first_report 2000) → desk_does configuration 0 alfa [] no_rows (request 2000 (codes "alfa") Post target body) ≡ (done (codes "new"), one_row)
+report_at : (target body : List ℕ) → call_of configuration (request 2000 (codes "alfa") Post target body) ≡ Ok (report_call 0) →
+    read_report body ≡ Ok (first_report 2000) →
+    desk_does configuration 0 alfa [] no_rows (request 2000 (codes "alfa") Post target body) ≡ (done (codes "new"), one_row)
 report_at target body call read = rw (call, read, none_first, none_count, none_first) refl
 
 pub reports : desk_does configuration 0 alfa [] no_rows reported.request ≡ (done (codes "new"), one_row)

@@ -17,10 +17,13 @@ use Rattle.mds_examples.specs.Policies.{cap, cap_text}
 use Rattle.mds_examples.specs.Requests.{configuration, request}
 use Rattle.mds_server_examples.specs.Turns.{first_front, at_the_room}
 
-square_at : (target body : List ℕ) → call_of configuration (request 1000 (codes "city") Put target body) ≡ Ok square_call → read_geography body ≡ Ok square_document → room_does configuration (no_drafts, []) (request 1000 (codes "city") Put target body) ≡ Ok (done (codes "new"), (square_drafted, []))
+square_at : (target body : List ℕ) → call_of configuration (request 1000 (codes "city") Put target body) ≡ Ok square_call →
+    read_geography body ≡ Ok square_document →
+    room_does configuration (no_drafts, []) (request 1000 (codes "city") Put target body) ≡ Ok (done (codes "new"), (square_drafted, []))
 square_at target body call read = rw (call, read, no_square, geography_count) refl
 
-cap_at : (target body : List ℕ) → call_of configuration (request 1000 (codes "city") Put target body) ≡ Ok cap_call → read_policy body ≡ Ok cap → room_does configuration (square_drafted, []) (request 1000 (codes "city") Put target body) ≡ Ok (done (codes "new"), (both_drafted, []))
+cap_at : (target body : List ℕ) → call_of configuration (request 1000 (codes "city") Put target body) ≡ Ok cap_call → read_policy body ≡ Ok cap →
+    room_does configuration (square_drafted, []) (request 1000 (codes "city") Put target body) ≡ Ok (done (codes "new"), (both_drafted, []))
 cap_at target body call read = rw (call, read, no_cap, policy_count) refl
 
 pub calls_for_square : call_of configuration put_square ≡ Ok square_call

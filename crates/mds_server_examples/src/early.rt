@@ -46,12 +46,11 @@ pub fn responses()
     ensures no_type { ¬ (Says (plain_response 401 (codes "{\"error\":\"token\"}")) (error 401 (codes "token"))) }
 {}
 
-/// An early refusal is said, and where there is none nothing is said of the response here.
+/// An early refusal is said, and no later one.
 pub fn responded()
     ensures token { Responds configuration by_nobody (Whole []) (Some 2000) (json_response 401 (codes "{\"error\":\"token\"}")) }
     ensures clock { Responds configuration by_nobody (Whole []) None (json_response 503 (codes "{\"error\":\"clock\"}")) }
     ensures not_the_second { ¬ (Responds configuration by_nobody (Whole []) None (json_response 401 (codes "{\"error\":\"token\"}"))) }
-    ensures none { Responds configuration (by_alfa (codes "/compliance")) (Whole []) (Some 2000) (json_response 200 []) }
 {}
 
 /// Of two operators the places are 0 and 1.

@@ -8,9 +8,9 @@ use Rattle.mds_doors.proofs.hosting.serve.Goals as goal
 pub serve_all-served-requires-send-A : goal.serve_all-served-requires-send-A
 serve_all-served-requires-send-A g c κs within =
     let r = c.type_bounds.send-R in
-    param_send _ _ (arg_send _ no _ (reception_send (param 0 g.row.K) (copied 1 g.row.R) _ (param 2 g.row.M) g.K.Naming r (chunked.the_send _ r) c.type_bounds.send-M))
+    param_send _ _ (arg_send _ no _ (reception_send (param 0 g.row.K) (copied 1 g.row.R) _ (param 2 g.row.M) g.K.Named g.K.Naming r (chunked.the_send _ r) c.type_bounds.send-M))
 
 pub serve_all-served-requires-sync-A : goal.serve_all-served-requires-sync-A
 serve_all-served-requires-sync-A g c κs within =
     let r = c.type_bounds.sync-R in
-    param_sync _ _ (arg_sync _ no _ (reception_sync (param 0 g.row.K) (copied 1 g.row.R) _ (param 2 g.row.M) g.K.Naming r (chunked.the_sync _ r) c.type_bounds.sync-M))
+    param_sync _ _ (arg_sync _ no _ (reception_sync (param 0 g.row.K) (copied 1 g.row.R) _ (param 2 g.row.M) g.K.Named g.K.Naming r (chunked.the_sync _ r) c.type_bounds.sync-M))

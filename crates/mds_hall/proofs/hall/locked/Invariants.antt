@@ -1,10 +1,11 @@
-use Rattle.std.proofs.Common.{◌≡◌, ◌+◌, length, vec_len}
+use Rattle.std.proofs.Common.{◌≡◌, ◌++◌, length, map}
+use Rattle.std.specs.List.{range_with_len}
 use Rattle.std.specs.Vec.Iter.{into_iter_items}
 use Rattle.mds_hall.proofs.hall.locked.Given as goal
 
--- each desk so far is behind a lock
+-- each desk so far is behind a lock, at its place
 abbrev pub invariant-loop-desk : goal.invariant-loop-desk
 invariant-loop-desk g l = record {
-  made : vec_len l.locked ≡ length l.yielded;
-  count : length l.yielded + length (into_iter_items l.desk-iterator) ≡ vec_len l.fn.desks;
+  in_order : map (λ desk. desk.place) l.locked.items ≡ range_with_len 0 (length l.yielded);
+  all : l.yielded ++ into_iter_items l.desk-iterator ≡ l.fn.desks.items;
 }

@@ -1,6 +1,11 @@
+use Rattle.mds_request.specs.Configuration.{configuration}
 use Rattle.mds_snapshot.specs.Opening.{book_of}
 use Rattle.mds_serve.proofs.running.prepared.Given as goal
 
 -- the book of what was just prepared
-abbrev pub ghosts-open : goal.ghosts-open
-ghosts-open g a = record { book = book_of a.blank }
+abbrev pub ghosts-open-K-Naming : goal.ghosts-open-K-Naming
+ghosts-open-K-Naming g a = record { book = book_of a.blank }
+
+-- the configuration that was just read
+abbrev pub ghosts-open-K-Named : goal.ghosts-open-K-Named
+ghosts-open-K-Named g a = record { configuration = configuration a.config }

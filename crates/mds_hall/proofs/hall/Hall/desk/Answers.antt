@@ -1,0 +1,15 @@
+use Rattle.std.proofs.Common.{◌≡◌, length, sym, subst, arith}
+use Rattle.mds_request.specs.Configuration.{configuration}
+use Rattle.mds_hall.proofs.Placing.{as_many, in_place}
+use Rattle.mds_hall.proofs.hall.Hall.desk.Goals as goal
+
+pub index-requires : goal.index-requires
+index-requires g c =
+    let hall = c.args.self.now in
+    omega (arith, c.requires, hall.desks.ok.0, as_many _ hall.desks.items (length (configuration hall.config.value).operators) hall.in_order)
+
+pub returns : goal.returns
+returns g c =
+    let hall = c.args.self.now in
+    subst (λ lock. lock.place ≡ c.args.place) (sym c.index.ensures)
+    (in_place _ hall.desks.items (length (configuration hall.config.value).operators) c.args.place c.index.result.now hall.in_order c.requires)

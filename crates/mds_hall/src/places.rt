@@ -1,0 +1,140 @@
+//! What lies behind the locks of a hall: of one opening and one configuration, which K names.
+ghost use Rattle.std.specs.Prelude.{◌≡◌, IfOk, IfSome, option_copied};
+ghost use Rattle.std.specs.Mem.{manually_drop_value};
+ghost use Rattle.std.specs.Sync.Mutex.{mutex_guard_value};
+ghost use Rattle.mds_desk.specs.Desk.{state_of};
+ghost use Rattle.mds_desk.specs.Room.{room_of, TakesRoomTurn};
+ghost use Rattle.mds_hall.specs.Heard.{request_heard};
+ghost use Rattle.mds_hall.specs.Turn.{Answers, DeskReplies, IsDeskAt, SaysOne};
+
+use crate::early::Heard;
+use crate::named::Named;
+use crate::turn::turn;
+use bytes::Bytes;
+use http::Response;
+use http_body_util::Full;
+use mds_catalog::Catalogue;
+use mds_desk::{AuthorRoom, Desk, Gate};
+use mds_shelf::Answer;
+use mds_snapshot::Note;
+use mds_verdict::Evaluator;
+use std::alloc::{AllocError, Global};
+use std::mem::ManuallyDrop;
+use std::sync::{Mutex, MutexGuard, Wait};
+use std::thread::yield_now;
+
+/// How often the lock of a desk is tried, and another thread let run, before a thread sleeps for it.
+const TRIES: usize = 32;
+
+/// The desk of the operator at this place of the configuration that K names.
+#[derive(Drop)]
+pub(crate) struct HallDesk<K: Named> {
+    place: usize,
+    desk: Desk<K>,
+    ghost configured: { (state_of desk).configuration ≡ K.configuration },
+    ghost placed: { (state_of desk).place ≡ place },
+}
+
+impl<K: Named> HallDesk<K> {
+    /// Answers a request: the desk learns the note, where there is one, and takes one turn, whose reply the
+    /// response says. Vehicles are judged by the evaluator.
+    ///
+    /// # Errors
+    ///
+    /// There was no memory for the response. The request may have been carried out.
+    pub(crate) fn answer<G: Gate, E: Evaluator<Catalogue>>(
+        &mut self,
+        alloc: Global,
+        heard: Heard<'_>,
+        note: Option<&Note<K>>,
+        gate: &mut G,
+        evaluator: &E,
+    ) -> Result<Response<Full<Bytes>>, AllocError>
+        requires { E.may_judge }
+        ensures turn { Answers (state_of self.old.desk) (option_copied note.entry) (request_heard heard.entry) result (state_of self.new.desk) }
+        ensures place { self.new.place ≡ self.old.place }
+        ensures told { IfOk result (SaysOne (DeskReplies K.configuration self.old.place (request_heard heard.entry))) }
+    {
+        let request = heard.request();
+        turn(alloc, &request, &mut self.desk, note, gate, evaluator)
+    }
+}
+
+/// A desk behind its lock.
+#[derive(Drop)]
+pub(crate) struct DeskLock<K: Named> {
+    place: usize,
+    desk: Mutex<HallDesk<K>>,
+}
+
+impl<K: Named> DeskLock<K> {
+    /// Puts the desk of the operator at this place behind a lock.
+    pub(crate) fn new(place: usize, desk: Desk<K>) -> DeskLock<K>
+        requires { IsDeskAt K.configuration place (state_of desk) }
+        ensures { result.place ≡ place }
+    {
+        DeskLock {
+            place,
+            desk: Mutex::new(HallDesk { place, desk }),
+        }
+    }
+
+    /// What is behind the lock. Most answers take less time than it takes to put a thread to sleep and to
+    /// wake it, so a thread sleeps only where the desk stays taken.
+    fn locked<R: Wait>(&self, rt: &R) -> MutexGuard<'_, HallDesk<K>> {
+        for _ in 0..TRIES {
+            if let Some(desk) = self.desk.try_lock() {
+                return desk;
+            }
+            yield_now();
+        }
+        self.desk.lock(rt)
+    }
+
+    /// The desk of this lock's place. What is known of it behind the lock is its configuration, so its place
+    /// is compared; there is never another.
+    pub(crate) fn taken<R: Wait>(&self, rt: &R) -> Option<MutexGuard<'_, HallDesk<K>>>
+        ensures { IfSome result (λ guard. (mutex_guard_value guard).place ≡ self.now.place) }
+    {
+        let desk = self.locked(rt);
+        if desk.place == self.place {
+            Some(desk)
+        } else {
+            None
+        }
+    }
+}
+
+/// The author's room of the configuration that K names.
+#[derive(Drop)]
+pub(crate) struct HallRoom<K: Named> {
+    room: ManuallyDrop<AuthorRoom<K>>,
+    ghost configured: { (room_of (manually_drop_value room)).configuration ≡ K.configuration },
+}
+
+impl<K: Named> HallRoom<K> {
+    /// The room. It has to be ended by `finish`.
+    pub(crate) fn new(room: AuthorRoom<K>) -> HallRoom<K>
+        requires { (room_of room).configuration ≡ K.configuration }
+    {
+        HallRoom {
+            room: unsafe { ManuallyDrop::new_unchecked(room) },
+        }
+    }
+
+    /// Answers a request by one turn of the room. A publication gives a note, for desks to learn.
+    pub(crate) fn answer<R: Wait>(&mut self, rt: &R, heard: Heard<'_>) -> (Answer, Option<Note<K>>)
+        ensures turn { TakesRoomTurn (room_of (manually_drop_value self.old.room)) (request_heard heard.entry)
+            result.0 result.1 (room_of (manually_drop_value self.new.room)) }
+        ensures configured { (room_of (manually_drop_value self.old.room)).configuration ≡ K.configuration }
+    {
+        let request = heard.request();
+        self.room.answer(rt, &request)
+    }
+
+    /// Ends the room.
+    pub(crate) fn finish<R: Wait>(self, rt: &R) {
+        let Self { room } = self;
+        ManuallyDrop::into_inner(room).finish(rt);
+    }
+}
