@@ -1,0 +1,27 @@
+//! What is decided of a connection: its limits, whose it is, who may take a seat, and what may wait.
+#![tactic(auto)]
+
+mod arrival;
+mod asker;
+mod length;
+mod limits;
+mod moment;
+mod seat;
+mod stage;
+mod taking;
+mod waiting;
+
+pub use arrival::{Arrival, End, Piece};
+pub use asker::Asker;
+pub use length::is_long;
+pub use limits::{
+    ACCEPT_PAUSE_MILLIS, BODY_SECONDS, HEAD_SECONDS, IDLE_SECONDS, LEAST_TAKEN, MOST_CONNECTIONS,
+    MOST_HELD, MOST_HELD_BY_ALL, MOST_OF_ASKER, MOST_PAST, MOST_SHORT, MOST_STRANGERS,
+    MOST_WAITING, SLOW_SECONDS, SMALL_BODY, TAKING_SECONDS, limits_of_bodies,
+    limits_of_connections, limits_of_times,
+};
+pub use moment::moment_of;
+pub use seat::{Decision, seat_for};
+pub use stage::{Stage, is_answering};
+pub use taking::is_untaken;
+pub use waiting::{Load, counted, may_wait};

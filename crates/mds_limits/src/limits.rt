@@ -1,0 +1,84 @@
+//! What the server takes from its connections at most. A head has at most 64 KiB, which is the framing's own
+//! limit, and a body `mds_request::MOST_BODY` bytes.
+ghost use Rattle.std.specs.Prelude.{◌≡◌};
+ghost use Rattle.mds_request.specs.declared.call.TheConstants.{MOST_BODY};
+
+/// The most connections at once.
+pub const MOST_CONNECTIONS: usize = 4_096;
+
+/// The most connections at once that carried no known access token yet: half of all.
+pub const MOST_STRANGERS: usize = 2_048;
+
+/// The most connections at once of one who asks.
+pub const MOST_OF_ASKER: usize = 512;
+
+/// How long a head may take to come, from its first byte. A connection whose head is late is closed.
+pub const HEAD_SECONDS: u64 = 10;
+
+/// How long a body may take to come, after its head. A connection whose body is late is closed.
+pub const BODY_SECONDS: u64 = 30;
+
+/// How long a connection may be idle. It is closed then.
+pub const IDLE_SECONDS: u64 = 60;
+
+/// How long nothing of a reply may be taken. The connection is closed then.
+pub const TAKING_SECONDS: u64 = 30;
+
+/// From when on, after its first byte, a reply has to be taken at `LEAST_TAKEN` on the average.
+pub const SLOW_SECONDS: u32 = 120;
+
+/// The least bytes a second that a reply is to be taken at.
+pub const LEAST_TAKEN: u64 = 16_384;
+
+/// How long no connection is accepted after one couldn't be.
+pub const ACCEPT_PAUSE_MILLIS: u64 = 20;
+
+/// The most short answers that one who asks is given at once.
+pub const MOST_SHORT: u32 = 4_096;
+
+/// The most bytes of a report whose answer counts as short.
+pub const SMALL_BODY: usize = 16_384;
+
+/// The most bytes that are read past of a body that is too long.
+pub const MOST_PAST: usize = 1_048_576;
+
+/// The most bytes of bodies that come or wait, of one who asks. Strangers are one.
+pub const MOST_HELD: usize = 67_108_864;
+
+/// The most bytes of all bodies that come or wait.
+pub const MOST_HELD_BY_ALL: usize = 268_435_456;
+
+/// The most requests, of one who asks, whose heads have come and whose replies aren't made.
+pub const MOST_WAITING: usize = 1_024;
+
+/// There are at most 4,096 connections, of which strangers have half and one who asks 512, and at most 1,024 requests
+/// of one who asks wait.
+pub fn limits_of_connections()
+    ensures all { MOST_CONNECTIONS ≡ 4096 }
+    ensures strangers { MOST_STRANGERS ≡ 2048 }
+    ensures each { MOST_OF_ASKER ≡ 512 }
+    ensures waiting { MOST_WAITING ≡ 1024 }
+    ensures short { MOST_SHORT ≡ 4096 }
+{}
+
+/// A head has 10 seconds, a body 30, an idle connection 60; nothing of a reply is taken for at most 30, and 16 KiB a
+/// second of it after 120. No connection is accepted for 20 milliseconds after one that couldn't be.
+pub fn limits_of_times()
+    ensures head { HEAD_SECONDS ≡ 10 }
+    ensures body { BODY_SECONDS ≡ 30 }
+    ensures idle { IDLE_SECONDS ≡ 60 }
+    ensures taking { TAKING_SECONDS ≡ 30 }
+    ensures slow { SLOW_SECONDS ≡ 120 }
+    ensures least { LEAST_TAKEN ≡ 16384 }
+    ensures pause { ACCEPT_PAUSE_MILLIS ≡ 20 }
+{}
+
+/// A body has at most a mebibyte, and one more is read past; bodies that wait have 64 of one who asks and 256 of all.
+/// A report of more than 16 KiB is read for long.
+pub fn limits_of_bodies()
+    ensures body { MOST_BODY ≡ 1048576 }
+    ensures past { MOST_PAST ≡ 1048576 }
+    ensures held { MOST_HELD ≡ 67108864 }
+    ensures all { MOST_HELD_BY_ALL ≡ 268435456 }
+    ensures small { SMALL_BODY ≡ 16384 }
+{}

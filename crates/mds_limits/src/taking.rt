@@ -1,0 +1,13 @@
+//! Whether a reply is taken.
+ghost use Rattle.std.specs.Prelude.{◌≡◌};
+ghost use Rattle.mds_limits.specs.Taking.{is_untaken};
+
+use crate::limits::{LEAST_TAKEN, SLOW_SECONDS};
+
+/// Whether too little of a reply is taken: nothing for as long as may be, or of its bytes too few in so many seconds
+/// since its first one.
+pub fn is_untaken(is_stalled: bool, seconds: u32, taken: u64) -> bool
+    ensures { result ≡ is_untaken is_stalled seconds taken }
+{
+    is_stalled || (seconds >= SLOW_SECONDS && taken < LEAST_TAKEN * u64::from(seconds))
+}
