@@ -1,13 +1,13 @@
 #!/usr/bin/env python3
 """Tries a built mds_serve over loopback, by raw sockets: good requests, broken ones and hostile ones.
 
-    http.py PROGRAM
+    http.py PROGRAM [messages | loads]
 
 What is accepted as an answer stands in the protocol, and where a message is no HTTP in RFC 9110 and 9112: where these leave a
 choice, each of its sides is accepted. After each broken or hostile message the next request on a new connection is answered as if
 it hadn't come. The scripts of tests/replays are run too, those whose answers don't depend on when a request comes; the others are
-named. Takes about 80 seconds, since the deadlines are waited for. Prints what differs, and last 'N passed, M failed'; ends with 1
-where one failed.
+named. Then come the loads of tests/load.py. With a second word one of both is done. The messages take about 80 seconds, since the
+deadlines are waited for, the loads some three minutes. Prints what differs, and last 'N passed, M failed'; ends with 1 where one failed.
 """
 
 import contextlib
@@ -15,13 +15,13 @@ import json
 import math
 import os
 import re
-import resource
 import subprocess
 import sys
 import threading
 import time
 from concurrent.futures import ThreadPoolExecutor
 
+import load
 from ends import ENDS, TOLD_AT_ONCE, an_address_that_is_taken, an_end, is_refused, is_told_at_once, so_many_connections
 from messages import BODIES, BODY_LIMIT, CLOSE, HEADS, METHOD, NEW, NO_POLICY, NO_ROUTE, REPORT, TOKEN, TOO_LARGE
 from messages import chunked, code, head, sized
@@ -29,7 +29,6 @@ from wire import AUTHOR, FIRST, PATIENCE, SECOND, SECONDS, Answer, Closed, Serve
 
 HERE = os.path.dirname(os.path.abspath(__file__))
 
-CONNECTION_LIMIT = 4096
 HEAD_SECONDS, BODY_SECONDS, IDLE_SECONDS = 10, 30, 60
 EARLY, LATE = 2, 10  # how far from its deadline a connection may be closed, on a busy machine
 
@@ -258,6 +257,61 @@ def long_questions(server):
             yield f"beside {count} long questions, which take {took:.2f} s, others wait for {max(waited):.2f} s"
 
 
+def most_threads(server, link):
+    """The answer to a question, and the most threads that the server had meanwhile."""
+    asking, found = ThreadPoolExecutor(1), []
+    link.send(request("GET", "/compliance"))
+    with asking:
+        answer = asking.submit(link.answer)
+        while not answer.done():
+            found.append(len(os.listdir(f"/proc/{server.process.pid}/task")))
+    return answer.result(), max(found, default=0)
+
+
+def a_policy_of_64_rules(server):
+    """Publishes a policy whose rules are each on one vehicle type in a square."""
+    square, cap, ring = identifier(1, 1), identifier(2, 1), "[[0,0],[9,0],[9,9],[0,9],[0,0]]"
+    area = f'{{"geography_id":"{square}","name":"g","geography_json":{{"type":"Polygon","coordinates":[{ring}]}}}}'
+    rules = [
+        {"rule_id": identifier(3, it), "name": "r", "rule_type": "count", "geographies": [square], "vehicle_types": [f"t{it}"]}
+        for it in range(64)
+    ]
+    text = json.dumps({"policy_id": cap, "name": "p", "start_date": 1000, "rules": rules})
+    names = json.dumps({"geographies": [square], "policies": [cap]})
+    drafts = (("PUT", f"/drafts/geographies/{square}", area), ("PUT", f"/drafts/policies/{cap}", text))
+    for method, target, body in (*drafts, ("POST", "/publish", names)):
+        if (answer := server.ask(method, target, AUTHOR, body.encode())).status != 200:
+            yield f"{target} is answered {answer}"
+
+
+def reported(link, numbers):
+    """Reports these vehicles, a hundred at once."""
+    for first in numbers[::100]:
+        batch = range(first, min(first + 100, numbers.stop))
+        link.send(b"".join(request("POST", "/fleet/events", body=report(it)) for it in batch))
+        if any(link.answer().status != 200 for _ in batch):
+            yield "a report isn't taken"
+
+
+def a_question_by_threads(server):
+    """What is worth threads is judged by threads that the question starts, and what isn't by none."""
+    if len(os.sched_getaffinity(0)) == 1:
+        print("a question isn't asked that starts threads: there is one processor")
+        return
+    yield from a_policy_of_64_rules(server)
+    at_rest = len(os.listdir(f"/proc/{server.process.pid}/task"))
+    few, many = 1_000 // PATIENCE, 40_000 // PATIENCE
+    with server.link() as link:
+        for numbers, wanted in ((range(few), False), (range(few, many), True)):
+            yield from reported(link, numbers)
+            asked = [most_threads(server, link) for _ in range(max(3, 20 // PATIENCE))]
+            if any(answer.status != 200 for answer, _ in asked):
+                yield f"a question over {numbers.stop} vehicles isn't answered"
+            most = max(most for _, most in asked)
+            if (most > at_rest) != wanted:
+                yield f"over {numbers.stop} vehicles the server has {most} threads, and {at_rest} at rest"
+
+
 def the_slow_and_the_others(server, patience):
     """While 500 connections send a byte a second, 50 others get all their answers."""
     first = b"GET /policies HTTP/1.1\r\nhost: x\r\nx-slow: " + b"a" * 200
@@ -358,44 +412,6 @@ def a_slow_body_in_time(server):
         answer = link.answer()
     if not answer.is_by_the_server(*NEW):
         yield f"answered {answer}"
-
-
-def more_connections_than_may_be(program):
-    """One connection more than may be waits or is closed, and the server goes on."""
-    if not can_hold(2 * CONNECTION_LIMIT):
-        yield f"isn't tried: too few files may be open (ulimit -n) for {CONNECTION_LIMIT} connections"
-        return
-    with Server(program) as server, contextlib.ExitStack() as stack:
-        held = []
-        for _ in range(CONNECTION_LIMIT):
-            held.append(stack.enter_context(server.link()))
-            held[-1].send(request("GET", "/policies"))
-        # Once it has an answer, a connection may be idle for long enough.
-        answers = [link.answer() for link in held]
-        wrong = [it for it in answers if not it.is_by_the_server(*NO_POLICY)]
-        yield from (f"one of {CONNECTION_LIMIT} connections is answered {it}" for it in wrong[:1])
-        with server.link() as over:
-            over.socket.settimeout(2)
-            over.send(request("GET", "/policies"))
-            try:
-                yield f"a connection over the limit is answered {over.answer()}"
-            except (Closed, TimeoutError):
-                pass
-        for link in held:
-            link.socket.close()
-        time.sleep(1)
-        answer = server.ask("GET", "/policies")
-        if not answer.is_by_the_server(*NO_POLICY):
-            yield f"afterwards a request is answered {answer}"
-
-
-def can_hold(count):
-    """Whether this process, and those that it starts, may have so many files open."""
-    _, most = resource.getrlimit(resource.RLIMIT_NOFILE)
-    if most != resource.RLIM_INFINITY and most < count:
-        return False
-    resource.setrlimit(resource.RLIMIT_NOFILE, (count, most))
-    return True
 
 
 # --- Scripts -------------------------------------------------------------------------------------------------------
@@ -556,12 +572,12 @@ def programs(tried, program):
         tried.one(case.__name__, case(program))
     for name, found in scripts(program):
         tried.one(name, found)
-    tried.one("more_connections_than_may_be", more_connections_than_may_be(program))
 
 
-def everything(tried, program, stack):
-    """All tests. The deadlines are waited for while the others run."""
-    waited, plain, large, held = (stack.enter_context(Server(program, limit=limit)) for limit in (2, 2, 200, 2_000))
+def all_messages(tried, program, stack):
+    """All tests but the loads. The deadlines are waited for while the others run."""
+    limits = (2, 2, 200, 2_000, 40_000)
+    waited, plain, large, held, wide = (stack.enter_context(Server(program, limit=limit)) for limit in limits)
     patience = Patience()
     patience.start()
     tried.one("deadlines", deadlines(waited, patience))
@@ -571,20 +587,30 @@ def everything(tried, program, stack):
     tried.one("who_never_reads", who_never_reads(large))
     tried.one("a_slow_body_in_time", a_slow_body_in_time(large))
     tried.one("long_questions", long_questions(held))
+    tried.one("a_question_by_threads", a_question_by_threads(wide))
     patience.over.set()
     patience.join()
     for name, faults in patience.faults.items():
         tried.one(name, faults)
     tried.one("as_if_nothing_had_come", as_if_nothing_had_come(waited))
-    for name, server in (("waited", waited), ("plain", plain), ("large", large), ("held", held)):
+    for name, server in (("waited", waited), ("plain", plain), ("large", large), ("held", held), ("wide", wide)):
         tried.one(f"still_silent, {name}", still_silent(server))
 
 
-def main(program):
+def loads(tried, program):
+    """Each load, one after another."""
+    for name, found in load.loads(program):
+        tried.one(name, found)
+
+
+def main(program, which=("messages", "loads")):
     tried = Tried()
     try:
-        with contextlib.ExitStack() as stack:
-            everything(tried, program, stack)
+        if "messages" in which:
+            with contextlib.ExitStack() as stack:
+                all_messages(tried, program, stack)
+        if "loads" in which:
+            loads(tried, program)
     except (OSError, ValueError) as fault:
         print(fault)
         tried.failed += 1
@@ -593,6 +619,6 @@ def main(program):
 
 
 if __name__ == "__main__":
-    if len(sys.argv) != 2:
-        sys.exit("usage: http.py PROGRAM")
-    sys.exit(main(os.path.abspath(sys.argv[1])))
+    if len(sys.argv) not in (2, 3) or sys.argv[2:] not in ([], ["messages"], ["loads"]):
+        sys.exit("usage: http.py PROGRAM [messages | loads]")
+    sys.exit(main(os.path.abspath(sys.argv[1]), *[sys.argv[2:]][: len(sys.argv) - 2]))

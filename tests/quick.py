@@ -26,8 +26,8 @@ import unproved
 HERE = os.path.dirname(os.path.abspath(__file__))
 MEMORY = 3 << 30  # bytes for one part, at most
 SCRIPT_PARTS = 3
-GROWTH_SECONDS = 30  # for the growths of a crate's tests
-SWEPT = ("mds_core_tests",)  # the crates whose tests for want of memory bear a refused growth in their set-up too
+GROWTH_SECONDS = 20  # for the growths of a crate's tests
+SWEPT = ("mds_core_tests", "mds_server_tests")  # the crates whose tests for want of memory bear a refused growth in their set-up too
 SLOW = "8"  # how many times as long a part waits for a program that isn't proved
 WORD = re.compile(r"^(\d+) passed, (\d+) failed$", re.M)
 TESTS = re.compile(r"^test result: \w+\. (\d+) passed; (\d+) failed;", re.M)
@@ -117,7 +117,7 @@ def parts(room):
     (serve, served), (replay, replayed) = built["mds_serve"], built["mds_replay"]
     either = slow["mds_serve"] or slow["mds_replay"]
     stress = ("stress.py", "20", "4", "--serve", serve, "--replay", replay)
-    add("messages", 5, served, lambda: script("http.py", serve, slow=slow["mds_serve"]))
+    add("messages", 5, served, lambda: script("http.py", serve, "messages", slow=slow["mds_serve"]))
     for part in range(1, SCRIPT_PARTS + 1):
         words = ("replays.py", replay, str(part), str(SCRIPT_PARTS))
         call = lambda words=words: script(*words, slow=slow["mds_replay"])

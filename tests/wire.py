@@ -3,6 +3,7 @@
 import contextlib
 import os
 import re
+import resource
 import selectors
 import socket
 import struct
@@ -188,6 +189,14 @@ class Server:
         with self.link() as link:
             link.send(request(method, target, token, body))
             return link.answer(method)
+
+
+def may_open(count):
+    """Lets this process, and those that it starts, have so many files open, or as many as may be; how many that is."""
+    _, most = resource.getrlimit(resource.RLIMIT_NOFILE)
+    allowed = count if most == resource.RLIM_INFINITY else min(count, most)
+    resource.setrlimit(resource.RLIMIT_NOFILE, (allowed, most))
+    return allowed
 
 
 def free_port():

@@ -5,7 +5,8 @@ ghost use Rattle.mds_snapshot.specs.Opening.{book_of};
 
 use crate::city::{BOTH, CAP, CONFIGURATION, NEW, SQUARE};
 use mds_desk::{AuthorRoom, Desk, OpenGate, furnish};
-use mds_request::{Config, Reply, Request, Verb};
+use mds_request::{Config, Request, Verb};
+use mds_shelf::Answer;
 use mds_snapshot::{Blank, Naming, Note, OpenFault, prepare};
 use mds_text::Moment;
 use mds_verdict::Plain;
@@ -252,24 +253,24 @@ fn request(at: Moment, exchange: &Exchange) -> Request<'_> {
     }
 }
 
-fn asked<K: Naming>(rt: &impl Abort, desk: &mut Desk<K>, exchange: &Exchange) -> Reply {
+fn asked<K: Naming>(rt: &impl Abort, desk: &mut Desk<K>, exchange: &Exchange) -> Answer {
     let request = request(moment(rt, exchange), exchange);
     desk.answer(&request, &mut OpenGate, &Plain)
 }
 
 /// Whether the reply has this status and body.
-fn is_reply(reply: &Reply, status: u16, body: &str) -> bool {
+fn is_reply(reply: &Answer, status: u16, body: &str) -> bool {
     reply.status() == status && reply.body() == body.as_bytes()
 }
 
 /// This is the exchange's reply.
-fn assert_success(rt: &impl Abort, reply: &Reply, exchange: &Exchange) {
+fn assert_success(rt: &impl Abort, reply: &Answer, exchange: &Exchange) {
     let is_success = is_reply(reply, 200, exchange.success);
     assert!(rt; is_success, "no {} at {}", exchange.success, exchange.at);
 }
 
 /// This reply is no success, and says so.
-fn assert_refused(rt: &impl Abort, reply: &Reply, status: u16, body: &str) {
+fn assert_refused(rt: &impl Abort, reply: &Answer, status: u16, body: &str) {
     assert!(rt; is_reply(reply, status, body), "no {body}");
 }
 
@@ -296,7 +297,7 @@ fn two_requests<'a>(rt: &impl Abort, exchanges: &'a [&'a Exchange; 2]) -> [Reque
 }
 
 /// These are the exchanges' replies.
-fn assert_successes(rt: &impl Abort, replies: &[Reply], exchanges: &[&Exchange]) {
+fn assert_successes(rt: &impl Abort, replies: &[Answer], exchanges: &[&Exchange]) {
     assert!(rt; replies.len() == exchanges.len());
     for (reply, exchange) in replies.iter().zip(exchanges) {
         assert_success(rt, reply, exchange);
@@ -308,7 +309,7 @@ fn room_turn<K: Naming, R: Wait + Abort>(
     rt: &R,
     room: &mut AuthorRoom<K>,
     exchange: &Exchange,
-) -> (Reply, Option<Note<K>>) {
+) -> (Answer, Option<Note<K>>) {
     room.answer(rt, &request(moment(rt, exchange), exchange))
 }
 
@@ -326,7 +327,7 @@ fn room_answers<K: Naming, R: Wait + Abort>(
 /// What the room gave is a refusal, without a note.
 fn assert_unnoted<K: Naming>(
     rt: &impl Abort,
-    given: &(Reply, Option<Note<K>>),
+    given: &(Answer, Option<Note<K>>),
     status: u16,
     body: &str,
 ) {

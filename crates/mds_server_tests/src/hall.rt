@@ -1,5 +1,6 @@
 //! Halls of two operators.
 ghost use Rattle.std.specs.Prelude.{◌≡◌};
+ghost use Rattle.mds_request.specs.Configuration.{configuration};
 ghost use Rattle.mds_snapshot.specs.Opening.{book_of};
 
 use crate::city::{BOTH, CAP, CONFIGURATION, NEW, SQUARE};
@@ -9,16 +10,16 @@ use http::header::{AUTHORIZATION, CONTENT_TYPE};
 use http::request::Parts;
 use http::{HeaderMap, HeaderValue, Method, Response, Uri, Version};
 use http_body_util::{BodyExt, Full};
-use mds_hall::{Arrived, Hall, respond};
+use mds_hall::{Arrived, Hall, Named, respond};
 use mds_parallel::Chunked;
 use mds_request::Config;
-use mds_snapshot::{Blank, Naming, prepare};
+use mds_snapshot::{Blank, prepare};
 use mds_text::Moment;
 use std::alloc::{AllocError, AllocGlobal, Global};
 use std::marker::Brand;
 use std::process::Abort;
 use std::random::RandomSource;
-use std::sync::Wait;
+use std::sync::{Arc, Wait};
 use std::test::Fail;
 use std::thread::Threads;
 
@@ -120,6 +121,8 @@ enum Visit {
     EachArrival,
     LargeAndUnknown,
     BesideAHeldQuestion,
+    LatestNote,
+    Judged,
 }
 
 fn visited<R: Host + Sync>(rt: &R, visit: Visit) -> Result<(), Fail> {
@@ -129,24 +132,30 @@ fn visited<R: Host + Sync>(rt: &R, visit: Visit) -> Result<(), Fail> {
     opened::<Brand, R>(rt, alloc, config, blank, visit)
 }
 
-fn opened<K: Naming + Send + Sync, R: Host + Sync>(
+fn opened<K: Named + Send + Sync, R: Host + Sync>(
     rt: &R,
     alloc: Global,
     config: Config,
     blank: Blank,
     visit: Visit,
 ) -> Result<(), Fail>
-    requires { book_of blank ≡ K.book }
+    requires book { book_of blank ≡ K.book }
+    requires configured { configuration config ≡ K.configuration }
 {
     let hall = Hall::<K>::new(rt, alloc, config, blank)?;
+    let config = hall.configuration().expect(rt, "a share");
     match visit {
         Visit::OwnQuestions => session::own_questions(rt, alloc, &hall),
         Visit::EachForm => session::each_form(rt, alloc, &hall),
         Visit::EachArrival => early::each_arrival(rt, alloc, &hall),
         Visit::LargeAndUnknown => early::large_and_unknown(rt, alloc, &hall),
         Visit::BesideAHeldQuestion => overlapping::beside_a_held_question(rt, alloc, &hall),
+        Visit::LatestNote => session::latest_note(rt, alloc, &hall),
+        Visit::Judged => session::judged(rt, alloc, &hall),
     }
     hall.finish(rt);
+    // A room that isn't ended keeps its share.
+    assert!(rt; Arc::strong_count(&config) == 1);
     Ok(())
 }
 
@@ -224,7 +233,7 @@ fn is_answer<R: Host>(
 
 /// Whether the hall, whose vehicles are judged by several threads, gives this answer to a head, if there is
 /// one, and to what arrived with it.
-fn gives<K: Naming, R: Host + Sync>(
+fn gives<K: Named, R: Host + Sync>(
     rt: &R,
     alloc: Global,
     hall: &Hall<K>,
@@ -241,7 +250,7 @@ fn gives<K: Naming, R: Host + Sync>(
 }
 
 /// Whether the hall gives the exchange's answer to its request with this method.
-fn answers<K: Naming, R: Host + Sync>(
+fn answers<K: Named, R: Host + Sync>(
     rt: &R,
     alloc: Global,
     hall: &Hall<K>,
@@ -255,7 +264,7 @@ fn answers<K: Naming, R: Host + Sync>(
 }
 
 /// The hall gives the exchange's answer to its request with this method.
-fn assert_answers<K: Naming, R: Host + Sync>(
+fn assert_answers<K: Named, R: Host + Sync>(
     rt: &R,
     alloc: Global,
     hall: &Hall<K>,
@@ -267,7 +276,7 @@ fn assert_answers<K: Naming, R: Host + Sync>(
 }
 
 /// The author's requests that publish the policy and its square at 1000.
-fn set_up<K: Naming, R: Host + Sync>(rt: &R, alloc: Global, hall: &Hall<K>) {
+fn set_up<K: Named, R: Host + Sync>(rt: &R, alloc: Global, hall: &Hall<K>) {
     for exchange in DRAFTS {
         assert_answers(rt, alloc, hall, Method::PUT, exchange);
     }

@@ -5,6 +5,8 @@
 #[cfg(test)]
 mod city;
 #[cfg(test)]
+mod counting;
+#[cfg(test)]
 mod desk;
 #[cfg(test)]
 mod hall;

@@ -1,11 +1,12 @@
-//! Four connections over loopback, at a clock that stands.
+//! Connections over loopback, at a clock that stands.
 ghost use Rattle.std.specs.Prelude.{◌≡◌};
+ghost use Rattle.mds_request.specs.Configuration.{configuration};
 ghost use Rattle.mds_snapshot.specs.Opening.{book_of};
 
 use mds_doors::{Moments, Queues, bound, serve};
-use mds_hall::Hall;
+use mds_hall::{Hall, Named};
 use mds_request::Config;
-use mds_snapshot::{Blank, Naming, prepare};
+use mds_snapshot::{Blank, prepare};
 use mds_text::Moment;
 use std::alloc::{AllocGlobal, Global};
 use std::io::{self, Read, Write};
@@ -23,48 +24,97 @@ use tokio::runtime::Runtime;
 const CONFIGURATION: &[u8] =
     br#"{"author":"city","operators":[{"id":"00000000-0000-4000-8000-0000000000a1","limit":2,"token":"alfa"},{"id":"00000000-0000-4000-8000-0000000000b1","limit":2,"token":"bravo"}],"zone":"Z"}"#;
 
-/// A request, and the body of its answer.
+/// A request, and the status and the body of its answer.
 struct Exchange {
     line: &'static str,
     token: &'static str,
     body: &'static str,
+    status: &'static str,
     answer: &'static str,
 }
 
+const SUCCESS: &str = "HTTP/1.1 200 ";
+
+/// A policy is published, and alfa asks for compliance.
 const EXCHANGES: &[Exchange] = &[
     Exchange {
         line: "PUT /drafts/geographies/00000000-0000-4000-8000-000000000101",
         token: "city",
         body: r#"{"geography_id":"00000000-0000-4000-8000-000000000101","name":"square","geography_json":{"type":"Polygon","coordinates":[[[0,0],[10,0],[10,10],[0,10],[0,0]]]}}"#,
+        status: SUCCESS,
         answer: r#"{"result":"new"}"#,
     },
     Exchange {
         line: "PUT /drafts/policies/00000000-0000-4000-8000-000000000201",
         token: "city",
         body: r#"{"policy_id":"00000000-0000-4000-8000-000000000201","name":"cap","start_date":1000,"rules":[{"rule_id":"00000000-0000-4000-8000-000000000301","name":"cap","rule_type":"count","geographies":["00000000-0000-4000-8000-000000000101"],"maximum":1}]}"#,
+        status: SUCCESS,
         answer: r#"{"result":"new"}"#,
     },
     Exchange {
         line: "POST /publish",
         token: "city",
         body: r#"{"geographies":["00000000-0000-4000-8000-000000000101"],"policies":["00000000-0000-4000-8000-000000000201"]}"#,
+        status: SUCCESS,
         answer: r#"{"published_date":2000,"revision":1}"#,
     },
     Exchange {
         line: "GET /compliance",
         token: "alfa",
         body: "",
+        status: SUCCESS,
         answer: r#"{"at":2000,"policies":[{"policy_id":"00000000-0000-4000-8000-000000000201","rules":[{"measure":0,"rule_id":"00000000-0000-4000-8000-000000000301","status":"ok"}]}],"revision":1,"version":2}"#,
     },
 ];
 
-/// A clock that always gives this moment.
+/// What is answered where the clock gives no moment, before the token is looked at.
+const AT_NO_MOMENT: &[Exchange] = &[
+    Exchange {
+        line: "GET /policies",
+        token: "alfa",
+        body: "",
+        status: "HTTP/1.1 503 ",
+        answer: r#"{"error":"clock"}"#,
+    },
+    Exchange {
+        line: "GET /policies",
+        token: "nobody",
+        body: "",
+        status: "HTTP/1.1 503 ",
+        answer: r#"{"error":"clock"}"#,
+    },
+];
+
+/// A clock that always gives this moment, or none.
 #[derive(Clone, Copy)]
-struct Standing(Moment);
+struct Standing(Option<Moment>);
 
 impl Moments for Standing {
     fn now(&self) -> Option<Moment> {
-        Some(self.0)
+        self.0
+    }
+}
+
+/// What is asked, and at which clock.
+#[derive(Clone, Copy)]
+enum Script {
+    Published,
+    NoMoment,
+}
+
+impl Script {
+    fn exchanges(self) -> &'static [Exchange] {
+        match self {
+            Script::Published => EXCHANGES,
+            Script::NoMoment => AT_NO_MOMENT,
+        }
+    }
+
+    fn clock(self) -> Standing {
+        match self {
+            Script::Published => Standing(Moment::new(2000)),
+            Script::NoMoment => Standing(None),
+        }
     }
 }
 
@@ -73,6 +123,7 @@ impl Moments for Standing {
 struct Asked {
     stream: TcpStream,
     request: String,
+    status: &'static str,
     answer: String,
 }
 
@@ -92,6 +143,7 @@ fn connected<R: Net<Stream = TcpStream> + AllocGlobal>(
             exchange.body.len(),
             exchange.body
         )?,
+        status: exchange.status,
         answer: format!(in alloc; "\r\n\r\n{}", exchange.answer)?,
     })
 }
@@ -101,7 +153,7 @@ fn is_answered(alloc: Global, asked: &mut Asked) -> io::Result<bool> {
     asked.stream.write_all(asked.request.as_bytes())?;
     let mut answer = Vec::new(alloc);
     asked.stream.read_to_end(&mut answer)?;
-    Ok(answer.starts_with(b"HTTP/1.1 200 ") && answer.ends_with(asked.answer.as_bytes()))
+    Ok(answer.starts_with(asked.status.as_bytes()) && answer.ends_with(asked.answer.as_bytes()))
 }
 
 /// Asks one after the other, each once the one before is answered.
@@ -117,9 +169,10 @@ fn are_answered(alloc: Global, mut clients: Vec<Asked>) -> bool {
 fn clients_of<R: Net<Stream = TcpStream> + AllocGlobal>(
     rt: &R,
     address: SocketAddr,
+    exchanges: &[Exchange],
 ) -> io::Result<Vec<Asked>> {
-    let mut clients = Vec::with_capacity(rt.alloc(), EXCHANGES.len())?;
-    for exchange in EXCHANGES {
+    let mut clients = Vec::with_capacity(rt.alloc(), exchanges.len())?;
+    for exchange in exchanges {
         clients.push(connected(rt, address, exchange)?)?;
     }
     Ok(clients)
@@ -137,19 +190,20 @@ struct Scene {
 fn listening<R: Net<Stream = TcpStream> + AllocGlobal>(
     rt: &R,
     runtime: &Runtime,
+    exchanges: &[Exchange],
 ) -> io::Result<(TcpListener, Vec<Asked>)> {
     let listener = bound(rt, "127.0.0.1:0", runtime.handle().reactor())?;
     let address = listener.local_addr()?;
-    let clients = clients_of(rt, address)?;
+    let clients = clients_of(rt, address, exchanges)?;
     Ok((listener, clients))
 }
 
-fn scene_of<R>(rt: &R) -> io::Result<Scene>
+fn scene_of<R>(rt: &R, exchanges: &[Exchange]) -> io::Result<Scene>
 where
     R: Clock + Net<Stream = TcpStream> + RandomSource + AllocGlobal,
 {
     let runtime = Runtime::with_worker_threads(rt, 2)?;
-    let (listener, clients) = listening(rt, &runtime)?;
+    let (listener, clients) = listening(rt, &runtime, exchanges)?;
     Ok(Scene {
         runtime,
         listener,
@@ -158,7 +212,12 @@ where
 }
 
 /// A hall is made once all else is there, so that what fails before has none to end.
-fn served<K: Naming + Send + Sync, R>(rt: &R, config: Config, blank: Blank) -> Result<(), Fail>
+fn served<K: Named + Send + Sync, R>(
+    rt: &R,
+    config: Config,
+    blank: Blank,
+    script: Script,
+) -> Result<(), Fail>
 where
     R: Wait
         + Threads
@@ -171,20 +230,20 @@ where
         + Send
         + Copy
         + Drop,
-    requires { book_of blank ≡ K.book }
+    requires book { book_of blank ≡ K.book }
+    requires configured { configuration config ≡ K.configuration }
 {
-    let moment = Moment::new(2000).expect(rt, "a moment");
-    let scene = scene_of(rt)?;
+    let scene = scene_of(rt, script.exchanges())?;
     let queues = Queues::new(rt.alloc(), &config)?;
     let hall = Hall::<K>::new(rt, rt.alloc(), config, blank)?;
-    let (wanted, served) = both(rt, scene, hall, queues, Standing(moment));
+    let (wanted, served) = both(rt, scene, hall, queues, script.clock());
     served?;
     assert!(rt; wanted);
     Ok(())
 }
 
 /// Asks, and serves meanwhile.
-fn both<K: Naming + Send + Sync, R>(
+fn both<K: Named + Send + Sync, R>(
     rt: &R,
     scene: Scene,
     hall: Hall<K>,
@@ -208,18 +267,50 @@ where
         listener,
         clients,
     } = scene;
-    let alloc = rt.alloc();
+    let (alloc, count) = (rt.alloc(), clients.len());
     join(
         rt,
         move || are_answered(alloc, clients),
-        || serve(rt, &mut runtime, listener, hall, queues, moments, Some(4)),
+        || serve(
+            rt,
+            &mut runtime,
+            listener,
+            hall,
+            queues,
+            moments,
+            Some(count),
+        ),
     )
+}
+
+/// Plays one of the scripts.
+fn played<R>(rt: &R, script: Script) -> Result<(), Fail>
+where
+    R: Wait
+        + Threads
+        + Clock
+        + Net<Stream = TcpStream>
+        + RandomSource
+        + AllocGlobal
+        + Abort
+        + Sync
+        + Send
+        + Copy
+        + Drop,
+{
+    let config = Config::read(rt.alloc(), CONFIGURATION)?;
+    let blank = prepare(rt.alloc())?;
+    served::<Brand, _>(rt, config, blank, script)
 }
 
 /// A policy is published, and an operator asks for compliance.
 #[test]
 fn answers_over_loopback(rt: HostRuntime) -> Result<(), Fail> {
-    let config = Config::read(rt.alloc(), CONFIGURATION)?;
-    let blank = prepare(rt.alloc())?;
-    served::<Brand, _>(&rt, config, blank)
+    played(&rt, Script::Published)
+}
+
+/// Without a moment each request has the server's own answer.
+#[test]
+fn has_no_moment_over_loopback(rt: HostRuntime) -> Result<(), Fail> {
+    played(&rt, Script::NoMoment)
 }

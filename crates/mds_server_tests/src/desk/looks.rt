@@ -62,7 +62,7 @@ fn a_gate_is_told_of_each_look(rt: HostRuntime) -> Result<(), Fail> {
 }
 
 /// The revision of a reply that lists just what is published at it.
-fn revision(rt: &impl Abort, reply: &Reply) -> u64 {
+fn revision(rt: &impl Abort, reply: &Answer) -> u64 {
     if is_reply(reply, 200, EMPTY) {
         0
     } else {

@@ -22,7 +22,7 @@ fn given_at_last<K: Naming, R: Wait + Abort>(
     rt: &R,
     room: &mut AuthorRoom<K>,
     exchange: &Exchange,
-) -> (Reply, Option<Note<K>>) {
+) -> (Answer, Option<Note<K>>) {
     let given = room_turn(rt, room, exchange);
     if given.0.status() != 503 {
         return given;
@@ -55,7 +55,7 @@ fn answer_at_last<K: Naming, E: Evaluator<Catalogue>>(
     desk: &mut Desk<K>,
     request: &Request<'_>,
     evaluator: &E,
-) -> Reply
+) -> Answer
     requires { E.may_judge }
 {
     let reply = desk.answer(request, &mut OpenGate, evaluator);
@@ -134,7 +134,7 @@ fn four_requests<'a>(rt: &impl Abort, exchanges: &'a [&'a Exchange; 4]) -> [Requ
 }
 
 /// Whether all are successes: else one is 503 `no_memory`. Those before it are the exchanges' replies.
-fn are_successes(rt: &impl Abort, replies: &[Reply], exchanges: &[&Exchange]) -> bool {
+fn are_successes(rt: &impl Abort, replies: &[Answer], exchanges: &[&Exchange]) -> bool {
     assert!(rt; replies.len() == exchanges.len());
     for (reply, exchange) in replies.iter().zip(exchanges) {
         if reply.status() == 503 {
@@ -151,7 +151,7 @@ fn run_at_last<K: Naming, E: Evaluator<Catalogue>>(
     desk: &mut Desk<K>,
     requests: &[Request<'_>],
     evaluator: &E,
-) -> Result<Vec<Reply>, AllocError>
+) -> Result<Vec<Answer>, AllocError>
     requires { E.may_judge }
 {
     match desk.run(requests, &mut OpenGate, evaluator) {

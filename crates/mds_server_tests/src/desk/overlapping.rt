@@ -67,10 +67,10 @@ struct HeldDesk<'a, K: Naming> {
 }
 
 impl<K: Naming> Errand for HeldDesk<'_, K> {
-    type Outcome = Option<Reply>;
+    type Outcome = Option<Answer>;
 
     /// The reply, where the other desk answered while this one's look was held.
-    fn run(self) -> Option<Reply> {
+    fn run(self) -> Option<Answer> {
         let exchange = NONE_FOR_ALFA;
         let request = request(Moment::new(exchange.at)?, exchange);
         let mut gate = Holding {
@@ -83,7 +83,7 @@ impl<K: Naming> Errand for HeldDesk<'_, K> {
 }
 
 /// The reply, asked for once the other desk's look is held.
-fn answered_meanwhile<K: Naming>(desk: &mut Desk<K>, signals: &Signals) -> Option<Reply> {
+fn answered_meanwhile<K: Naming>(desk: &mut Desk<K>, signals: &Signals) -> Option<Answer> {
     if !is_set_in_time(&signals.looked) {
         return None;
     }
@@ -162,7 +162,7 @@ impl<K: Naming> Errand for RunningDesk<'_, K> {
 }
 
 /// The revisions of three replies, each of which lists just what is published at it.
-fn revisions(replies: &[Reply]) -> Option<[u64; 3]> {
+fn revisions(replies: &[Answer]) -> Option<[u64; 3]> {
     match replies {
         [first, second, third] => Some([listed(first)?, listed(second)?, listed(third)?]),
         _ => None,
@@ -170,7 +170,7 @@ fn revisions(replies: &[Reply]) -> Option<[u64; 3]> {
 }
 
 /// The revision of a reply that lists just what is published at it.
-fn listed(reply: &Reply) -> Option<u64> {
+fn listed(reply: &Answer) -> Option<u64> {
     match reply.body() {
         _ if reply.status() != 200 => None,
         body if body == EMPTY.as_bytes() => Some(0),
@@ -184,7 +184,7 @@ fn published_meanwhile<K: Naming, R: Wait>(
     rt: &R,
     room: &mut AuthorRoom<K>,
     signals: &Signals,
-) -> Option<(Reply, Note<K>)> {
+) -> Option<(Answer, Note<K>)> {
     if !is_set_in_time(&signals.looked) {
         return None;
     }
@@ -197,7 +197,7 @@ fn published_beside<K: Naming + Send + Sync, R: Threads + Wait>(
     rt: &R,
     room: &mut AuthorRoom<K>,
     desk: &mut Desk<K>,
-) -> (Option<[u64; 3]>, Option<(Reply, Note<K>)>) {
+) -> (Option<[u64; 3]>, Option<(Answer, Note<K>)>) {
     let signals = Signals::new();
     let running = RunningDesk {
         desk,

@@ -1,5 +1,6 @@
 //! Worked scripts, asked one after another.
 use super::*;
+use crate::counting::Counting;
 
 const TOKEN: &str = r#"{"error":"token"}"#;
 
@@ -122,5 +123,33 @@ impl Scene for Served {
 #[test]
 fn serves_what_it_learnt(rt: HostRuntime) -> Result<(), Fail> {
     assert!(rt; stage(&rt, rt.alloc(), &Served)?);
+    Ok(())
+}
+
+struct Judged;
+
+impl Scene for Judged {
+    fn play<K: Naming, R: Wait + Abort>(
+        &self,
+        rt: &R,
+        _alloc: Global,
+        room: &mut AuthorRoom<K>,
+        alfa: &mut Desk<K>,
+        _bravo: &mut Desk<K>,
+    ) -> Result<bool, AllocError> {
+        set_up_for(rt, room, alfa);
+        let counting = Counting::new();
+        let question = request(moment(rt, NONE_FOR_ALFA), NONE_FOR_ALFA);
+        let reply = alfa.answer(&question, &mut OpenGate, &counting);
+        assert_success(rt, &reply, NONE_FOR_ALFA);
+        assert!(rt; counting.policies() == 1);
+        Ok(true)
+    }
+}
+
+/// A desk judges by the evaluator that it is given, and by no other.
+#[test]
+fn judges_by_its_evaluator(rt: HostRuntime) -> Result<(), Fail> {
+    assert!(rt; stage(&rt, rt.alloc(), &Judged)?);
     Ok(())
 }

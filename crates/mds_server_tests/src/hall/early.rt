@@ -27,7 +27,7 @@ const NOWHERE: &str = "/nowhere";
 const NOBODY: &str = "Bearer nobody";
 
 /// Whether alfa's question with what arrived has this answer.
-fn tells_alfa<K: Naming, R: Host + Sync>(
+fn tells_alfa<K: Named, R: Host + Sync>(
     rt: &R,
     alloc: Global,
     hall: &Hall<K>,
@@ -39,7 +39,7 @@ fn tells_alfa<K: Naming, R: Host + Sync>(
     gives(rt, alloc, hall, parts, arrived, at, answer)
 }
 
-pub(super) fn each_arrival<K: Naming, R: Host + Sync>(rt: &R, alloc: Global, hall: &Hall<K>) {
+pub(super) fn each_arrival<K: Named, R: Host + Sync>(rt: &R, alloc: Global, hall: &Hall<K>) {
     assert!(rt;
         tells_alfa(
             rt,
@@ -85,7 +85,7 @@ fn spaces(alloc: Global, length: usize) -> Result<Arrived, AllocError> {
 }
 
 /// Whether nobody's request with a body of so many spaces has this answer.
-fn tells_nobody<K: Naming, R: Host + Sync>(
+fn tells_nobody<K: Named, R: Host + Sync>(
     rt: &R,
     alloc: Global,
     hall: &Hall<K>,
@@ -99,7 +99,7 @@ fn tells_nobody<K: Naming, R: Host + Sync>(
     gives(rt, alloc, hall, parts, spaces, Moment::new(2000), answer)
 }
 
-pub(super) fn large_and_unknown<K: Naming, R: Host + Sync>(rt: &R, alloc: Global, hall: &Hall<K>) {
+pub(super) fn large_and_unknown<K: Named, R: Host + Sync>(rt: &R, alloc: Global, hall: &Hall<K>) {
     assert!(rt; tells_nobody(rt, alloc, hall, MOST_BODY, TOKEN));
     assert!(rt; tells_nobody(rt, alloc, hall, MOST_BODY + 1, TOO_LARGE));
 }

@@ -56,14 +56,14 @@ fn beside<R: Threads, E: Errand + Send + Drop, F: FnOnce() -> bool>(
 
 /// Alfa's question, held until the others have their answers.
 #[derive(Drop)]
-struct HeldQuestion<'a, K: Naming, R> {
+struct HeldQuestion<'a, K: Named, R> {
     rt: &'a R,
     alloc: Global,
     hall: &'a Hall<K>,
     signals: &'a Signals,
 }
 
-impl<K: Naming, R: Host> Errand for HeldQuestion<'_, K, R> {
+impl<K: Named, R: Host> Errand for HeldQuestion<'_, K, R> {
     /// Whether it has its answer, and was held in time.
     fn run(self) -> bool {
         let Some(asked) = parts(self.alloc, Method::GET, COMPLIANCE, Some(ALFA)) else {
@@ -84,7 +84,7 @@ impl<K: Naming, R: Host> Errand for HeldQuestion<'_, K, R> {
 }
 
 /// Whether bravo's question and then the author's draft have their answers, meanwhile.
-fn are_answered<K: Naming, R: Host + Sync>(
+fn are_answered<K: Named, R: Host + Sync>(
     rt: &R,
     alloc: Global,
     hall: &Hall<K>,
@@ -99,7 +99,7 @@ fn are_answered<K: Naming, R: Host + Sync>(
     all
 }
 
-pub(super) fn beside_a_held_question<K: Naming + Send + Sync, R: Host + Sync>(
+pub(super) fn beside_a_held_question<K: Named + Send + Sync, R: Host + Sync>(
     rt: &R,
     alloc: Global,
     hall: &Hall<K>,

@@ -3,10 +3,11 @@ ghost use Rattle.std.specs.Prelude.{◌≡◌};
 ghost use Rattle.mds_snapshot.specs.Opening.{book_of};
 
 use super::*;
+use crate::counting::Counting;
 use crate::desk;
 use mds_desk::{Desk, OpenGate, furnish};
 use mds_hall::desk_turn;
-use mds_snapshot::Note;
+use mds_snapshot::{Naming, Note};
 
 /// A vehicle in the square.
 const VEHICLE: &str =
@@ -46,7 +47,7 @@ const QUESTIONS: &[&Exchange] = &[
 ];
 
 /// Alfa has a vehicle in the square, and bravo has none.
-pub(super) fn own_questions<K: Naming, R: Host + Sync>(rt: &R, alloc: Global, hall: &Hall<K>) {
+pub(super) fn own_questions<K: Named, R: Host + Sync>(rt: &R, alloc: Global, hall: &Hall<K>) {
     set_up(rt, alloc, hall);
     assert_answers(rt, alloc, hall, Method::POST, REPORT);
     for question in QUESTIONS {
@@ -57,6 +58,36 @@ pub(super) fn own_questions<K: Naming, R: Host + Sync>(rt: &R, alloc: Global, ha
 #[test]
 fn counts_the_vehicles_of_who_asks(rt: HostRuntime) -> Result<(), Fail> {
     visited(&rt, Visit::OwnQuestions)
+}
+
+/// There is a note once something is published, and none before.
+pub(super) fn latest_note<K: Named, R: Host + Sync>(rt: &R, alloc: Global, hall: &Hall<K>) {
+    assert!(rt; hall.note(rt).is_none());
+    set_up(rt, alloc, hall);
+    assert!(rt; hall.note(rt).is_some());
+}
+
+/// A hall keeps the note of its latest publication.
+#[test]
+fn keeps_the_latest_note(rt: HostRuntime) -> Result<(), Fail> {
+    visited(&rt, Visit::LatestNote)
+}
+
+/// Bravo's question is judged by this evaluator.
+pub(super) fn judged<K: Named, R: Host + Sync>(rt: &R, alloc: Global, hall: &Hall<K>) {
+    set_up(rt, alloc, hall);
+    let counting = Counting::new();
+    let asked = parts(alloc, Method::GET, COMPLIANCE, Some(BRAVO)).expect(rt, "a head");
+    let at = Moment::new(2000);
+    let response = respond(rt, alloc, &asked, whole(""), at, hall, &counting);
+    assert!(rt; is_answer(rt, response, NONE_COUNTED));
+    assert!(rt; counting.policies() == 1);
+}
+
+/// A hall judges by the evaluator that it is given, and by no other.
+#[test]
+fn judges_by_its_evaluator(rt: HostRuntime) -> Result<(), Fail> {
+    visited(&rt, Visit::Judged)
 }
 
 const VEHICLES: &str = "/fleet/vehicles";
@@ -82,7 +113,7 @@ const CREDENTIALS: &[(&str, &Answer)] = &[
 ];
 
 /// Whether a question for vehicles, with this head, has this answer.
-fn lists<K: Naming, R: Host + Sync>(
+fn lists<K: Named, R: Host + Sync>(
     rt: &R,
     alloc: Global,
     hall: &Hall<K>,
@@ -104,7 +135,7 @@ fn signed_twice(alloc: Global) -> Option<Parts> {
 }
 
 /// Nobody is known by two fields with credentials.
-pub(super) fn each_form<K: Naming, R: Host + Sync>(rt: &R, alloc: Global, hall: &Hall<K>) {
+pub(super) fn each_form<K: Named, R: Host + Sync>(rt: &R, alloc: Global, hall: &Hall<K>) {
     for (credentials, answer) in CREDENTIALS {
         let asked = parts(alloc, Method::GET, ALL_VEHICLES, Some(credentials));
         let is_answered = lists(rt, alloc, hall, asked, answer);
