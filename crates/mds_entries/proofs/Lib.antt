@@ -1,0 +1,4 @@
+pub mod Asked
+pub mod Mapped
+pub mod Shared
+pub mod Spelled

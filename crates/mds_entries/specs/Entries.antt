@@ -1,0 +1,75 @@
+-- The text of an entry: an accepted request, with who asked in place of the access token.
+use Rattle.std.specs.Prelude.{◌≡◌, ℕ, ◌≤◌, List, [], ◌∷◌, ◌++◌, length, Some}
+use Rattle.std.specs.Int.{w32, w64, to_be_bytes}
+use Rattle.uuid.specs.Text.{hyphenated_text, lower, parsed}
+use Rattle.mds_text.specs.Fields.{last_moment}
+use Rattle.mds_entries.specs.declared.entry.Asker.{Asker}
+use Rattle.mds_entries.specs.declared.entry.Asker.TheVariants.{Author, Operator}
+use Rattle.mds_entries.specs.declared.entry.Entry.{Entry as Lent}
+use Rattle.mds_entries.specs.declared.entry.TheConstants.{ENTRY, MOST_TARGET}
+use Rattle.mds_entries.specs.declared.pieces.TheConstants.{BY_AUTHOR, BY_OPERATOR}
+use Rattle.mds_request.specs.declared.request.Verb.{Verb}
+use Rattle.mds_request.specs.declared.request.Verb.TheVariants.{Get, Put, Post, Delete, Other}
+use Rattle.mds_request.specs.declared.call.TheConstants.{MOST_BODY}
+
+pub record Entry : Type 0 where
+  pub asker : Asker
+  -- the moment at which the request was answered
+  pub at : ℕ
+  pub verb : Verb
+  pub target : List ℕ
+  pub body : List ℕ
+
+-- the entry that an `Entry` stands for
+abbrev pub entry_of : Lent → Entry
+entry_of e = record { asker = e.asker; at = e.at; verb = e.verb; target = e.target.now; body = e.body.now }
+
+-- a moment's milliseconds in eight bytes, and a length in four, both with the highest byte first
+unfoldable pub moment_text : ℕ → List ℕ
+moment_text at = to_be_bytes w64 at
+
+unfoldable pub size_text : ℕ → List ℕ
+size_text size = to_be_bytes w32 size
+
+-- an identifier's spelling (RFC 9562, section 4), with small letters
+unfoldable pub id_text : List ℕ → List ℕ
+id_text id = hyphenated_text lower id
+
+abbrev pub verb_code : Verb → ℕ
+verb_code Get = 1
+verb_code Put = 2
+verb_code Post = 3
+verb_code Delete = 4
+verb_code Other = 5
+
+-- who asked: a byte, and an operator's identifier
+abbrev pub asker_text : Asker → List ℕ
+asker_text Author = BY_AUTHOR ∷ []
+asker_text (Operator id) = BY_OPERATOR ∷ id_text id
+
+-- the moment, the verb, who asked, the target behind its length, and the body
+abbrev pub fields_text : Entry → List ℕ
+fields_text e =
+    moment_text e.at ++ (verb_code e.verb ∷ (asker_text e.asker ++ (size_text (length e.target) ++ (e.target ++ e.body))))
+
+-- an entry's text: the layout's version, and the fields
+abbrev pub entry_text : Entry → List ℕ
+entry_text e = ENTRY ∷ fields_text e
+
+-- an identifier, as which its spelling reads
+abbrev pub IsId : List ℕ → Type 0
+IsId id = parsed (hyphenated_text lower id) ≡ Some id
+
+abbrev pub IsAsker : Asker → Type 0
+IsAsker Author = Unit {0}
+IsAsker (Operator id) = IsId id
+
+-- the target and the body are within their limits
+pub record IsShort (e : Entry) : Type 0 where
+  pub target : length e.target ≤ MOST_TARGET
+  pub body : length e.body ≤ MOST_BODY
+
+pub record IsEntry (e : Entry) : Type 0 where
+  pub asker : IsAsker e.asker
+  pub at : e.at ≤ last_moment
+  pub short : IsShort e

@@ -1,0 +1,106 @@
+//! Entries and the requests that they are.
+ghost use Rattle.std.specs.Prelude.{◌≡◌, option_map, map, position, bytes_eq};
+ghost use Rattle.mds_request.specs.Configuration.{configuration, operator};
+ghost use Rattle.mds_request.specs.Request.{request_of};
+ghost use Rattle.mds_entries.specs.Entries.{entry_of};
+ghost use Rattle.mds_entries.specs.Requests.{ReadsTheRequest, has_id, actor_by, token_of, asker_at, entry_by, request_by};
+
+use crate::entry::{Asker, Entry};
+use mds_request::{Actor, Config, Operator, Request};
+use mds_text::Id;
+
+/// Whether two identifiers are the same.
+pub(crate) fn is_same(id: Id, other: Id) -> bool
+    ensures { result ≡ bytes_eq id other }
+{
+    id == other
+}
+
+/// The place of the operator of an identifier.
+fn place_of(operators: &[Operator], id: Id) -> Option<usize>
+    ensures { result ≡ position (λ o. has_id id (operator o)) operators.now }
+{
+    operators
+        .iter()
+        .position(|operator| is_same(operator.id, id))
+}
+
+/// Who an entry's asker is in a configuration; `Nobody` for an operator that isn't there.
+pub fn actor_by(config: &Config, asker: Asker) -> Actor
+    ensures { result ≡ actor_by (configuration config.now) asker }
+{
+    match asker {
+        Asker::Author => Actor::Author,
+        Asker::Operator(id) => match place_of(config.operators(), id) {
+            Some(place) => Actor::Operator(place),
+            None => Actor::Nobody,
+        },
+    }
+}
+
+/// The access token of who asks.
+fn token_of(config: &Config, actor: Actor) -> Option<&[u8]>
+    ensures { option_map (λ token. token.now) result ≡ token_of (configuration config.now) actor }
+{
+    match actor {
+        Actor::Author => Some(config.author().as_bytes()),
+        Actor::Operator(place) => match config.operators().get(place) {
+            Some(operator) => Some(operator.token.as_bytes()),
+            None => None,
+        },
+        Actor::Nobody => None,
+    }
+}
+
+/// The request that an entry is, with its asker's access token of this configuration; `None` where its operator isn't
+/// there.
+pub fn request_by<'a>(config: &'a Config, entry: &Entry<'a>) -> Option<Request<'a>>
+    ensures { option_map request_of result ≡ request_by (configuration config.now) (entry_of entry.now) }
+{
+    match token_of(config, actor_by(config, entry.asker)) {
+        Some(token) => Some(Request {
+            at: entry.at,
+            token,
+            verb: entry.verb,
+            target: entry.target,
+            body: entry.body,
+        }),
+        None => None,
+    }
+}
+
+/// Who asks, as an entry has it.
+fn asker_at(config: &Config, actor: Actor) -> Option<Asker>
+    ensures { result ≡ asker_at (configuration config.now) actor }
+{
+    match actor {
+        Actor::Author => Some(Asker::Author),
+        Actor::Operator(place) => match config.operators().get(place) {
+            Some(operator) => Some(Asker::Operator(operator.id)),
+            None => None,
+        },
+        Actor::Nobody => None,
+    }
+}
+
+/// The entry that a request is; `None` where its access token is nobody's.
+pub fn entry_by<'a>(config: &Config, request: &Request<'a>) -> Option<Entry<'a>>
+    ensures { option_map entry_of result ≡ entry_by (configuration config.now) (request_of request.now) }
+{
+    match asker_at(config, config.actor(request.token)) {
+        Some(asker) => Some(Entry {
+            asker,
+            at: request.at,
+            verb: request.verb,
+            target: request.target,
+            body: request.body,
+        }),
+        None => None,
+    }
+}
+
+/// The entry of a request, with the access tokens of the configuration, is that request, where no two operators have
+/// one identifier, as in each configuration that was read.
+pub fn reads_the_request()
+    ensures { ReadsTheRequest }
+{}

@@ -1,0 +1,95 @@
+//! An accepted request with who asked, and its text.
+ghost use Rattle.std.specs.Prelude.{◌≡◌, ◌↔◌, ◌≤◌, length, true, IfOk, IsErrOf, IsTrue};
+ghost use Rattle.mds_entries.specs.Entries.{IsShort, entry_of, entry_text};
+
+use crate::pieces::{push_asker, push_moment, push_size, verb_code};
+use mds_request::{MOST_BODY, Verb};
+use mds_text::{Id, Moment};
+use std::alloc::{AllocError, Global};
+
+/// The first byte of an entry's text: the layout's version.
+pub const ENTRY: u8 = 1;
+
+/// The most bytes of an entry's target.
+pub const MOST_TARGET: usize = 65_536;
+
+/// Who asked. An operator goes by its identifier, so that a text has no access token.
+#[derive(Clone, Copy, PartialEq, Eq)]
+pub enum Asker {
+    /// The author of policies and geographies.
+    Author,
+    /// The operator of this identifier.
+    Operator(Id),
+}
+
+/// An accepted request, with who asked in place of the access token.
+#[derive(Clone, Copy)]
+pub struct Entry<'a> {
+    pub asker: Asker,
+    /// The moment at which it was answered.
+    pub at: Moment,
+    pub verb: Verb,
+    /// The path, with a query behind the first `?`.
+    pub target: &'a [u8],
+    pub body: &'a [u8],
+}
+
+/// Why no text was written.
+#[derive(Clone, Copy, Debug, PartialEq, Eq)]
+pub enum WriteFault {
+    /// The target or the body is over its limit.
+    TooLong,
+    /// Memory ran out.
+    NoMemory,
+}
+
+impl From<AllocError> for WriteFault {
+    ghost use Rattle.std.specs.Prelude.{◌≡◌};
+    ghost use Rattle.mds_entries.specs.declared.entry.WriteFault.TheVariants.{NoMemory};
+
+    ghost from_gives = { λ _ fault. fault ≡ NoMemory };
+
+    fn from(_: AllocError) -> WriteFault {
+        WriteFault::NoMemory
+    }
+}
+
+/// Whether an entry's target and body are within their limits.
+pub fn is_short(entry: &Entry<'_>) -> bool
+    ensures { IsTrue result ↔ IsShort (entry_of entry.now) }
+{
+    entry.target.len() <= MOST_TARGET && entry.body.len() <= MOST_BODY
+}
+
+/// The text of an entry whose target has a length of four bytes.
+fn text_of(alloc: Global, entry: &Entry<'_>) -> Result<Vec<u8>, AllocError>
+    requires { IsShort (entry_of entry.now) }
+    ensures { IfOk result (λ text. text.items ≡ entry_text (entry_of entry.now)) }
+{
+    let mut text = Vec::new(alloc);
+    text.push(ENTRY)?;
+    push_moment(&mut text, entry.at)?;
+    text.push(verb_code(entry.verb))?;
+    push_asker(alloc, &mut text, entry.asker)?;
+    push_size(&mut text, entry.target.len() as u32)?;
+    text.extend_from_slice(entry.target)?;
+    text.extend_from_slice(entry.body)?;
+    Ok(text)
+}
+
+/// The text of an entry, which `read_entry` reads as this entry.
+///
+/// # Errors
+///
+/// `TooLong` where the target has more than [`MOST_TARGET`] bytes or the body more than `mds_request::MOST_BODY`;
+/// `NoMemory` where memory ran out.
+pub fn entry_text(alloc: Global, entry: &Entry<'_>) -> Result<Vec<u8>, WriteFault>
+    ensures text { IfOk result (λ text. text.items ≡ entry_text (entry_of entry.now)) }
+    ensures short { IfOk result (λ text. IsShort (entry_of entry.now)) }
+    ensures too_long { IsErrOf result WriteFault.TooLong → IsShort (entry_of entry.now) → ⊥ }
+{
+    if !is_short(entry) {
+        return Err(WriteFault::TooLong);
+    }
+    Ok(text_of(alloc, entry)?)
+}

@@ -1,0 +1,12 @@
+-- What thinning keeps of a list of reports, by places.
+use Rattle.std.specs.Prelude.{◌≡◌, ℕ, List, [], ◌∷◌, reverse, Some, slice_get}
+use Rattle.mds_fleet.specs.Books.{Report}
+use Rattle.mds_restarts.specs.Kept.{thinned}
+
+-- Of these reports, the first one first, thinning keeps those at these places. (`thinned` has the last one first.)
+pub record ThinsTo (reports : List Report) (begun last : ℕ) : Type 0 where
+  pub first_kept : Report
+  pub last_kept : Report
+  pub at_begun : slice_get reports begun ≡ Some first_kept
+  pub at_last : slice_get reports last ≡ Some last_kept
+  pub kept : thinned (reverse reports) ≡ last_kept ∷ first_kept ∷ []

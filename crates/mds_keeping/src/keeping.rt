@@ -1,0 +1,41 @@
+//! Which requests a journal keeps.
+ghost use Rattle.std.specs.Prelude.{◌≡◌, ◌==◌, ◌&&◌};
+ghost use Rattle.mds_request.specs.Configuration.{configuration};
+ghost use Rattle.mds_request.specs.Reply.{Reply};
+ghost use Rattle.mds_request.specs.Request.{request_of};
+ghost use Rattle.mds_restarts.specs.Kept.{is_kept, may_change};
+
+use mds_request::{AuthorCall, Call, Code, Config, OperatorCall, Request, Routes, read_call};
+
+/// The status of a success.
+const SUCCESS: u16 = 200;
+
+/// Whether a call may change something: the author's drafts and publications, an operator's reports and removals. A
+/// journal needs room for such a call before it is carried out.
+pub fn may_change(call: &Result<Call, Code>) -> bool
+    ensures { result ≡ may_change call.now }
+{
+    match call {
+        Ok(Call::Author(AuthorCall::PutDraft(_, _))) => true,
+        Ok(Call::Author(AuthorCall::DropDraft(_, _))) => true,
+        Ok(Call::Author(AuthorCall::Publish)) => true,
+        Ok(Call::Operator(_, OperatorCall::Report)) => true,
+        Ok(Call::Operator(_, OperatorCall::RemoveVehicle(_))) => true,
+        _ => false,
+    }
+}
+
+/// Whether a journal keeps a call that was answered with this status: a success that may have changed something.
+pub fn keeps(call: &Result<Call, Code>, status: u16) -> bool
+    ensures { result ≡ (may_change call.now && (status == 200)) }
+{
+    may_change(call) && status == SUCCESS
+}
+
+/// Whether a journal keeps a request that was answered with this status.
+pub fn is_kept(routes: &Routes, config: &Config, request: &Request<'_>, status: u16) -> bool
+    ensures { (reply : Reply) → reply.status ≡ status
+        → result ≡ is_kept (configuration config.now) (record { request = request_of request.now; reply = reply }) }
+{
+    keeps(&read_call(routes, config, request), status)
+}
