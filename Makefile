@@ -15,7 +15,7 @@
 
 # What each takes where nothing is built, on a machine that does nothing else.
 DEMO_TIME := about a minute
-TEST_TIME := about 11 minutes on two processors
+TEST_TIME := about 12 minutes on two processors
 PROVE_TIME := about an hour and a half on four processors
 EDITS_TIME := about three hours
 BUILD_TIME := about 40 minutes
