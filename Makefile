@@ -17,7 +17,7 @@
 DEMO_TIME := about a minute
 TEST_TIME := about 12 minutes on two processors
 PROVE_TIME := about an hour and a half on four processors
-EDITS_TIME := about three hours
+EDITS_TIME := about four hours
 BUILD_TIME := about 40 minutes
 SERVE_TIME := about an hour
 
