@@ -1,6 +1,6 @@
 # demo     the main job on real input: a policy is published, a vehicle reported, compliance asked for
-# test     all tests, and both programs on scripts and messages, before any proof: it proves nothing
-# prove    the gate: every proof from nothing, the edits that must fail, then scripts, messages and stress on the proved programs
+# test     all tests, and both programs on scripts, messages and short loads, before any proof: it proves nothing
+# prove    the gate: every proof from nothing, the edits that must fail, then scripts, messages, loads and stress on the proved programs
 # edits    further edits that must fail, those of edits/: part of a release, not of the gate (CRATE=mds_text: those of one crate)
 # build    proves mds_replay with all that it stands on, and builds it
 # serve    the server on 127.0.0.1:8080 for the city of examples/city.json, with three lines to paste that ask it

@@ -1,8 +1,10 @@
-"""Times mds_serve over loopback by wrk, and beside it nginx that gives static files of the same sizes, in the same run.
+"""Times mds_serve over loopback by wrk, and in the same run another build of it and nginx that gives static files of the same sizes.
 
-Each measure is taken by turns, mds_serve and then nginx, in each round; the median of the rounds is printed with the least and the
-greatest. Then come the reads of operators while the author publishes 20 times a second, the memory of idle connections, and a question
-over the largest fleet on one processor and on four, by the clock.
+The build of `--program` is 'after', that of `--before`, where one is given, 'before'; nginx comes beside them where it is installed. Each
+measure is taken by turns, of each of them in each round; the median of the rounds is printed with the least and the greatest, and of
+'after' against 'before' the ratio of each round. Processor time is that of the program, user and system, read from /proc. Then come the
+reads of operators while the author publishes 20 times a second, the memory of idle connections and of lists that nobody takes, and a
+question over the largest fleet on one processor and on four, by the clock.
 """
 
 import argparse
@@ -33,8 +35,10 @@ SMALL, LARGE = 1_024, 102_400
 FLEET, RULES = 2_000, 8
 PUBLICATIONS, PUBLISHING_SECONDS, PUBLISHING_CONNECTIONS = 20, 10, 32
 IDLE = 1_000
+UNTAKEN, DESCRIPTION, LARGE_PLACES = 200, 900_000, 5
 PROCESSORS, QUESTIONS, EDGES, AT_ONCE = 4, 20, 1_000, 200
 OPERATOR, OTHER = generate.token(0), generate.token(1)
+BEFORE, AFTER, NGINX_NAME = "before", "after", "nginx"
 TICKS = os.sysconf("SC_CLK_TCK")
 
 NGINX = """
@@ -113,9 +117,12 @@ class Static:
             time.sleep(0.1)
         sys.exit("nginx doesn't listen")
 
-    def give(self, name, content):
+    def give(self, content):
+        """The target of a file that has this content."""
+        name = f"{len(os.listdir(os.path.join(self.folder, 'files')))}.json"
         with open(os.path.join(self.folder, "files", name), "wb") as out:
             out.write(content)
+        return f"/{name}"
 
     def stop(self):
         self.process.terminate()
@@ -209,35 +216,78 @@ def policies(random, size):
     return lines + [generate.publish([], range(number))]
 
 
-class Measure:
-    """One target of mds_serve, and the file of nginx that has its size."""
+class Bound:
+    """What a measure must be: requests against nginx at the least, and what they should be; processor time against before at the most."""
 
-    def __init__(self, label, server, target, static, bound, script=None, token=OPERATOR, reply=None, other_script=None):
-        self.label, self.server, self.target, self.bound = label, server, target, bound
+    def __init__(self, requests=("", ""), processor=""):
+        self.requests, self.processor = requests, processor
+
+
+class Measure:
+    """One target of each build of mds_serve, and the file of nginx that has its size."""
+
+    def __init__(self, label, servers, target, static, bound, script=None, token=OPERATOR, reply=None, other_script=None):
+        self.label, self.servers, self.target, self.bound = label, servers, target, bound
         self.static, self.script, self.token, self.other_script = static, script, token, other_script
-        if reply is None:
-            with server.link() as link:
-                reply = send(link, generate.get(target))
-        self.size, self.file = len(reply), f"/{len(os.listdir(static.folder + '/files'))}.json"
-        static.give(self.file[1:], reply)
+        replies = [reply or asked_of(it, target) for it in servers.values()]
+        self.size = len(replies[-1])
+        if any(len(it) != self.size for it in replies):
+            sys.exit(f"{label}: the builds give replies of other lengths")
+        if static:
+            self.file = static.give(replies[-1])
         self.loads = {}
 
-    def take(self, connections, seconds):
-        ours = Load(self.server.process.pid, self.server.port, self.target, connections, seconds, self.token, self.script)
-        other = Load(self.static.process.pid, self.static.port, self.file, connections, seconds, script=self.other_script)
-        self.loads.setdefault(connections, []).append((ours, other))
-        print(f"{self.label}, {connections}: {ours.rate:.0f} and {other.rate:.0f} requests a second", file=sys.stderr)
+    def take(self, connections, seconds, turn):
+        """One round: each build, the other one first in each second round, and nginx last."""
+        found, names = {}, list(self.servers)
+        for name in names if turn % 2 == 0 else names[::-1]:
+            server = self.servers[name]
+            found[name] = Load(server.process.pid, server.port, self.target, connections, seconds, self.token, self.script)
+        if self.static:
+            port = self.static.port
+            found[NGINX_NAME] = Load(self.static.process.pid, port, self.file, connections, seconds, script=self.other_script)
+        self.loads.setdefault(connections, []).append(found)
+        told = ", ".join(f"{name} {it.rate:.0f}" for name, it in found.items())
+        print(f"{self.label}, {connections}: {told} requests a second", file=sys.stderr)
+
+    def rows(self):
+        """For each number of connections the label, and what was measured of each by rounds."""
+        for connections, rounds in self.loads.items():
+            yield [f"{self.label}, {self.size} bytes", str(connections)], {name: [it[name] for it in rounds] for name in rounds[0]}
 
     def tell(self):
         """A row for each number of connections."""
-        for connections, pairs in self.loads.items():
-            ratio = spread([ours.rate / other.rate for ours, other in pairs], 1, "")
-            cells = [f"{self.label}, {self.size} bytes", str(connections)]
-            for loads in zip(*pairs):
+        for cells, found in self.rows():
+            for loads in (found[it] for it in [*self.servers, NGINX_NAME] if it in found):
                 cells.append(spread([it.rate for it in loads], 1, ""))
                 cells.append(f"{middle(loads, 'median', 1e3)} ms, {middle(loads, 'worst', 1e3)} ms")
                 cells.append(f"{middle(loads, 'processor', 1e6)} us")
-            print("| %s |" % " | ".join(cells + [ratio, *self.bound]))
+            if self.static:
+                cells += [spread(ratios(found[AFTER], found[NGINX_NAME], "rate"), 1, ""), *self.bound.requests]
+            line(cells)
+
+    def compare(self):
+        """A row for each number of connections: after against before."""
+        for cells, found in self.rows():
+            after, before = found[AFTER], found[BEFORE]
+            requests, processor, worst = (spread(ratios(after, before, it), 1, "") for it in ("rate", "processor", "worst"))
+            line([*cells, requests, processor, self.bound.processor, worst])
+
+
+def asked_of(server, target):
+    """The reply to a question of this target."""
+    with server.link() as link:
+        return send(link, generate.get(target))
+
+
+def ratios(loads, others, name):
+    """The ratio of what was measured of both, by rounds; none of what took no time that is told."""
+    pairs = [(getattr(one, name), getattr(other, name)) for one, other in zip(loads, others)]
+    return [one / other for one, other in pairs if other] or [float("nan")]
+
+
+def line(cells):
+    print("| %s |" % " | ".join(cells))
 
 
 def middle(loads, name, scale):
@@ -272,7 +322,7 @@ class Author(threading.Thread):
                 self.published += 1
 
 
-def while_publishing(program, lines, rounds, seconds):
+def while_publishing(name, program, lines, rounds, seconds):
     """The 99th percentile of operators' reads, idle and while the author publishes, in turns."""
     pairs, published = [], 0
     for _ in range(rounds):
@@ -287,7 +337,7 @@ def while_publishing(program, lines, rounds, seconds):
             author.join()
         pairs.append((idle, busy))
         published += author.published
-    print("\n| Measure | idle | while publishing | ratio | must | aim |\n|---|---|---|---|---|---|")
+    print(f"\n| Measure, {name} | idle | while publishing | ratio | must | aim |\n|---|---|---|---|---|---|")
     cells = [f"99th percentile of GET of a policy list, {PUBLISHING_CONNECTIONS} connections, {published / rounds / seconds:.1f} publications a second"]
     cells += [spread([it.worst for it in loads], 1e3, " ms") for loads in zip(*pairs)]
     cells.append(spread([busy.worst / idle.worst for idle, busy in pairs], 1, ""))
@@ -296,7 +346,7 @@ def while_publishing(program, lines, rounds, seconds):
     print("| %s | %s | | |" % (" | ".join(cells), spread([busy.rate / idle.rate for idle, busy in pairs], 1, "")))
 
 
-def idle_connections(program, lines):
+def idle_connections(name, program, lines):
     """The memory of connections that asked once and are silent now."""
     with contextlib.ExitStack() as stack:
         server = serve(stack, program, lines)
@@ -304,9 +354,24 @@ def idle_connections(program, lines):
         for _ in range(IDLE):
             send(stack.enter_context(server.link()), generate.get("/policies"))
         more = resident(server.process.pid) - before
-    print("\n| Measure | |\n|---|---|")
-    print(f"| memory of the server with a policy list of {SMALL} bytes | {before / 1e6:.1f} MB |")
-    print(f"| memory of {IDLE} idle connections | {more / 1e6:.1f} MB, {more / IDLE / 1024:.1f} KiB each |")
+    line([f"memory of the server with a policy list of {SMALL} bytes, {name}", f"{before / 1e6:.1f} MB"])
+    line([f"memory of {IDLE} idle connections, {name}", f"{more / 1e6:.1f} MB, {more / IDLE / 1024:.1f} KiB each"])
+
+
+def untaken_lists(name, program):
+    """The memory of connections that ask for a long list and never read."""
+    rings = generate.districts(generate.Xorshift(generate.SEED), LARGE_PLACES, 4, 0.2)
+    described = '{"description":"%s",' % ("d" * DESCRIPTION)
+    texts = [generate.geography(number, ring).replace("{", described, 1) for number, ring in enumerate(rings)]
+    lines = [generate.put_geography(number, text) for number, text in enumerate(texts)]
+    with contextlib.ExitStack() as stack:
+        server = serve(stack, program, [*lines, generate.publish(range(LARGE_PLACES))])
+        size, before = len(asked_of(server, "/geographies")), resident(server.process.pid)
+        for _ in range(UNTAKEN):
+            stack.enter_context(server.link(receive=4096)).send(request("GET", "/geographies", OPERATOR))
+        time.sleep(5)
+        more = resident(server.process.pid) - before
+    line([f"memory of {UNTAKEN} connections that ask for a list of {size / 1e6:.1f} MB and never read, {name}", f"{more / 1e6:.1f} MB"])
 
 
 @contextlib.contextmanager
@@ -340,7 +405,7 @@ def asked(server, question):
     return seconds, re.sub(rb'"at":\d+', b"", answer)
 
 
-def several_processors(program, rounds):
+def several_processors(name, program, rounds):
     """A question over the largest fleet, judged on one processor and on several."""
     processors = sorted(os.sched_getaffinity(0))
     if len(processors) < PROCESSORS:
@@ -363,63 +428,97 @@ def several_processors(program, rounds):
                 answers.add(answer)
     if len(answers) != 1:
         sys.exit("the answers on one processor and on several differ")
-    label = f"a question, {len(fleet)} vehicles, {MOST_RULES} rules, {EDGES} edges each, on {PROCESSORS} processors against one (speed-up)"
+    label = f"a question, {len(fleet)} vehicles, {MOST_RULES} rules, {EDGES} edges each, {name}, on {PROCESSORS} processors against one (speed-up)"
     speed = spread([one / several for one, several in zip(times[1], times[PROCESSORS])], 1, "")
     print("\n| Measure | one | several | speed-up | must | aim |\n|---|---|---|---|---|---|")
     print("| %s | %s | %s | %s | 2.5 | 3.5 |" % (label, *(spread(times[count], 1e3, " ms") for count in (1, PROCESSORS)), speed))
 
 
-def measures(stack, program, folder, static):
-    """All that is compared with nginx."""
+def measures(stack, programs, folder, static):
+    """All that is compared."""
     random = generate.Xorshift(generate.SEED)
     places = districts(random)
-    small = serve(stack, program, places + policies(random, SMALL))
-    large = serve(stack, program, places + policies(random, LARGE))
     fleet = [generate.put_policy(0, generate.policy(random, 0, RULES, range(RULES))), generate.publish([], [0])]
-    judged = serve(stack, program, places + fleet + generate.fleet(random, FLEET))
+    contents = {
+        "small": places + policies(random, SMALL),
+        "large": places + policies(random, LARGE),
+        "judged": places + fleet + generate.fleet(random, FLEET),
+    }
+    small, large, judged = ({name: serve(stack, it, lines) for name, it in programs.items()} for lines in contents.values())
     reports, in_turn = os.path.join(folder, "reports.lua"), os.path.join(folder, "in_turn.lua")
     with open(reports, "w", encoding="ascii") as text:
         text.write(REPORTS % generate.START)
     with open(in_turn, "w", encoding="ascii") as text:
         text.write(IN_TURN % " ".join(generate.token(it) for it in range(generate.OPERATORS)))
-    must = ("0.5", "0.8")
+    one, turns = "GET of a policy list by one operator", f"GET of a policy list by {generate.OPERATORS} operators in turn"
+    short, long = Bound(("0.5", "0.8")), Bound(("0.5", "0.8"), processor="0.75")
     return [
-        Measure("GET of a policy list by one operator", small, "/policies", static, must),
-        Measure("GET of a policy list by one operator", large, "/policies", static, must),
-        Measure(f"GET of a policy list by {generate.OPERATORS} operators in turn", small, "/policies", static, must, in_turn, other_script=in_turn),
-        Measure(f"GET of a policy list by {generate.OPERATORS} operators in turn", large, "/policies", static, must, in_turn, other_script=in_turn),
-        Measure("POST of a report", small, "/fleet/events", static, ("", ""), reports, OTHER, b'{"result":"changed"}'),
-        Measure(f"GET of compliance, {FLEET} vehicles, {RULES} rules", judged, "/compliance", static, ("", "")),
+        Measure(one, small, "/policies", static, short),
+        Measure(one, large, "/policies", static, long),
+        Measure(turns, small, "/policies", static, short, in_turn, other_script=in_turn),
+        Measure(turns, large, "/policies", static, long, in_turn, other_script=in_turn),
+        Measure("POST of a report", small, "/fleet/events", static, Bound(), reports, OTHER, b'{"result":"changed"}'),
+        Measure(f"GET of compliance, {FLEET} vehicles, {RULES} rules", judged, "/compliance", static, Bound()),
     ]
 
 
+def tell(all_, names, is_static):
+    """The tables of what was measured by wrk."""
+    columns = "requests a second | median, 99th percentile | processor time of a request"
+    heads = [f"{name}: {columns}" for name in (*names, *([NGINX_NAME] if is_static else []))]
+    against = ["requests, against nginx", "must", "aim"] if is_static else []
+    print()
+    line(["Measure", "connections", *heads, *against])
+    print("|" + "---|" * (2 + 3 * len(heads) + len(against)))
+    for measure in all_:
+        measure.tell()
+    if BEFORE in names:
+        print("\n| After against before | connections | requests | processor time of a request | must | 99th percentile |")
+        print("|" + "---|" * 6)
+        for measure in all_:
+            measure.compare()
+
+
 def main():
-    parser = argparse.ArgumentParser(description=__doc__)
+    parser = argparse.ArgumentParser(description=__doc__, formatter_class=argparse.RawDescriptionHelpFormatter)
     parser.add_argument("--program", default=PROGRAM, help="the built mds_serve")
+    parser.add_argument("--before", help="another build of mds_serve, which the first is compared with")
     parser.add_argument("--rounds", type=int, default=ROUNDS)
     parser.add_argument("--seconds", type=int, default=SECONDS, help="how long each measure takes")
+    parser.add_argument("--requests-alone", action="store_true", help="leave out what comes behind the tables of requests")
     options = parser.parse_args()
-    program = os.path.abspath(options.program)
-    if not shutil.which("wrk") or not shutil.which("nginx"):
-        sys.exit("the benchmark needs wrk and nginx")
+    programs = {BEFORE: options.before, AFTER: options.program}
+    programs = {name: os.path.abspath(it) for name, it in programs.items() if it}
+    if not shutil.which("wrk"):
+        sys.exit("the benchmark needs wrk")
     with tempfile.TemporaryDirectory() as folder, contextlib.ExitStack() as stack:
-        static = Static(folder)
-        stack.callback(static.stop)
-        all_ = measures(stack, program, folder, static)
+        static = Static(folder) if shutil.which("nginx") else None
+        if static:
+            stack.callback(static.stop)
+        else:
+            print("nginx isn't installed: nothing is compared with it")
+        all_ = measures(stack, programs, folder, static)
         for number in range(options.rounds):
             for measure in all_:
                 for connections in CONNECTIONS:
-                    measure.take(connections, options.seconds)
+                    measure.take(connections, options.seconds, number)
             print("load of the machine after round %d: %.2f" % (number + 1, os.getloadavg()[0]))
-        columns = "requests a second | median, 99th percentile | processor time of a request"
-        print(f"\n| Measure | connections | mds_serve: {columns} | nginx: {columns} | requests, against nginx | must | aim |")
-        print("|---|---|" + "---|" * 9)
-        for measure in all_:
-            measure.tell()
+        tell(all_, list(programs), static is not None)
+    if not options.requests_alone:
+        behind(programs, options.rounds)
+
+
+def behind(programs, rounds):
+    """What isn't measured by requests of one kind."""
     lines = districts(generate.Xorshift(generate.SEED)) + policies(generate.Xorshift(generate.SEED), SMALL)
-    while_publishing(program, lines, options.rounds, PUBLISHING_SECONDS)
-    idle_connections(program, lines)
-    several_processors(program, options.rounds)
+    for name, program in programs.items():
+        while_publishing(name, program, lines, rounds, PUBLISHING_SECONDS)
+    print("\n| Measure | |\n|---|---|")
+    for name, program in programs.items():
+        idle_connections(name, program, lines)
+        untaken_lists(name, program)
+    for name, program in programs.items():
+        several_processors(name, program, rounds)
 
 
 if __name__ == "__main__":

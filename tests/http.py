@@ -1,13 +1,14 @@
 #!/usr/bin/env python3
 """Tries a built mds_serve over loopback, by raw sockets: good requests, broken ones and hostile ones.
 
-    http.py PROGRAM [messages | loads]
+    http.py PROGRAM [messages | loads | short-loads]
 
 What is accepted as an answer stands in the protocol, and where a message is no HTTP in RFC 9110 and 9112: where these leave a
 choice, each of its sides is accepted. After each broken or hostile message the next request on a new connection is answered as if
 it hadn't come. The scripts of tests/replays are run too, those whose answers don't depend on when a request comes; the others are
-named. Then come the loads of tests/load.py. With a second word one of both is done. The messages take about 80 seconds, since the
-deadlines are waited for, the loads some three minutes. Prints what differs, and last 'N passed, M failed'; ends with 1 where one failed.
+named. Then come the loads of tests/load.py, one after another. With a second word one of both is done, or the short ones of the loads,
+side by side. The messages take about 80 seconds, since the deadlines are waited for, the loads some four minutes, the short ones up to
+90 seconds. Prints what differs, and last 'N passed, M failed'; ends with 1 where one failed.
 """
 
 import contextlib
@@ -597,20 +598,15 @@ def all_messages(tried, program, stack):
         tried.one(f"still_silent, {name}", still_silent(server))
 
 
-def loads(tried, program):
-    """Each load, one after another."""
-    for name, found in load.loads(program):
-        tried.one(name, found)
-
-
 def main(program, which=("messages", "loads")):
     tried = Tried()
     try:
         if "messages" in which:
             with contextlib.ExitStack() as stack:
                 all_messages(tried, program, stack)
-        if "loads" in which:
-            loads(tried, program)
+        if which != ["messages"]:
+            for name, found in load.loads(program, which == ["short-loads"]):
+                tried.one(name, found)
     except (OSError, ValueError) as fault:
         print(fault)
         tried.failed += 1
@@ -619,6 +615,6 @@ def main(program, which=("messages", "loads")):
 
 
 if __name__ == "__main__":
-    if len(sys.argv) not in (2, 3) or sys.argv[2:] not in ([], ["messages"], ["loads"]):
-        sys.exit("usage: http.py PROGRAM [messages | loads]")
+    if len(sys.argv) not in (2, 3) or sys.argv[2:] not in ([], ["messages"], ["loads"], ["short-loads"]):
+        sys.exit("usage: http.py PROGRAM [messages | loads | short-loads]")
     sys.exit(main(os.path.abspath(sys.argv[1]), *[sys.argv[2:]][: len(sys.argv) - 2]))

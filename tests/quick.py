@@ -5,9 +5,9 @@
 
 The tests of each crate that has some are built and run by `rt try --test`, and mds_replay and mds_serve are built by `rt try`
 (tests/unproved.py), as many at once as there are processors and memory; a proved program is taken where it is built and no source is
-newer. Then come the scripts (replays.py), the messages (http.py), a short stress (stress.py), some refused growths of memory
-(growths.py) and the check of docs/openapi.yaml (openapi.py), which has failed where its two Debian packages are missing. What a part
-prints comes once the part is over. Last comes 'N passed, M failed' over all parts; ends with 1 where one failed.
+newer. Then come the scripts (replays.py), the messages and the short loads (http.py), a short stress (stress.py), some refused growths
+of memory (growths.py) and the check of docs/openapi.yaml (openapi.py), which has failed where its two Debian packages are missing. What a
+part prints comes once the part is over. Last comes 'N passed, M failed' over all parts; ends with 1 where one failed.
 """
 
 import contextlib
@@ -118,6 +118,7 @@ def parts(room):
     either = slow["mds_serve"] or slow["mds_replay"]
     stress = ("stress.py", "20", "4", "--serve", serve, "--replay", replay)
     add("messages", 5, served, lambda: script("http.py", serve, "messages", slow=slow["mds_serve"]))
+    add("short loads", 1, served, lambda: script("http.py", serve, "short-loads", slow=slow["mds_serve"]))
     for part in range(1, SCRIPT_PARTS + 1):
         words = ("replays.py", replay, str(part), str(SCRIPT_PARTS))
         call = lambda words=words: script(*words, slow=slow["mds_replay"])
