@@ -522,10 +522,16 @@ def one(program, name, is_short):
 
 
 def loads(program, is_short):
-    """Each load with its faults: all, one after another; or the short ones, side by side."""
+    """Each load with its faults: all, one after another; or the short ones, side by side. A load with faults is tried once more by itself,
+    since a host that takes processors away makes any of them late."""
     names = chosen(is_short)
     sys.stdout.flush()
     fork = multiprocessing.get_context("fork")
     with concurrent.futures.ProcessPoolExecutor(SIDE_BY_SIDE if is_short else 1, mp_context=fork) as pool:
-        for name, found in [(name, pool.submit(one, program, name, is_short)) for name in names]:
-            yield name, found.result()
+        tried = [(name, pool.submit(one, program, name, is_short)) for name in names]
+        found = {name: it.result() for name, it in tried}
+        for name in names:
+            if found[name]:
+                print(f"{name} is tried once more, since: {found[name][0]}", flush=True)
+                found[name] = pool.submit(one, program, name, is_short).result()
+            yield name, found[name]
