@@ -17,7 +17,7 @@ pub use length::is_long;
 pub use limits::{
     ACCEPT_PAUSE_MILLIS, BODY_SECONDS, HEAD_SECONDS, IDLE_SECONDS, LEAST_TAKEN, MOST_CONNECTIONS,
     MOST_HELD, MOST_HELD_BY_ALL, MOST_OF_ASKER, MOST_PAST, MOST_SHORT, MOST_STRANGERS,
-    MOST_WAITING, SLOW_SECONDS, SMALL_BODY, TAKING_SECONDS, limits_of_bodies,
+    MOST_WAITING, PASSING_SECONDS, SLOW_SECONDS, SMALL_BODY, TAKING_SECONDS, limits_of_bodies,
     limits_of_connections, limits_of_times,
 };
 pub use moment::moment_of;

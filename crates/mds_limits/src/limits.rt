@@ -18,6 +18,9 @@ pub const HEAD_SECONDS: u64 = 10;
 /// How long a body may take to come, after its head. A connection whose body is late is closed.
 pub const BODY_SECONDS: u64 = 30;
 
+/// How long a body is read past whose request may not wait. The request is answered then.
+pub const PASSING_SECONDS: u64 = 2;
+
 /// How long a connection may be idle. It is closed then.
 pub const IDLE_SECONDS: u64 = 60;
 
@@ -61,11 +64,12 @@ pub fn limits_of_connections()
     ensures short { MOST_SHORT ≡ 4096 }
 {}
 
-/// A head has 10 seconds, a body 30, an idle connection 60; nothing of a reply is taken for at most 30, and 16 KiB a
+/// A head has 10 seconds, a body 30, or 2 where it is read past for a busy server, an idle connection 60; nothing of a reply is taken for at most 30, and 16 KiB a
 /// second of it after 120. No connection is accepted for 20 milliseconds after one that couldn't be.
 pub fn limits_of_times()
     ensures head { HEAD_SECONDS ≡ 10 }
     ensures body { BODY_SECONDS ≡ 30 }
+    ensures passing { PASSING_SECONDS ≡ 2 }
     ensures idle { IDLE_SECONDS ≡ 60 }
     ensures taking { TAKING_SECONDS ≡ 30 }
     ensures slow { SLOW_SECONDS ≡ 120 }

@@ -1,0 +1,47 @@
+//! Connections as they are accepted.
+use futures::Future;
+use futures::task::{Context, Poll};
+use mds_limits::ACCEPT_PAUSE_MILLIS;
+use std::io;
+use std::time::{Clock, Duration};
+use tokio::net::TcpStream;
+use tokio::time::{Handle, Sleep};
+
+/// A connection that was accepted, or a pause after one that couldn't be: where no descriptor is left, the
+/// next can't be either.
+#[derive(Drop)]
+pub struct Admission {
+    socket: Option<TcpStream>,
+    pause: Option<Sleep>,
+}
+
+impl Admission {
+    /// What came of an accept.
+    pub fn new<C: Clock>(accepted: io::Result<TcpStream>, clock: &C, timers: &Handle) -> Admission {
+        match accepted {
+            Ok(socket) => Admission {
+                socket: Some(socket),
+                pause: None,
+            },
+            Err(_) => Admission {
+                socket: None,
+                pause: timers
+                    .sleep(clock, Duration::from_millis(ACCEPT_PAUSE_MILLIS))
+                    .ok(),
+            },
+        }
+    }
+}
+
+impl Future for Admission {
+    type Output = Option<TcpStream>;
+
+    fn poll(&mut self, cx: &mut Context<'_>) -> Poll<Option<TcpStream>> {
+        if let Some(pause) = &mut self.pause
+            && pause.poll(cx).is_pending()
+        {
+            return Poll::Pending;
+        }
+        Poll::Ready(self.socket.take())
+    }
+}

@@ -1,0 +1,143 @@
+//! A body is taken in.
+ghost use Rattle.std.specs.Prelude.{◌≡◌};
+ghost use Rattle.futures.specs.Task.{Keeps};
+
+use bytes::{Bytes, BytesQueue};
+use futures::task::{Context, Poll};
+use futures::{Future, ready};
+use http_body::{Body, Frame};
+use hyper::body::Incoming;
+use mds_limits::{Arrival, End, Piece, counted};
+use std::alloc::Global;
+
+/// How many pieces are taken in a row before other tasks are let run.
+const PIECES: usize = 32;
+
+/// How a body arrived, and all of it, where it arrived whole; else nothing of it.
+#[derive(Drop)]
+pub struct Taken {
+    pub arrival: Arrival,
+    pub body: Bytes,
+}
+
+/// The future of a body: its bytes, within the limit of a body. One that is too long is read past.
+#[derive(Drop)]
+pub struct Intake<I> {
+    body: Incoming<I>,
+    alloc: Global,
+    /// What came; none, where the body is read past.
+    kept: Option<BytesQueue>,
+    /// How many bytes came.
+    length: usize,
+}
+
+impl Taken {
+    /// Nothing of a body.
+    pub fn nothing(arrival: Arrival) -> Taken
+        ensures { result.arrival ≡ arrival }
+    {
+        Taken {
+            arrival,
+            body: Bytes::new(),
+        }
+    }
+}
+
+impl<I: Drop> Intake<I> {
+    /// Takes in a body of which nothing was read.
+    pub fn new(alloc: Global, body: Incoming<I>) -> Intake<I> {
+        Intake {
+            body,
+            alloc,
+            kept: Some(BytesQueue::new(alloc)),
+            length: 0,
+        }
+    }
+
+    /// How many bytes the body counts as.
+    pub fn counts(&self) -> usize {
+        counted(self.body.size_hint().exact())
+    }
+
+    /// Nothing of the body is kept from now on: it is read past.
+    pub fn pass(&mut self) {
+        self.kept = None;
+    }
+
+    /// Takes a piece in; its end, where nothing more is to be read.
+    fn take(&mut self, frame: Frame<Bytes>) -> Option<End>
+        ensures { self.new.body ≡ self.old.body }
+    {
+        let Ok(data) = frame.into_data() else {
+            return None;
+        };
+        let piece = Piece::at(self.length, data.len());
+        self.length = self.length.saturating_add(data.len());
+        match piece {
+            Piece::Kept => self.keep(data),
+            Piece::Passed => {
+                self.kept = None;
+                None
+            }
+            Piece::Refused => Some(End::Refused),
+        }
+    }
+
+    /// Keeps a piece, unless the body is read past.
+    fn keep(&mut self, data: Bytes) -> Option<End>
+        ensures { self.new.body ≡ self.old.body }
+    {
+        match self.kept.as_mut()?.push(data) {
+            Ok(()) => None,
+            Err(_) => Some(End::NoMemory),
+        }
+    }
+
+    /// How the body arrived whose reading ended so.
+    fn taken(&mut self, end: End) -> Taken {
+        match Arrival::of(end, self.length) {
+            Arrival::Whole => match self.whole() {
+                Some(body) => Taken {
+                    arrival: Arrival::Whole,
+                    body,
+                },
+                None => Taken::nothing(Arrival::NoMemory),
+            },
+            arrival => Taken::nothing(arrival),
+        }
+    }
+
+    /// All that came; none, where it wasn't kept, or there is no memory to join it.
+    fn whole(&mut self) -> Option<Bytes> {
+        let mut kept = self.kept.take()?;
+        let length = kept.len();
+        kept.split_to(self.alloc, length).ok()
+    }
+}
+
+/// How the reading of a body ends with this error.
+fn end_of(error: &hyper::Error) -> End {
+    if error.is_out_of_memory() {
+        End::NoMemory
+    } else {
+        End::Broken
+    }
+}
+
+impl<I: Drop> Future for Intake<I> {
+    type Output = Taken;
+
+    fn poll(&mut self, cx: &mut Context<'_>) -> Poll<Taken> {
+        for _ in 0..PIECES {
+            let end = match ready!(self.body.poll_frame(cx)) {
+                None => Some(End::Over),
+                Some(Err(error)) => Some(end_of(&error)),
+                Some(Ok(frame)) => self.take(frame),
+            };
+            if let Some(end) = end {
+                return Poll::Ready(self.taken(end));
+            }
+        }
+        cx.yield_now()
+    }
+}

@@ -1,0 +1,28 @@
+//! The connections of a server: who may take a seat, their requests, each in its turn, what may wait, and the limits and
+//! deadlines of what comes and goes over a socket.
+#![tactic(auto)]
+
+mod admission;
+mod door;
+mod exchange;
+mod house;
+mod intake;
+mod paced;
+mod queues;
+mod replies;
+mod seats;
+mod sending;
+mod serving;
+mod sits;
+mod sitting;
+#[cfg(test)]
+mod tests;
+mod watch;
+
+pub use admission::Admission;
+pub use house::{Answers, House};
+pub use intake::Taken;
+pub use queues::Queues;
+pub use replies::{busy, closing, finished};
+pub use seats::Register;
+pub use serving::{Seating, serve_all};

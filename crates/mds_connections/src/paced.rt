@@ -1,0 +1,211 @@
+//! A connection that fails where its peer takes too long.
+ghost use Rattle.std.specs.Prelude.{◌≡◌};
+ghost use Rattle.futures.specs.Task.{Keeps};
+
+use crate::sending::Sending;
+use crate::sits::Sits;
+use futures::Future;
+use futures::task::{Context, Poll};
+use mds_limits::{Stage, is_answering};
+use std::alloc::AllocError;
+use std::io;
+use tokio::io::{AsyncRead, AsyncWrite};
+use tokio::sync::OwnedNotified;
+use tokio::time::Sleep;
+
+/// By when something has to come.
+#[derive(Drop)]
+struct Limit {
+    stage: Stage,
+    sleep: Sleep,
+}
+
+/// A socket whose reads fail where a head takes longer than `HEAD_SECONDS` from its first byte, where none begins for
+/// `IDLE_SECONDS`, or where the connection is told to leave while it waits for one; and whose writes fail where too little
+/// of a reply is taken.
+#[derive(Drop)]
+pub struct Paced<I, P> {
+    io: I,
+    sitting: P,
+    told: OwnedNotified,
+    limit: Option<Limit>,
+    /// How many bytes of a reply were taken, until it is taken whole.
+    taken: u64,
+    sending: Option<Sending>,
+}
+
+impl Limit {
+    /// The limit of a stage; none, where the clock can't be read or memory is refused.
+    fn new<P: Sits>(sitting: &P, stage: Stage) -> Option<Limit> {
+        let sleep = sitting.sleep(stage.seconds())?;
+        Some(Limit { stage, sleep })
+    }
+}
+
+impl<I: Drop, P: Sits> Paced<I, P> {
+    /// A socket of which nothing was read.
+    ///
+    /// # Errors
+    ///
+    /// There are too many shares.
+    pub fn new(io: I, sitting: P) -> Result<Paced<I, P>, AllocError> {
+        Ok(Paced {
+            io,
+            told: sitting.told()?,
+            sitting,
+            limit: None,
+            taken: 0,
+            sending: None,
+        })
+    }
+
+    /// Begins the time of a head, or that of an idle connection, unless it runs already. A connection isn't idle while a
+    /// request is answered or its reply is taken.
+    fn begin(&mut self, is_head: bool)
+        ensures { self.new.io ≡ self.old.io }
+    {
+        let pace = self.sitting.pace();
+        if is_answering(pace) || (!is_head && self.is_sending()) {
+            self.limit = None;
+            return;
+        }
+        let stage = Stage { pace, is_head };
+        if self
+            .limit
+            .as_ref()
+            .is_some_and(|limit| limit.stage.goes_on(stage))
+        {
+            return;
+        }
+        if !is_head {
+            self.sitting.rest();
+        }
+        self.limit = Limit::new(&self.sitting, stage);
+    }
+
+    /// Whether the time that runs is over, or the connection was told to leave.
+    fn is_over(&mut self, cx: &mut Context<'_>) -> bool
+        ensures same { self.new.io ≡ self.old.io }
+        ensures kept { Keeps cx.old cx.new }
+    {
+        match &mut self.limit {
+            Some(limit) => limit.sleep.poll(cx).is_ready() || self.told.poll(cx).is_ready(),
+            None => false,
+        }
+    }
+
+    /// Whether a reply isn't taken whole.
+    fn is_sending(&self) -> bool {
+        self.taken > 0 || self.sending.is_some()
+    }
+
+    /// So many bytes of a reply were taken.
+    fn take(&mut self, count: usize)
+        ensures { self.new.io ≡ self.old.io }
+    {
+        self.taken = self.taken.saturating_add(count as u64);
+        if let Some(sending) = &mut self.sending {
+            sending.moves();
+        }
+    }
+
+    /// Whether too little of a reply is taken, of which nothing can be written now.
+    fn is_untaken(&mut self, cx: &mut Context<'_>) -> bool
+        ensures same { self.new.io ≡ self.old.io }
+        ensures kept { Keeps cx.old cx.new }
+    {
+        if self.sending.is_none() {
+            self.sending = Sending::new(&self.sitting);
+        }
+        match &mut self.sending {
+            Some(sending) => sending.is_late(&self.sitting, self.taken, cx),
+            None => false,
+        }
+    }
+
+    /// The reply is taken whole, and the connection waits for a request.
+    fn rest(&mut self)
+        ensures { self.new.io ≡ self.old.io }
+    {
+        self.taken = 0;
+        self.sending = None;
+        self.begin(false);
+    }
+}
+
+impl<I: AsyncRead, P: Sits> AsyncRead for Paced<I, P> {
+    ghost reads = { λ a xs b. I.reads a.io xs b.io };
+
+    ghost is_at_end = { λ r. I.is_at_end r.io };
+
+    ghost reads_nothing = { λ r. I.reads_nothing r.io };
+
+    ghost reads_in_order = { λ a xs b ys c. I.reads_in_order a.io xs b.io ys c.io };
+
+    fn poll_read(&mut self, cx: &mut Context<'_>, buf: &mut [u8]) -> Poll<io::Result<usize>> {
+        match self.io.poll_read(cx, buf) {
+            Poll::Ready(Ok(count)) => {
+                if count > 0 {
+                    self.begin(true);
+                }
+                Poll::Ready(Ok(count))
+            }
+            Poll::Ready(Err(error)) => Poll::Ready(Err(error)),
+            Poll::Pending => {
+                self.begin(false);
+                if self.is_over(cx) {
+                    return Poll::Ready(Err(io::ErrorKind::TimedOut.into()));
+                }
+                Poll::Pending
+            }
+        }
+    }
+}
+
+impl<I: AsyncWrite, P: Sits> AsyncWrite for Paced<I, P> {
+    ghost writes = { λ a xs b. I.writes a.io xs b.io };
+
+    ghost is_flushed = { λ w. I.is_flushed w.io };
+
+    ghost is_shut_down = { λ w. I.is_shut_down w.io };
+
+    ghost is_full = { λ w. I.is_full w.io };
+
+    ghost writes_nothing = { λ w. I.writes_nothing w.io };
+
+    ghost writes_in_order = { λ a xs b ys c. I.writes_in_order a.io xs b.io ys c.io };
+
+    fn poll_write(&mut self, cx: &mut Context<'_>, buf: &[u8]) -> Poll<io::Result<usize>> {
+        match self.io.poll_write(cx, buf) {
+            Poll::Ready(Ok(count)) => {
+                self.take(count);
+                Poll::Ready(Ok(count))
+            }
+            Poll::Ready(Err(error)) => Poll::Ready(Err(error)),
+            Poll::Pending => {
+                if self.is_untaken(cx) {
+                    return Poll::Ready(Err(io::ErrorKind::TimedOut.into()));
+                }
+                Poll::Pending
+            }
+        }
+    }
+
+    fn poll_flush(&mut self, cx: &mut Context<'_>) -> Poll<io::Result<()>> {
+        match self.io.poll_flush(cx) {
+            Poll::Ready(Ok(())) => {
+                self.rest();
+                if self.is_over(cx) {
+                    return Poll::Ready(Err(io::ErrorKind::TimedOut.into()));
+                }
+                Poll::Ready(Ok(()))
+            }
+            Poll::Ready(Err(error)) => Poll::Ready(Err(error)),
+            Poll::Pending => Poll::Pending,
+        }
+    }
+
+    fn poll_shutdown(&mut self, cx: &mut Context<'_>) -> Poll<io::Result<()>> {
+        self.io.poll_shutdown(cx)
+    }
+}

@@ -1,0 +1,292 @@
+//! The connections of a server, whose they are, and what waits of each who asks.
+use mds_limits::{Asker, Decision, Load, may_wait, seat_for};
+use slab::Slab;
+use std::alloc::{AllocError, Global};
+use std::collections::BTreeMap;
+use std::sync::Arc;
+use std::sync::atomic::AtomicU64;
+use tokio::sync::{Notify, OwnedNotified};
+
+/// What all that have a part in a connection know of it.
+#[derive(Drop)]
+pub struct Seat {
+    /// How far it is: even while it waits for a head, odd while a request is answered.
+    pub pace: AtomicU64,
+    /// Tells the connection to leave.
+    leave: Arc<Notify>,
+}
+
+/// Whether a request may wait for its answer.
+#[derive(Clone, Copy, Debug, PartialEq, Eq)]
+pub enum Admittance {
+    /// It may, in this asker's queue.
+    Admitted(Asker),
+    /// Too much waits already, no seat is left for a connection of who asks, or the connection was told to leave.
+    Busy,
+}
+
+/// A connection that has a seat.
+#[derive(Drop)]
+struct Sitter {
+    /// The place of who asks over it.
+    asker: usize,
+    /// It was told to leave, and isn't counted any more.
+    is_told: bool,
+    /// Since when it is idle, where it is.
+    since: Option<u64>,
+    /// The bytes that the body of the request counts as whose answer isn't made.
+    waits: Option<usize>,
+    seat: Arc<Seat>,
+}
+
+/// Who sits where, and what waits.
+#[derive(Drop)]
+pub struct Register {
+    sitters: Slab<Sitter>,
+    /// How often a connection began to be idle: later ones have a higher number.
+    rests: u64,
+    /// The keys of each asker's idle connections, by since when they are.
+    idle: Vec<BTreeMap<u64, usize>>,
+    /// How many connections each who asks has: strangers, the author, and then the operators.
+    counts: Vec<usize>,
+    /// What waits of each of these.
+    loads: Vec<Load>,
+    /// How many connections there are.
+    all: usize,
+    /// The bytes that wait of all.
+    bytes: usize,
+}
+
+impl Seat {
+    /// A seat of a connection that waits for its first head.
+    ///
+    /// # Errors
+    ///
+    /// Memory ran out.
+    pub fn new(alloc: Global) -> Result<Seat, AllocError> {
+        Ok(Seat {
+            pace: AtomicU64::new(0),
+            leave: Arc::new(alloc, Notify::new(alloc)?)?,
+        })
+    }
+
+    /// Hears when the connection is told to leave.
+    ///
+    /// # Errors
+    ///
+    /// There are too many shares.
+    pub fn told(&self) -> Result<OwnedNotified, AllocError> {
+        Ok(Notify::notified_owned(Arc::try_clone(&self.leave)?))
+    }
+}
+
+impl Register {
+    /// A register of no connection, for so many who ask.
+    ///
+    /// # Errors
+    ///
+    /// Memory ran out.
+    pub fn new(alloc: Global, askers: usize) -> Result<Register, AllocError> {
+        let none = Load {
+            requests: 0,
+            bytes: 0,
+        };
+        let mut idle = Vec::with_capacity(alloc, askers)?;
+        for _ in 0..askers {
+            idle.push(BTreeMap::new(alloc))?;
+        }
+        Ok(Register {
+            sitters: Slab::new(alloc),
+            rests: 0,
+            idle,
+            counts: vec![in alloc; 0; askers]?,
+            loads: vec![in alloc; none; askers]?,
+            all: 0,
+            bytes: 0,
+        })
+    }
+
+    /// Gives a stranger's connection a seat, and tells its key; none, where there is no seat for it.
+    pub fn enter(&mut self, seat: Arc<Seat>) -> Option<usize> {
+        let asker = Asker::Stranger.index();
+        if !self.makes_room(asker) {
+            return None;
+        }
+        let sitter = Sitter {
+            asker,
+            is_told: false,
+            since: None,
+            waits: None,
+            seat,
+        };
+        match self.sitters.insert(sitter) {
+            Ok(key) => {
+                self.rest(key);
+                Some(key)
+            }
+            Err(_) => {
+                self.uncount(asker);
+                None
+            }
+        }
+    }
+
+    /// The connection is idle from now on: nothing of its last reply is left, and no further head has come. Where there is no
+    /// memory to note it, it isn't told to leave.
+    pub fn rest(&mut self, key: usize) {
+        self.stir(key);
+        let Some(sitter) = self.sitters.get_mut(key) else {
+            return;
+        };
+        if sitter.is_told {
+            return;
+        }
+        self.rests = self.rests.saturating_add(1);
+        if let Some(idle) = self.idle.get_mut(sitter.asker)
+            && idle.insert(self.rests, key).is_ok()
+        {
+            sitter.since = Some(self.rests);
+        }
+    }
+
+    /// Whether a request of this asker, whose body counts as so many bytes, may wait. Where it may, it waits from now on.
+    pub fn ask(&mut self, key: usize, asker: Asker, bytes: usize) -> Admittance {
+        match self.sitters.get(key) {
+            Some(sitter) if !sitter.is_told => {}
+            _ => return Admittance::Busy,
+        }
+        self.stir(key);
+        if asker != Asker::Stranger && !self.becomes(key, asker.index()) {
+            return Admittance::Busy;
+        }
+        if self.waits(key, bytes) {
+            Admittance::Admitted(asker)
+        } else {
+            Admittance::Busy
+        }
+    }
+
+    /// The answer of the connection's request is made.
+    pub fn answered(&mut self, key: usize) {
+        let Some(sitter) = self.sitters.get_mut(key) else {
+            return;
+        };
+        let asker = sitter.asker;
+        let Some(bytes) = sitter.waits.take() else {
+            return;
+        };
+        self.bytes = self.bytes.saturating_sub(bytes);
+        if let Some(load) = self.loads.get_mut(asker) {
+            load.requests = load.requests.saturating_sub(1);
+            load.bytes = load.bytes.saturating_sub(bytes);
+        }
+    }
+
+    /// The connection has ended.
+    pub fn leave(&mut self, key: usize) {
+        self.stir(key);
+        self.answered(key);
+        if let Some(sitter) = self.sitters.try_remove(key)
+            && !sitter.is_told
+        {
+            self.uncount(sitter.asker);
+        }
+    }
+
+    /// The connection isn't idle any more.
+    fn stir(&mut self, key: usize) {
+        let Some(sitter) = self.sitters.get_mut(key) else {
+            return;
+        };
+        let Some(since) = sitter.since.take() else {
+            return;
+        };
+        if let Some(idle) = self.idle.get_mut(sitter.asker) {
+            idle.remove(&since);
+        }
+    }
+
+    fn count(&mut self, asker: usize) {
+        self.all = self.all.saturating_add(1);
+        if let Some(count) = self.counts.get_mut(asker) {
+            *count = count.saturating_add(1);
+        }
+    }
+
+    fn uncount(&mut self, asker: usize) {
+        self.all = self.all.saturating_sub(1);
+        if let Some(count) = self.counts.get_mut(asker) {
+            *count = count.saturating_sub(1);
+        }
+    }
+
+    /// Counts one more connection of this asker. Another one may be told to leave for it; false, where none can be.
+    fn makes_room(&mut self, asker: usize) -> bool {
+        self.count(asker);
+        match seat_for(&self.counts, self.all, asker) {
+            Decision::Take => true,
+            Decision::Close(of) => {
+                let is_told = self.tells_oldest(of);
+                if !is_told {
+                    self.uncount(asker);
+                }
+                is_told
+            }
+        }
+    }
+
+    /// Tells the oldest idle connection of this asker to leave; false, where none is idle.
+    fn tells_oldest(&mut self, asker: usize) -> bool {
+        let Some(idle) = self.idle.get_mut(asker) else {
+            return false;
+        };
+        let Some((_, key)) = idle.pop_first() else {
+            return false;
+        };
+        if let Some(sitter) = self.sitters.get_mut(key) {
+            sitter.since = None;
+            sitter.is_told = true;
+            sitter.seat.leave.notify_one();
+        }
+        self.uncount(asker);
+        true
+    }
+
+    /// The connection becomes one of this asker's; false, where there is no seat for it.
+    fn becomes(&mut self, key: usize, asker: usize) -> bool {
+        let former = match self.sitters.get(key) {
+            Some(sitter) => sitter.asker,
+            None => return false,
+        };
+        if former == asker {
+            return true;
+        }
+        self.uncount(former);
+        if !self.makes_room(asker) {
+            self.count(former);
+            return false;
+        }
+        if let Some(sitter) = self.sitters.get_mut(key) {
+            sitter.asker = asker;
+        }
+        true
+    }
+
+    /// Lets the connection's request wait; false, where too much waits already.
+    fn waits(&mut self, key: usize, bytes: usize) -> bool {
+        let Some(sitter) = self.sitters.get_mut(key) else {
+            return false;
+        };
+        let Some(load) = self.loads.get_mut(sitter.asker) else {
+            return false;
+        };
+        if !may_wait(*load, self.bytes, bytes) {
+            return false;
+        }
+        load.requests = load.requests.saturating_add(1);
+        load.bytes = load.bytes.saturating_add(bytes);
+        self.bytes = self.bytes.saturating_add(bytes);
+        sitter.waits = Some(bytes);
+        true
+    }
+}

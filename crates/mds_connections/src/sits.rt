@@ -1,0 +1,83 @@
+//! What a connection has of its server.
+use crate::intake::Taken;
+use crate::seats::Admittance;
+use bytes::Bytes;
+use http::Response;
+use http::request::Parts;
+use http_body_util::Full;
+use mds_limits::Asker;
+use std::alloc::{AllocError, Global};
+use std::time::Instant;
+use tokio::sync::{AcquireOwned, OwnedNotified};
+use tokio::time::Sleep;
+
+/// What a connection has of its house, or who lets connections in. The types of a connection's own hold it as a parameter:
+/// the proof of what serves them goes over all that stands in a type, and so over nothing of a house.
+pub trait Sits: Drop {
+    ghost use Rattle.std.specs.Prelude.{⊤, IfSome};
+    ghost use Rattle.tokio.specs.Locks.{CanAcquire};
+
+    /// What it takes to answer.
+    ghost may_answer: { Type 0 } = { ⊤ };
+
+    /// The same for one more connection, which begins as a stranger's; none, where there is no seat for it.
+    fn enter(&self) -> Option<Self>;
+
+    /// The same once more.
+    ///
+    /// # Errors
+    ///
+    /// There are too many shares.
+    fn again(&self) -> Result<Self, AllocError>;
+
+    /// The allocator.
+    fn alloc(&self) -> Global;
+
+    /// A time of so many seconds that begins now; none, where the clock can't be read or memory is refused.
+    fn sleep(&self, seconds: u64) -> Option<Sleep>;
+
+    /// The time; none, where the clock can't be read.
+    fn now(&self) -> Option<Instant>;
+
+    /// How many seconds have gone since then; 0, where the clock can't be read.
+    fn seconds_since(&self, since: Instant) -> u32;
+
+    /// How far the connection is: even while it waits for a head, odd while a request is answered.
+    fn pace(&self) -> u64;
+
+    /// Hears when the connection is told to leave.
+    ///
+    /// # Errors
+    ///
+    /// There are too many shares.
+    fn told(&self) -> Result<OwnedNotified, AllocError>;
+
+    /// A head has come, whose body counts as so many bytes: who asks, where the request may wait.
+    fn ask(&self, parts: &Parts, bytes: usize) -> Admittance;
+
+    /// A place in this asker's queue; none, where there is no queue for it.
+    fn place(&self, asker: Asker, takes_long: bool) -> Option<AcquireOwned>
+        ensures { IfSome result CanAcquire };
+
+    /// The reply to the request whose body was taken in.
+    ///
+    /// # Errors
+    ///
+    /// There was no memory for it.
+    fn answer(
+        &self,
+        parts: &Parts,
+        taken: Taken,
+        takes_long: bool,
+    ) -> Result<Response<Full<Bytes>>, AllocError>
+        requires ready { may_answer };
+
+    /// The request waits no more: its reply is made. What it waited with is given back.
+    fn made(&self);
+
+    /// Nothing of a reply is left, and no further head has come.
+    fn rest(&self);
+
+    /// The connection has ended.
+    fn leave(&self);
+}

@@ -1,0 +1,146 @@
+//! A share of a house.
+use crate::house::{Answers, House};
+use crate::intake::Taken;
+use crate::seats::{Admittance, Seat};
+use crate::sits::Sits;
+use crate::watch::Bell;
+use bytes::Bytes;
+use http::Response;
+use http::request::Parts;
+use http_body_util::Full;
+use mds_limits::Asker;
+use std::alloc::{AllocError, Global};
+use std::sync::atomic::Ordering;
+use std::sync::{Arc, Wait};
+use std::time::{Clock, Duration, Instant};
+use tokio::sync::{AcquireOwned, OwnedNotified};
+use tokio::time::Sleep;
+
+/// A share of a house, and a seat in it, under a key in the register. Who lets connections in has none.
+#[derive(Drop)]
+pub struct Sitting<A, C> {
+    house: Arc<House<A, C>>,
+    seat: Arc<Seat>,
+    bell: Arc<Bell>,
+    key: Option<usize>,
+}
+
+impl<A, C> Sitting<A, C> {
+    /// The share of who lets connections in.
+    pub fn usher(house: Arc<House<A, C>>, seat: Arc<Seat>, bell: Arc<Bell>) -> Sitting<A, C> {
+        Sitting {
+            house,
+            seat,
+            bell,
+            key: None,
+        }
+    }
+}
+
+impl<A: Answers, C: Clock + Wait + Drop> Sits for Sitting<A, C> {
+    ghost may_answer = { A.may_answer };
+
+    fn enter(&self) -> Option<Sitting<A, C>> {
+        let alloc = self.house.alloc;
+        let seat = Arc::new(alloc, Seat::new(alloc).ok()?).ok()?;
+        let shared = Arc::try_clone(&seat).ok()?;
+        let bell = Arc::try_clone(&self.bell).ok()?;
+        let house = Arc::try_clone(&self.house).ok()?;
+        let key = house.register.lock(&house.clock).enter(shared)?;
+        Some(Sitting {
+            house,
+            seat,
+            bell,
+            key: Some(key),
+        })
+    }
+
+    fn again(&self) -> Result<Sitting<A, C>, AllocError> {
+        Ok(Sitting {
+            house: Arc::try_clone(&self.house)?,
+            seat: Arc::try_clone(&self.seat)?,
+            bell: Arc::try_clone(&self.bell)?,
+            key: self.key,
+        })
+    }
+
+    fn alloc(&self) -> Global {
+        self.house.alloc
+    }
+
+    fn sleep(&self, seconds: u64) -> Option<Sleep> {
+        self.house
+            .timers
+            .sleep(&self.house.clock, Duration::from_secs(seconds))
+            .ok()
+    }
+
+    fn now(&self) -> Option<Instant> {
+        Instant::now(&self.house.clock).ok()
+    }
+
+    fn seconds_since(&self, since: Instant) -> u32 {
+        match since.elapsed(&self.house.clock) {
+            Ok(elapsed) => u32::try_from(elapsed.as_secs()).unwrap_or(u32::MAX),
+            Err(_) => 0,
+        }
+    }
+
+    fn pace(&self) -> u64 {
+        self.seat.pace.load(Ordering::SeqCst)
+    }
+
+    fn told(&self) -> Result<OwnedNotified, AllocError> {
+        self.seat.told()
+    }
+
+    fn ask(&self, parts: &Parts, bytes: usize) -> Admittance {
+        let asker = self.house.answers.asker(parts);
+        self.seat.pace.fetch_add(1, Ordering::SeqCst);
+        match self.key {
+            Some(key) => self
+                .house
+                .register
+                .lock(&self.house.clock)
+                .ask(key, asker, bytes),
+            None => Admittance::Busy,
+        }
+    }
+
+    fn place(&self, asker: Asker, takes_long: bool) -> Option<AcquireOwned> {
+        self.house.queues.place(asker, takes_long)
+    }
+
+    fn answer(
+        &self,
+        parts: &Parts,
+        taken: Taken,
+        takes_long: bool,
+    ) -> Result<Response<Full<Bytes>>, AllocError>
+        requires { A.may_answer }
+    {
+        if takes_long {
+            self.bell.ring();
+        }
+        self.house.answers.answer(parts, taken)
+    }
+
+    fn made(&self) {
+        self.seat.pace.fetch_add(1, Ordering::SeqCst);
+        if let Some(key) = self.key {
+            self.house.register.lock(&self.house.clock).answered(key);
+        }
+    }
+
+    fn rest(&self) {
+        if let Some(key) = self.key {
+            self.house.register.lock(&self.house.clock).rest(key);
+        }
+    }
+
+    fn leave(&self) {
+        if let Some(key) = self.key {
+            self.house.register.lock(&self.house.clock).leave(key);
+        }
+    }
+}

@@ -1,0 +1,92 @@
+//! Who may sit, what may wait, and what a reply says.
+use crate::replies::{busy, finished};
+use crate::seats::{Admittance, Register, Seat};
+use bytes::Bytes;
+use http::header::CONNECTION;
+use http::{Response, StatusCode};
+use http_body_util::Full;
+use mds_limits::{Arrival, Asker, MOST_OF_ASKER, MOST_STRANGERS, MOST_WAITING};
+use std::alloc::{AllocError, AllocGlobal, Global};
+use std::sync::Arc;
+use std::test::Fail;
+
+/// A stranger's connection enters.
+fn entered(register: &mut Register, alloc: Global) -> Result<Option<usize>, AllocError> {
+    let seat = Arc::new(alloc, Seat::new(alloc)?)?;
+    Ok(register.enter(seat))
+}
+
+/// Strangers' connections are as many as may be; one more is let in for the oldest idle one.
+#[test]
+fn strangers_have_half_of_the_seats(rt: HostRuntime) -> Result<(), Fail> {
+    let alloc = rt.alloc();
+    let mut register = Register::new(alloc, 3)?;
+    for _ in 0..MOST_STRANGERS {
+        entered(&mut register, alloc)?.ok_or("no seat")?;
+    }
+    let last = entered(&mut register, alloc)?.ok_or("no seat for one more")?;
+    let first = register.ask(0, Asker::Stranger, 0);
+    assert!(rt; first == Admittance::Busy);
+    let asked = register.ask(last, Asker::Author, 0);
+    assert!(rt; asked == Admittance::Admitted(Asker::Author));
+    Ok(())
+}
+
+/// So many requests of one who asks wait. One more may once one of them is answered.
+#[test]
+fn so_many_requests_wait(rt: HostRuntime) -> Result<(), Fail> {
+    let alloc = rt.alloc();
+    let mut register = Register::new(alloc, 3)?;
+    for _ in 0..MOST_WAITING {
+        let key = entered(&mut register, alloc)?.ok_or("no seat")?;
+        let asked = register.ask(key, Asker::Stranger, 0);
+        assert!(rt; asked == Admittance::Admitted(Asker::Stranger));
+    }
+    let key = entered(&mut register, alloc)?.ok_or("no seat")?;
+    assert!(rt; register.ask(key, Asker::Stranger, 0) == Admittance::Busy);
+    register.answered(0);
+    let asked = register.ask(key, Asker::Stranger, 0);
+    assert!(rt; asked == Admittance::Admitted(Asker::Stranger));
+    Ok(())
+}
+
+/// One who asks has so many connections, none of them idle.
+#[test]
+fn one_has_so_many_seats(rt: HostRuntime) -> Result<(), Fail> {
+    let alloc = rt.alloc();
+    let mut register = Register::new(alloc, 3)?;
+    let alfa = Asker::Operator(0);
+    for _ in 0..MOST_OF_ASKER {
+        let key = entered(&mut register, alloc)?.ok_or("no seat")?;
+        assert!(rt; register.ask(key, alfa, 0) == Admittance::Admitted(alfa));
+    }
+    let key = entered(&mut register, alloc)?.ok_or("no seat")?;
+    assert!(rt; register.ask(key, alfa, 0) == Admittance::Busy);
+    register.answered(0);
+    register.rest(0);
+    assert!(rt; register.ask(key, alfa, 0) == Admittance::Admitted(alfa));
+    Ok(())
+}
+
+/// A busy server says so, and that it closes.
+#[test]
+fn busy_says_so(rt: HostRuntime) -> Result<(), Fail> {
+    let response = busy(rt.alloc())?;
+    assert!(rt; response.status() == StatusCode::SERVICE_UNAVAILABLE);
+    let close = response.headers().get(CONNECTION).ok_or("no header")?;
+    assert!(rt; close.as_bytes() == b"close".as_slice());
+    Ok(())
+}
+
+/// Behind a body that was too long the reply says that the connection is closed; behind a whole one it doesn't.
+#[test]
+fn a_last_reply_says_so(rt: HostRuntime) -> Result<(), Fail> {
+    let alloc = rt.alloc();
+    let long = Response::new(alloc, Full::new(Bytes::new()));
+    let long = finished(long, Arrival::TooLong)?;
+    assert!(rt; long.headers().get(CONNECTION).is_some());
+    let whole = Response::new(alloc, Full::new(Bytes::new()));
+    let whole = finished(whole, Arrival::Whole)?;
+    assert!(rt; whole.headers().get(CONNECTION).is_none());
+    Ok(())
+}
