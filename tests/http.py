@@ -23,6 +23,7 @@ import time
 from concurrent.futures import ThreadPoolExecutor
 
 import load
+from closings import CLOSINGS
 from ends import ENDS, TOLD_AT_ONCE, an_address_that_is_taken, an_end, is_refused, is_told_at_once, so_many_connections
 from messages import BODIES, BODY_LIMIT, CLOSE, HEADS, METHOD, NEW, NO_POLICY, NO_ROUTE, REPORT, TOKEN, TOO_LARGE
 from messages import chunked, code, head, sized
@@ -559,7 +560,7 @@ def messages(tried, server):
     """What comes to a server that keeps nothing."""
     for name, (sent, accepted) in (HEADS | BODIES).items():
         tried.one(name, first_on_a_connection(server, sent, accepted))
-    for case in (many_on_one_connection, a_thousand_at_once, a_head_without_a_body, a_body_that_is_awaited, gone_without_a_word):
+    for case in (many_on_one_connection, a_thousand_at_once, a_head_without_a_body, a_body_that_is_awaited, gone_without_a_word, *CLOSINGS):
         tried.one(case.__name__, case(server))
 
 

@@ -1,14 +1,11 @@
 //! A hall is served over a listener, and ended.
 
-use crate::admission::Admission;
-use crate::door::House;
 use crate::moments::Moments;
-use crate::queues::Queues;
 use crate::reception::Reception;
-use crate::serving::{Seating, serve_all};
 use futures::StreamExt;
 use hyper::rt::TokioTimer;
 use hyper::server::conn::http1::Builder;
+use mds_connections::{Admission, House, Queues, Register, Seating, serve_all};
 use mds_hall::{Hall, Named};
 use mds_parallel::Chunked;
 use std::alloc::AllocGlobal;
@@ -16,7 +13,7 @@ use std::hash::RandomState;
 use std::io;
 use std::net::{Net, ToSocketAddrs};
 use std::random::RandomSource;
-use std::sync::{Arc, Wait};
+use std::sync::{Arc, Mutex, Wait};
 use std::thread::Threads;
 use std::time::Clock;
 use tokio::net::TcpListener;
@@ -86,6 +83,7 @@ where
         http,
         seating,
     } = Fittings::new(rt, runtime)?;
+    let register = Register::new(rt.alloc(), queues.askers())?;
     let house = Arc::new(
         rt.alloc(),
         House {
@@ -98,6 +96,7 @@ where
                 moments,
             },
             queues,
+            register: Mutex::new(register),
             clock: *rt,
             timers,
         },

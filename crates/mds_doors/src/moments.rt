@@ -1,4 +1,5 @@
 //! The moments at which requests are answered.
+use mds_limits::moment_of;
 use mds_text::Moment;
 use std::time::{Clock, SystemTime, UNIX_EPOCH};
 
@@ -16,10 +17,6 @@ impl<C: Clock + Copy> Moments for MachineClock<C> {
     fn now(&self) -> Option<Moment> {
         let now = SystemTime::now(&self.0).ok()?;
         let since = now.duration_since(UNIX_EPOCH).ok()?;
-        let millis = since
-            .as_secs()
-            .checked_mul(1000)?
-            .checked_add(u64::from(since.subsec_millis()))?;
-        Moment::new(i64::try_from(millis).ok()?)
+        moment_of(since.as_secs(), since.subsec_millis())
     }
 }

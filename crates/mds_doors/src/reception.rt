@@ -1,12 +1,19 @@
 //! A hall that answers at the moments of a clock.
-use crate::door::Answers;
+ghost use Rattle.std.specs.Prelude.{◌≡◌};
+ghost use Rattle.mds_request.specs.Configuration.{configuration, actor_of};
+ghost use Rattle.mds_hall.specs.Asked.{token_of};
+ghost use Rattle.mds_limits.specs.Asker.{asker_of};
+ghost use Rattle.mds_doors.specs.Arrived.{arrived_of};
+
 use crate::moments::Moments;
 use bytes::Bytes;
 use http::Response;
 use http::request::Parts;
 use http_body_util::Full;
 use mds_catalog::Catalogue;
-use mds_hall::{Arrived, Hall, Named, respond};
+use mds_connections::{Answers, Taken};
+use mds_hall::{Arrived, Hall, Named, respond, token};
+use mds_limits::{Arrival, Asker};
 use mds_verdict::Evaluator;
 use std::alloc::{AllocError, Global};
 use std::sync::Wait;
@@ -25,7 +32,13 @@ impl<K: Named, R: Wait + Drop, E: Evaluator<Catalogue> + Drop, M: Moments> Answe
     for Reception<K, R, E, M> {
     ghost may_answer = { E.may_judge };
 
-    fn answer(&self, parts: &Parts, arrived: Arrived) -> Result<Response<Full<Bytes>>, AllocError>
+    fn asker(&self, parts: &Parts) -> Asker
+        ensures { result ≡ asker_of (actor_of (configuration self.now.hall.config.value) (token_of parts.now.headers)) }
+    {
+        Asker::of(self.hall.asker(token(&parts.headers)))
+    }
+
+    fn answer(&self, parts: &Parts, taken: Taken) -> Result<Response<Full<Bytes>>, AllocError>
         requires { E.may_judge }
     {
         let at = self.moments.now();
@@ -33,10 +46,22 @@ impl<K: Named, R: Wait + Drop, E: Evaluator<Catalogue> + Drop, M: Moments> Answe
             &self.rt,
             self.alloc,
             parts,
-            arrived,
+            arrived(taken),
             at,
             &self.hall,
             &self.evaluator,
         )
+    }
+}
+
+/// The body as a hall takes it.
+fn arrived(taken: Taken) -> Arrived
+    ensures { result ≡ arrived_of taken.arrival taken.body }
+{
+    match taken.arrival {
+        Arrival::Whole => Arrived::Whole(taken.body),
+        Arrival::Broken => Arrived::Broken,
+        Arrival::TooLong => Arrived::TooLong,
+        Arrival::NoMemory => Arrived::NoMemory,
     }
 }
