@@ -1,0 +1,3 @@
+pub mod Codes
+pub mod History
+pub mod Waiting

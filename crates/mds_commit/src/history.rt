@@ -1,0 +1,335 @@
+//! The history of what is appended, and of what of it is synced. It exists in the proofs alone: what threads share are
+//! two words, how many texts were appended, and how many of these are synced.
+ghost use Rattle.std.specs.Prelude.{◌≡◌, ◌+◌, ◌<◌, ◌≤◌, ◌^◌, ◌++◌, ◌∷◌, ℕ, List, [], length, take, IfOk, MatchBool, OnOk, true};
+ghost use mathlib.Core.List.{IsPrefix};
+ghost use Rattle.mds_commit.specs.History.{AreSynced, appended_of, synced_of};
+
+use logbook::{Gain, Offer, Plain, Play, Rule, Seen, Word};
+use mds_records::{Log, NotSynced};
+use std::marker::{Brand, Model, PhantomData};
+
+/// A text, which contracts see as its bytes. No value of it is made.
+pub struct Text {
+    bytes: Vec<u8>,
+}
+
+impl Model for Text {
+    ghost use Rattle.std.specs.Prelude.{ℕ, List};
+    ghost use Rattle.mds_commit.specs.Codes.{coded_text};
+
+    ghost Value = { List ℕ };
+
+    ghost coded = { coded_text };
+
+    ghost view = { λ t. t.bytes.items };
+}
+
+/// The rule of the book.
+pub struct Law<L: Log> {
+    of: PhantomData<L>,
+}
+
+impl<L: Log> Rule<Text, u64> for Law<L> {
+    ghost use Rattle.std.specs.Prelude.{[]};
+    ghost use base.Fml.{ftrue};
+    ghost use Rattle.mds_commit.specs.History.{IsKept};
+
+    ghost holds = { λ cells log. IsKept L.may_be L.is_synced cells log };
+
+    ghost first = { [] };
+
+    ghost hinted = { λ n log. Unit {0} };
+
+    ghost shows = { λ log. [] };
+
+    ghost keeps = { λ names log. ftrue };
+
+    ghost moves = { λ ask before after answer. Unit {0} };
+}
+
+/// Callers trade nothing.
+pub struct Nothing;
+
+impl Gain<Text, u64> for Nothing {
+    ghost use base.Fml.{ftrue};
+
+    ghost after = { λ names about answer. ftrue };
+}
+
+/// The step that adds a text.
+pub struct Add;
+
+impl Play<Text, u64> for Add {
+    ghost use Rattle.mds_commit.specs.History.{Adds};
+
+    ghost then = { Adds };
+}
+
+impl Plain<Vec<u8>, Text, u64> for Add {
+    ghost use Rattle.std.specs.Prelude.{None};
+
+    ghost ask = { λ text. text.items };
+
+    ghost state = { λ text. None };
+}
+
+/// The step that sees all that was appended.
+pub struct See;
+
+impl Play<Text, u64> for See {
+    ghost use Rattle.mds_commit.specs.History.{Stamps};
+
+    ghost then = { Stamps };
+}
+
+/// What a step asks for that adds nothing.
+impl Plain<(), Text, u64> for See {
+    ghost use Rattle.std.specs.Prelude.{None, []};
+
+    ghost ask = { λ nothing. [] };
+
+    ghost state = { λ nothing. None };
+}
+
+/// The step that says how many texts are synced.
+pub struct Raise;
+
+impl Play<Text, u64> for Raise {
+    ghost use Rattle.mds_commit.specs.History.{Raises};
+
+    ghost then = { Raises };
+}
+
+/// The step that sees how many texts are synced.
+pub struct Find<L: Log> {
+    of: PhantomData<L>,
+}
+
+impl<L: Log> Play<Text, u64> for Find<L> {
+    ghost use Rattle.mds_commit.specs.History.{Finds};
+
+    ghost then = { Finds L.may_be L.is_synced };
+}
+
+/// Which log it is. A program hands what it opens to a function that is generic over it, which it calls with `Brand`;
+/// the proof of that call picks the book of what was opened.
+pub trait Naming {
+    ghost use Rattle.logbook.specs.Pages.{Book};
+
+    ghost book: { Book };
+}
+
+impl Naming for Brand {
+    ghost book = { record { number = 0; log_name = 0; cells_name = 0 } };
+}
+
+/// An empty history, which has no name yet.
+#[derive(Drop)]
+pub struct Opened<L: Log> {
+    appended: Word<Text, u64, Law<L>>,
+    synced: Word<Text, u64, Law<L>>,
+    pub seen: Seen<Text, u64, Law<L>>,
+    pub ghost empty: { seen.log ≡ [] },
+    pub ghost appended_is: { appended ≡ appended_of seen.book },
+    pub ghost synced_is: { synced ≡ synced_of seen.book },
+}
+
+impl<L: Log> Opened<L> {
+    /// Begins a history behind what the log has. It syncs the log first.
+    ///
+    /// # Errors
+    ///
+    /// That sync failed.
+    pub fn new(log: &mut L) -> Result<Opened<L>, NotSynced>
+        requires { (first : List (List ℕ)) × L.may_be log.old first }
+        ensures unchanged { (list : List (List ℕ)) → L.may_be log.old list → L.may_be log.new list }
+    {
+        log.sync()?;
+        let (seen, mut first, mut second) = Seen::open(logbook::Start::alone(), 0, 0);
+        Ok(Opened {
+            appended: Word::tracked(0, &mut first),
+            synced: Word::tracked(0, &mut second),
+            seen,
+        })
+    }
+
+    /// Names it: its words, and the stamp of nothing.
+    pub fn named<K: Naming>(self) -> (Ledger<K, L>, Stamp<K, L>)
+        requires { self.seen.book ≡ K.book }
+        ensures { result.1 ≡ [] }
+    {
+        let Opened {
+            appended,
+            synced,
+            seen,
+        } = self;
+        (
+            Ledger {
+                appended,
+                synced,
+                of: PhantomData,
+            },
+            Stamp {
+                count: 0,
+                seen,
+                of: PhantomData,
+            },
+        )
+    }
+}
+
+/// The words that all share: how many texts were appended, and how many of these are synced.
+#[derive(Drop)]
+pub struct Ledger<K: Naming, L: Log> {
+    appended: Word<Text, u64, Law<L>>,
+    synced: Word<Text, u64, Law<L>>,
+    of: PhantomData<K>,
+    ghost appended_is: { appended ≡ appended_of K.book },
+    ghost synced_is: { synced ≡ synced_of K.book },
+}
+
+/// What was appended when something was shown. Contracts see the texts, in order.
+#[derive(Drop)]
+pub struct Stamp<K: Naming, L: Log> {
+    count: u64,
+    seen: Seen<Text, u64, Law<L>>,
+    of: PhantomData<K>,
+}
+
+impl<K: Naming, L: Log> Model for Stamp<K, L> {
+    ghost use Rattle.std.specs.Prelude.{◌≡◌, ℕ, List, length};
+    ghost use Rattle.mds_commit.specs.Codes.{coded_texts};
+
+    ghost Value = { List (List ℕ) };
+
+    ghost coded = { coded_texts };
+
+    ghost view = { λ s. s.seen.log };
+
+    ghost invariant = { λ s. (s.seen.book ≡ K.book) × (s.count ≡ length s.seen.log) };
+}
+
+/// What is synced, as a sync alone makes it. Contracts see the texts, in order.
+#[derive(Drop)]
+pub struct Synced<K: Naming, L: Log> {
+    count: u64,
+    seen: Seen<Text, u64, Law<L>>,
+    of: PhantomData<K>,
+}
+
+impl<K: Naming, L: Log> Model for Synced<K, L> {
+    ghost use Rattle.std.specs.Prelude.{◌≡◌, ◌≤◌, ℕ, List, length, take};
+    ghost use Rattle.mds_commit.specs.Codes.{coded_texts};
+    ghost use Rattle.mds_commit.specs.History.{AreSynced};
+
+    ghost Value = { List (List ℕ) };
+
+    ghost coded = { coded_texts };
+
+    ghost view = { λ s. take s.count s.seen.log };
+
+    ghost invariant = { λ s. (s.seen.book ≡ K.book) × (s.count ≤ length s.seen.log) × AreSynced L.may_be L.is_synced (take s.count s.seen.log) };
+}
+
+impl<K: Naming, L: Log> Stamp<K, L> {
+    /// How many texts.
+    pub fn len(&self) -> u64
+        ensures { result ≡ length self.now }
+    {
+        self.count
+    }
+
+    /// The same stamp.
+    pub fn again(&self) -> Stamp<K, L>
+        ensures { result ≡ self.now }
+    {
+        Stamp {
+            count: self.count,
+            seen: self.seen.again(),
+            of: PhantomData,
+        }
+    }
+
+    /// Whether these are the texts of the other.
+    pub fn is_of(&self, other: &Stamp<K, L>) -> bool
+        ensures { result ≡ true → self.now ≡ other.now }
+    {
+        let mut both = self.seen.again();
+        both.learn(&other.seen);
+        self.count == other.count
+    }
+
+    /// All that was appended since. It waits for nobody.
+    pub fn later(&self, ledger: &Ledger<K, L>) -> Stamp<K, L>
+        ensures { IsPrefix self.now result }
+    {
+        let mut seen = self.seen.again();
+        let mut offer: Offer<Text, u64, Law<L>, Nothing> = seen.plain::<Nothing, (), See>(&());
+        let count = ledger.appended.load::<See, Nothing>(&mut seen, &mut offer);
+        Stamp {
+            count,
+            seen,
+            of: PhantomData,
+        }
+    }
+
+    /// Adds a text to all that was seen, and says whether it did. It didn't where another did.
+    pub fn extend(&mut self, ledger: &Ledger<K, L>, text: &Vec<u8>) -> bool
+        requires room { length self.old < 2 ^ 62 }
+        ensures { MatchBool result (self.new ≡ self.old ++ text.now.items ∷ []) (IsPrefix self.old self.new) }
+    {
+        let mut seen = self.seen.again();
+        let mut offer: Offer<Text, u64, Law<L>, Nothing> = seen.plain::<Nothing, Vec<u8>, Add>(
+            text,
+        );
+        let mut pen = seen.no_pen();
+        let count = self.count;
+        let found = ledger
+            .appended
+            .compare_exchange::<Add, Nothing>(count, count + 1, &mut seen, &mut offer, &mut pen);
+        let added = found == count;
+        self.count = if added { count + 1 } else { found };
+        self.seen = seen;
+        added
+    }
+
+    /// Says that all these texts are synced.
+    pub fn publish(&self, ledger: &Ledger<K, L>, log: &L, before: u64)
+        requires synced { L.is_synced log.now }
+        requires texts { (first : List (List ℕ)) × L.may_be log.now (first ++ self.now) }
+    {
+        let mut seen = self.seen.again();
+        let mut offer: Offer<Text, u64, Law<L>, Nothing> = seen.plain::<Nothing, (), See>(&());
+        let mut pen = seen.no_pen();
+        let _found = ledger
+            .synced
+            .compare_exchange::<Raise, Nothing>(
+                before, self.count, &mut seen, &mut offer, &mut pen,
+            );
+    }
+
+    /// What is synced by now. It waits for nobody.
+    pub fn synced(&self, ledger: &Ledger<K, L>) -> Synced<K, L>
+        ensures { AreSynced L.may_be L.is_synced result }
+    {
+        let mut seen = self.seen.again();
+        let mut offer: Offer<Text, u64, Law<L>, Nothing> = seen.plain::<Nothing, (), See>(&());
+        let count = ledger
+            .synced
+            .load::<Find<L>, Nothing>(&mut seen, &mut offer);
+        Synced {
+            count,
+            seen,
+            of: PhantomData,
+        }
+    }
+
+    /// Whether all these texts are among those that are synced.
+    pub fn is_within(&self, synced: &Synced<K, L>) -> bool
+        ensures { MatchBool result (IsPrefix self.now synced.now) (length synced.now < length self.now) }
+    {
+        let mut both = self.seen.again();
+        both.learn(&synced.seen);
+        self.count <= synced.count
+    }
+}
