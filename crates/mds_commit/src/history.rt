@@ -126,6 +126,8 @@ impl Naming for Brand {
 /// An empty history, which has no name yet.
 #[derive(Drop)]
 pub struct Opened<L: Log> {
+    /// How many texts the log has.
+    pub(crate) position: u64,
     appended: Word<Text, u64, Law<L>>,
     synced: Word<Text, u64, Law<L>>,
     pub seen: Seen<Text, u64, Law<L>>,
@@ -144,9 +146,10 @@ impl<L: Log> Opened<L> {
         requires { (first : List (List ℕ)) × L.may_be log.old first }
         ensures unchanged { (list : List (List ℕ)) → L.may_be log.old list → L.may_be log.new list }
     {
-        log.sync()?;
+        let position = log.sync()?;
         let (seen, mut first, mut second) = Seen::open(logbook::Start::alone(), 0, 0);
         Ok(Opened {
+            position,
             appended: Word::tracked(0, &mut first),
             synced: Word::tracked(0, &mut second),
             seen,
@@ -159,6 +162,7 @@ impl<L: Log> Opened<L> {
         ensures { result.1 ≡ [] }
     {
         let Opened {
+            position: _,
             appended,
             synced,
             seen,

@@ -3,11 +3,17 @@
 
 mod backlog;
 mod deciding;
+mod flusher;
 mod history;
+mod keeper;
 mod room;
+mod settling;
 mod space;
 
 pub use backlog::{Place, ReserveFault};
 pub use deciding::{MOST_BYTES, MOST_TEXTS, Round, Telling, may_tell, may_wait, next_round};
+pub use flusher::{FlushFault, Flusher};
 pub use history::{Ledger, Naming, Opened, Stamp, Synced};
+pub use keeper::{Keeper, NotTold, open};
+pub use settling::Settling;
 pub use space::{Counted, NoRoom, Space};

@@ -1,0 +1,17 @@
+-- What no crash takes away.
+use Rattle.std.specs.Prelude.{◌≡◌, ℕ, List, [], ◌∷◌, ◌++◌}
+use mathlib.Core.List.{IsPrefix}
+use Rattle.mds_commit.specs.History.{AreSynced}
+
+module _ {L : Type 0} (may_be : L → List (List ℕ) → Type 0) (is_synced : L → Type 0) where
+  -- texts that are synced begin with these
+  abbrev pub AreDurable : List (List ℕ) → Type 0
+  AreDurable texts = (synced : List (List ℕ)) × IsPrefix texts synced × AreSynced may_be is_synced synced
+
+  -- the log may be of a list that ends with these texts
+  abbrev pub EndsWith : L → List (List ℕ) → Type 0
+  EndsWith log texts = (first : List (List ℕ)) × may_be log (first ++ texts)
+
+-- the texts end with this one
+abbrev pub IsLast : List ℕ → List (List ℕ) → Type 0
+IsLast text texts = (before : List (List ℕ)) × (texts ≡ before ++ text ∷ [])

@@ -1,0 +1,192 @@
+//! The flusher: it writes and syncs for all that wait.
+ghost use Rattle.std.specs.Prelude.{◌≡◌, ◌++◌, ◌≤◌, [], map, ℕ, List, IfOk, OnOk, vec_capacity, vec_len};
+ghost use Rattle.mds_commit.specs.Durable.{AreDurable, EndsWith};
+ghost use Rattle.mds_commit.specs.History.{AreSynced};
+ghost use Rattle.mds_commit.specs.declared.deciding.TheConstants.{MOST_TEXTS};
+
+use crate::deciding::MOST_TEXTS;
+use crate::history::{Ledger, Naming, Stamp};
+use crate::keeper::Keeper;
+use crate::space::Space;
+use mds_records::{AppendFault, Log, NotSynced};
+use std::alloc::{AllocError, Global};
+use std::marker::Model;
+use std::sync::Wait;
+
+/// Why the flusher ended. Nothing more is told then, and what is in memory may be ahead of the disk.
+#[derive(Clone, Copy, Debug, PartialEq, Eq)]
+pub enum FlushFault {
+    /// What waited isn't known to be appended.
+    NotAppended(AppendFault),
+    /// What was appended isn't known to be synced.
+    NotSynced,
+    /// The keeper failed, which doesn't happen where each place is used where it was held.
+    Failed,
+}
+
+impl From<AppendFault> for FlushFault {
+    fn from(fault: AppendFault) -> FlushFault {
+        FlushFault::NotAppended(fault)
+    }
+}
+
+impl From<NotSynced> for FlushFault {
+    fn from(_: NotSynced) -> FlushFault {
+        FlushFault::NotSynced
+    }
+}
+
+/// A log, and what was appended to it since it was opened. Contracts see these texts.
+#[derive(Drop)]
+struct Written<K: Naming, L: Log> {
+    log: L,
+    /// How many texts the log has.
+    position: u64,
+    taken: Stamp<K, L>,
+    /// How many of the texts are said to be synced.
+    synced: u64,
+}
+
+impl<K: Naming, L: Log> Model for Written<K, L> {
+    ghost use Rattle.std.specs.Prelude.{ℕ, List};
+    ghost use Rattle.mds_commit.specs.Codes.{coded_texts};
+    ghost use Rattle.mds_commit.specs.Durable.{EndsWith};
+
+    ghost Value = { List (List ℕ) };
+
+    ghost coded = { coded_texts };
+
+    ghost view = { λ w. w.taken };
+
+    ghost invariant = { λ w. EndsWith L.may_be L.is_synced w.log w.taken };
+}
+
+/// What writes and syncs, in a thread of its own.
+#[derive(Drop)]
+pub struct Flusher<K: Naming, L: Log> {
+    written: Written<K, L>,
+    /// What is written at once. It is empty between two rounds.
+    group: Vec<Vec<u8>>,
+    ghost empty: { vec_len group ≡ 0 },
+    ghost capacity: { MOST_TEXTS ≤ vec_capacity group },
+}
+
+impl<K: Naming, L: Log> Written<K, L> {
+    /// Appends a group and syncs it, and says so in the ledger.
+    ///
+    /// # Errors
+    ///
+    /// An append or a sync failed.
+    fn flush(
+        &mut self,
+        ledger: &Ledger<K, L>,
+        group: &[Vec<u8>],
+        reached: Stamp<K, L>,
+    ) -> Result<(), FlushFault>
+        requires { reached ≡ self.old ++ map (λ v. v.items) group.now }
+        ensures all { OnOk result (self.new ≡ reached) }
+        ensures synced { OnOk result (AreSynced L.may_be L.is_synced reached) }
+    {
+        self.position = self.log.append(self.position, group)?;
+        self.taken = reached;
+        self.log.sync()?;
+        self.taken.publish(ledger, &self.log, self.synced);
+        self.synced = self.taken.len();
+        Ok(())
+    }
+
+    /// The texts.
+    fn stamp(&self) -> Stamp<K, L>
+        ensures { result ≡ self.now }
+    {
+        self.taken.again()
+    }
+
+    /// The log, synced.
+    fn into_log(self) -> Result<L, NotSynced>
+        ensures { IfOk result L.is_synced }
+    {
+        let mut log = self.log;
+        log.sync()?;
+        Ok(log)
+    }
+}
+
+impl<K: Naming, L: Log> Flusher<K, L> {
+    /// The flusher of a log that has so many texts.
+    ///
+    /// # Errors
+    ///
+    /// Memory ran out.
+    pub(crate) fn new(
+        alloc: Global,
+        log: L,
+        position: u64,
+        nothing: &Stamp<K, L>,
+    ) -> Result<Flusher<K, L>, AllocError>
+        requires nothing { nothing.now ≡ [] }
+        requires listed { (first : List (List ℕ)) × L.may_be log first }
+    {
+        Ok(Flusher {
+            written: Written {
+                log,
+                position,
+                taken: nothing.again(),
+                synced: 0,
+            },
+            group: Vec::with_capacity(alloc, MOST_TEXTS)?,
+        })
+    }
+
+    /// Waits for what is to be written, and writes and syncs it. False where nothing more can come.
+    fn turn<R: Wait, S: Space>(
+        &mut self,
+        rt: &R,
+        keeper: &Keeper<K, L, S>,
+    ) -> Result<bool, FlushFault> {
+        let taken = self.written.stamp();
+        let Some(reached) = keeper.next(rt, &taken, &mut self.group)? else {
+            return Ok(false);
+        };
+        let flushed = self.written.flush(&keeper.ledger, &self.group, reached);
+        self.group.clear();
+        flushed?;
+        keeper.tell(rt);
+        Ok(true)
+    }
+
+    /// Writes and syncs for all that wait, until the keeper is stopped and nothing waits: then it gives the log, synced.
+    ///
+    /// # Errors
+    ///
+    /// An append or a sync failed. Nothing more is told, by any thread or task.
+    pub fn run<R: Wait, S: Space>(self, rt: &R, keeper: &Keeper<K, L, S>) -> Result<L, FlushFault>
+        ensures { IfOk result L.is_synced }
+    {
+        let mut flusher = self;
+        for _ in rt.forever() {
+            match flusher.turn(rt, keeper) {
+                Ok(true) => {}
+                Ok(false) => return flusher.end(rt, keeper),
+                Err(fault) => {
+                    keeper.fail(rt);
+                    return Err(fault);
+                }
+            }
+        }
+        unreachable!()
+    }
+
+    /// The log, synced, once nothing waits.
+    fn end<R: Wait, S: Space>(self, rt: &R, keeper: &Keeper<K, L, S>) -> Result<L, FlushFault>
+        ensures { IfOk result L.is_synced }
+    {
+        match self.written.into_log() {
+            Ok(log) => Ok(log),
+            Err(fault) => {
+                keeper.fail(rt);
+                Err(fault.into())
+            }
+        }
+    }
+}

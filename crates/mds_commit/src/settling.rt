@@ -1,0 +1,71 @@
+//! A reply that waits, as a task, until all that it shows is synced.
+ghost use Rattle.std.specs.Prelude.{◌≡◌, Some, IfOk, IfSome};
+ghost use Rattle.mds_commit.specs.Durable.{AreDurable};
+
+use crate::deciding::Telling;
+use crate::history::{Naming, Stamp};
+use crate::keeper::{Keeper, NotTold};
+use crate::space::Space;
+use futures::Future;
+use futures::task::{Context, Poll};
+use mds_records::Log;
+use std::sync::Arc;
+use tokio::sync::OwnedNotified;
+
+/// A reply, until all that it shows is synced. It is ready at once where that is so. While it waits it has no lock, no
+/// permit and no thread.
+#[derive(Drop)]
+pub struct Settling<T: Drop, K: Naming, L: Log, S: Space> {
+    keeper: Arc<Keeper<K, L, S>>,
+    /// What the reply shows.
+    stamp: Stamp<K, L>,
+    heard: Option<OwnedNotified>,
+    reply: Option<T>,
+}
+
+impl<T: Drop, K: Naming, L: Log, S: Space> Settling<T, K, L, S> {
+    /// The reply, once all that it shows is synced.
+    pub fn new(keeper: Arc<Keeper<K, L, S>>, stamp: Stamp<K, L>, reply: T) -> Settling<T, K, L, S>
+        ensures stamp { result.stamp ≡ stamp }
+        ensures reply { result.reply ≡ Some reply }
+    {
+        Settling {
+            keeper,
+            stamp,
+            heard: None,
+            reply: Some(reply),
+        }
+    }
+}
+
+impl<T: Drop, K: Naming, L: Log, S: Space> Future for Settling<T, K, L, S> {
+    type Output = Result<T, NotTold>;
+
+    // A reply is given, and is durable in all that it shows.
+    ghost gives = { λ s told. IfOk told (λ reply. (s.reply ≡ Some reply) × AreDurable L.may_be L.is_synced s.stamp) };
+
+    fn poll(&mut self, cx: &mut Context<'_>) -> Poll<Result<T, NotTold>> {
+        match self.keeper.may_tell(&self.stamp) {
+            Telling::Now => return Poll::Ready(self.reply.take().ok_or(NotTold::Failed)),
+            Telling::Never => return Poll::Ready(Err(NotTold::Failed)),
+            Telling::Later => {}
+        }
+        match &mut self.heard {
+            // What is told from now on is heard, and it is looked again first.
+            None => match self.keeper.heard() {
+                Ok(heard) => {
+                    self.heard = Some(heard);
+                    cx.yield_now()
+                }
+                Err(_) => Poll::Ready(Err(NotTold::NoMemory)),
+            },
+            Some(heard) => match heard.poll(cx) {
+                Poll::Pending => Poll::Pending,
+                Poll::Ready(_) => {
+                    self.heard = None;
+                    cx.yield_now()
+                }
+            },
+        }
+    }
+}
