@@ -33,6 +33,10 @@ prefix_taken xs ys n p len =
     ap (take (length xs)) (sym p.1) ∙ take-append-le (length xs) xs p.0 (omega arith) ∙ prefix_whole (take (length xs) xs) xs (drop (length xs) xs, take-append-drop (length xs) xs) (omega (arith, length-take-le (length xs) xs (omega arith))) in
     (omega (arith, len, more), rw len taken)
 
+-- what is taken of a list begins it
+pub taken_begins : {A : Type 0} (xs : List A) (n : ℕ) → IsPrefix (take n xs) xs
+taken_begins xs n = (drop n xs, take-append-drop n xs)
+
 -- two beginnings of one list that are equally long are one
 pub one_front : {A : Type 0} (mine other both : List A) (n m : ℕ) → n ≡ length mine → m ≡ length other → IsPrefix mine both → IsPrefix other both
     → nat_eq n m ≡ true → mine ≡ other

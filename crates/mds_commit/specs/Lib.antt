@@ -2,3 +2,4 @@ pub mod Codes
 pub mod History
 pub mod Waiting
 pub mod Durable
+pub mod Places

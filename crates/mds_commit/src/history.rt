@@ -130,6 +130,7 @@ pub struct Opened<L: Log> {
     pub(crate) position: u64,
     appended: Word<Text, u64, Law<L>>,
     synced: Word<Text, u64, Law<L>>,
+    /// What of the book is seen: nothing is appended yet.
     pub seen: Seen<Text, u64, Law<L>>,
     pub ghost empty: { seen.log ≡ [] },
     pub ghost appended_is: { appended ≡ appended_of seen.book },
@@ -312,9 +313,11 @@ impl<K: Naming, L: Log> Stamp<K, L> {
             );
     }
 
-    /// What is synced by now. It waits for nobody.
+    /// What is synced by now: a front of what was appended. It waits for nobody.
+    #[tactic(auto, using(crate::proofs::Fronts::taken_begins))]
     pub fn synced(&self, ledger: &Ledger<K, L>) -> Synced<K, L>
-        ensures { AreSynced L.may_be L.is_synced result }
+        ensures synced { AreSynced L.may_be L.is_synced result }
+        ensures front { (appended : List (List ℕ)) × IsPrefix self.now appended × IsPrefix result appended }
     {
         let mut seen = self.seen.again();
         let mut offer: Offer<Text, u64, Law<L>, Nothing> = seen.plain::<Nothing, (), See>(&());

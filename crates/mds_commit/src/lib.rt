@@ -6,6 +6,7 @@ mod deciding;
 mod flusher;
 mod history;
 mod keeper;
+pub mod laws;
 mod room;
 mod settling;
 mod space;

@@ -1,5 +1,6 @@
 //! A reply that waits, as a task, until all that it shows is synced.
 ghost use Rattle.std.specs.Prelude.{◌≡◌, Some, IfOk, IfSome};
+ghost use Rattle.tokio.specs.Locks.{owned_notified_source};
 ghost use Rattle.mds_commit.specs.Durable.{AreDurable};
 
 use crate::deciding::Telling;
@@ -43,6 +44,9 @@ impl<T: Drop, K: Naming, L: Log, S: Space> Future for Settling<T, K, L, S> {
 
     // A reply is given, and is durable in all that it shows.
     ghost gives = { λ s told. IfOk told (λ reply. (s.reply ≡ Some reply) × AreDurable L.may_be L.is_synced s.stamp) };
+
+    // While it waits, it hears of the next sync.
+    ghost needs = { λ s source. IfSome s.heard (λ heard. source ≡ owned_notified_source heard) };
 
     fn poll(&mut self, cx: &mut Context<'_>) -> Poll<Result<T, NotTold>> {
         match self.keeper.may_tell(&self.stamp) {
