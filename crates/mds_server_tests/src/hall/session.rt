@@ -60,11 +60,28 @@ fn counts_the_vehicles_of_who_asks(rt: HostRuntime) -> Result<(), Fail> {
     visited(&rt, Visit::OwnQuestions)
 }
 
-/// There is a note once something is published, and none before.
+/// The policy is withdrawn at 3000, a further publication.
+const WITHDRAWN: &Exchange = &Exchange {
+    at: 3000,
+    credentials: Some(CITY),
+    target: "/publish",
+    body: r#"{"withdraw":["00000000-0000-4000-8000-000000000201"]}"#,
+    answer: &Answer {
+        status: 200,
+        body: r#"{"published_date":3000,"revision":2}"#,
+    },
+};
+
+/// There is a note once something is published, and none before; a further publication's is of more, and is there for all who ask.
 pub(super) fn latest_note<K: Named, R: Host + Sync>(rt: &R, alloc: Global, hall: &Hall<K>) {
     assert!(rt; hall.note(rt).is_none());
     set_up(rt, alloc, hall);
-    assert!(rt; hall.note(rt).is_some());
+    let first = hall.note(rt).expect(rt, "a note");
+    assert_answers(rt, alloc, hall, Method::POST, WITHDRAWN);
+    let second = hall.note(rt).expect(rt, "a later note");
+    assert!(rt; second.covers(&first) && !first.covers(&second));
+    let again = hall.note(rt).expect(rt, "the same note");
+    assert!(rt; again.is_of_list(&second));
 }
 
 /// A hall keeps the note of its latest publication.
