@@ -1,0 +1,9 @@
+use Rattle.std.proofs.Common.{map, take}
+use Rattle.mds_match.specs.Row.{row_of}
+use Rattle.mds_masks.specs.Masks.{HasBits}
+use Rattle.mds_masks.specs.Masked.{masked_matches}
+use Rattle.mds_masks.proofs.masked.MaskedPolicy.mask.Given as goal
+
+-- the bits of the rules so far
+abbrev pub invariant-loop-number : goal.invariant-loop-number
+invariant-loop-number l = HasBits (map (masked_matches (row_of l.vehicle)) (take l.number l.rule-items)) l.mask

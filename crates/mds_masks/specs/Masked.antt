@@ -1,0 +1,20 @@
+-- What a policy with the areas of its geographies at hand says of a row.
+use Rattle.std.specs.Prelude.{◌≡◌, ℕ, Bool, ◌&&◌, List, map}
+use Rattle.std.specs.List.{list_any}
+use Rattle.mds_geometry.specs.Area.{area_holds}
+use Rattle.mds_geometry.specs.declared.position.Position.{Position}
+use Rattle.mds_policy.specs.Policy.{Policy, rule_document}
+use Rattle.mds_match.specs.Resolved.{is_meant}
+use Rattle.mds_match.specs.Row.{Row}
+use Rattle.mds_masks.specs.Masks.{matches}
+use Rattle.mds_masks.specs.declared.masked.MaskedPolicy.{MaskedPolicy}
+use Rattle.mds_masks.specs.declared.masked.MaskedRule.{MaskedRule}
+
+-- a row matches a rule with its areas
+abbrev pub masked_matches : Row → MaskedRule → Bool
+masked_matches row rule =
+    rule.is_evaluated && list_any (λ area. area_holds area.now row.position) rule.areas.items && is_meant (rule_document rule.rule.now) row
+
+-- its rules are those of the policy, as far as any row can tell
+abbrev pub IsMasked : MaskedPolicy → Policy → (List ℕ → List (List (List Position))) → Type 0
+IsMasked masked policy polygons = (row : Row) → map (masked_matches row) masked.rules.items ≡ map (matches polygons row) policy.rules

@@ -1,0 +1,15 @@
+//! What follows from the definitions of masks, for all rules and vehicles.
+
+ghost use Rattle.std.specs.Prelude.{◌≡◌, ◌&&◌, ℕ, List};
+ghost use Rattle.mds_geometry.specs.declared.position.Position.{Position};
+ghost use Rattle.mds_policy.specs.Policy.{Rule};
+ghost use Rattle.mds_match.specs.declared.local.Local.{Local};
+ghost use Rattle.mds_match.specs.Matching.{meets};
+ghost use Rattle.mds_match.specs.Row.{Row};
+ghost use Rattle.mds_masks.specs.Masks.{is_open_at, matches};
+
+/// A vehicle meets a rule at a local time where the rule is open and the vehicle's row alone matches.
+pub fn row_and_time()
+    ensures { (rule : Rule) (polygons : List ℕ → List (List (List Position))) (row : Row) (local : Local) →
+        meets rule polygons row local ≡ (is_open_at local rule && matches polygons row rule) }
+{}
