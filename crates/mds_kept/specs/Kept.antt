@@ -1,0 +1,107 @@
+-- What is kept of an operator's vehicles between questions, and what ties it to the vehicles and to what is published.
+use Rattle.std.specs.Prelude.{◌≡◌, ◌<◌, ◌≤◌, ℕ, List, [], Bool, true, Option, Some, IfSome, All, Contains, length, get_or, drop, map}
+use Rattle.std.specs.declared.alloc.Global.{Global}
+use Rattle.std.specs.declared.boxed.Box.{Box}
+use Rattle.std.specs.declared.cmp.Ordering.{Ordering}
+use Rattle.std.specs.BTreeMap.{BTreeMap, get, keys, values}
+use Rattle.std.specs.Cmp.Lexicographic.{slice_cmp}
+use Rattle.std.specs.Ordering.{nat_cmp}
+use Rattle.mds_geometry.specs.declared.position.Position.{Position}
+use Rattle.mds_policy.specs.Policy.{Policy}
+use Rattle.mds_match.specs.declared.vehicle.Vehicle.{Vehicle}
+use Rattle.mds_match.specs.Row.{Row, row_of}
+use Rattle.mds_masks.specs.Masked.{IsMasked}
+use Rattle.mds_masks.specs.Masks.{HasBits, IsMask, matches}
+use Rattle.mds_masks.specs.declared.masked.MaskedPolicy.{MaskedPolicy}
+use Rattle.mds_kept.specs.declared.kept.Column.{Column}
+use Rattle.mds_kept.specs.declared.kept.Kept.{Kept}
+use Rattle.mds_kept.specs.declared.kept.Listed.{Listed}
+
+-- device ids in the order of their bytes
+abbrev pub device_cmp : List ℕ → List ℕ → Ordering
+device_cmp = slice_cmp nat_cmp
+
+-- an operator's vehicles, by device id
+abbrev pub Vehicles : Type 0
+Vehicles = BTreeMap (List ℕ) (Box Vehicle Global)
+
+-- their rows, in the order of the device ids
+abbrev pub rows_in : Vehicles → List Row
+rows_in vehicles = map (λ v. row_of v.value) (values vehicles)
+
+-- each vehicle stands under its own device id
+abbrev pub AreOwn : Vehicles → Type 0
+AreOwn vehicles = (device : List ℕ) → IfSome (get device_cmp vehicles device) (λ v. v.value.device ≡ device)
+
+-- Of which policies all that their matches rest on is published for good, by their identifiers; and for each rule of such
+-- a policy whether a row matches it.
+pub record Published : Type 0 where
+  pub lasting : List ℕ → Bool
+  pub bits : List ℕ → Row → List Bool
+
+-- a word is the beginning of the run of a row's state
+abbrev pub IsSince : Row → ℕ → Type 0
+IsSince row word = word ≡ row.since
+
+-- a word has the bits of the rules of a published policy that a row matches
+abbrev pub IsMaskOf : Published → List ℕ → Row → ℕ → Type 0
+IsMaskOf published id row word = HasBits (published.bits id row) word
+
+-- a word has the bits of the rules that a row matches, of whatever policy these are the rules
+abbrev pub IsMaskBy : MaskedPolicy → Row → ℕ → Type 0
+IsMaskBy masked row word =
+    (policy : Policy) (polygons : List ℕ → List (List (List Position))) → IsMasked masked policy polygons → IsMask policy polygons row word
+
+-- each word is that of its row
+pub record AreRead (Is : Row → ℕ → Type 0) (rows : List Row) (words : List ℕ) : Type 0 where
+  pub long : length words ≡ length rows
+  pub each : (k : ℕ) (row : Row) → k < length rows → Is (get_or rows k row) (get_or words k 0)
+
+-- each word that there is is that of its device's row, unless the device is among the changed ones
+abbrev pub AreKept : (Row → ℕ → Type 0) → Vehicles → List (List ℕ) → List ℕ → List (List ℕ) → Type 0
+AreKept Is vehicles devices words changed =
+    (k : ℕ) (v : Box Vehicle Global) → k < length words → get device_cmp vehicles (get_or devices k []) ≡ Some v
+    → (Contains changed (get_or devices k []) → ⊥) → Is (row_of v.value) (get_or words k 0)
+
+-- a column is of a policy that lasts, and its masks are kept since it read the log of changes
+pub record IsColumn (published : Published) (vehicles : Vehicles) (devices changed : List (List ℕ)) (column : Column) : Type 0 where
+  pub lasts : published.lasting column.policy ≡ true
+  pub seen : column.seen ≤ length changed
+  pub masks : AreKept (IsMaskOf published column.policy) vehicles devices column.masks.items (drop column.seen changed)
+
+-- the devices are those of the vehicles, and all words are kept
+pub record IsListed (published : Published) (vehicles : Vehicles) (listed : Listed) : Type 0 where
+  pub devices : listed.devices.items ≡ keys vehicles
+  pub seen : listed.seen ≤ length listed.changed.items
+  pub sinces : AreKept IsSince vehicles listed.devices.items listed.sinces.items (drop listed.seen listed.changed.items)
+  pub columns : All (IsColumn published vehicles listed.devices.items listed.changed.items) listed.columns.items
+
+-- the devices are those of the vehicles, and the beginnings of their states are kept
+abbrev pub AreRows : Vehicles → Listed → Type 0
+AreRows vehicles listed =
+    (listed.devices.items ≡ keys vehicles) × (listed.seen ≤ length listed.changed.items)
+    × AreKept IsSince vehicles listed.devices.items listed.sinces.items (drop listed.seen listed.changed.items)
+
+-- what is kept, if anything, is right for these vehicles and for what is published
+abbrev pub Fits : Published → Vehicles → Kept → Type 0
+Fits published vehicles kept = IfSome kept.listed (IsListed published vehicles)
+
+-- all that a policy's matches rest on is published for good, and these are its rules
+abbrev pub IsPublished : Published → Policy → (List ℕ → List (List (List Position))) → Type 0
+IsPublished published policy polygons =
+    (published.lasting policy.id ≡ true) × ((row : Row) → published.bits policy.id row ≡ map (matches polygons row) policy.rules)
+
+-- the vehicle of one device changed, and no device came or went
+abbrev pub IsChanged : List ℕ → Vehicles → Vehicles → Type 0
+IsChanged device before after =
+    (keys after ≡ keys before)
+    × ((other : List ℕ) → (other ≡ device → ⊥) → get device_cmp after other ≡ get device_cmp before other)
+
+-- what is kept is right for what is published, and the policy is among that
+abbrev pub MayAsk : Kept → Policy → (List ℕ → List (List (List Position))) → Vehicles → Type 0
+MayAsk kept policy polygons vehicles = (published : Published) × Fits published vehicles kept × IsPublished published policy polygons
+
+-- more is published: what lasts still does, and says the same
+abbrev pub Grows : Published → Published → Type 0
+Grows published more =
+    (id : List ℕ) → published.lasting id ≡ true → (more.lasting id ≡ true) × ((row : Row) → more.bits id row ≡ published.bits id row)

@@ -1,0 +1,178 @@
+ghost use Rattle.std.specs.Prelude.{◌≡◌, ◌+◌, ◌^◌, ◌<◌, ◌≤◌, List, ℕ, Some, [], ◌∷◌, ◌++◌, All, IfOk, OnOk, if◌then◌else◌, length, map, nat_lt};
+ghost use Rattle.mds_geometry.specs.declared.position.Position.{Position};
+ghost use Rattle.mds_policy.specs.Policy.{policy_document, rule_document};
+ghost use Rattle.mds_match.specs.declared.local.Local.{Local as Time};
+ghost use Rattle.mds_match.specs.Matching.{first};
+ghost use Rattle.mds_match.specs.Row.{Row};
+ghost use Rattle.mds_verdict.specs.Verdict.{status_of, verdict_document, verdicts};
+ghost use Rattle.mds_verdict.specs.Gathered.{gathered_rule, gathered, shown};
+ghost use Rattle.mds_kept.specs.Columns.{AreOf, AreOfSome};
+
+use crate::bounds::{adds_since, status_of};
+use mds_masks::{first_of, open_mask};
+use mds_match::{Local, open_at};
+use mds_policy::{Kind, Policy, Rule};
+use mds_text::{Id, Moment};
+use mds_verdict::{MOST_DEVICES, RuleVerdict, Status};
+use std::alloc::{AllocError, Global};
+
+/// Of each vehicle of an operator, in the order of their device ids, what a policy is judged by.
+#[derive(Clone, Copy)]
+pub struct Columns<'a> {
+    /// The device ids.
+    pub devices: &'a [Id],
+    /// When the run of each vehicle's state began, in milliseconds since the Unix epoch.
+    pub sinces: &'a [u64],
+    /// The rules of the policy that each vehicle meets whenever they are open, as the bits of a word.
+    pub masks: &'a [u64],
+}
+
+/// The verdict on each rule of a policy by columns, in the rules' order, at a local time and at the
+/// moment up to which a vehicle's time in its state counts: the same as by the vehicles themselves.
+///
+/// # Errors
+///
+/// Memory ran out.
+pub fn verdicts_by(
+    alloc: Global,
+    policy: &Policy,
+    columns: &Columns<'_>,
+    local: Local,
+    moment: Moment,
+) -> Result<Vec<RuleVerdict>, AllocError>
+    requires few { length (policy_document policy.now).rules ≤ 64 }
+    requires columns { AreOfSome (policy_document policy.now) columns.now.devices.now columns.now.sinces.now columns.now.masks.now }
+    ensures exact { IfOk result (λ found. (polygons : List ℕ → List (List (List Position))) (rows : List Row) →
+        AreOf (policy_document policy.now) polygons rows columns.now.devices.now columns.now.sinces.now columns.now.masks.now →
+        map verdict_document found.items ≡ verdicts (policy_document policy.now) polygons rows local moment) }
+    ensures fits { IfOk result (λ found. All (λ v. v.measure < 2 ^ 63) found.items) }
+{
+    let mut held = counted(alloc, policy, columns, local, moment)?;
+    show(&mut held);
+    Ok(held)
+}
+
+/// What the vehicles come to for each rule, with the first `MOST_DEVICES` of them, whether the rule
+/// is kept or not.
+fn counted(
+    alloc: Global,
+    policy: &Policy,
+    columns: &Columns<'_>,
+    local: Local,
+    moment: Moment,
+) -> Result<Vec<RuleVerdict>, AllocError>
+    requires few { length (policy_document policy.now).rules ≤ 64 }
+    requires columns { AreOfSome (policy_document policy.now) columns.now.devices.now columns.now.sinces.now columns.now.masks.now }
+    ensures { IfOk result (λ held. (polygons : List ℕ → List (List (List Position))) (rows : List Row) →
+        AreOf (policy_document policy.now) polygons rows columns.now.devices.now columns.now.sinces.now columns.now.masks.now →
+        map verdict_document held.items ≡ gathered (policy_document policy.now) polygons rows local moment) }
+{
+    let active = open_mask(policy, local);
+    let mut held = of_none(alloc, policy.rules(), local)?;
+    for place in 0..columns.masks.len() {
+        if let Some(number) = first_of(active, columns.masks[place]) {
+            let device = columns.devices[place];
+            count(
+                &mut held,
+                policy,
+                number,
+                device,
+                columns.sinces[place],
+                moment,
+            )?;
+        }
+    }
+    Ok(held)
+}
+
+/// Counts a vehicle in the rule of this number, the first that it meets, and lists it, whether its
+/// rule is kept or not.
+fn count(
+    held: &mut [RuleVerdict],
+    policy: &Policy,
+    number: usize,
+    device: Id,
+    since: u64,
+    moment: Moment,
+) -> Result<(), AllocError>
+    requires whole { length held.old ≡ length (policy_document policy.now).rules }
+    requires few { All (λ v. v.measure < 2 ^ 63) held.old }
+    requires within { number < length (policy_document policy.now).rules }
+    ensures { OnOk result ((polygons : List ℕ → List (List (List Position))) (rows : List Row) (row : Row) (local : Time) →
+        row.device ≡ device → row.since ≡ since →
+        Some number ≡ first (policy_document policy.now) polygons row local →
+        map verdict_document held.old ≡ gathered (policy_document policy.now) polygons rows local moment →
+        map verdict_document held.new ≡ gathered (policy_document policy.now) polygons (rows ++ row ∷ []) local moment) }
+{
+    let rule = &policy.rules()[number];
+    if adds_since(rule.kind, rule.bounds, moment, since) {
+        count_in(&mut held[number], rule, device)?;
+    }
+    Ok(())
+}
+
+/// Counts one vehicle more, and lists its device, if fewer than `MOST_DEVICES` are listed.
+fn count_in(verdict: &mut RuleVerdict, rule: &Rule, device: Id) -> Result<(), AllocError>
+    requires { verdict.old.measure < 2 ^ 63 }
+    ensures { OnOk result (verdict_document verdict.new ≡ record (verdict_document verdict.old) {
+      status = status_of (rule_document rule.now).kind (rule_document rule.now).bounds (verdict.old.measure + 1);
+      measure = verdict.old.measure + 1;
+      devices = (if nat_lt (length verdict.old.devices.items) MOST_DEVICES then verdict.old.devices.items ++ device ∷ [] else verdict.old.devices.items);
+    }) }
+{
+    if verdict.devices.len() < MOST_DEVICES {
+        verdict.devices.push(device)?;
+    }
+    verdict.measure += 1;
+    verdict.status = status_of(rule.kind, rule.bounds, verdict.measure);
+    Ok(())
+}
+
+/// The verdicts on a policy's rules where there is no vehicle.
+fn of_none(alloc: Global, rules: &[Rule], local: Local) -> Result<Vec<RuleVerdict>, AllocError>
+    ensures { IfOk result (λ v. map verdict_document v.items ≡ map (λ r. gathered_rule (rule_document r) local []) rules.now) }
+{
+    let mut held = Vec::with_capacity(alloc, rules.len())?;
+    for rule in rules {
+        held.push(judged(alloc, rule, local))?;
+    }
+    Ok(held)
+}
+
+/// The verdict on a rule that counts no vehicle.
+fn judged(alloc: Global, rule: &Rule, local: Local) -> RuleVerdict
+    ensures { verdict_document result ≡ gathered_rule (rule_document rule.now) local [] }
+{
+    let status = if rule.kind == Kind::Other {
+        Status::NotEvaluated
+    } else if open_at(rule, local) {
+        status_of(rule.kind, rule.bounds, 0)
+    } else {
+        Status::Inactive
+    };
+    RuleVerdict {
+        rule: rule.id,
+        status,
+        measure: 0,
+        devices: Vec::new(alloc),
+    }
+}
+
+/// Drops the devices of the rules that aren't violated.
+fn show(held: &mut [RuleVerdict])
+    ensures { map verdict_document held.new ≡ map shown (map verdict_document held.old) }
+{
+    for verdict in held.iter_mut() {
+        show_in(verdict);
+    }
+}
+
+/// Drops the devices of a rule that isn't violated. A list keeps no more memory than it shows.
+fn show_in(verdict: &mut RuleVerdict)
+    ensures { verdict_document verdict.new ≡ shown (verdict_document verdict.old) }
+{
+    if verdict.status != Status::Violated {
+        verdict.devices.clear();
+    }
+    verdict.devices.shrink_to_fit();
+}

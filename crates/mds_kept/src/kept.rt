@@ -1,0 +1,268 @@
+ghost use Rattle.std.specs.Prelude.{◌≡◌, ◌≤◌, List, ℕ, true, All, IfSome, drop, length};
+ghost use Rattle.std.specs.BTreeMap.{IsOrdered, keys};
+ghost use Rattle.mds_policy.specs.Policy.{policy_document};
+ghost use Rattle.mds_masks.specs.Masks.{IsMask};
+ghost use Rattle.mds_kept.specs.Kept.{AreKept, AreRead, AreRows, IsChanged, IsColumn, IsListed, IsSince, Published, Vehicles, device_cmp, rows_in};
+
+use crate::columns::{Columns, verdicts_by};
+use crate::words::{Mask, Since, fresh};
+use mds_masks::{MOST_RULES, MaskedPolicy};
+use mds_match::{Local, Places, Vehicle};
+use mds_policy::Policy;
+use mds_text::{Id, Moment};
+use mds_verdict::RuleVerdict;
+use std::alloc::Global;
+use std::collections::BTreeMap;
+
+/// The most masks that are kept of an operator's vehicles, over all policies.
+const MOST_MASKS: usize = 4_194_304;
+
+/// How many changed devices are noted at least, before all that is kept is dropped; of a great fleet
+/// an eighth.
+const LEAST_NOTES: usize = 64;
+
+/// The masks of one policy, by the places of the devices, as far as they go, and up to where they
+/// have read the log of changed devices.
+#[derive(Drop)]
+pub(crate) struct Column {
+    pub(crate) policy: Id,
+    pub(crate) masks: Vec<u64>,
+    pub(crate) seen: usize,
+}
+
+/// The devices in the order of their ids, when the runs of their states began, up to where these have
+/// read the log, the columns of policies, and the log of changed devices.
+#[derive(Drop)]
+pub(crate) struct Listed {
+    pub(crate) devices: Vec<Id>,
+    pub(crate) sinces: Vec<u64>,
+    pub(crate) seen: usize,
+    pub(crate) columns: Vec<Column>,
+    pub(crate) changed: Vec<Id>,
+}
+
+/// What is kept of an operator's vehicles between questions, if anything is.
+#[derive(Drop)]
+pub struct Kept {
+    pub(crate) listed: Option<Listed>,
+}
+
+impl Kept {
+    ghost use Rattle.std.specs.Prelude.{◌≡◌, ◌^◌, ◌<◌, List, ℕ, All, IfSome, map};
+    ghost use Rattle.mds_policy.specs.Policy.{policy_document};
+    ghost use Rattle.mds_verdict.specs.Verdict.{verdict_document, verdicts};
+    ghost use Rattle.mds_kept.specs.Kept.{AreOwn, Fits, IsChanged, IsPublished, MayAsk, Published, Vehicles, rows_in};
+
+    /// Nothing is kept. Takes no memory.
+    pub fn new() -> Kept
+        ensures { (published : Published) (vehicles : Vehicles) → Fits published vehicles result }
+    {
+        Kept { listed: None }
+    }
+
+    /// Notes that the vehicle of a device changed, where no device came or went. Where there is no room
+    /// or no memory for the note, nothing is kept any more.
+    pub fn note(&mut self, device: Id)
+        ensures { (published : Published) (before after : Vehicles) → IsChanged device before after →
+            Fits published before self.old → Fits published after self.new }
+    {
+        if let Some(listed) = self.listed.take() {
+            self.listed = noted(listed, device);
+        }
+    }
+
+    /// Drops what is kept, as it must be where a device comes or goes.
+    pub fn clear(&mut self)
+        ensures { (published : Published) (vehicles : Vehicles) → Fits published vehicles self.new }
+    {
+        self.listed = None;
+    }
+
+    /// The verdict on each rule of a policy, in their order, at a local time and at the moment up to which
+    /// a vehicle's time in its state counts: what is kept is brought up to date and looked at alone. `None`
+    /// where the policy has more than 64 rules, where there are more than 4,194,304 vehicles or where
+    /// memory ran out; then the vehicles themselves are to be asked.
+    pub fn verdicts<P: Places>(
+        &mut self,
+        alloc: Global,
+        policy: &Policy,
+        places: &P,
+        vehicles: &BTreeMap<Id, Box<Vehicle>>,
+        local: Local,
+        moment: Moment,
+    ) -> Option<Vec<RuleVerdict>>
+        requires own { AreOwn vehicles.now }
+        requires asked { MayAsk self.old (policy_document policy.now) (P.polygons places.now) vehicles.now }
+        ensures exact { IfSome result (λ found. map verdict_document found.items
+            ≡ verdicts (policy_document policy.now) (P.polygons places.now) (rows_in vehicles.now) local moment) }
+        ensures fits { IfSome result (λ found. All (λ v. v.measure < 2 ^ 63) found.items) }
+        ensures kept { (published : Published) → Fits published vehicles.now self.old →
+            IsPublished published (policy_document policy.now) (P.polygons places.now) → Fits published vehicles.now self.new }
+    {
+        if policy.rules().len() > MOST_RULES || vehicles.len() > MOST_MASKS {
+            return None;
+        }
+        let listed = kept_or_new(alloc, self.listed.take(), vehicles)?;
+        let mut listed = with_sinces(alloc, listed, vehicles)?;
+        let column = taken_out(
+            &mut listed.columns,
+            alloc,
+            policy.id(),
+            listed.changed.len(),
+        );
+        let column = refreshed(alloc, column, policy, places, &listed, vehicles)?;
+        let columns = Columns {
+            devices: &listed.devices,
+            sinces: &listed.sinces,
+            masks: &column.masks,
+        };
+        let found = verdicts_by(alloc, policy, &columns, local, moment);
+        self.listed = Some(put_back(listed, column));
+        found.ok()
+    }
+}
+
+/// What is kept after a device changed, if it can be noted.
+fn noted(listed: Listed, device: Id) -> Option<Listed>
+    ensures { IfSome result (λ new. (published : Published) (before after : Vehicles) → IsChanged device before after →
+        IsListed published before listed → IsListed published after new) }
+{
+    let mut listed = listed;
+    let most = LEAST_NOTES.max(listed.devices.len() / 8);
+    if listed.changed.len() >= most || listed.changed.push(device).is_err() {
+        return None;
+    }
+    Some(listed)
+}
+
+/// What is kept; where nothing is, a list of the devices alone. `None` where memory ran out.
+fn kept_or_new(
+    alloc: Global,
+    kept: Option<Listed>,
+    vehicles: &BTreeMap<Id, Box<Vehicle>>,
+) -> Option<Listed>
+    requires { IfSome kept (AreRows vehicles.now) }
+    ensures rows { IfSome result (AreRows vehicles.now) }
+    ensures kept { IfSome result (λ new. (published : Published) → IfSome kept (IsListed published vehicles.now) → IsListed published vehicles.now new) }
+{
+    match kept {
+        Some(listed) => Some(listed),
+        None => without_columns(alloc, vehicles),
+    }
+}
+
+/// What is kept, with the beginnings of states up to date. `None` where memory ran out.
+fn with_sinces(
+    alloc: Global,
+    listed: Listed,
+    vehicles: &BTreeMap<Id, Box<Vehicle>>,
+) -> Option<Listed>
+    requires ordered { IsOrdered device_cmp vehicles.now }
+    requires devices { listed.devices.items ≡ keys vehicles.now }
+    requires seen { listed.seen ≤ length listed.changed.items }
+    requires sinces { AreKept IsSince vehicles.now listed.devices.items listed.sinces.items (drop listed.seen listed.changed.items) }
+    ensures devices { IfSome result (λ new. new.devices.items ≡ keys vehicles.now) }
+    ensures sinces { IfSome result (λ new. AreRead IsSince (rows_in vehicles.now) new.sinces.items) }
+    ensures kept { IfSome result (λ new. (published : Published) → IsListed published vehicles.now listed → IsListed published vehicles.now new) }
+{
+    let Listed {
+        devices,
+        sinces,
+        seen,
+        columns,
+        changed,
+    } = listed;
+    let sinces = fresh(alloc, sinces, &Since, &devices, vehicles, &changed[seen..])?;
+    let seen = changed.len();
+    Some(Listed {
+        devices,
+        sinces,
+        seen,
+        columns,
+        changed,
+    })
+}
+
+/// A list of the devices alone. `None` where memory ran out.
+fn without_columns(alloc: Global, vehicles: &BTreeMap<Id, Box<Vehicle>>) -> Option<Listed>
+    ensures rows { IfSome result (AreRows vehicles.now) }
+    ensures kept { IfSome result (λ new. (published : Published) → IsListed published vehicles.now new) }
+{
+    let Ok(devices) = vehicles.keys().copied().collect(alloc) else {
+        return None;
+    };
+    Some(Listed {
+        devices,
+        sinces: Vec::new(alloc),
+        seen: 0,
+        columns: Vec::new(alloc),
+        changed: Vec::new(alloc),
+    })
+}
+
+/// Takes the column of a policy out of those that are kept, or begins one that has no mask.
+fn taken_out(columns: &mut Vec<Column>, alloc: Global, policy: Id, seen: usize) -> Column
+    ensures policy { result.policy ≡ policy }
+    ensures kept { (published : Published) (vehicles : Vehicles) (devices changed : List (List ℕ)) →
+        length changed ≡ seen → published.lasting policy ≡ true →
+        All (IsColumn published vehicles devices changed) columns.old.items →
+        All (IsColumn published vehicles devices changed) columns.new.items × IsColumn published vehicles devices changed result }
+{
+    if let Some(place) = columns.iter().position(|column| column.policy == policy) {
+        return columns.remove(place);
+    }
+    Column {
+        policy,
+        masks: Vec::new(alloc),
+        seen,
+    }
+}
+
+/// A column of a policy with all masks, up to date. `None` where memory ran out.
+fn refreshed<P: Places>(
+    alloc: Global,
+    column: Column,
+    policy: &Policy,
+    places: &P,
+    listed: &Listed,
+    vehicles: &BTreeMap<Id, Box<Vehicle>>,
+) -> Option<Column>
+    requires few { length (policy_document policy.now).rules ≤ 64 }
+    requires devices { listed.now.devices.items ≡ keys vehicles.now }
+    requires seen { column.seen ≤ length listed.now.changed.items }
+    requires kept { AreKept (λ row word. IsMask (policy_document policy.now) (P.polygons places.now) row word) vehicles.now
+        listed.now.devices.items column.masks.items (drop column.seen listed.now.changed.items) }
+    ensures policy { IfSome result (λ new. new.policy ≡ column.policy) }
+    ensures seen { IfSome result (λ new. new.seen ≡ length listed.now.changed.items) }
+    ensures masks { IfSome result (λ new. AreRead (λ row word. IsMask (policy_document policy.now) (P.polygons places.now) row word) (rows_in vehicles.now) new.masks.items) }
+{
+    let Column {
+        policy: id,
+        masks,
+        seen,
+    } = column;
+    let Ok(rules) = MaskedPolicy::new(alloc, policy, places) else {
+        return None;
+    };
+    let mask = Mask { rules };
+    let changed = &listed.changed[seen..];
+    let masks = fresh(alloc, masks, &mask, &listed.devices, vehicles, changed)?;
+    Some(Column {
+        policy: id,
+        masks,
+        seen: listed.changed.len(),
+    })
+}
+
+/// What is kept with a column more, if there is room and memory for it.
+fn put_back(listed: Listed, column: Column) -> Listed
+    ensures { (published : Published) (vehicles : Vehicles) → IsListed published vehicles listed →
+        IsColumn published vehicles listed.devices.items listed.changed.items column → IsListed published vehicles result }
+{
+    let mut listed = listed;
+    let masks = (listed.columns.len() + 1).saturating_mul(listed.devices.len());
+    if masks <= MOST_MASKS && listed.columns.push(column).is_err() {
+        return listed;
+    }
+    listed
+}

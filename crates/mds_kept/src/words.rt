@@ -1,0 +1,125 @@
+ghost use Rattle.std.specs.Prelude.{◌≡◌, ◌≤◌, IfOk, IfSome, [], true, length};
+ghost use Rattle.std.specs.BTreeMap.{IsOrdered, keys};
+ghost use Rattle.mds_kept.specs.Kept.{AreKept, AreRead, device_cmp, rows_in};
+
+use mds_masks::MaskedPolicy;
+use mds_match::Vehicle;
+use mds_text::Id;
+use std::alloc::{AllocError, Global};
+use std::collections::BTreeMap;
+
+/// What is kept of each vehicle as a word.
+pub(crate) trait Word {
+    ghost use Rattle.std.specs.Prelude.{ℕ};
+    ghost use Rattle.mds_match.specs.Row.{Row, row_of};
+
+    /// Whether a word is that of a row.
+    ghost is: { Self → Row → ℕ → Type 0 };
+
+    /// The word of a vehicle.
+    fn of(&self, vehicle: &Vehicle) -> u64
+        ensures { is self.now (row_of vehicle.now) result };
+}
+
+/// When the run of a vehicle's state began, in milliseconds since the Unix epoch.
+pub(crate) struct Since;
+
+impl Word for Since {
+    ghost use Rattle.mds_kept.specs.Kept.{IsSince};
+
+    ghost is = { λ _ row word. IsSince row word };
+
+    fn of(&self, vehicle: &Vehicle) -> u64 {
+        vehicle.since.get() as u64
+    }
+}
+
+/// The rules of a policy that a vehicle meets whenever they are open.
+#[derive(Drop)]
+pub(crate) struct Mask<'a> {
+    pub(crate) rules: MaskedPolicy<'a>,
+    ghost few: { length rules.rules.items ≤ 64 },
+}
+
+impl<'a> Word for Mask<'a> {
+    ghost use Rattle.mds_kept.specs.Kept.{IsMaskBy};
+
+    ghost is = { λ mask row word. IsMaskBy mask.rules row word };
+
+    fn of(&self, vehicle: &Vehicle) -> u64 {
+        self.rules.mask(vehicle)
+    }
+}
+
+/// The words of these vehicles, in the order of their device ids.
+///
+/// # Errors
+///
+/// Memory ran out.
+fn made<W: Word>(
+    alloc: Global,
+    word: &W,
+    vehicles: &BTreeMap<Id, Box<Vehicle>>,
+) -> Result<Vec<u64>, AllocError>
+    ensures { IfOk result (λ words. AreRead (W.is word.now) (rows_in vehicles.now) words.items) }
+{
+    let mut words = Vec::with_capacity(alloc, vehicles.len())?;
+    for vehicle in vehicles.values() {
+        words.push(word.of(&**vehicle))?;
+    }
+    Ok(words)
+}
+
+/// Makes the words of changed devices anew where they stand. `false` where one isn't listed or isn't
+/// held.
+fn renew<W: Word>(
+    words: &mut [u64],
+    word: &W,
+    devices: &[Id],
+    vehicles: &BTreeMap<Id, Box<Vehicle>>,
+    changed: &[Id],
+) -> bool
+    requires listed { devices.now ≡ keys vehicles.now }
+    requires ordered { IsOrdered device_cmp vehicles.now }
+    requires few { length words.old ≤ length devices.now }
+    requires kept { AreKept (W.is word.now) vehicles.now devices.now words.old changed.now }
+    ensures long { length words.new ≡ length words.old }
+    ensures kept { result ≡ true → AreKept (W.is word.now) vehicles.now devices.now words.new [] }
+{
+    for device in changed {
+        let Some(vehicle) = vehicles.get(device) else {
+            return false;
+        };
+        let Ok(at) = devices.binary_search(device) else {
+            return false;
+        };
+        if at < words.len() {
+            words[at] = word.of(&**vehicle);
+        }
+    }
+    true
+}
+
+/// The words of these vehicles: those that are kept, with those of changed devices made anew, or all
+/// made anew where not all are there. `None` where memory ran out.
+pub(crate) fn fresh<W: Word>(
+    alloc: Global,
+    kept: Vec<u64>,
+    word: &W,
+    devices: &[Id],
+    vehicles: &BTreeMap<Id, Box<Vehicle>>,
+    changed: &[Id],
+) -> Option<Vec<u64>>
+    requires listed { devices.now ≡ keys vehicles.now }
+    requires kept { AreKept (W.is word.now) vehicles.now devices.now kept.items changed.now }
+    ensures { IfSome result (λ words. AreRead (W.is word.now) (rows_in vehicles.now) words.items) }
+{
+    if kept.len() != vehicles.len() {
+        return made(alloc, word, vehicles).ok();
+    }
+    let mut words = kept;
+    if !renew(&mut words, word, devices, vehicles, changed) {
+        return None;
+    }
+    Some(words)
+}
