@@ -2,6 +2,7 @@
 #![tactic(auto)]
 
 mod backlog;
+mod ballast;
 mod deciding;
 mod flusher;
 mod history;
@@ -12,6 +13,7 @@ mod settling;
 mod space;
 
 pub use backlog::{Place, ReserveFault};
+pub use ballast::Ballast;
 pub use deciding::{MOST_BYTES, MOST_TEXTS, Round, Telling, may_tell, may_wait, next_round};
 pub use flusher::{FlushFault, Flusher};
 pub use history::{Ledger, Naming, Opened, Stamp, Synced};
