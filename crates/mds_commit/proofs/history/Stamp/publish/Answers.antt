@@ -1,4 +1,4 @@
-use Rattle.std.proofs.Common.{sym, ◌∙◌, ap, ◌≡◌, ℕ, List, []}
+use Rattle.std.proofs.Common.{sym, ◌∙◌, ap, []}
 use Rattle.mds_commit.specs.History.{AreSynced}
 use Rattle.mds_commit.proofs.Words.{raises_moves}
 use Rattle.mds_commit.proofs.history.Stamp.publish.Goals as goal
