@@ -15,8 +15,6 @@ mod sending;
 mod serving;
 mod sits;
 mod sitting;
-#[cfg(test)]
-mod tests;
 mod watch;
 
 pub use admission::Admission;
@@ -24,5 +22,5 @@ pub use house::{Answers, House};
 pub use intake::Taken;
 pub use queues::Queues;
 pub use replies::{busy, closing, finished};
-pub use seats::Register;
+pub use seats::{Admittance, Register, Seat};
 pub use serving::{Seating, serve_all};

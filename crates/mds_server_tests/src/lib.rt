@@ -5,6 +5,8 @@
 #[cfg(test)]
 mod city;
 #[cfg(test)]
+mod connections;
+#[cfg(test)]
 mod counting;
 #[cfg(test)]
 mod desk;

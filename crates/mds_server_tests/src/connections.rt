@@ -1,10 +1,9 @@
-//! Who may sit, what may wait, and what a reply says.
-use crate::replies::{busy, finished};
-use crate::seats::{Admittance, Register, Seat};
+//! Who may have a connection, what may wait, and what a last reply says.
 use bytes::Bytes;
 use http::header::CONNECTION;
 use http::{Response, StatusCode};
 use http_body_util::Full;
+use mds_connections::{Admittance, Register, Seat, busy, finished};
 use mds_limits::{Arrival, Asker, MOST_OF_ASKER, MOST_STRANGERS, MOST_WAITING};
 use std::alloc::{AllocError, AllocGlobal, Global};
 use std::sync::Arc;
