@@ -26,23 +26,28 @@ use tokio::time::Sleep;
 
 /// The future of an answer.
 #[derive(Drop)]
-pub struct Exchange<P, I> {
+pub struct Exchange<P, F, I> {
     sitting: Option<P>,
     admittance: Admittance,
     parts: Parts,
     /// What still comes.
     body: Option<Intake<I>>,
     deadline: Option<Sleep>,
-    /// How the body arrived.
+    /// The body, once it has arrived.
     taken: Option<Taken>,
+    /// How it arrived.
+    arrival: Arrival,
     /// What the request waits for behind its body.
     turn: Option<AcquireOwned>,
+    /// The reply, once its turn is over.
+    reply: Option<F>,
 }
 
-impl<P: Sits, I: Drop> Exchange<P, I> {
+impl<P: Sits, I: Drop> Exchange<P, P::Reply, I> {
     /// The exchange of a request whose head has come.
-    pub fn new(sitting: &P, parts: Parts, body: Incoming<I>) -> Exchange<P, I>
-        ensures { result.turn ≡ None }
+    pub fn new(sitting: &P, parts: Parts, body: Incoming<I>) -> Exchange<P, P::Reply, I>
+        ensures turn { result.turn ≡ None }
+        ensures reply { result.reply ≡ None }
     {
         let mut body = Intake::new(sitting.alloc(), body);
         let admittance = sitting.ask(&parts, body.counts());
@@ -56,7 +61,9 @@ impl<P: Sits, I: Drop> Exchange<P, I> {
             body: Some(body),
             deadline: None,
             taken: None,
+            arrival: Arrival::Whole,
             turn: None,
+            reply: None,
         }
     }
 
@@ -64,6 +71,7 @@ impl<P: Sits, I: Drop> Exchange<P, I> {
     fn is_late(&mut self, seconds: u64, cx: &mut Context<'_>) -> bool
         ensures admittance { self.new.admittance ≡ self.old.admittance }
         ensures turn { self.new.turn ≡ self.old.turn }
+        ensures reply { self.new.reply ≡ self.old.reply }
         ensures kept { Keeps cx.old cx.new }
     {
         let Some(sitting) = &self.sitting else {
@@ -82,6 +90,7 @@ impl<P: Sits, I: Drop> Exchange<P, I> {
     fn arrive(&mut self, asker: Asker, taken: Taken)
         ensures admittance { self.new.admittance ≡ self.old.admittance }
         ensures turn { IfSome self.new.turn CanAcquire }
+        ensures reply { self.new.reply ≡ self.old.reply }
     {
         self.body = None;
         let takes_long = takes_long(&self.parts, &taken);
@@ -92,31 +101,90 @@ impl<P: Sits, I: Drop> Exchange<P, I> {
         self.taken = Some(taken);
     }
 
-    /// Answers the request, and ends the exchange.
-    fn answer(&mut self) -> Result<Response<Full<Bytes>>, AllocError>
-        requires { P.may_answer }
-        ensures { self.new.admittance ≡ self.old.admittance }
+    /// Answers the request. Its place in the queue is given back with its turn.
+    fn answer(&mut self, taken: Taken)
+        requires ready { P.may_answer }
+        ensures admittance { self.new.admittance ≡ self.old.admittance }
+        ensures turn { self.new.turn ≡ None }
+        ensures reply { IfSome self.new.reply P.Reply.can_poll }
     {
-        let (Some(sitting), Some(taken)) = (self.sitting.take(), self.taken.take()) else {
-            return Err(AllocError);
-        };
+        self.arrival = taken.arrival;
         let takes_long = takes_long(&self.parts, &taken);
-        let arrival = taken.arrival;
-        let answer = sitting.answer(&self.parts, taken, takes_long);
-        sitting.made();
-        finished(answer?, arrival)
+        self.reply = match &self.sitting {
+            Some(sitting) => Some(sitting.answer(&self.parts, taken, takes_long)),
+            None => None,
+        };
+        self.turn = None;
     }
 
-    /// Takes the body in, waits for the turn of this asker, and answers.
+    /// Waits for the turn of a request whose body arrived so, and answers it then.
+    fn take_turn(&mut self, taken: Taken, cx: &mut Context<'_>) -> Poll<()>
+        requires turn { IfSome self.old.turn CanAcquire }
+        requires ready { P.may_answer }
+        ensures admittance { self.new.admittance ≡ self.old.admittance }
+        ensures turn { IfSome self.new.turn CanAcquire }
+        ensures reply { IfSome self.old.reply P.Reply.can_poll → IfSome self.new.reply P.Reply.can_poll }
+        ensures registered { OnPending result (Covers cx.new (λ _. ⊥)) }
+        ensures kept { Keeps cx.old cx.new }
+    {
+        let Some(turn) = &mut self.turn else {
+            self.answer(taken);
+            return Poll::Ready(());
+        };
+        match turn.poll(cx) {
+            Poll::Pending => {
+                self.taken = Some(taken);
+                return Poll::Pending;
+            }
+            Poll::Ready(Ok(_permit)) => self.answer(taken),
+            Poll::Ready(Err(_)) => self.answer(Taken::nothing(Arrival::NoMemory)),
+        }
+        Poll::Ready(())
+    }
+
+    /// Waits until the reply may be told.
+    fn tell(&mut self, cx: &mut Context<'_>) -> Poll<Result<Response<Full<Bytes>>, AllocError>>
+        requires reply { IfSome self.old.reply P.Reply.can_poll }
+        ensures admittance { self.new.admittance ≡ self.old.admittance }
+        ensures turn { self.new.turn ≡ self.old.turn }
+        ensures reply { OnPending result (IfSome self.new.reply P.Reply.can_poll) }
+        ensures registered { OnPending result (Covers cx.new (λ _. ⊥)) }
+        ensures kept { Keeps cx.old cx.new }
+    {
+        let Some(reply) = &mut self.reply else {
+            return Poll::Ready(Err(AllocError));
+        };
+        match reply.poll(cx) {
+            Poll::Pending => Poll::Pending,
+            Poll::Ready(told) => {
+                if let Some(sitting) = self.sitting.take() {
+                    sitting.made();
+                }
+                Poll::Ready(self.finish(told))
+            }
+        }
+    }
+
+    /// The reply as it is sent.
+    fn finish(
+        &self,
+        told: Result<Response<Full<Bytes>>, AllocError>,
+    ) -> Result<Response<Full<Bytes>>, AllocError> {
+        finished(told?, self.arrival)
+    }
+
+    /// Takes the body in, waits for the turn of this asker, answers, and waits until the reply may be told.
     fn proceed(
         &mut self,
         asker: Asker,
         cx: &mut Context<'_>,
     ) -> Poll<Result<Response<Full<Bytes>>, AllocError>>
         requires turn { IfSome self.old.turn CanAcquire }
+        requires reply { IfSome self.old.reply P.Reply.can_poll }
         requires ready { P.may_answer }
         ensures admittance { self.new.admittance ≡ self.old.admittance }
         ensures turn { OnPending result (IfSome self.new.turn CanAcquire) }
+        ensures reply { OnPending result (IfSome self.new.reply P.Reply.can_poll) }
         ensures registered { OnPending result (Covers cx.new (λ _. ⊥)) }
         ensures kept { Keeps cx.old cx.new }
     {
@@ -129,17 +197,12 @@ impl<P: Sits, I: Drop> Exchange<P, I> {
                 Poll::Pending => return Poll::Pending,
             }
         }
-        let Some(turn) = &mut self.turn else {
-            return Poll::Ready(self.answer());
-        };
-        match turn.poll(cx) {
-            Poll::Pending => Poll::Pending,
-            Poll::Ready(Ok(_permit)) => Poll::Ready(self.answer()),
-            Poll::Ready(Err(_)) => {
-                self.taken = Some(Taken::nothing(Arrival::NoMemory));
-                Poll::Ready(self.answer())
-            }
+        if let Some(taken) = self.taken.take()
+            && self.take_turn(taken, cx).is_pending()
+        {
+            return Poll::Pending;
         }
+        self.tell(cx)
     }
 
     /// Reads past the body, and then says that the server is busy.
@@ -147,6 +210,7 @@ impl<P: Sits, I: Drop> Exchange<P, I> {
         ensures says { IfReady result (λ r. IfOk r SaysBusy) }
         ensures admittance { self.new.admittance ≡ self.old.admittance }
         ensures turn { self.new.turn ≡ self.old.turn }
+        ensures reply { self.new.reply ≡ self.old.reply }
         ensures registered { OnPending result (Covers cx.new (λ _. ⊥)) }
         ensures kept { Keeps cx.old cx.new }
     {
@@ -165,6 +229,7 @@ impl<P: Sits, I: Drop> Exchange<P, I> {
         ensures says { IfOk result SaysBusy }
         ensures admittance { self.new.admittance ≡ self.old.admittance }
         ensures turn { self.new.turn ≡ self.old.turn }
+        ensures reply { self.new.reply ≡ self.old.reply }
     {
         let Some(sitting) = self.sitting.take() else {
             return Err(AllocError);
@@ -174,10 +239,10 @@ impl<P: Sits, I: Drop> Exchange<P, I> {
     }
 }
 
-impl<P: Sits, I: Drop> Future for Exchange<P, I> {
+impl<P: Sits, I: Drop> Future for Exchange<P, P::Reply, I> {
     type Output = Result<Response<Full<Bytes>>, AllocError>;
 
-    ghost can_poll = { λ e. IfSome e.turn CanAcquire × P.may_answer };
+    ghost can_poll = { λ e. IfSome e.turn CanAcquire × IfSome e.reply P.Reply.can_poll × P.may_answer };
 
     ghost gives = { λ e given. e.admittance ≡ Busy → IfOk given SaysBusy };
 

@@ -3,6 +3,7 @@ use crate::intake::Taken;
 use crate::queues::Queues;
 use crate::seats::Register;
 use bytes::Bytes;
+use futures::Future;
 use http::Response;
 use http::request::Parts;
 use http_body_util::Full;
@@ -21,13 +22,13 @@ pub trait Answers: Drop {
     /// Who asks by this head.
     fn asker(&self, parts: &Parts) -> Asker;
 
-    /// The response.
-    ///
-    /// # Errors
-    ///
-    /// There was no memory for it.
-    fn answer(&self, parts: &Parts, taken: Taken) -> Result<Response<Full<Bytes>>, AllocError>
-        requires ready { may_answer };
+    /// The response, when it may be told. Where there was no memory for it, it is an error.
+    type Reply: Future<Output = Result<Response<Full<Bytes>>, AllocError>>;
+
+    /// The response on its way.
+    fn answer(&self, parts: &Parts, taken: Taken) -> Self::Reply
+        requires ready { may_answer }
+        ensures { Self.Reply.can_poll result };
 }
 
 /// What all connections share.

@@ -195,6 +195,7 @@ where
     S: Stream<Item = I>,
     I: AsyncRead + AsyncWrite + Send,
     A: Answers + Send + Sync,
+    A::Reply: Send,
     T: Timer + Send,
     requires sockets { S.can_poll sockets }
     requires ready { A.may_answer }
@@ -218,6 +219,7 @@ where
     S: Stream<Item = I>,
     I: AsyncRead + AsyncWrite + Send,
     P: Sits + Send,
+    P::Reply: Send,
     T: Timer + Send,
     requires sockets { S.can_poll sockets }
     requires ready { P.may_answer }

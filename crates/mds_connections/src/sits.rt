@@ -2,6 +2,7 @@
 use crate::intake::Taken;
 use crate::seats::Admittance;
 use bytes::Bytes;
+use futures::Future;
 use http::Response;
 use http::request::Parts;
 use http_body_util::Full;
@@ -16,6 +17,9 @@ use tokio::time::Sleep;
 pub trait Sits: Drop {
     ghost use Rattle.std.specs.Prelude.{⊤, IfSome};
     ghost use Rattle.tokio.specs.Locks.{CanAcquire};
+
+    /// A reply on its way: what it says is known, and it may still wait, with no place in a queue, until it may be told.
+    type Reply: Future<Output = Result<Response<Full<Bytes>>, AllocError>>;
 
     /// What it takes to answer.
     ghost may_answer: { Type 0 } = { ⊤ };
@@ -60,17 +64,9 @@ pub trait Sits: Drop {
         ensures { IfSome result CanAcquire };
 
     /// The reply to the request whose body was taken in.
-    ///
-    /// # Errors
-    ///
-    /// There was no memory for it.
-    fn answer(
-        &self,
-        parts: &Parts,
-        taken: Taken,
-        takes_long: bool,
-    ) -> Result<Response<Full<Bytes>>, AllocError>
-        requires ready { may_answer };
+    fn answer(&self, parts: &Parts, taken: Taken, takes_long: bool) -> Self::Reply
+        requires ready { may_answer }
+        ensures { Self.Reply.can_poll result };
 
     /// The request waits no more: its reply is made. What it waited with is given back.
     fn made(&self);

@@ -4,10 +4,7 @@ use crate::intake::Taken;
 use crate::seats::{Admittance, Seat};
 use crate::sits::Sits;
 use crate::watch::Bell;
-use bytes::Bytes;
-use http::Response;
 use http::request::Parts;
-use http_body_util::Full;
 use mds_limits::Asker;
 use std::alloc::{AllocError, Global};
 use std::sync::atomic::Ordering;
@@ -38,6 +35,8 @@ impl<A, C> Sitting<A, C> {
 }
 
 impl<A: Answers, C: Clock + Wait + Drop> Sits for Sitting<A, C> {
+    type Reply = A::Reply;
+
     ghost may_answer = { A.may_answer };
 
     fn enter(&self) -> Option<Sitting<A, C>> {
@@ -111,13 +110,9 @@ impl<A: Answers, C: Clock + Wait + Drop> Sits for Sitting<A, C> {
         self.house.queues.place(asker, takes_long)
     }
 
-    fn answer(
-        &self,
-        parts: &Parts,
-        taken: Taken,
-        takes_long: bool,
-    ) -> Result<Response<Full<Bytes>>, AllocError>
+    fn answer(&self, parts: &Parts, taken: Taken, takes_long: bool) -> A::Reply
         requires { A.may_answer }
+        ensures { A.Reply.can_poll result }
     {
         if takes_long {
             self.bell.ring();

@@ -1,5 +1,5 @@
 //! A hall that answers at the moments of a clock.
-ghost use Rattle.std.specs.Prelude.{◌≡◌};
+ghost use Rattle.std.specs.Prelude.{◌≡◌, IsSome};
 ghost use Rattle.mds_request.specs.Configuration.{configuration, actor_of};
 ghost use Rattle.mds_hall.specs.Asked.{token_of};
 ghost use Rattle.mds_limits.specs.Asker.{asker_of};
@@ -7,6 +7,7 @@ ghost use Rattle.mds_doors.specs.Arrived.{arrived_of};
 
 use crate::moments::Moments;
 use bytes::Bytes;
+use futures::future::{Ready, ready};
 use http::Response;
 use http::request::Parts;
 use http_body_util::Full;
@@ -30,6 +31,8 @@ pub struct Reception<K: Named, R, E, M> {
 
 impl<K: Named, R: Wait + Drop, E: Evaluator<Catalogue> + Drop, M: Moments> Answers
     for Reception<K, R, E, M> {
+    type Reply = Ready<Result<Response<Full<Bytes>>, AllocError>>;
+
     ghost may_answer = { E.may_judge };
 
     fn asker(&self, parts: &Parts) -> Asker
@@ -38,11 +41,16 @@ impl<K: Named, R: Wait + Drop, E: Evaluator<Catalogue> + Drop, M: Moments> Answe
         Asker::of(self.hall.asker(token(&parts.headers)))
     }
 
-    fn answer(&self, parts: &Parts, taken: Taken) -> Result<Response<Full<Bytes>>, AllocError>
+    fn answer(
+        &self,
+        parts: &Parts,
+        taken: Taken,
+    ) -> Ready<Result<Response<Full<Bytes>>, AllocError>>
         requires { E.may_judge }
+        ensures { IsSome result.0 }
     {
         let at = self.moments.now();
-        respond(
+        ready(respond(
             &self.rt,
             self.alloc,
             parts,
@@ -50,7 +58,7 @@ impl<K: Named, R: Wait + Drop, E: Evaluator<Catalogue> + Drop, M: Moments> Answe
             at,
             &self.hall,
             &self.evaluator,
-        )
+        ))
     }
 }
 
