@@ -1,0 +1,4 @@
+pub mod Answered
+pub mod Learning
+pub mod Lists
+pub mod New

@@ -1,0 +1,34 @@
+use mathlib.Core.List.{IsPrefix}
+use Rattle.std.proofs.Common.{◌≡◌, List, [], ap, subst, sym, ◌∙◌}
+use Rattle.std.specs.FinMap.{empty}
+use Rattle.mds_catalog.specs.Publication.{Publication}
+use Rattle.mds_drafts.specs.Drafts.{Drafts}
+use Rattle.mds_machine.specs.Step.{Exchange}
+use Rattle.mds_fronts.specs.Room.{authors_in}
+use Rattle.mds_restarts.specs.Kept.{AreSuccesses, requests_in}
+use Rattle.mds_desk.specs.Desk.{new_desk}
+use Rattle.mds_desk.specs.Room.{held_in}
+use Rattle.mds_recovery.specs.Laws.{new_server}
+use Rattle.mds_recovery.proofs.Lists.{both}
+use Rattle.mds_recovery.proofs.New.{new_at, new_is}
+use Rattle.mds_recovery.proofs.Answered.{prefix_self}
+use Rattle.mds_recovery.proofs.laws.journal_leads_back.Goals as goal
+
+pub returns : goal.returns
+returns c = λ configuration entries next are told before told_turns served journal.
+    let all = c.answered_are_turns.ensures configuration entries (new_server configuration) next (new_is configuration) are in
+    let room = all.1 in
+    let back = c.room_is_recovered.ensures configuration told room.history served.drafts next.room.drafts before next.room.publications served.room room.turns
+    (subst AreSuccesses (sym room.own) room.served, ap requests_in room.own ∙ room.asked ∙ journal.author) in (
+      both next.room.drafts served.drafts next.room.publications before back.0 back.1,
+      λ place operator is.
+          let own = served.desks place operator is in
+          let desk = all.2 place operator (new_desk configuration place) is (new_at configuration place operator is) in
+          let rows = c.desk_is_recovered.ensures configuration place operator [] [] empty own.0 desk.after.rows (told_turns place) desk.turns own.1 desk.are
+          (desk.served, desk.asked ∙ journal.operators place operator is) in (
+            desk.after,
+            desk.there,
+            rows.1,
+            subst (λ (l : List Publication). IsPrefix l desk.after.known) back.1 (desk.knows (prefix_self [])),
+          ),
+    )

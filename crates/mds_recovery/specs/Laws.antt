@@ -1,0 +1,128 @@
+-- What answering entries again leads to.
+use mathlib.Core.List.{IsPrefix}
+use Rattle.std.specs.Prelude.{◌≡◌, ℕ, nat_eq, List, [], ◌∷◌, ◌++◌, length, Bool, true, false, if◌then◌else◌, Option, Some, None, option_to_list, slice_get}
+use Rattle.mds_catalog.specs.Publication.{Publication}
+use Rattle.mds_drafts.specs.Drafts.{Drafts}
+use Rattle.mds_fleet.specs.Books.{Rows}
+use Rattle.mds_request.specs.Configuration.{Configuration, Operator}
+use Rattle.mds_request.specs.Request.{Request}
+use Rattle.mds_request.specs.declared.config.Actor.{Actor}
+use Rattle.mds_request.specs.declared.config.Actor.TheVariants.{Author, Operator as OperatorAt, Nobody}
+use Rattle.mds_machine.specs.Step.{Exchange, new_state}
+use Rattle.mds_fronts.specs.Desks.{AreTurns}
+use Rattle.mds_fronts.specs.Fronts.{Turn, last_front, requests_in}
+use Rattle.mds_fronts.specs.OneHistory.{HasServed}
+use Rattle.mds_fronts.specs.Room.{AreRoomTurns, authors_in}
+use Rattle.mds_restarts.specs.Kept.{AreSuccesses, kept}
+use Rattle.mds_restarts.specs.Kept.{requests_in as room_requests_in}
+use Rattle.mds_restarts.specs.Servers.{AreServed, kept_turns}
+use Rattle.mds_desk.specs.Desk.{DeskState, new_desks}
+use Rattle.mds_desk.specs.Room.{RoomState, held_in, new_room}
+use Rattle.mds_entries.specs.Entries.{Entry}
+use Rattle.mds_entries.specs.Requests.{actor_by, request_by}
+use Rattle.mds_recovery.specs.Recovery.{Server, AreAnswered}
+
+abbrev pub is_actor : Actor → Actor → Bool
+is_actor Author Author = true
+is_actor (OperatorAt place) (OperatorAt other) = nat_eq place other
+is_actor Nobody Nobody = true
+is_actor actor other = false
+
+-- the requests of one who asks, among entries
+abbrev pub requests_by : Configuration → Actor → List Entry → List Request
+requests_by configuration actor [] = []
+requests_by configuration actor (e ∷ entries) =
+    (if is_actor actor (actor_by configuration e.asker) then option_to_list (request_by configuration e) else [])
+    ++ requests_by configuration actor entries
+
+-- What the room has done where entries were answered again: turns, all successes, on the author's requests among them.
+pub record IsRoomRecovered (configuration : Configuration) (entries : List Entry) (s next : Server) : Type 0 where
+  pub history : List Exchange
+  pub turns : AreRoomTurns configuration (held_in s.room) history (held_in next.room)
+  pub served : AreSuccesses history
+  pub asked : room_requests_in history ≡ requests_by configuration Author entries
+  -- they carry the author's token
+  pub own : authors_in configuration history ≡ history
+
+-- The same of a desk. It knows all that the room has published, if it did before.
+pub record IsDeskRecovered (configuration : Configuration) (entries : List Entry) (s next : Server) (place : ℕ) (operator : Operator)
+    (d : DeskState) : Type 0 where
+  pub after : DeskState
+  pub there : slice_get next.desks place ≡ Some after
+  pub turns : List Turn
+  pub are : AreTurns configuration place operator d.known d.rows turns after.rows
+  pub served : AreServed turns
+  pub asked : requests_in turns ≡ requests_by configuration (OperatorAt place) entries
+  pub fronts : IsPrefix (last_front d.known turns) after.known
+  pub knows : IsPrefix s.room.publications d.known → IsPrefix next.room.publications after.known
+
+-- a room of the configuration, and a desk for each operator, in its order
+pub record IsServerOf (configuration : Configuration) (s : Server) : Type 0 where
+  pub room : s.room.configuration ≡ configuration
+  pub long : length s.desks ≡ length configuration.operators
+  pub desks : (place : ℕ) (d : DeskState) → slice_get s.desks place ≡ Some d → (d.configuration ≡ configuration) × (d.place ≡ place)
+
+-- Entries that were answered again are turns of the room and of each desk.
+abbrev pub AnsweredAreTurns : Type 0
+AnsweredAreTurns =
+    (configuration : Configuration) (entries : List Entry) (s next : Server) → IsServerOf configuration s
+    → AreAnswered configuration entries s next
+    → IsServerOf configuration next × IsRoomRecovered configuration entries s next
+    × ((place : ℕ) (operator : Operator) (d : DeskState) → slice_get configuration.operators place ≡ Some operator
+    → slice_get s.desks place ≡ Some d → IsDeskRecovered configuration entries s next place operator d)
+
+-- the server that `furnish` makes
+abbrev pub new_server : Configuration → Server
+new_server configuration = record { room = new_room configuration; desks = new_desks configuration }
+
+-- These entries are a journal of what a server did: of each one who asks they have the requests that are kept, in their order.
+pub record IsJournalOf (configuration : Configuration) (entries : List Entry) (history : List Exchange) (turns : ℕ → List Turn) : Type 0 where
+  pub author : requests_by configuration Author entries ≡ room_requests_in (kept configuration (authors_in configuration history))
+  pub operators : (place : ℕ) (operator : Operator) → slice_get configuration.operators place ≡ Some operator
+      → requests_by configuration (OperatorAt place) entries ≡ requests_in (kept_turns configuration (turns place))
+
+-- What a journal's entries lead back to: the drafts and publications, with their moments, and each operator's rows, that what was told
+-- had left; and the desks know all that was published.
+abbrev pub LeadsBack : Configuration → List Entry → Server → Type 0
+LeadsBack configuration entries next =
+    (told : List Exchange) (before : List Publication) (told_turns : ℕ → List Turn)
+    → (served : HasServed configuration told before told_turns) → IsJournalOf configuration entries told told_turns
+    → (held_in next.room ≡ (served.drafts, before))
+    × ((place : ℕ) (operator : Operator) (is : slice_get configuration.operators place ≡ Some operator)
+    → (after : DeskState) × (slice_get next.desks place ≡ Some after) × (after.rows ≡ (served.desks place operator is).0)
+    × IsPrefix before after.known)
+
+abbrev pub JournalLeadsBack : Type 0
+JournalLeadsBack =
+    (configuration : Configuration) (entries : List Entry) (next : Server) → AreAnswered configuration entries (new_server configuration) next
+    → LeadsBack configuration entries next
+
+-- What is done from a room and desks on: exchanges at the room, and turns of each desk, which ends at what is published.
+pub record GoesOn (configuration : Configuration) (s : Server) (later : List Exchange) (publications : List Publication)
+    (turns : ℕ → List Turn) : Type 0 where
+  pub drafts : Drafts
+  pub room : AreRoomTurns configuration (held_in s.room) later (drafts, publications)
+  pub desks : (place : ℕ) (operator : Operator) (d : DeskState) → slice_get configuration.operators place ≡ Some operator
+      → slice_get s.desks place ≡ Some d
+      → (rows : Rows) × AreTurns configuration place operator d.known d.rows (turns place) rows
+      × IsPrefix (last_front d.known (turns place)) publications
+
+-- Over a restart there is one server: what was told before it, and what is done after it from this room and these desks on, are what one
+-- server did, so that its one history is isolated and meant as any other is.
+abbrev pub IsOneServerFrom : Configuration → List Entry → Server → Type 0
+IsOneServerFrom configuration entries s =
+    (told later : List Exchange) (before publications : List Publication) (told_turns later_turns : ℕ → List Turn)
+    → HasServed configuration told before told_turns → IsJournalOf configuration entries told told_turns
+    → GoesOn configuration s later publications later_turns
+    → HasServed configuration (told ++ later) publications (λ place. told_turns place ++ later_turns place)
+
+abbrev pub GoesOnAsOneServer : Type 0
+GoesOnAsOneServer =
+    (configuration : Configuration) (entries : List Entry) (s : Server) → AreAnswered configuration entries (new_server configuration) s
+    → IsOneServerFrom configuration entries s
+
+-- Entries that are answered again by parts are answered again.
+abbrev pub AnsweredByParts : Type 0
+AnsweredByParts =
+    (configuration : Configuration) (front rest : List Entry) (s between next : Server) → AreAnswered configuration front s between
+    → AreAnswered configuration rest between next → AreAnswered configuration (front ++ rest) s next

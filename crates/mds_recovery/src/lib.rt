@@ -1,0 +1,11 @@
+//! From a journal's entries to a server that goes on: each entry is answered again, in order, at its own moment.
+#![tactic(auto)]
+
+mod fault;
+pub mod laws;
+mod progress;
+mod recovering;
+
+pub use fault::{Cause, Fault};
+pub use progress::{Progress, Silent};
+pub use recovering::recover;

@@ -1,0 +1,152 @@
+//! Entries are answered again.
+ghost use Rattle.std.specs.Prelude.{◌≡◌, ◌<◌, length, map, Some, IfErr, MatchOption, OnOk};
+ghost use Rattle.mds_request.specs.Configuration.{configuration};
+ghost use Rattle.mds_request.specs.Request.{request_of};
+ghost use Rattle.mds_request.specs.Reply.{Reply};
+ghost use Rattle.mds_desk.specs.Desk.{state_of};
+ghost use Rattle.mds_desk.specs.Room.{RoomState};
+ghost use Rattle.mds_entries.specs.Entries.{entry_of};
+ghost use Rattle.mds_recovery.specs.Recovery.{server_of, AllLearn, RoomAnswers, DeskAnswers, Answers, HasNoDesk};
+ghost use Rattle.mds_recovery.specs.Recovery.{IsAnsweredAgain, AreAnswered, IsRefused, IsStopped};
+
+use crate::fault::{Cause, Fault};
+use crate::progress::Progress;
+use mds_desk::{AuthorRoom, Desk, OpenGate};
+use mds_entries::{Entry, actor_by, request_by};
+use mds_request::{Actor, Config, Request};
+use mds_shelf::Answer;
+use mds_snapshot::{Naming, Note};
+use mds_verdict::Plain;
+use std::sync::Wait;
+
+/// The status of a success.
+const SUCCESS: u16 = 200;
+
+/// Each desk learns what was published.
+fn learn_all<K: Naming>(desks: &mut [Desk<K>], note: &Note<K>)
+    ensures { AllLearn (Some note.now) (map state_of desks.old) (map state_of desks.new) }
+{
+    for place in 0..desks.len() {
+        desks[place].learn(note);
+    }
+}
+
+/// Each desk learns what was published, if something was.
+fn learn_note<K: Naming>(desks: &mut [Desk<K>], note: Option<Note<K>>)
+    ensures { AllLearn note (map state_of desks.old) (map state_of desks.new) }
+{
+    if let Some(note) = note {
+        learn_all(desks, &note);
+    }
+}
+
+/// The room answers the author's request, and each desk learns what it publishes.
+fn room_answers<K: Naming, R: Wait>(
+    rt: &R,
+    room: &mut AuthorRoom<K>,
+    desks: &mut [Desk<K>],
+    request: &Request<'_>,
+) -> Answer
+    ensures { RoomAnswers (request_of request.now) result (server_of room.old desks.old) (server_of room.new desks.new) }
+{
+    let (answer, note) = room.answer(rt, request);
+    learn_note(desks, note);
+    answer
+}
+
+/// The desk at a place answers its operator's request.
+fn desk_answers<K: Naming>(desks: &mut [Desk<K>], place: usize, request: &Request<'_>) -> Answer
+    requires { place < length desks.old }
+    ensures { (room : RoomState) → DeskAnswers place (request_of request.now) result
+        (record { room = room; desks = map state_of desks.old }) (record { room = room; desks = map state_of desks.new }) }
+{
+    desks[place].answer(request, &mut OpenGate, &Plain)
+}
+
+/// Answers a request where its asker is answered, the author at the room and an operator at its desk, and gives the
+/// status; `None` where no such desk is.
+fn answered<K: Naming, R: Wait>(
+    rt: &R,
+    room: &mut AuthorRoom<K>,
+    desks: &mut [Desk<K>],
+    actor: Actor,
+    request: &Request<'_>,
+) -> Option<u16>
+    ensures { MatchOption result
+        (HasNoDesk actor (server_of room.old desks.old) × (server_of room.new desks.new ≡ server_of room.old desks.old))
+        (λ status. (reply : Reply) × (reply.status ≡ status)
+        × Answers actor (request_of request.now) reply (server_of room.old desks.old) (server_of room.new desks.new)) }
+{
+    match actor {
+        Actor::Author => Some(room_answers(rt, room, desks, request).status()),
+        Actor::Operator(place) => {
+            if place < desks.len() {
+                Some(desk_answers(desks, place, request).status())
+            } else {
+                None
+            }
+        }
+        Actor::Nobody => None,
+    }
+}
+
+/// Answers an entry again.
+///
+/// # Errors
+///
+/// Why it wasn't answered with success.
+fn answer_again<'a, K: Naming, R: Wait>(
+    rt: &R,
+    config: &'a Config,
+    room: &mut AuthorRoom<K>,
+    desks: &mut [Desk<K>],
+    entry: &Entry<'a>,
+) -> Result<(), Cause>
+    ensures again { OnOk result (IsAnsweredAgain (configuration config.now) (entry_of entry.now)
+        (server_of room.old desks.old) (server_of room.new desks.new)) }
+    ensures refused { IfErr result (λ cause. IsRefused (configuration config.now) (entry_of entry.now) cause
+        (server_of room.old desks.old) (server_of room.new desks.new)) }
+{
+    let Some(request) = request_by(config, entry) else {
+        return Err(Cause::NoDesk);
+    };
+    let actor = actor_by(config, entry.asker);
+    match answered(rt, room, desks, actor, &request) {
+        None => Err(Cause::NoDesk),
+        Some(SUCCESS) => Ok(()),
+        Some(status) => Err(Cause::Refused(status)),
+    }
+}
+
+/// Answers entries again, one after another, each at its own moment and with its asker's access token of the
+/// configuration: the author's at the room, an operator's at its desk; and every desk learns what is published.
+///
+/// The configuration is the room's and the desks'. What the room and the desks are then, `laws` says: where they were
+/// new and the entries are a journal of what a server did, they are what this had left, and go on as one server. A
+/// journal may be answered by parts, each by a call.
+///
+/// # Errors
+///
+/// The first entry that wasn't answered with success. The room and the desks have answered those before it, and are
+/// not to be used.
+pub fn recover<'a, K: Naming, R: Wait, P: Progress>(
+    rt: &R,
+    config: &'a Config,
+    room: &mut AuthorRoom<K>,
+    desks: &mut [Desk<K>],
+    entries: &[Entry<'a>],
+    progress: &mut P,
+) -> Result<(), Fault>
+    ensures recovered { OnOk result (AreAnswered (configuration config.now) (map entry_of entries.now)
+        (server_of room.old desks.old) (server_of room.new desks.new)) }
+    ensures stopped { IfErr result (λ fault. IsStopped (configuration config.now) (map entry_of entries.now) fault
+        (server_of room.old desks.old) (server_of room.new desks.new)) }
+{
+    for entry in 0..entries.len() {
+        if let Err(cause) = answer_again(rt, config, room, desks, &entries[entry]) {
+            return Err(Fault { entry, cause });
+        }
+        progress.answered(entry + 1);
+    }
+    Ok(())
+}
