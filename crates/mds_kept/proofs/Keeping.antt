@@ -1,5 +1,5 @@
 -- What keeps columns right: a note, a column more, a column that is begun or read anew.
-use Rattle.std.proofs.Common.{◌≡◌, ◌⊎◌, ℕ, ◌+◌, ◌<◌, ◌≤◌, Bool, true, List, [], ◌∷◌, ◌++◌, length, map, get_or, drop, pos, Option, Some, None, Result, Ok, Err, refl, sym, ap, subst, ◌∙◌, inl, inr, arith}
+use Rattle.std.proofs.Common.{◌≡◌, ℕ, ◌<◌, ◌≤◌, Bool, true, List, [], ◌∷◌, ◌++◌, length, map, get_or, drop, pos, Option, Some, None, Result, Ok, Err, sym, ap, subst, ◌∙◌, arith}
 use Rattle.std.specs.declared.alloc.Global.{Global}
 use Rattle.std.specs.declared.boxed.Box.{Box}
 use Rattle.std.specs.BTreeMap.{IsOrdered, get, keys, values}
@@ -22,7 +22,6 @@ use Rattle.mds_kept.specs.Columns.{AreOf}
 use Rattle.mds_kept.specs.Kept.{AreKept, AreOwn, AreRead, Fits, Grows, IsChanged, IsColumn, IsListed, IsMaskBy, IsMaskOf, IsPublished, IsSince, Published, Vehicles, device_cmp, rows_in}
 use Rattle.mds_kept.specs.declared.kept.Column.{Column}
 use Rattle.mds_kept.specs.declared.kept.Kept.{Kept}
-use Rattle.mds_kept.specs.declared.kept.Listed.{Listed}
 
 -- words of one kind are of another, where each row's are
 pub kept_as : (Is As : Row → ℕ → Type 0) (vehicles : Vehicles) (devices : List (List ℕ)) (words : List ℕ) (changed : List (List ℕ)) → ((row : Row) (word : ℕ) → Is row word → As row word)

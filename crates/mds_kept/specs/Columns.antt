@@ -17,7 +17,8 @@ adds_since (Time unit) bounds t since = not (within bounds (millis unit) (t - si
 adds_since Other bounds t since = false
 
 -- the columns are those of these rows: device ids, beginnings of states, and masks of a policy's rules
-pub record AreOf (policy : Policy) (polygons : List ℕ → List (List (List Position))) (rows : List Row) (devices : List (List ℕ)) (sinces masks : List ℕ) : Type 0 where
+pub record AreOf (policy : Policy) (polygons : List ℕ → List (List (List Position))) (rows : List Row) (devices : List (List ℕ))
+    (sinces masks : List ℕ) : Type 0 where
   pub named : devices ≡ map (λ row. row.device) rows
   pub since : sinces ≡ map (λ row. row.since) rows
   pub long : length masks ≡ length rows

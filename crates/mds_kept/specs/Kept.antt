@@ -1,5 +1,5 @@
 -- What is kept of an operator's vehicles between questions, and what ties it to the vehicles and to what is published.
-use Rattle.std.specs.Prelude.{◌≡◌, ◌<◌, ◌≤◌, ℕ, List, [], Bool, true, Option, Some, IfSome, All, Contains, length, get_or, drop, map}
+use Rattle.std.specs.Prelude.{◌≡◌, ◌<◌, ◌≤◌, ℕ, List, [], Bool, true, Some, IfSome, All, Contains, length, get_or, drop, map}
 use Rattle.std.specs.declared.alloc.Global.{Global}
 use Rattle.std.specs.declared.boxed.Box.{Box}
 use Rattle.std.specs.declared.cmp.Ordering.{Ordering}

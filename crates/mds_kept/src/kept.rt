@@ -234,7 +234,8 @@ fn refreshed<P: Places>(
         listed.now.devices.items column.masks.items (drop column.seen listed.now.changed.items) }
     ensures policy { IfSome result (λ new. new.policy ≡ column.policy) }
     ensures seen { IfSome result (λ new. new.seen ≡ length listed.now.changed.items) }
-    ensures masks { IfSome result (λ new. AreRead (λ row word. IsMask (policy_document policy.now) (P.polygons places.now) row word) (rows_in vehicles.now) new.masks.items) }
+    ensures masks { IfSome result (λ new. AreRead (λ row word. IsMask (policy_document policy.now) (P.polygons places.now) row word)
+        (rows_in vehicles.now) new.masks.items) }
 {
     let Column {
         policy: id,

@@ -1,11 +1,9 @@
-use Rattle.std.proofs.Common.{◌≡◌, ◌+◌, ◌<◌, ◌≤◌, ◌^◌, ◌++◌, ◌∷◌, [], ℕ, List, Some, None, length, map, take, get_or, sym, ap, ◌∙◌, arith}
+use Rattle.std.proofs.Common.{◌≡◌, ◌+◌, ◌<◌, ◌≤◌, ◌^◌, ◌++◌, ◌∷◌, [], Some, None, length, map, take, get_or, sym, ap, ◌∙◌, arith}
 use Rattle.std.proofs.lemmas.List.{length-take-le, take_all, take_more}
 use Rattle.mds_policy.specs.Policy.{policy_document, rule_document}
 use Rattle.mds_match.specs.Matching.{first}
-use Rattle.mds_match.specs.Row.{Row}
 use Rattle.mds_verdict.specs.Gathered.{gathered, gathered_rule}
 use Rattle.mds_verdict.specs.Verdict.{verdict_document}
-use Rattle.mds_verdict.specs.declared.verdict.RuleVerdict.{RuleVerdict}
 use Rattle.mds_verdict.proofs.Counting.{number_within, values-uncaught}
 use Rattle.mds_verdict.proofs.Measures.{gathered_at_most, gathered_of_none, length_held, measures_fit}
 use Rattle.mds_verdict.proofs.Numbered.{written_back}

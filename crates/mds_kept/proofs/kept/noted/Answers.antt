@@ -1,4 +1,4 @@
-use Rattle.std.proofs.Common.{◌≡◌, ◌++◌, ◌∷◌, [], length, sym, ◌∙◌, rules, arith}
+use Rattle.std.proofs.Common.{◌≡◌, ◌++◌, ◌∷◌, [], sym, ◌∙◌, rules, arith}
 use Rattle.std.proofs.lemmas.List.{length_push}
 use Rattle.mds_kept.specs.Kept.{IsSince}
 use Rattle.mds_kept.proofs.Keeping.{noted, noted_columns}

@@ -1,11 +1,11 @@
-use Rattle.std.proofs.Common.{◌≡◌, ℕ, List, [], refl, length, subst, sym, ◌∙◌, ap, rules, arith}
+use Rattle.std.proofs.Common.{◌≡◌, ℕ, List, refl, length, subst, sym, arith}
 use Rattle.std.specs.declared.alloc.Global.{Global}
 use Rattle.std.specs.declared.boxed.Box.{Box}
 use Rattle.std.specs.BTreeMap.{values}
 use Rattle.std.proofs.lemmas.List.{length-map}
 use Rattle.mds_verdict.proofs.Numbered.{written_back}
 use Rattle.mds_match.specs.declared.vehicle.Vehicle.{Vehicle}
-use Rattle.mds_kept.specs.Kept.{AreKept, AreRead, rows_in}
+use Rattle.mds_kept.specs.Kept.{AreRead, rows_in}
 use Rattle.mds_kept.proofs.Walking.{read_when_kept}
 use Rattle.mds_kept.proofs.words.fresh.Goals as goal
 

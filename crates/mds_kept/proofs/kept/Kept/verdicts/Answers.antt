@@ -1,4 +1,4 @@
-use Rattle.std.proofs.Common.{◌≡◌, ℕ, List, Option, map, length, refl, subst, sym, ap, ◌∙◌, arith}
+use Rattle.std.proofs.Common.{◌≡◌, ℕ, List, Option, map, subst, sym, ◌∙◌, arith}
 use Rattle.std.specs.declared.alloc.Global.{Global}
 use Rattle.std.specs.declared.vec.Vec.{Vec}
 use Rattle.std.specs.Option.{IfSome}
@@ -9,7 +9,7 @@ use Rattle.mds_masks.specs.Masks.{IsMask}
 use Rattle.mds_verdict.specs.Verdict.{verdict_document, verdicts}
 use Rattle.mds_verdict.specs.declared.verdict.RuleVerdict.{RuleVerdict}
 use Rattle.mds_kept.specs.Columns.{AreOf}
-use Rattle.mds_kept.specs.Kept.{AreRead, IsColumn, IsListed, IsSince, rows_in}
+use Rattle.mds_kept.specs.Kept.{AreRead, IsListed, IsSince, rows_in}
 use Rattle.mds_kept.specs.declared.kept.Listed.{Listed}
 use Rattle.mds_kept.proofs.Keeping.{asked_column, columns_of, fresh_column, if_ok_as, lasts}
 use Rattle.mds_kept.proofs.kept.Kept.verdicts.Goals as goal
