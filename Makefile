@@ -5,7 +5,7 @@
 # build    proves mds_replay with all that it stands on, and builds it
 # serve    the server on 127.0.0.1:8080 for the city of examples/city.json, with three lines to paste that ask it
 # openapi  checks docs/openapi.yaml against the protocol and the scripts (Debian's python3-yaml, python3-jsonschema)
-# bench    times mds_replay on generated input, and two programs in Rust beside it (minutes, once built)
+# bench    times mds_replay on generated input, and a program in plain Rust beside it, in three forms (minutes, once built)
 # stress   publishes 500 batches at mds_serve while 8 operators ask, and checks each reply against a replay (seconds, once built)
 # dist     packs the built programs: a tar and a Debian package in out/dist (seconds, once built)
 # dist-try  installs that package into a clean Debian root and asks its server (as root, minutes)

@@ -428,7 +428,8 @@ def several_processors(name, program, rounds):
                 answers.add(answer)
     if len(answers) != 1:
         sys.exit("the answers on one processor and on several differ")
-    label = f"a question, {len(fleet)} vehicles, {MOST_RULES} rules, {EDGES} edges each, {name}, on {PROCESSORS} processors against one (speed-up)"
+    what = f"a question, {len(fleet)} vehicles, {MOST_RULES} rules, {EDGES} edges each, {name}"
+    label = f"{what}, on {PROCESSORS} processors against one (speed-up)"
     speed = spread([one / several for one, several in zip(times[1], times[PROCESSORS])], 1, "")
     print("\n| Measure | one | several | speed-up | must | aim |\n|---|---|---|---|---|---|")
     print("| %s | %s | %s | %s | 2.5 | 3.5 |" % (label, *(spread(times[count], 1e3, " ms") for count in (1, PROCESSORS)), speed))

@@ -1,4 +1,5 @@
-"""Times mds_replay on generated input, and beside it, on the same input, a good program written by hand and a plain one.
+"""Times mds_replay on generated input, and beside it, on the same input, a good program written by hand, the same one that keeps
+memberships, and a plain one.
 
 Processor time (user and system) of whole runs; a part's time is the difference of two runs that
 differ in that part alone, divided by how often the part is in the longer one. The median of the rounds is
@@ -24,8 +25,10 @@ EDGES = (4, 1_000, generate.MOST_POSITIONS - 1)
 RULES = 64
 RADIUS = 0.2
 FLEET = generate.MOST_VEHICLES
-QUESTIONS = {"ours": 20, "good": 20, "scan": 1}
+# How often each program is asked behind its first question: often, where that is cheap.
+QUESTIONS = {"ours": 20, "good": 20, "keeping": 400}
 POLICIES, POLICY_RULES, PART_FLEET = 30, 8, 20_000
+SMALL_POLICIES, SMALL_RULES, SMALL_PLACES, SMALL_CITY = 5, 4, 8, 1_000
 NEW_DEVICES = 20_000
 MANY_DEVICES = 100_000
 SMALL_FLEET = 2_000
@@ -67,6 +70,14 @@ def city(random, first, edges):
     return lines
 
 
+def asked(name, lines, target):
+    """These lines, the same with a first question, and for each program that is asked again with its further ones."""
+    scripts = {name: lines, f"first {name}": lines + [generate.get(target)]}
+    for who, count in QUESTIONS.items():
+        scripts[f"ask {name}, {who}"] = lines + [generate.get(target)] * (1 + count)
+    return scripts
+
+
 def question_scripts(random):
     """The questions: the largest fleet, and a policy of the most rules for each number of edges."""
     lines = []
@@ -74,22 +85,20 @@ def question_scripts(random):
         lines += city(random, 100 * (place + 1), edges)
     scripts = {"cities": lines, "fleet": lines + sorted(generate.fleet(random, FLEET))}
     for place, edges in enumerate(EDGES):
-        name = "/compliance/" + generate.policy_id(100 * (place + 1))
-        for who, count in QUESTIONS.items():
-            scripts["ask %d, %s" % (edges, who)] = scripts["fleet"] + [generate.get(name)] * count
+        found = asked("fleet", scripts["fleet"], "/compliance/" + generate.policy_id(100 * (place + 1)))
+        scripts |= {f"{name.replace('fleet', str(edges))}": it for name, it in found.items() if name != "fleet"}
     return scripts
 
 
-def policies_scripts(random):
-    """Many small policies and a part of a fleet."""
-    rings = generate.districts(random, RULES, 200, RADIUS)
+def policies_scripts(random, name, policies, rules, places, fleet):
+    """Many small policies and a fleet."""
+    rings = generate.districts(random, places, 200, RADIUS)
     lines = [generate.put_geography(n, generate.geography(n, ring)) for n, ring in enumerate(rings)]
-    for n in range(POLICIES):
-        places = [random.below(RULES) for _ in range(POLICY_RULES)]
-        lines.append(generate.put_policy(n, generate.policy(random, n, POLICY_RULES, places)))
-    lines.append(generate.publish(range(RULES), range(POLICIES)))
-    lines += sorted(generate.fleet(random, PART_FLEET))
-    return {"policies": lines, "ask policies": lines + [generate.get("/compliance")] * 10}
+    for n in range(policies):
+        lines.append(generate.put_policy(n, generate.policy(random, n, rules, [random.below(places) for _ in range(rules)])))
+    lines.append(generate.publish(range(places), range(policies)))
+    lines += sorted(generate.fleet(random, fleet))
+    return asked(name, lines, "/compliance")
 
 
 def report_scripts(random):
@@ -131,21 +140,24 @@ def document_scripts(random):
 
 
 def scripts_for(who, scripts):
-    """Which scripts a program runs. The plain one isn't asked what would take it minutes."""
+    """Which scripts a program runs. The plain one isn't asked what would take it minutes, and the one that keeps memberships questions
+    alone."""
     for name in scripts:
         only = name.partition(", ")[2]
         if only and only != who:
             continue
-        if who == "scan" and (name.startswith("large") or name.startswith("ask %d" % EDGES[-1])):
+        if who == "scan" and (name.startswith("large") or name == f"first {EDGES[-1]}"):
+            continue
+        if who == "keeping" and not (only or name.startswith("first") or f"first {name}" in scripts or name == "fleet"):
             continue
         yield name
 
 
 def build_runs(folder, program, scripts):
     good = os.path.join(folder, "good")
-    source = os.path.join(HERE, "good.rs")
+    source = os.path.join(HERE, "good", "main.rs")
     subprocess.run(["rustc", "--edition", "2024", "-O", "-o", good, source], check=True)
-    commands = {"ours": [program], "good": [good], "scan": [good, "scan"]}
+    commands = {"ours": [program], "good": [good], "keeping": [good, "kept"], "scan": [good, "scan"]}
     paths = {name: generate.write_lines(folder, name + ".replay", lines) for name, lines in scripts.items()}
     runs = {}
     for name in scripts:
@@ -175,6 +187,9 @@ def is_front(one, other):
     return short == long[: len(short)] and all(answer == short[-1] for answer in long[len(short) :])
 
 
+WHO = ("ours", "good", "keeping", "scan")
+
+
 class Table:
     """The measures, each of all programs that have it."""
 
@@ -183,18 +198,28 @@ class Table:
 
     def seconds(self, who, longer, shorter, count):
         """The seconds of one of the parts that the longer run has over the shorter, by round."""
-        if (who, longer) not in self.runs:
-            longer, count = "%s, %s" % (longer, who), QUESTIONS[who]
-        if (who, longer) not in self.runs:
+        if (who, longer) not in self.runs or (who, shorter) not in self.runs:
             return None
         pairs = zip(self.runs[who, longer].seconds, self.runs[who, shorter].seconds)
         return [(more - less) / count for more, less in pairs]
 
     def row(self, label, longer, shorter, count, scale, unit, bounds):
         """A line of the table: each program's median with the least and the greatest, and the ratios of the medians."""
-        ours, good, scan = (self.seconds(who, longer, shorter, count) for who in ("ours", "good", "scan"))
-        plain = [spread(scan, scale, unit), figure(ratio(ours, scan))] if scan else ["", ""]
-        line([label, spread(ours, scale, unit), spread(good, scale, unit)] + told(ratio(ours, good), bounds) + plain)
+        return self.print_row(label, {who: self.seconds(who, longer, shorter, count) for who in WHO}, scale, unit, bounds)
+
+    def question(self, label, name, bounds, shorter=None):
+        """The same for a question: a further one, and the first one, which is the plain program's only one."""
+        first = {who: self.seconds(who, f"first {name}", shorter or name, 1) for who in WHO}
+        further = {who: self.seconds(who, f"ask {name}, {who}", f"first {name}", count) for who, count in QUESTIONS.items()}
+        asked = self.print_row(label, further | {"scan": first["scan"]}, 1e3, "ms", bounds)
+        self.print_row("the first " + label.removeprefix("a "), first | {"scan": None}, 1e3, "ms", None)
+        return asked
+
+    def print_row(self, label, found, scale, unit, bounds):
+        """A line of what each program took."""
+        ours, good, others = found["ours"], found["good"], [found["keeping"], found["scan"]]
+        cells = [label, spread(ours, scale, unit), spread(good, scale, unit)] + told(ratio(ours, good), bounds)
+        line(cells + [cell for it in others for cell in ([spread(it, scale, unit), figure(ratio(ours, it))] if it else ["", ""])])
         return ours
 
     def rate(self, label, longer, shorter, count, bounds):
@@ -202,10 +227,10 @@ class Table:
         each = [self.seconds(who, longer, shorter, count) for who in ("ours", "good", "scan")]
         ours, good, scan = ([1 / seconds for seconds in rounds] for rounds in each)
         cells = [spread(rates, 1e-3, "thousand") for rates in (ours, good, scan)]
-        line([label] + cells[:2] + told(ratio(ours, good), bounds, more=True) + [cells[2], figure(ratio(ours, scan))])
+        line([label] + cells[:2] + told(ratio(ours, good), bounds, more=True) + ["", "", cells[2], figure(ratio(ours, scan))])
 
     def compare(self, label, ours, others, bounds):
-        line([label, "", ""] + told(ratio(ours, others), bounds) + ["", ""])
+        line([label, "", ""] + told(ratio(ours, others), bounds) + [""] * 4)
 
 
 def line(cells):
@@ -238,17 +263,18 @@ def spread(values, scale, unit):
 
 def tell(runs):
     table = Table(runs)
-    print("\n| Measure | mds_replay | good | ratio | must | aim | kept | plain | ratio |\n|---|---|---|---|---|---|---|---|---|")
-    asked = {}
-    for edges, bounds in zip(EDGES, ((1.3, 0.6), (1.3, 0.7), (1.3, 0.7))):
+    print("\n| Measure | mds_replay | good | ratio | must | aim | kept | keeping memberships | ratio | plain | ratio |\n|" + "---|" * 11)
+    further = {}
+    for edges in EDGES:
         label = "a question, %d vehicles, %d rules, %d edges each" % (FLEET, RULES, edges)
-        asked[edges] = table.row(label, "ask %d" % edges, "fleet", 0, 1e3, "ms", bounds)
-        each = [seconds / FLEET / RULES for seconds in asked[edges]]
-        line(["for each vehicle and rule", spread(each, 1e9, "ns")] + [""] * 7)
+        further[edges] = table.question(label, str(edges), (0.06, 0.02), "fleet")
+        each = [seconds / FLEET / RULES for seconds in further[edges]]
+        line(["for each vehicle and rule", spread(each, 1e9, "ns")] + [""] * 9)
     label = "each vehicle, %d edges against %d" % (EDGES[2], EDGES[1])
-    table.compare(label, asked[EDGES[2]], asked[EDGES[1]], (1.8, 1.4))
-    label = "a question, %d policies of %d rules, %d vehicles" % (POLICIES, POLICY_RULES, PART_FLEET)
-    table.row(label, "ask policies", "policies", 10, 1e3, "ms", (2, 0.9))
+    table.compare(label, further[EDGES[2]], further[EDGES[1]], (1.8, 1.4))
+    label = "a question, %d policies of %d rules, %d vehicles"
+    table.question(label % (POLICIES, POLICY_RULES, PART_FLEET), "policies", (0.12, 0.05))
+    table.question(label % (SMALL_POLICIES, SMALL_RULES, SMALL_CITY), "small city", (0.5, 0.2))
     label = "a report of a new device, fleet of %d"
     large = table.row(label % FLEET, "large fleet and more", "large fleet", MANY_DEVICES, 1e6, "us", None)
     small = table.row(label % SMALL_FLEET, "small fleets and more", "small fleets", NEW_DEVICES, 1e6, "us", None)
@@ -260,7 +286,7 @@ def tell(runs):
     table.row("GET of 100 policies and of 100 geographies", "lists", "published", LISTS, 1e3, "ms", (3, 1.5))
     ours, good = (memory(runs, who) for who in ("ours", "good"))
     _, must, aim, kept = told(ours, (400, 200))
-    line(["memory of a vehicle, bytes", "%.0f" % ours, "%.0f" % good, figure(ours / good), must, aim, kept, "", ""])
+    line(["memory of a vehicle, bytes", "%.0f" % ours, "%.0f" % good, figure(ours / good), must, aim, kept] + [""] * 4)
 
 
 def memory(runs, who):
@@ -277,7 +303,9 @@ def main():
     if not shutil.which(TIMER) or not shutil.which("rustc"):
         sys.exit("the benchmark needs rustc, and GNU time as the command %s" % TIMER)
     random = generate.Xorshift(generate.SEED)
-    scripts = question_scripts(random) | policies_scripts(random) | report_scripts(random) | document_scripts(random)
+    scripts = question_scripts(random) | policies_scripts(random, "policies", POLICIES, POLICY_RULES, RULES, PART_FLEET)
+    scripts |= policies_scripts(random, "small city", SMALL_POLICIES, SMALL_RULES, SMALL_PLACES, SMALL_CITY)
+    scripts |= report_scripts(random) | document_scripts(random)
     with tempfile.TemporaryDirectory() as folder:
         runs = build_runs(folder, os.path.abspath(options.program), scripts)
         for number in range(options.rounds):
