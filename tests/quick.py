@@ -118,7 +118,6 @@ def parts(room):
     either = slow["mds_serve"] or slow["mds_replay"]
     stress = ("stress.py", "20", "4", "--serve", serve, "--replay", replay)
     add("messages", 5, served, lambda: script("http.py", serve, "messages", slow=slow["mds_serve"]))
-    add("short loads", 1, served, lambda: script("http.py", serve, "short-loads", slow=slow["mds_serve"]))
     for part in range(1, SCRIPT_PARTS + 1):
         words = ("replays.py", replay, str(part), str(SCRIPT_PARTS))
         call = lambda words=words: script(*words, slow=slow["mds_replay"])
@@ -131,6 +130,8 @@ def parts(room):
             add(f"some growths refused to {name}", GROWTH_SECONDS / 60, needs, lambda words=words: script(*words))
     add("a short stress", 0.5, served + replayed, lambda: script(*stress, slow=either))
     add("the description of the protocol", 0.1, [], description)
+    # Last and with nothing beside them, so that no other part makes them late.
+    add("short loads", 1.5, [*made], lambda: script("http.py", serve, "short-loads", slow=slow["mds_serve"]))
     return made
 
 
