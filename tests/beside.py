@@ -68,6 +68,13 @@ class Neighbour:
         return self.told.get(timeout=2 * SECONDS)
 
 
+def memory_of_connections():
+    """The bytes that the kernel holds for all connections of the machine, which are no part of a process's memory."""
+    with open("/proc/net/sockstat", encoding="ascii") as told:
+        found = [line.split()[-1] for line in told if line.startswith("TCP:")]
+    return os.sysconf("SC_PAGE_SIZE") * int(found[0]) if found else 0
+
+
 class Watch(threading.Thread):
     """Reads a server's memory and open files as long as it runs. Ends a server that takes too much memory, or whose load lasts too long."""
 
@@ -77,6 +84,7 @@ class Watch(threading.Thread):
         self.until, self.seconds, self.why = time.monotonic() + seconds, seconds, None
         self.idle = self.most = self.memory()
         self.idle_files = self.most_files = self.files()
+        self.idle_kernel = self.most_kernel = memory_of_connections()
 
     def __enter__(self):
         self.start()
@@ -102,6 +110,7 @@ class Watch(threading.Thread):
         with contextlib.suppress(FileNotFoundError):
             while not self.over.wait(0.05) and not self.why:
                 self.most, self.most_files = max(self.most, self.memory()), max(self.most_files, self.files())
+                self.most_kernel = max(self.most_kernel, memory_of_connections())
                 if self.most > MOST_MEMORY:
                     self.why = f"the server takes more than {MOST_MEMORY // MEGABYTE} MB, and was ended"
                 elif time.monotonic() > self.until:
@@ -122,9 +131,10 @@ def measured(name, watch, times, seconds):
             f"{len(times)} answers, median {1e3 * statistics.median(times):.2f} ms, 99th percentile {1e3 * high_of(times):.1f} ms, "
             f"longest {1e3 * max(times):.0f} ms"
         )
+    kernel = (watch.most_kernel - watch.idle_kernel) / MEGABYTE
     return (
         f"{name}: {seconds:.0f} s, {watch.above_idle():.1f} MB above idle, {watch.most_files} open files, {watch.idle_files} of them before; "
-        f"another operator: {waited}"
+        f"the kernel's for all connections {kernel:.0f} MB more; another operator: {waited}"
     )
 
 
