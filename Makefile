@@ -4,6 +4,9 @@
 # edits    further edits that must fail, those of edits/: part of a release, not of the gate (CRATE=mds_text: those of one crate)
 # build    proves mds_replay with all that it stands on, and builds it
 # serve    the server on 127.0.0.1:8080 for the city of examples/city.json, with three lines to paste that ask it
+# try      River City to look at in a browser, on 127.0.0.1:8090: the built mds_serve, the page beside it, six policies and two fleets
+# test-web  the page's checks in headless Chromium (Debian's chromium and nodejs; minutes, once a server is built)
+# shots    the README's screenshots, by the same Chromium
 # openapi  checks docs/openapi.yaml against the protocol and the scripts (Debian's python3-yaml, python3-jsonschema)
 # bench    times mds_replay on generated input, and a program in plain Rust beside it, in three forms (minutes, once built)
 # stress   publishes 500 batches at mds_serve while 8 operators ask, and checks each reply against a replay (seconds, once built)
@@ -11,7 +14,7 @@
 # dist-try  installs that package into a clean Debian root and asks its server (as root, minutes)
 # help     these lines
 
-.PHONY: demo test prove edits build server serve openapi bench stress dist dist-try help
+.PHONY: demo test prove edits build server serve try test-web shots openapi bench stress dist dist-try help
 
 # What each takes where nothing is built, on a machine that does nothing else.
 DEMO_TIME := about a minute
@@ -66,6 +69,21 @@ server:
 serve: server
 	@cat examples/serve.curl
 	@$(SERVER) 127.0.0.1:8080 < examples/city.json
+
+try:
+	@if $(call is_built,$(SERVER)); then \
+		exec python3 -B examples/river-city/try.py $(SERVER); \
+	else \
+		echo "mds_serve isn't built: make server comes first, which takes $(SERVE_TIME)" >&2; \
+		exit 1; \
+	fi
+
+# With MDS_SERVE=FILE the server is that one; else the proved one, or where that isn't built one from its sources.
+test-web:
+	@python3 -B tests/web/run.py checks $(MDS_SERVE)
+
+shots:
+	@python3 -B tests/web/run.py shots $(MDS_SERVE)
 
 bench: build
 	python3 -B bench/measure.py

@@ -1,0 +1,223 @@
+"""The page of web/ beside a running mds_serve, on one origin, for trying: what nginx does with deploy/nginx.conf.
+
+    serve.py PORT BACKEND [--settings FILE] [--app CONFIGURATION]
+
+Serves the files of web/, and passes every other request on to BACKEND, as 127.0.0.1:8080. Prints `ready`. FILE takes the place of
+web/settings.json. With --app it answers /app/whoami, /app/withdrawals and /app/drafts too, by the server's configuration and by what
+it has passed on, so that the page can be tried with a server that has these.
+"""
+
+import argparse
+import hashlib
+import http.client
+import json
+import os
+import re
+import sys
+import threading
+from http.server import BaseHTTPRequestHandler, ThreadingHTTPServer
+
+TOP = os.path.dirname(os.path.dirname(os.path.dirname(os.path.abspath(__file__))))
+TYPES = {
+    ".html": "text/html; charset=utf-8",
+    ".css": "text/css; charset=utf-8",
+    ".js": "text/javascript; charset=utf-8",
+    ".json": "application/json",
+}
+POLICY = (
+    "default-src 'none'; script-src 'self'; worker-src 'self'; style-src 'self'; img-src 'self' data:{tiles}; connect-src 'self'; "
+    "form-action 'none'; base-uri 'none'; frame-ancestors 'none'"
+)
+DRAFT = re.compile(r"/drafts/(policies|geographies)/([^/?]+)")
+SECONDS = 120
+
+
+def digits(identifier):
+    """An identifier's 32 digits, by which identifiers are compared."""
+    return re.sub(r"^urn:uuid:|[{}-]", "", identifier.lower())
+
+
+class Backend:
+    """The server behind, with a connection for each thread."""
+
+    def __init__(self, address):
+        self.address, self.local = address, threading.local()
+
+    def ask(self, method, target, authorization, body):
+        """Its status and body; 502 where it can't be reached. A request isn't sent twice, but for one on a connection that was idle."""
+        link, is_new = getattr(self.local, "link", None), False
+        if link is None:
+            link, is_new = http.client.HTTPConnection(self.address, timeout=SECONDS), True
+            self.local.link = link
+        try:
+            link.request(method, target, body, {"authorization": authorization} if authorization else {})
+            answer = link.getresponse()
+            return answer.status, answer.read()
+        except (http.client.HTTPException, OSError) as fault:
+            link.close()
+            self.local.link = None
+            if not is_new and isinstance(fault, (http.client.RemoteDisconnected, ConnectionError)):
+                return self.ask(method, target, authorization, body)
+            return 502, b""
+
+
+class App:
+    """What a page asks beside the protocol, by the configuration and by what was passed on."""
+
+    def __init__(self, configuration, names):
+        self.configuration, self.names = configuration, names
+        self.lock, self.withdrawn, self.drafts = threading.Lock(), {}, {}
+
+    def named(self, operator):
+        """An operator's identifier and name."""
+        return {"id": operator["id"], "name": self.names.get(operator["id"], operator["id"][:8])}
+
+    def whoami(self, token):
+        """Whose token it is."""
+        zone, operators = self.configuration["zone"], self.configuration["operators"]
+        if token == self.configuration["author"]:
+            return {"role": "author", "zone": zone, "operators": [self.named(it) for it in operators]}
+        return next({"role": "operator", "zone": zone, **self.named(it)} for it in operators if it["token"] == token)
+
+    def note(self, method, target, body, answer):
+        """Keeps what a request that was answered 200 has changed."""
+        with self.lock:
+            draft = DRAFT.fullmatch(target)
+            if draft and method in ("PUT", "DELETE"):
+                self.drafts.pop((draft[1], digits(draft[2])), None)
+                if method == "PUT":
+                    self.drafts[draft[1], digits(draft[2])] = None
+            if method == "POST" and target == "/publish":
+                asked = json.loads(body)
+                for policy in asked.get("withdraw") or []:
+                    self.withdrawn.setdefault(digits(policy), json.loads(answer)["published_date"])
+                for kind in ("policies", "geographies"):
+                    for it in asked.get(kind) or []:
+                        self.drafts.pop((kind, digits(it)), None)
+
+    def answer(self, target, authorization, backend):
+        """The answer to a target of /app/, for whoever asks: an operator is told of no policy that it isn't shown."""
+        token = authorization.partition(" ")[2]
+        status, told = backend.ask("GET", "/policies", authorization, None)
+        if status != 200:
+            return status, told
+        if target == "/app/whoami":
+            return 200, json.dumps(self.whoami(token)).encode()
+        if target == "/app/withdrawals":
+            shown = [it["policy_id"] for it in json.loads(told)["policies"]]
+            list_ = [{"policy_id": it, "withdrawn_date": self.withdrawn[digits(it)]} for it in shown if digits(it) in self.withdrawn]
+            return 200, json.dumps({"withdrawals": list_}).encode()
+        if target == "/app/drafts" and token == self.configuration["author"]:
+            asked = [(kind, backend.ask("GET", f"/drafts/{kind}/{it}", authorization, None)) for kind, it in sorted(self.drafts)]
+            found = {"policies": [], "geographies": []}
+            for kind, (status, draft) in asked:
+                if status == 200:
+                    found[kind].append(json.loads(draft)["draft"])
+            return 200, json.dumps(found).encode()
+        return (403, b'{"error":"role"}') if target == "/app/drafts" else (404, b'{"error":"no_route"}')
+
+
+def files(settings):
+    """The page's files by their paths: content type, body, and tag."""
+    found = {}
+    for name in sorted(os.listdir(f"{TOP}/web")):
+        kind = TYPES.get(os.path.splitext(name)[1])
+        if kind:
+            with open(settings if settings and name == "settings.json" else f"{TOP}/web/{name}", "rb") as file:
+                body = file.read()
+            found["/" if name == "index.html" else f"/{name}"] = kind, body, f'"{hashlib.sha256(body).hexdigest()[:32]}"'
+    return found
+
+
+def policy_of(settings):
+    """The content security policy, with the origin of the tiles where there is one."""
+    with open(settings or f"{TOP}/web/settings.json", encoding="utf-8") as text:
+        origin = re.match(r"https?://[^/]+", json.load(text).get("tiles", ""))
+    return POLICY.format(tiles=f" {origin[0]}" if origin else "")
+
+
+class Handler(BaseHTTPRequestHandler):
+    """A connection of a browser."""
+
+    protocol_version = "HTTP/1.1"
+    wbufsize = -1  # head and body go out together
+    disable_nagle_algorithm = True
+    pages, policy, backend, app = {}, "", None, None
+
+    def log_message(self, *_):
+        """Nothing is logged: a log would hold tokens."""
+
+    def send(self, status, body, **fields):
+        """An answer with what all answers have."""
+        self.send_response(status)
+        for name, value in {"x_content_type_options": "nosniff", "referrer_policy": "no-referrer", **fields}.items():
+            self.send_header(name.replace("_", "-"), value)
+        self.send_header("content-length", str(len(body)))
+        self.end_headers()
+        if self.command != "HEAD":
+            self.wfile.write(body)
+
+    def page(self, kind, body, tag):
+        """A file of the page, or that it is still the same."""
+        fields = {"content_type": kind, "etag": tag, "cache_control": "no-cache", "content_security_policy": self.policy}
+        if self.headers.get("if-none-match") == tag:
+            return self.send(304, b"", **fields)
+        return self.send(200, body, **fields)
+
+    def answer(self):
+        """A file, or what the server behind answers."""
+        body = self.rfile.read(int(self.headers.get("content-length") or 0))
+        path, authorization = self.path.partition("?")[0], self.headers.get("authorization", "")
+        if self.command in ("GET", "HEAD") and path in self.pages:
+            return self.page(*self.pages[path])
+        if self.app and path.startswith("/app/"):
+            status, told = self.app.answer(path, authorization, self.backend)
+        else:
+            status, told = self.backend.ask(self.command, self.path, authorization, body)
+            if self.app and status == 200:
+                self.app.note(self.command, path, body, told)
+        kind = "application/json" if told else "text/plain"
+        return self.send(status, told, content_type=kind, cache_control="no-store")
+
+    do_GET = do_HEAD = do_PUT = do_POST = do_DELETE = answer
+
+
+class Server(ThreadingHTTPServer):
+    """A thread for each connection; a browser that goes away in between is no fault."""
+
+    daemon_threads = True
+
+    def handle_error(self, request, client_address):
+        if not isinstance(sys.exc_info()[1], ConnectionError):
+            super().handle_error(request, client_address)
+
+
+def server(port, backend, settings=None, configuration=None):
+    """The server, which listens and has to be told to serve_forever()."""
+    names = {}
+    if settings:
+        with open(settings, encoding="utf-8") as text:
+            names = json.load(text)["operators"]
+    app = App(configuration, names) if configuration else None
+    fields = {"pages": files(settings), "policy": policy_of(settings), "backend": Backend(backend), "app": app}
+    return Server(("127.0.0.1", port), type("Page", (Handler,), fields))
+
+
+def main():
+    parser = argparse.ArgumentParser(description=__doc__, formatter_class=argparse.RawDescriptionHelpFormatter)
+    parser.add_argument("port", type=int)
+    parser.add_argument("backend")
+    parser.add_argument("--settings")
+    parser.add_argument("--app", metavar="CONFIGURATION")
+    options = parser.parse_args()
+    configuration = None
+    if options.app:
+        with open(options.app, encoding="utf-8") as text:
+            configuration = json.load(text)
+    it = server(options.port, options.backend, options.settings, configuration)
+    print("ready", flush=True)
+    it.serve_forever()
+
+
+if __name__ == "__main__":
+    main()
