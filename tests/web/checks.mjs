@@ -1,0 +1,33 @@
+// Checks of the page in Chromium, beside a running mds_serve: node checks.mjs PROGRAM [GROUP]..
+//
+// PROGRAM is a built mds_serve; the groups are operator, author, browsers, coming, large, access, all where none is named.
+// Prints what doesn't hold, and last 'N passed, M failed'; ends with 1 where one doesn't.
+
+import access from "./access.mjs";
+import author from "./author.mjs";
+import { comingAndGoing, large, twoBrowsers } from "./away.mjs";
+import { Browser } from "./browser.mjs";
+import { City } from "./city.mjs";
+import operator from "./operator.mjs";
+import { Tally } from "./tally.mjs";
+
+const GROUPS = { operator, author, browsers: twoBrowsers, coming: comingAndGoing, large, access };
+const [, , program, ...names] = process.argv, tally = new Tally();
+const browser = new Browser();
+for (const signal of ["SIGINT", "SIGTERM"]) {
+  process.on(signal, async () => {
+    await Promise.all([browser.close(), City.closeAll()]);
+    tally.ok("ended in time", false);
+    tally.done();
+  });
+}
+for (const name of names.length ? names : Object.keys(GROUPS)) {
+  try {
+    await GROUPS[name](browser, program, tally);
+  } catch (fault) {
+    tally.ok(`${name} runs to its end`, false, fault.stack);
+  }
+  await City.closeAll();
+}
+await browser.close();
+tally.done();

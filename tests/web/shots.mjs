@@ -1,0 +1,62 @@
+// The README's screenshots: node shots.mjs PROGRAM
+//
+// PROGRAM is a built mds_serve. Writes docs/page-operator.png and docs/page-author.png, each under 150 KB. Look at them.
+
+import { readFileSync, statSync, writeFileSync } from "node:fs";
+import { join } from "node:path";
+import { Browser } from "./browser.mjs";
+import { City, TOP } from "./city.mjs";
+import { smaller } from "./png.mjs";
+import { Tally } from "./tally.mjs";
+
+const MOST = 150_000, WIDTH = 1200, HEIGHT = 750;
+
+/** An operator, with what breaks a rule ringed and listed. */
+async function operator(browser, city, file) {
+  const page = await browser.open(city.url, { width: WIDTH, height: HEIGHT });
+  await page.signIn("scoot");
+  await page.run(() => {
+    const card = [...document.querySelectorAll("article")].find((it) => /72 hours/.test(it.querySelector("h3").textContent));
+    const panel = document.getElementById("panel"), top = (it) => it.getBoundingClientRect().top;
+    card.querySelector("summary").click();
+    panel.scrollTop += top(card) - top(panel) - 10;
+  });
+  await page.run(() => new Promise((then) => { setTimeout(then, 500); }));
+  await page.shot(file);
+  await page.close();
+}
+
+/** The author, who draws a place and writes a policy for it. */
+async function author(browser, city, file) {
+  const page = await browser.open(city.url, { width: WIDTH, height: HEIGHT, isDark: true });
+  await page.signIn("city");
+  await page.click("#draw");
+  const box = await page.run(() => document.getElementById("map").getBoundingClientRect().toJSON());
+  const corners = [[340, 200], [450, 180], [480, 260], [420, 330], [330, 290]];
+  for (const [x, y] of corners) await page.mouse(box.x + x, box.y + y);
+  await page.run(() => {
+    document.querySelector("#placeform [name=name]").value = "School street";
+    document.querySelector("#placeform [name=description]").value = "From the bridge to the school.";
+    document.getElementById("panel").scrollTop = 0;
+  });
+  await page.run(() => new Promise((then) => { setTimeout(then, 500); }));
+  await page.shot(file);
+  await page.close();
+}
+
+const { ok, done } = new Tally();
+const browser = new Browser(), city = await City.start(process.argv[2], { seconds: 600, fill: "fleets" });
+for (const [name, shoot] of Object.entries({ operator, author })) {
+  const file = join(TOP, "docs", `page-${name}.png`);
+  try {
+    await shoot(browser, city, file);
+    writeFileSync(file, smaller(readFileSync(file)));
+    const { size } = statSync(file);
+    ok(`docs/page-${name}.png is under 150 KB`, size < MOST, size);
+  } catch (fault) {
+    ok(`docs/page-${name}.png`, false, fault.stack);
+  }
+}
+await browser.close();
+await City.closeAll();
+done();
