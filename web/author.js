@@ -62,7 +62,8 @@ export async function readDrafts() {
   state.areDraftsTold = told !== null;
   const listed = () => Object.keys(KINDS).flatMap((kind) =>
     told[kind].map((document) => ({ kind, id: idOf(kind, document), document })));
-  const drafts = told ? listed() : await rememberedDrafts();
+  const named = (one, other) => String(one.document.name).localeCompare(String(other.document.name));
+  const drafts = (told ? listed() : await rememberedDrafts()).sort(named);
   const left = new Set(state.drafts.filter((it) => !it.isChosen).map((it) => it.id));
   state.drafts = drafts.map((it) => ({ ...it, isChosen: !left.has(it.id) }));
   state.draftPlaces = drafts.filter((it) => it.kind === "geographies").map((it) => asPlace(it.document));

@@ -10,6 +10,7 @@ export const WORDS = {
   bad_id: "That identifier is no UUID.",
   bad_json: "That is no JSON.",
   bad_number: "A coordinate is no number.",
+  busy: "The server is busy, and nothing has changed. Try again.",
   catalog_full: "The server holds as many published documents as it may.",
   clock: "The server's clock is wrong. Tell whoever runs it.",
   decimal: "A policy may hold whole numbers only.",
