@@ -19,7 +19,7 @@
 # What each takes where nothing is built, on a machine that does nothing else.
 DEMO_TIME := about a minute
 TEST_TIME := about 12 minutes on two processors
-PROVE_TIME := about an hour and a half on four processors
+PROVE_TIME := about two hours on four processors
 EDITS_TIME := about four hours
 BUILD_TIME := about 40 minutes
 SERVE_TIME := about an hour
