@@ -2,6 +2,7 @@
 ghost use Rattle.std.specs.Prelude.{◌≡◌, ◌⊎◌};
 
 use crate::desk::Desk;
+use crate::leave::{Always, Leave};
 use crate::operator::refusal_of_another;
 use mds_drafts::Drafts;
 use mds_request::{Actor, AuthorCall, Call, Code, Config, Request, Routes, read_call};
@@ -23,7 +24,7 @@ pub struct AuthorRoom<K: Naming> {
 }
 
 impl<K: Naming> AuthorRoom<K> {
-    ghost use Rattle.std.specs.Prelude.{[], true, false, None, IfOk, IfSome, MatchBool};
+    ghost use Rattle.std.specs.Prelude.{[], true, false, None, IfOk, IfSome, IsSome, MatchBool};
     ghost use mathlib.Core.List.{IsPrefix};
     ghost use Rattle.mds_request.specs.Configuration.{configuration};
     ghost use Rattle.mds_request.specs.Request.{request_of};
@@ -67,9 +68,25 @@ impl<K: Naming> AuthorRoom<K> {
     pub fn answer<R: Wait>(&mut self, rt: &R, request: &Request<'_>) -> (Answer, Option<Note<K>>)
         ensures { TakesRoomTurn (room_of self.old) (request_of request.now) result.0 result.1 (room_of self.new) }
     {
+        self.answer_with(rt, request, &mut Always)
+    }
+
+    /// The same, where leave is asked once the reply to a publication is made, and just before all are shown it. Where
+    /// leave isn't given the reply is 503 `no_memory`, and nothing has changed. Where it is and the publishing then runs
+    /// out of memory, the reply is that too, and there is no note.
+    pub fn answer_with<R: Wait, L: Leave>(
+        &mut self,
+        rt: &R,
+        request: &Request<'_>,
+        leave: &mut L,
+    ) -> (Answer, Option<Note<K>>)
+        ensures turn { TakesRoomTurn (room_of self.old) (request_of request.now) result.0 result.1 (room_of self.new) }
+        ensures given { IfSome result.1 (λ list. L.given leave.new) }
+        ensures asked { (leave.new ≡ leave.old) ⊎ (IsSome result.1 ⊎ (result.0 ≡ refused NoMemory)) }
+    {
         match self.config.actor(request.token) {
             Actor::Author => match read_call(&self.routes, &self.config, request) {
-                Ok(Call::Author(call)) => self.called(rt, &call, request),
+                Ok(Call::Author(call)) => self.called(rt, &call, request, leave),
                 Ok(Call::Operator(_, _)) => (Answer::from(Code::Role), None),
                 Err(code) => (Answer::from(code), None),
             },
@@ -81,11 +98,12 @@ impl<K: Naming> AuthorRoom<K> {
     }
 
     /// Answers a call of the author: with the body that lies ready for it, or by carrying it out.
-    fn called<R: Wait>(
+    fn called<R: Wait, L: Leave>(
         &mut self,
         rt: &R,
         call: &AuthorCall,
         request: &Request<'_>,
+        leave: &mut L,
     ) -> (Answer, Option<Note<K>>)
         ensures same { (room_of self.new).configuration ≡ (room_of self.old).configuration }
         ensures answer { Gives (Unit {0}) (held_in (room_of self.old))
@@ -94,22 +112,25 @@ impl<K: Naming> AuthorRoom<K> {
         ensures stays_closed { (room_of self.old).is_open ≡ false → ((room_of self.new).is_open ≡ false) × (result.1 ≡ None) }
         ensures stays_open { (room_of self.old).is_open ≡ true → ((room_of self.new).is_open ≡ true) ⊎ (result.0 ≡ refused NoMemory) }
         ensures open_noted { IfSome result.1 (λ list. (room_of self.new).is_open ≡ true) }
+        ensures given { IfSome result.1 (λ list. L.given leave.new) }
+        ensures asked { (leave.new ≡ leave.old) ⊎ (IsSome result.1 ⊎ (result.0 ≡ refused NoMemory)) }
     {
         let asked = ready_for_author(self.publisher.catalogue(), call);
         match self.shelf.find(&asked, &self.publisher.note()) {
             Some(body) => (Answer::ready(body), None),
-            None => self.carried_out(rt, asked, call, request),
+            None => self.carried_out(rt, asked, call, request, leave),
         }
     }
 
     /// Carries a call of the author out. The drafts of a publication are taken out after it. A reply to what
     /// was asked of the published documents lies ready from then on, until the next publication.
-    fn carried_out<R: Wait>(
+    fn carried_out<R: Wait, L: Leave>(
         &mut self,
         rt: &R,
         asked: Option<Ready>,
         call: &AuthorCall,
         request: &Request<'_>,
+        leave: &mut L,
     ) -> (Answer, Option<Note<K>>)
         requires { IfSome asked (AnswersAuthor (room_of self.old).publications call.now) }
         ensures same { (room_of self.new).configuration ≡ (room_of self.old).configuration }
@@ -119,6 +140,8 @@ impl<K: Naming> AuthorRoom<K> {
         ensures stays_closed { (room_of self.old).is_open ≡ false → ((room_of self.new).is_open ≡ false) × (result.1 ≡ None) }
         ensures stays_open { (room_of self.old).is_open ≡ true → ((room_of self.new).is_open ≡ true) ⊎ (result.0 ≡ refused NoMemory) }
         ensures open_noted { IfSome result.1 (λ list. (room_of self.new).is_open ≡ true) }
+        ensures given { IfSome result.1 (λ list. L.given leave.new) }
+        ensures asked { (leave.new ≡ leave.old) ⊎ (IsSome result.1 ⊎ (result.0 ≡ refused NoMemory)) }
     {
         let catalogue = self.publisher.catalogue();
         match author_step(self.alloc, &mut self.drafts, catalogue, call, request) {
@@ -130,6 +153,9 @@ impl<K: Naming> AuthorRoom<K> {
                 let Ok(share) = Arc::try_clone(&batch) else {
                     return (Answer::from(Code::NoMemory), None);
                 };
+                if !leave.may_show() {
+                    return (Answer::from(Code::NoMemory), None);
+                }
                 match self.publisher.publish(rt, share) {
                     Ok(note) => {
                         self.drafts.take_out(&batch);

@@ -7,6 +7,7 @@ mod desk;
 mod furnishing;
 mod gate;
 pub mod laws;
+mod leave;
 mod operator;
 mod seat;
 
@@ -14,3 +15,4 @@ pub use author::AuthorRoom;
 pub use desk::Desk;
 pub use furnishing::furnish;
 pub use gate::{Gate, OpenGate};
+pub use leave::{Always, Leave};
