@@ -5,8 +5,9 @@ use Rattle.http_body_util.specs.declared.full.Full.{Full}
 use Rattle.mds_catalog.specs.Publication.{Publication}
 use Rattle.mds_request.specs.Configuration.{Configuration}
 use Rattle.mds_request.specs.Request.{Request}
+use Rattle.mds_request.specs.Reply.{Reply}
 use Rattle.mds_desk.specs.Desk.{DeskState, IsSameDesk}
-use Rattle.mds_hall.specs.Turn.{Answers, DeskReplies, IsDeskAt, IsTold, SaysOne}
+use Rattle.mds_hall.specs.Turn.{Answers, DeskReplies, IsDeskAt, IsTold, SaysOne, TakesToldTurn}
 
 -- what a desk is told leaves it the same desk
 same_told : (d : DeskState) (note : Option (List Publication)) (told : DeskState) → IsTold d note told → IsSameDesk d told
@@ -32,3 +33,15 @@ desk_says configuration place d note request result next its answers =
       turn = answers.turn;
     } in
     of_ok result (λ response says. (answers.reply, gives, says)) answers.says
+
+-- a turn of the desk of the operator at this place gives its reply
+pub desk_replies : (configuration : Configuration) (place : ℕ) (d : DeskState) (note : Option (List Publication)) (request : Request)
+    (reply : Reply) (next : DeskState) → IsDeskAt configuration place d → TakesToldTurn d note request reply next → DeskReplies configuration place request reply
+desk_replies configuration place d note request reply next its takes =
+    let same = same_told d note takes.told takes.learns in
+    record {
+      before = takes.told;
+      after = next;
+      is_its = record { configured = same.configuration ∙ its.configured; placed = same.place ∙ its.placed };
+      turn = takes.turn;
+    }

@@ -1,5 +1,5 @@
 -- A request at an operator's desk, and in the author's room.
-use Rattle.std.specs.Prelude.{◌≡◌, ℕ, List, Option, Some, None, Result, IfOk}
+use Rattle.std.specs.Prelude.{◌≡◌, ℕ, List, length, Option, Some, None, slice_get, Result, IfOk}
 use Rattle.http.specs.declared.response.Response.{Response}
 use Rattle.http_body_util.specs.declared.full.Full.{Full}
 use Rattle.mds_catalog.specs.Publication.{Publication}
@@ -24,10 +24,21 @@ pub record Answers {E : Type 0} (d : DeskState) (note : Option (List Publication
   pub turn : TakesTurn told request reply next
   pub says : IfOk result (λ response. Says response reply)
 
+-- The same, by its reply alone.
+pub record TakesToldTurn (d : DeskState) (note : Option (List Publication)) (request : Request) (reply : Reply) (next : DeskState) : Type 0 where
+  pub told : DeskState
+  pub learns : IsTold d note told
+  pub turn : TakesTurn told request reply next
+
 -- it is the desk of the operator at this place of this configuration
 pub record IsDeskAt (configuration : Configuration) (place : ℕ) (d : DeskState) : Type 0 where
   pub configured : d.configuration ≡ configuration
   pub placed : d.place ≡ place
+
+-- a desk for each operator of this configuration, in its order
+pub record AreDesksOf (configuration : Configuration) (desks : List DeskState) : Type 0 where
+  pub long : length desks ≡ length configuration.operators
+  pub each : (place : ℕ) (d : DeskState) → slice_get desks place ≡ Some d → IsDeskAt configuration place d
 
 -- One turn of the desk of the operator at this place of this configuration, on this request, gives the reply.
 pub record DeskReplies (configuration : Configuration) (place : ℕ) (request : Request) (reply : Reply) : Type 0 where

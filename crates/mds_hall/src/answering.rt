@@ -7,7 +7,7 @@ use crate::asked::token;
 use crate::early::{Arrived, hear};
 use crate::hall::Hall;
 use crate::named::Named;
-use crate::response::response;
+use crate::responding::response;
 use bytes::Bytes;
 use http::Response;
 use http::request::Parts;

@@ -27,7 +27,7 @@ pub enum Arrived {
 /// A request whose body has arrived, at its moment. `hear` alone makes one, of what arrived. It can't be
 /// copied, and the turn that answers it takes it, so that no request takes two.
 #[derive(Drop)]
-pub(crate) struct Heard<'a> {
+pub struct Heard<'a> {
     parts: &'a Parts,
     body: Bytes,
     at: Moment,
@@ -35,7 +35,7 @@ pub(crate) struct Heard<'a> {
 
 impl Heard<'_> {
     /// The request, to be read.
-    pub(crate) fn request(&self) -> Request<'_>
+    pub fn request(&self) -> Request<'_>
         ensures { request_of result ≡ request_heard self.now }
     {
         request(self.parts, &self.body, self.at)
@@ -47,7 +47,7 @@ impl Heard<'_> {
 /// # Errors
 ///
 /// There is no moment, or there is no body within its limit.
-pub(crate) fn hear(parts: &Parts, arrived: Arrived, at: Option<Moment>) -> Result<Heard<'_>, Code>
+pub fn hear(parts: &Parts, arrived: Arrived, at: Option<Moment>) -> Result<Heard<'_>, Code>
     ensures { MatchResult result (λ heard. IsHeard parts.now arrived at (request_heard heard)) (λ code. unheard arrived at ≡ Some code) }
 {
     let Some(at) = at else {

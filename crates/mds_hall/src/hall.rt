@@ -1,22 +1,24 @@
 //! The author's room and the desks of a server, each behind a lock of its own.
-ghost use Rattle.std.specs.Prelude.{◌≡◌, ◌<◌, IfOk, Some, length, map};
+ghost use Rattle.std.specs.Prelude.{◌≡◌, ◌<◌, IfOk, IfSome, Some, length, map};
+ghost use Rattle.std.specs.Sync.Mutex.{mutex_guard_value};
 ghost use Rattle.std.specs.List.{range_with_len};
 ghost use Rattle.mds_request.specs.Configuration.{configuration, actor_of};
-ghost use Rattle.mds_desk.specs.Desk.{state_of, new_desks};
+ghost use Rattle.mds_desk.specs.Desk.{state_of};
+ghost use Rattle.mds_desk.specs.Room.{room_of};
 ghost use Rattle.mds_snapshot.specs.Opening.{book_of};
 ghost use Rattle.mds_hall.specs.Asker.{IsWithin};
 ghost use Rattle.mds_hall.specs.Heard.{request_heard};
-ghost use Rattle.mds_hall.specs.Turn.{RoomReplies};
+ghost use Rattle.mds_hall.specs.Turn.{AreDesksOf, RoomReplies};
 
 use crate::early::Heard;
 use crate::named::Named;
-use crate::places::{DeskLock, HallRoom};
-use mds_desk::{Desk, furnish};
+use crate::places::{DeskLock, HallDesk, HallRoom};
+use mds_desk::{AuthorRoom, Desk, furnish};
 use mds_request::{Actor, Config};
 use mds_shelf::Answer;
 use mds_snapshot::{Blank, Note, OpenFault};
 use std::alloc::{AllocError, Global};
-use std::sync::{Arc, Mutex, Wait};
+use std::sync::{Arc, Mutex, MutexGuard, Wait};
 
 /// The author's room and a desk for each operator, each behind a lock of its own, and the latest note of
 /// what is published, behind a third. An operator's request takes its desk's lock, then the note's for as
@@ -37,7 +39,7 @@ pub struct Hall<K: Named> {
 ///
 /// Memory ran out.
 fn locked<K: Named>(alloc: Global, desks: Vec<Desk<K>>) -> Result<Vec<DeskLock<K>>, AllocError>
-    requires { map state_of desks.items ≡ new_desks K.configuration }
+    requires { AreDesksOf K.configuration (map state_of desks.items) }
     ensures { IfOk result (λ locked. map (λ desk. desk.place) locked.items ≡ range_with_len 0 (length K.configuration.operators)) }
 {
     let mut locked = Vec::with_capacity(alloc, desks.len())?;
@@ -82,6 +84,24 @@ impl<K: Named> Hall<K> {
         ensures { IfOk result (λ hall. configuration hall.config.value ≡ configuration config) }
     {
         let (room, desks) = furnish::<K, R>(rt, alloc, config, blank)?;
+        Hall::of(rt, alloc, room, desks)
+    }
+
+    /// A hall over this room and these desks, which may have answered requests: all of one opening.
+    ///
+    /// # Errors
+    ///
+    /// `NoMemory` where memory ran out. The room is ended then.
+    pub fn of<R: Wait>(
+        rt: &R,
+        alloc: Global,
+        room: AuthorRoom<K>,
+        desks: Vec<Desk<K>>,
+    ) -> Result<Hall<K>, OpenFault>
+        requires room { (room_of room).configuration ≡ K.configuration }
+        requires desks { AreDesksOf K.configuration (map state_of desks.items) }
+        ensures { IfOk result (λ hall. configuration hall.config.value ≡ K.configuration) }
+    {
         match (room.configuration(), locked(alloc, desks)) {
             (Ok(config), Ok(desks)) => Ok(Hall {
                 config,
@@ -110,6 +130,24 @@ impl<K: Named> Hall<K> {
         ensures { result.now.place ≡ place }
     {
         &self.desks[place]
+    }
+
+    /// The desk of the operator at this place, once its lock is had.
+    pub fn desk_at<R: Wait>(&self, rt: &R, place: usize) -> Option<MutexGuard<'_, HallDesk<K>>>
+        requires { place < length (configuration self.now.config.value).operators }
+        ensures { IfSome result (λ guard. (mutex_guard_value guard).place ≡ place) }
+    {
+        self.desk(place).taken(rt)
+    }
+
+    /// The author's room, once its lock is had.
+    pub fn room<R: Wait>(&self, rt: &R) -> MutexGuard<'_, HallRoom<K>> {
+        self.room.lock(rt)
+    }
+
+    /// Keeps a note as the latest: under the room's lock, so that a later one isn't lost.
+    pub fn keep_note<R: Wait>(&self, rt: &R, note: Note<K>) {
+        keep(&mut *self.latest.lock(rt), note);
     }
 
     /// The latest note.

@@ -8,12 +8,14 @@ mod early;
 mod hall;
 mod named;
 mod places;
-mod response;
+mod responding;
 mod turn;
 
 pub use answering::{respond, respond_with};
 pub use asked::token;
-pub use early::Arrived;
+pub use early::{Arrived, Heard, hear};
 pub use hall::Hall;
 pub use named::Named;
+pub use places::{HallDesk, HallRoom};
+pub use responding::response;
 pub use turn::desk_turn;

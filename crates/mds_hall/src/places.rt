@@ -1,20 +1,22 @@
 //! What lies behind the locks of a hall: of one opening and one configuration, which K names.
-ghost use Rattle.std.specs.Prelude.{◌≡◌, IfOk, IfSome, option_copied};
+ghost use Rattle.std.specs.Prelude.{◌≡◌, ◌⊎◌, IfOk, IfSome, IsSome, option_copied};
 ghost use Rattle.std.specs.Mem.{manually_drop_value};
 ghost use Rattle.std.specs.Sync.Mutex.{mutex_guard_value};
 ghost use Rattle.mds_desk.specs.Desk.{state_of};
+ghost use Rattle.mds_request.specs.Reply.{refused};
+ghost use Rattle.mds_request.specs.declared.code.Code.TheVariants.{NoMemory};
 ghost use Rattle.mds_desk.specs.Room.{room_of, TakesRoomTurn};
 ghost use Rattle.mds_hall.specs.Heard.{request_heard};
-ghost use Rattle.mds_hall.specs.Turn.{Answers, DeskReplies, IsDeskAt, SaysOne};
+ghost use Rattle.mds_hall.specs.Turn.{Answers, DeskReplies, IsDeskAt, RoomReplies, SaysOne, TakesToldTurn};
 
 use crate::early::Heard;
 use crate::named::Named;
-use crate::turn::turn;
+use crate::turn::{told_turn, turn};
 use bytes::Bytes;
 use http::Response;
 use http_body_util::Full;
 use mds_catalog::Catalogue;
-use mds_desk::{AuthorRoom, Desk, Gate};
+use mds_desk::{AuthorRoom, Desk, Gate, Leave};
 use mds_shelf::Answer;
 use mds_snapshot::Note;
 use mds_verdict::Evaluator;
@@ -28,7 +30,7 @@ const TRIES: usize = 32;
 
 /// The desk of the operator at this place of the configuration that K names.
 #[derive(Drop)]
-pub(crate) struct HallDesk<K: Named> {
+pub struct HallDesk<K: Named> {
     place: usize,
     desk: Desk<K>,
     ghost configured: { (state_of desk).configuration ≡ K.configuration },
@@ -36,6 +38,24 @@ pub(crate) struct HallDesk<K: Named> {
 }
 
 impl<K: Named> HallDesk<K> {
+    /// Answers a request: the desk learns the note, where there is one, and takes one turn, whose reply it gives.
+    /// Vehicles are judged by the evaluator.
+    pub fn answered<G: Gate, E: Evaluator<Catalogue>>(
+        &mut self,
+        heard: Heard<'_>,
+        note: Option<&Note<K>>,
+        gate: &mut G,
+        evaluator: &E,
+    ) -> Answer
+        requires { E.may_judge }
+        ensures turn { TakesToldTurn (state_of self.old.desk) (option_copied note.entry) (request_heard heard.entry) result (state_of self.new.desk) }
+        ensures replies { DeskReplies K.configuration self.old.place (request_heard heard.entry) result }
+        ensures place { self.new.place ≡ self.old.place }
+    {
+        let request = heard.request();
+        told_turn(&request, &mut self.desk, note, gate, evaluator)
+    }
+
     /// Answers a request: the desk learns the note, where there is one, and takes one turn, whose reply the
     /// response says. Vehicles are judged by the evaluator.
     ///
@@ -107,7 +127,7 @@ impl<K: Named> DeskLock<K> {
 
 /// The author's room of the configuration that K names.
 #[derive(Drop)]
-pub(crate) struct HallRoom<K: Named> {
+pub struct HallRoom<K: Named> {
     room: ManuallyDrop<AuthorRoom<K>>,
     ghost configured: { (room_of (manually_drop_value room)).configuration ≡ K.configuration },
 }
@@ -130,6 +150,23 @@ impl<K: Named> HallRoom<K> {
     {
         let request = heard.request();
         self.room.answer(rt, &request)
+    }
+
+    /// The same, where leave is asked just before a publication is shown: see `mds_desk::AuthorRoom::answer_with`.
+    pub fn answer_with<R: Wait, L: Leave>(
+        &mut self,
+        rt: &R,
+        heard: Heard<'_>,
+        leave: &mut L,
+    ) -> (Answer, Option<Note<K>>)
+        ensures turn { TakesRoomTurn (room_of (manually_drop_value self.old.room)) (request_heard heard.entry)
+            result.0 result.1 (room_of (manually_drop_value self.new.room)) }
+        ensures replies { RoomReplies K.configuration (request_heard heard.entry) result.0 }
+        ensures given { IfSome result.1 (λ list. L.given leave.new) }
+        ensures asked { (leave.new ≡ leave.old) ⊎ (IsSome result.1 ⊎ (result.0 ≡ refused NoMemory)) }
+    {
+        let request = heard.request();
+        self.room.answer_with(rt, &request, leave)
     }
 
     /// Ends the room.

@@ -3,10 +3,10 @@ ghost use Rattle.std.specs.Prelude.{option_copied};
 ghost use Rattle.mds_request.specs.Request.{request_of};
 ghost use Rattle.mds_desk.specs.Desk.{state_of, IsSameDesk};
 ghost use Rattle.mds_hall.specs.Asked.{request_in};
-ghost use Rattle.mds_hall.specs.Turn.{Answers, IsTold};
+ghost use Rattle.mds_hall.specs.Turn.{Answers, IsTold, TakesToldTurn};
 
 use crate::asked::request;
-use crate::response::response;
+use crate::responding::response;
 use bytes::Bytes;
 use http::Response;
 use http::request::Parts;
@@ -14,6 +14,7 @@ use http_body_util::Full;
 use mds_catalog::Catalogue;
 use mds_desk::{Desk, Gate};
 use mds_request::Request;
+use mds_shelf::Answer;
 use mds_snapshot::{Naming, Note};
 use mds_text::Moment;
 use mds_verdict::Evaluator;
@@ -28,8 +29,24 @@ fn tell<K: Naming>(desk: &mut Desk<K>, note: Option<&Note<K>>)
     }
 }
 
-/// Answers a request at a desk, which stays the desk of the same operator: the desk learns the note, where
-/// there is one, answers the request, and the response says its reply. Vehicles are judged by the evaluator.
+/// Takes one turn of a desk, which stays the desk of the same operator: the desk learns the note, where there is
+/// one, and answers the request. Vehicles are judged by the evaluator.
+pub(crate) fn told_turn<K: Naming, G: Gate, E: Evaluator<Catalogue>>(
+    request: &Request<'_>,
+    desk: &mut Desk<K>,
+    note: Option<&Note<K>>,
+    gate: &mut G,
+    evaluator: &E,
+) -> Answer
+    requires { E.may_judge }
+    ensures turn { TakesToldTurn (state_of desk.old) (option_copied note.entry) (request_of request.now) result (state_of desk.new) }
+    ensures same { IsSameDesk (state_of desk.old) (state_of desk.new) }
+{
+    tell(desk, note);
+    desk.answer(request, gate, evaluator)
+}
+
+/// The same, where the response says the reply.
 ///
 /// # Errors
 ///
@@ -46,8 +63,7 @@ pub(crate) fn turn<K: Naming, G: Gate, E: Evaluator<Catalogue>>(
     ensures turn { Answers (state_of desk.old) (option_copied note.entry) (request_of request.now) result (state_of desk.new) }
     ensures same { IsSameDesk (state_of desk.old) (state_of desk.new) }
 {
-    tell(desk, note);
-    let reply = desk.answer(request, gate, evaluator);
+    let reply = told_turn(request, desk, note, gate, evaluator);
     response(alloc, reply)
 }
 

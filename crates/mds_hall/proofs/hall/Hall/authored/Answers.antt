@@ -1,4 +1,4 @@
-use Rattle.std.proofs.Common.{◌≡◌, ◌∙◌, sym}
+use Rattle.std.proofs.Common.{◌∙◌, sym}
 use Rattle.std.specs.Mem.{manually_drop_value}
 use Rattle.mds_desk.specs.Room.{room_of}
 use Rattle.mds_hall.proofs.hall.Hall.authored.Goals as goal

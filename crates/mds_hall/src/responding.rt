@@ -14,7 +14,7 @@ use std::alloc::{AllocError, Global};
 /// # Errors
 ///
 /// Memory ran out.
-pub(crate) fn response(alloc: Global, answer: Answer) -> Result<Response<Full<Bytes>>, AllocError>
+pub fn response(alloc: Global, answer: Answer) -> Result<Response<Full<Bytes>>, AllocError>
     ensures { IfOk result (λ response. Says response answer) }
 {
     // Each answer's status has three digits.
