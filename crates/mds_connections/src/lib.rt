@@ -4,6 +4,7 @@
 
 mod admission;
 mod door;
+mod ending;
 mod exchange;
 mod house;
 mod intake;
@@ -18,6 +19,7 @@ mod sitting;
 mod watch;
 
 pub use admission::Admission;
+pub use ending::{Closed, Closing};
 pub use house::{Answers, House};
 pub use intake::Taken;
 pub use queues::Queues;

@@ -1,4 +1,7 @@
 //! The connections of a server, whose they are, and what waits of each who asks.
+ghost use Rattle.std.specs.Prelude.{◌≡◌, None, true, false};
+ghost use Rattle.mds_connections.specs.declared.seats.Admittance.TheVariants.{Busy};
+
 use mds_limits::{Asker, Decision, Load, may_wait, seat_for};
 use slab::Slab;
 use std::alloc::{AllocError, Global};
@@ -14,6 +17,8 @@ pub struct Seat {
     pub pace: AtomicU64,
     /// Tells the connection to leave.
     leave: Arc<Notify>,
+    /// Tells it that the server ends.
+    last: Arc<Notify>,
 }
 
 /// Whether a request may wait for its answer.
@@ -21,7 +26,8 @@ pub struct Seat {
 pub enum Admittance {
     /// It may, in this asker's queue.
     Admitted(Asker),
-    /// Too much waits already, no seat is left for a connection of who asks, or the connection was told to leave.
+    /// Too much waits already, no seat is left for a connection of who asks, the connection was told to leave, or the register
+    /// is closed.
     Busy,
 }
 
@@ -55,6 +61,8 @@ pub struct Register {
     all: usize,
     /// The bytes that wait of all.
     bytes: usize,
+    /// The server ends: nobody gets in any more.
+    is_closed: bool,
 }
 
 impl Seat {
@@ -67,6 +75,7 @@ impl Seat {
         Ok(Seat {
             pace: AtomicU64::new(0),
             leave: Arc::new(alloc, Notify::new(alloc)?)?,
+            last: Arc::new(alloc, Notify::new(alloc)?)?,
         })
     }
 
@@ -77,6 +86,15 @@ impl Seat {
     /// There are too many shares.
     pub fn told(&self) -> Result<OwnedNotified, AllocError> {
         Ok(Notify::notified_owned(Arc::try_clone(&self.leave)?))
+    }
+
+    /// Hears when the server ends.
+    ///
+    /// # Errors
+    ///
+    /// There are too many shares.
+    pub fn last(&self) -> Result<OwnedNotified, AllocError> {
+        Ok(Notify::notified_owned(Arc::try_clone(&self.last)?))
     }
 }
 
@@ -103,11 +121,33 @@ impl Register {
             loads: vec![in alloc; none; askers]?,
             all: 0,
             bytes: 0,
+            is_closed: false,
         })
     }
 
-    /// Gives a stranger's connection a seat, and tells its key; none, where there is no seat for it.
-    pub fn enter(&mut self, seat: Arc<Seat>) -> Option<usize> {
+    /// No connection and no request gets in from now on.
+    pub fn close(&mut self)
+        ensures { self.new ≡ record self.old { is_closed = true } }
+    {
+        self.is_closed = true;
+    }
+
+    /// Tells each connection that the server ends. One that waits for a head leaves at once, another once its reply is taken.
+    pub fn tell(&self) {
+        for (_, sitter) in self.sitters.iter() {
+            sitter.seat.leave.notify_one();
+            sitter.seat.last.notify_one();
+        }
+    }
+
+    /// Gives a stranger's connection a seat, and tells its key; none, where there is no seat for it or the register is closed.
+    pub fn enter(&mut self, seat: Arc<Seat>) -> Option<usize>
+        ensures closed { self.old.is_closed ≡ true → result ≡ None }
+        ensures kept { self.new.is_closed ≡ self.old.is_closed }
+    {
+        if self.is_closed {
+            return None;
+        }
         let asker = Asker::Stranger.index();
         if !self.makes_room(asker) {
             return None;
@@ -133,7 +173,9 @@ impl Register {
 
     /// The connection is idle from now on: nothing of its last reply is left, and no further head has come. Where there is no
     /// memory to note it, it isn't told to leave.
-    pub fn rest(&mut self, key: usize) {
+    pub fn rest(&mut self, key: usize)
+        ensures { self.new.is_closed ≡ self.old.is_closed }
+    {
         self.stir(key);
         let Some(sitter) = self.sitters.get_mut(key) else {
             return;
@@ -150,7 +192,13 @@ impl Register {
     }
 
     /// Whether a request of this asker, whose body counts as so many bytes, may wait. Where it may, it waits from now on.
-    pub fn ask(&mut self, key: usize, asker: Asker, bytes: usize) -> Admittance {
+    pub fn ask(&mut self, key: usize, asker: Asker, bytes: usize) -> Admittance
+        ensures closed { self.old.is_closed ≡ true → result ≡ Busy }
+        ensures kept { self.new.is_closed ≡ self.old.is_closed }
+    {
+        if self.is_closed {
+            return Admittance::Busy;
+        }
         match self.sitters.get(key) {
             Some(sitter) if !sitter.is_told => {}
             _ => return Admittance::Busy,
@@ -167,7 +215,9 @@ impl Register {
     }
 
     /// The answer of the connection's request is made.
-    pub fn answered(&mut self, key: usize) {
+    pub fn answered(&mut self, key: usize)
+        ensures { self.new.is_closed ≡ self.old.is_closed }
+    {
         let Some(sitter) = self.sitters.get_mut(key) else {
             return;
         };
@@ -183,7 +233,9 @@ impl Register {
     }
 
     /// The connection has ended.
-    pub fn leave(&mut self, key: usize) {
+    pub fn leave(&mut self, key: usize)
+        ensures { self.new.is_closed ≡ self.old.is_closed }
+    {
         self.stir(key);
         self.answered(key);
         if let Some(sitter) = self.sitters.try_remove(key)
@@ -194,7 +246,9 @@ impl Register {
     }
 
     /// The connection isn't idle any more.
-    fn stir(&mut self, key: usize) {
+    fn stir(&mut self, key: usize)
+        ensures { self.new.is_closed ≡ self.old.is_closed }
+    {
         let Some(sitter) = self.sitters.get_mut(key) else {
             return;
         };
@@ -206,14 +260,18 @@ impl Register {
         }
     }
 
-    fn count(&mut self, asker: usize) {
+    fn count(&mut self, asker: usize)
+        ensures { self.new.is_closed ≡ self.old.is_closed }
+    {
         self.all = self.all.saturating_add(1);
         if let Some(count) = self.counts.get_mut(asker) {
             *count = count.saturating_add(1);
         }
     }
 
-    fn uncount(&mut self, asker: usize) {
+    fn uncount(&mut self, asker: usize)
+        ensures { self.new.is_closed ≡ self.old.is_closed }
+    {
         self.all = self.all.saturating_sub(1);
         if let Some(count) = self.counts.get_mut(asker) {
             *count = count.saturating_sub(1);
@@ -221,7 +279,9 @@ impl Register {
     }
 
     /// Counts one more connection of this asker. Another one may be told to leave for it; false, where none can be.
-    fn makes_room(&mut self, asker: usize) -> bool {
+    fn makes_room(&mut self, asker: usize) -> bool
+        ensures { self.new.is_closed ≡ self.old.is_closed }
+    {
         self.count(asker);
         match seat_for(&self.counts, self.all, asker) {
             Decision::Take => true,
@@ -236,7 +296,9 @@ impl Register {
     }
 
     /// Tells the oldest idle connection of this asker to leave; false, where none is idle.
-    fn tells_oldest(&mut self, asker: usize) -> bool {
+    fn tells_oldest(&mut self, asker: usize) -> bool
+        ensures { self.new.is_closed ≡ self.old.is_closed }
+    {
         let Some(idle) = self.idle.get_mut(asker) else {
             return false;
         };
@@ -253,7 +315,9 @@ impl Register {
     }
 
     /// The connection becomes one of this asker's; false, where there is no seat for it.
-    fn becomes(&mut self, key: usize, asker: usize) -> bool {
+    fn becomes(&mut self, key: usize, asker: usize) -> bool
+        ensures { self.new.is_closed ≡ self.old.is_closed }
+    {
         let former = match self.sitters.get(key) {
             Some(sitter) => sitter.asker,
             None => return false,
@@ -273,7 +337,9 @@ impl Register {
     }
 
     /// Lets the connection's request wait; false, where too much waits already.
-    fn waits(&mut self, key: usize, bytes: usize) -> bool {
+    fn waits(&mut self, key: usize, bytes: usize) -> bool
+        ensures { self.new.is_closed ≡ self.old.is_closed }
+    {
         let Some(sitter) = self.sitters.get_mut(key) else {
             return false;
         };

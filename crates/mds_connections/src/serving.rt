@@ -3,6 +3,7 @@ ghost use Rattle.std.specs.Prelude.{IfSome, ⊤};
 ghost use Rattle.futures.specs.declared.future.either.Either.TheVariants.{Left, Right};
 
 use crate::door::Door;
+use crate::ending::Ending;
 use crate::house::{Answers, House};
 use crate::paced::Paced;
 use crate::seats::Seat;
@@ -24,6 +25,7 @@ use std::thread::Threads;
 use std::time::Clock;
 use tokio::io::{AsyncRead, AsyncWrite};
 use tokio::runtime::Runtime;
+use tokio::sync::OwnedNotified;
 
 /// What who lets connections in has of its own, and the watch.
 #[derive(Drop)]
@@ -47,11 +49,13 @@ impl Seating {
     }
 }
 
-/// What one more connection is served with: its socket, paced, its door, and what leaves its seat.
+/// What one more connection is served with: its socket, paced, its door, what hears that the server ends, and what leaves its
+/// seat.
 #[derive(Drop)]
 struct Newcomer<I, P> {
     io: Paced<I, P>,
     door: Door<P>,
+    last: OwnedNotified,
     sitting: P,
 }
 
@@ -59,7 +63,12 @@ struct Newcomer<I, P> {
 fn entered<I: Drop, P: Sits>(io: I, usher: &P) -> Option<Newcomer<I, P>> {
     let sitting = usher.enter()?;
     match fitted(io, &sitting) {
-        Ok((io, door)) => Some(Newcomer { io, door, sitting }),
+        Ok((io, door, last)) => Some(Newcomer {
+            io,
+            door,
+            last,
+            sitting,
+        }),
         Err(_) => {
             sitting.leave();
             None
@@ -67,18 +76,23 @@ fn entered<I: Drop, P: Sits>(io: I, usher: &P) -> Option<Newcomer<I, P>> {
     }
 }
 
-/// A socket, paced, and its door.
-fn fitted<I: Drop, P: Sits>(io: I, sitting: &P) -> Result<(Paced<I, P>, Door<P>), AllocError> {
+/// A socket, paced, its door, and what hears that the server ends.
+fn fitted<I: Drop, P: Sits>(
+    io: I,
+    sitting: &P,
+) -> Result<(Paced<I, P>, Door<P>, OwnedNotified), AllocError> {
     let door = Door {
         sitting: sitting.again()?,
     };
-    Ok((Paced::new(io, sitting.again()?)?, door))
+    let last = sitting.last()?;
+    Ok((Paced::new(io, sitting.again()?)?, door, last))
 }
 
 /// A connection's future, which leaves its seat at the end.
 #[derive(Drop)]
 struct Seated<F, P> {
     future: F,
+    ending: Ending,
     sitting: P,
 }
 
@@ -88,13 +102,11 @@ impl<F: Future<Output: Drop>, P: Sits> Future for Seated<F, P> {
     ghost can_poll = { λ seated. F.can_poll seated.future };
 
     fn poll(&mut self, cx: &mut Context<'_>) -> Poll<()> {
-        match self.future.poll(cx) {
-            Poll::Ready(_end) => {
-                self.sitting.leave();
-                Poll::Ready(())
-            }
-            Poll::Pending => Poll::Pending,
+        if self.future.poll(cx).is_pending() && !self.ending.is_over(&self.sitting, cx) {
+            return Poll::Pending;
         }
+        self.sitting.leave();
+        Poll::Ready(())
     }
 }
 
@@ -129,9 +141,15 @@ where
     ghost can_seat = { λ _. P.may_answer };
 
     fn seat(&self, io: I) -> Option<Self::Task> {
-        let Newcomer { io, door, sitting } = entered(io, &self.usher)?;
+        let Newcomer {
+            io,
+            door,
+            last,
+            sitting,
+        } = entered(io, &self.usher)?;
         Some(Seated {
             future: self.http.serve_connection(io, door),
+            ending: Ending::new(last),
             sitting,
         })
     }

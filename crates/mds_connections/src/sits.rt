@@ -56,6 +56,13 @@ pub trait Sits: Drop {
     /// There are too many shares.
     fn told(&self) -> Result<OwnedNotified, AllocError>;
 
+    /// Hears when the server ends.
+    ///
+    /// # Errors
+    ///
+    /// There are too many shares.
+    fn last(&self) -> Result<OwnedNotified, AllocError>;
+
     /// A head has come, whose body counts as so many bytes: who asks, where the request may wait.
     fn ask(&self, parts: &Parts, bytes: usize) -> Admittance;
 

@@ -93,6 +93,10 @@ impl<A: Answers, C: Clock + Wait + Drop> Sits for Sitting<A, C> {
         self.seat.told()
     }
 
+    fn last(&self) -> Result<OwnedNotified, AllocError> {
+        self.seat.last()
+    }
+
     fn ask(&self, parts: &Parts, bytes: usize) -> Admittance {
         let asker = self.house.answers.asker(parts);
         self.seat.pace.fetch_add(1, Ordering::SeqCst);

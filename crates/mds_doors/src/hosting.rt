@@ -5,7 +5,7 @@ use crate::reception::Reception;
 use futures::StreamExt;
 use hyper::rt::TokioTimer;
 use hyper::server::conn::http1::Builder;
-use mds_connections::{Admission, House, Queues, Register, Seating, serve_all};
+use mds_connections::{Admission, Answers, Closing, House, Queues, Register, Seating, serve_all};
 use mds_hall::{Hall, Named};
 use mds_parallel::Chunked;
 use std::alloc::AllocGlobal;
@@ -60,6 +60,53 @@ impl<R: Clock + RandomSource + AllocGlobal + Copy> Fittings<R> {
     }
 }
 
+/// What a server has, until its connections come.
+#[derive(Drop)]
+struct Opened<A, R> {
+    http: Builder<TokioTimer<R>>,
+    seating: Seating,
+    pauses: Handle,
+    house: Arc<House<A, R>>,
+    shared: Arc<House<A, R>>,
+}
+
+/// The house of these answers and queues, in which nobody is.
+fn open_house<A: Drop, R>(
+    rt: &R,
+    runtime: &Runtime,
+    answers: A,
+    queues: Queues,
+) -> io::Result<Opened<A, R>>
+where
+    R: Clock + RandomSource + AllocGlobal + Copy + Drop,
+{
+    let Fittings {
+        timers,
+        pauses,
+        http,
+        seating,
+    } = Fittings::new(rt, runtime)?;
+    let register = Register::new(rt.alloc(), queues.askers())?;
+    let house = Arc::new(
+        rt.alloc(),
+        House {
+            alloc: rt.alloc(),
+            answers,
+            queues,
+            register: Mutex::new(register),
+            clock: *rt,
+            timers,
+        },
+    )?;
+    Ok(Opened {
+        http,
+        seating,
+        pauses,
+        shared: Arc::try_clone(&house)?,
+        house,
+    })
+}
+
 /// Serves so many connections of a listener, or all, and ends the hall.
 ///
 /// # Errors
@@ -77,31 +124,20 @@ pub fn serve<K: Named + Send + Sync, R, M: Moments + Send + Sync>(
 where
     R: Wait + Threads + Clock + RandomSource + AllocGlobal + Sync + Send + Copy + Drop,
 {
-    let Fittings {
-        timers,
-        pauses,
+    let answers = Reception {
+        rt: *rt,
+        alloc: rt.alloc(),
+        hall,
+        evaluator: Chunked(*rt),
+        moments,
+    };
+    let Opened {
         http,
         seating,
-    } = Fittings::new(rt, runtime)?;
-    let register = Register::new(rt.alloc(), queues.askers())?;
-    let house = Arc::new(
-        rt.alloc(),
-        House {
-            alloc: rt.alloc(),
-            answers: Reception {
-                rt: *rt,
-                alloc: rt.alloc(),
-                hall,
-                evaluator: Chunked(*rt),
-                moments,
-            },
-            queues,
-            register: Mutex::new(register),
-            clock: *rt,
-            timers,
-        },
-    )?;
-    let shared = Arc::try_clone(&house)?;
+        pauses,
+        house,
+        shared,
+    } = open_house(rt, runtime, answers, queues)?;
     let sockets = listener
         .incoming()
         .take(connections.unwrap_or(usize::MAX))
@@ -111,4 +147,49 @@ where
         house.answers.hall.finish(rt);
     }
     served
+}
+
+/// A server that has ended.
+#[derive(Drop)]
+pub struct Ended<A> {
+    /// What answered; none, where something holds it yet.
+    pub answers: Option<A>,
+    /// Whether it was ended, or what waits for events failed.
+    pub outcome: io::Result<()>,
+}
+
+/// Serves the connections of a listener by these answers until it is to end, and then what has begun, within 10 seconds.
+///
+/// # Errors
+///
+/// The server couldn't be started.
+pub fn serve_by<A, R>(
+    rt: &R,
+    runtime: &mut Runtime,
+    listener: TcpListener,
+    answers: A,
+    queues: Queues,
+    closing: &Closing,
+) -> io::Result<Ended<A>>
+where
+    A: Answers + Send + Sync,
+    A::Reply: Send,
+    R: Wait + Threads + Clock + RandomSource + AllocGlobal + Sync + Send + Copy + Drop,
+    requires ready { A.may_answer }
+{
+    let Opened {
+        http,
+        seating,
+        pauses,
+        house,
+        shared,
+    } = open_house(rt, runtime, answers, queues)?;
+    let closed = closing.closed(Arc::try_clone(&house)?)?;
+    let sockets = listener
+        .incoming()
+        .take_until(closed)
+        .filter_map(|accepted| Admission::new(accepted, rt, &pauses));
+    let outcome = serve_all(rt, runtime, http, sockets, shared, seating);
+    let answers = Arc::into_inner(house).map(|house| house.answers);
+    Ok(Ended { answers, outcome })
 }

@@ -5,6 +5,7 @@ mod hosting;
 mod moments;
 mod reception;
 
-pub use hosting::{bound, serve};
-pub use mds_connections::Queues;
+pub use hosting::{Ended, bound, serve, serve_by};
+pub use mds_connections::{Closing, Queues};
 pub use moments::{MachineClock, Moments};
+pub use reception::arrived;

@@ -62,8 +62,8 @@ impl<K: Named, R: Wait + Drop, E: Evaluator<Catalogue> + Drop, M: Moments> Answe
     }
 }
 
-/// The body as a hall takes it.
-fn arrived(taken: Taken) -> Arrived
+/// A body that was taken in, as a hall takes it.
+pub fn arrived(taken: Taken) -> Arrived
     ensures { result ≡ arrived_of taken.arrival taken.body }
 {
     match taken.arrival {

@@ -1,5 +1,6 @@
 //! Who may have a connection, what may wait, and what a last reply says.
 use bytes::Bytes;
+use futures::executor::block_on;
 use http::header::CONNECTION;
 use http::{Response, StatusCode};
 use http_body_util::Full;
@@ -64,6 +65,32 @@ fn one_has_so_many_seats(rt: HostRuntime) -> Result<(), Fail> {
     register.answered(0);
     register.rest(0);
     assert!(rt; register.ask(key, alfa, 0) == Admittance::Admitted(alfa));
+    Ok(())
+}
+
+/// Into a closed register no connection gets, and no request.
+#[test]
+fn a_closed_register_lets_nothing_in(rt: HostRuntime) -> Result<(), Fail> {
+    let alloc = rt.alloc();
+    let mut register = Register::new(alloc, 3)?;
+    let key = entered(&mut register, alloc)?.ok_or("no seat")?;
+    register.close();
+    assert!(rt; register.ask(key, Asker::Author, 0) == Admittance::Busy);
+    assert!(rt; entered(&mut register, alloc)?.is_none());
+    Ok(())
+}
+
+/// A connection hears that the server ends, as one that is to leave and as one that has a last reply to send.
+#[test]
+fn each_connection_is_told(rt: HostRuntime) -> Result<(), Fail> {
+    let alloc = rt.alloc();
+    let mut register = Register::new(alloc, 3)?;
+    let seat = Arc::new(alloc, Seat::new(alloc)?)?;
+    let (told, last) = (seat.told()?, seat.last()?);
+    register.enter(seat).ok_or("no seat")?;
+    register.tell();
+    block_on(&rt, told)??;
+    block_on(&rt, last)??;
     Ok(())
 }
 

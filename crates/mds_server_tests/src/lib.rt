@@ -5,6 +5,8 @@
 #[cfg(test)]
 mod city;
 #[cfg(test)]
+mod closing;
+#[cfg(test)]
 mod connections;
 #[cfg(test)]
 mod counting;

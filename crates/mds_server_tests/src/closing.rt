@@ -1,0 +1,105 @@
+//! A server over loopback that is ended while a connection rests.
+ghost use Rattle.std.specs.Prelude.{IsSome};
+
+use bytes::Bytes;
+use futures::future::{Ready, ready};
+use http::Response;
+use http::request::Parts;
+use http_body_util::Full;
+use mds_connections::{Answers, Taken};
+use mds_doors::{Closing, Ended, Queues, bound, serve_by};
+use mds_limits::Asker;
+use mds_request::Config;
+use std::alloc::{AllocError, Global};
+use std::io::{self, Read, Write};
+use std::net::TcpStream;
+use std::test::Fail;
+use std::thread::join;
+use tokio::runtime::Runtime;
+
+const CONFIGURATION: &[u8] = br#"{"author":"city","operators":[],"zone":"Z"}"#;
+
+const REQUEST: &[u8] = b"GET /policies HTTP/1.1\r\nhost: localhost\r\n\r\n";
+
+const ANSWER: &[u8] = b"as ever";
+
+/// The most reads of one answer.
+const MOST_READS: u32 = 1000;
+
+/// Answers the author with the same text, whatever is asked.
+#[derive(Drop)]
+struct Parrot {
+    alloc: Global,
+}
+
+impl Answers for Parrot {
+    type Reply = Ready<Result<Response<Full<Bytes>>, AllocError>>;
+
+    fn asker(&self, _parts: &Parts) -> Asker {
+        Asker::Author
+    }
+
+    fn answer(
+        &self,
+        _parts: &Parts,
+        _taken: Taken,
+    ) -> Ready<Result<Response<Full<Bytes>>, AllocError>>
+        ensures { IsSome result.0 }
+    {
+        let body = Full::new(Bytes::from_static(ANSWER));
+        ready(Ok(Response::new(self.alloc, body)))
+    }
+}
+
+/// Asks over a connection that may stay, and says whether the answer came.
+fn is_answered(stream: &mut TcpStream, alloc: Global) -> io::Result<bool> {
+    stream.write_all(REQUEST)?;
+    let mut answer = Vec::new(alloc);
+    let mut part = [0u8; 512];
+    for _ in 0..MOST_READS {
+        let count = stream.read(&mut part)?;
+        answer.extend_from_slice(part.get(..count).unwrap_or_default())?;
+        if count == 0 || answer.ends_with(ANSWER) {
+            break;
+        }
+    }
+    Ok(answer.ends_with(ANSWER))
+}
+
+/// Asks, ends the server, and says whether the connection is ended then, with nothing more said over it.
+fn is_ended(mut stream: TcpStream, closing: &Closing, alloc: Global) -> io::Result<bool> {
+    let is_answered = is_answered(&mut stream, alloc);
+    closing.close();
+    let mut rest = Vec::new(alloc);
+    stream.read_to_end(&mut rest)?;
+    Ok(is_answered? && rest.is_empty())
+}
+
+/// A connection that rests is ended with its server, and what answered comes back.
+#[test]
+fn ends_with_a_connection_that_rests(rt: HostRuntime) -> Result<(), Fail> {
+    let alloc = rt.alloc();
+    let config = Config::read(alloc, CONFIGURATION)?;
+    let queues = Queues::new(alloc, &config)?;
+    let mut runtime = Runtime::with_worker_threads(&rt, 2)?;
+    let listener = bound(&rt, "127.0.0.1:0", runtime.handle().reactor())?;
+    let stream = TcpStream::connect(&rt, listener.local_addr()?)?;
+    let closing = Closing::new(alloc)?;
+    let (ended, served) = join(
+        &rt,
+        || is_ended(stream, &closing, alloc),
+        || serve_by(
+            &rt,
+            &mut runtime,
+            listener,
+            Parrot { alloc },
+            queues,
+            &closing,
+        ),
+    );
+    let Ended { answers, outcome } = served?;
+    outcome?;
+    assert!(rt; ended?);
+    assert!(rt; answers.is_some());
+    Ok(())
+}
