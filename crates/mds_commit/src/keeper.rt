@@ -219,7 +219,7 @@ impl<K: Naming, L: Log, S: Space> Keeper<K, L, S> {
     }
 
     /// Nothing more is told from now on.
-    pub(crate) fn fail<R: Wait>(&self, rt: &R) {
+    pub fn fail<R: Wait>(&self, rt: &R) {
         self.has_failed.store(true, Ordering::SeqCst);
         self.tell(rt);
         self.more.notify_one();

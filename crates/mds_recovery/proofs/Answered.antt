@@ -1,22 +1,21 @@
 -- Entries that were answered again are turns of the room and of each desk.
 use mathlib.Core.List.{IsPrefix}
-use Rattle.std.proofs.Common.{◌≡◌, ℕ, Bool, true, false, cond, List, [], ◌∷◌, ◌++◌, length, map, Option, Some, None, ◌⊎◌, inl, inr, refl, sym, ap, subst, ◌∙◌, arith}
-use Rattle.std.specs.Prelude.{nat_eq, bytes_eq, option_map, option_to_list, position, slice_get, slice_set}
+use Rattle.std.proofs.Common.{◌≡◌, ℕ, Bool, true, false, cond, List, [], ◌∷◌, ◌++◌, length, Option, Some, None, inl, inr, refl, sym, ap, subst, ◌∙◌, arith}
+use Rattle.std.specs.Prelude.{nat_eq, bytes_eq, option_map, option_to_list, position, slice_get}
 use Rattle.std.proofs.lemmas.List.{append-nil, append_assoc}
 use Rattle.std.proofs.lemmas.Bool.{eqb-true}
 use Rattle.std.proofs.lemmas.Bool.Decides.{nat_tests}
 use Rattle.std.proofs.lemmas.Slice.Eq.{bytes_eq-Decides}
 use Rattle.mds_catalog.specs.Publication.{Publication}
-use Rattle.mds_drafts.specs.Drafts.{Drafts}
 use Rattle.mds_fleet.specs.Books.{Rows}
-use Rattle.mds_request.specs.Configuration.{Configuration, Operator, actor_of, operator_at, has_token}
+use Rattle.mds_request.specs.Configuration.{Configuration, Operator, operator_at, has_token}
 use Rattle.mds_request.specs.Request.{Request}
 use Rattle.mds_request.specs.Reply.{Reply}
 use Rattle.mds_request.specs.declared.config.Actor.{Actor}
 use Rattle.mds_request.specs.declared.config.Actor.TheVariants.{Author, Operator as OperatorAt, Nobody}
 use Rattle.mds_machine.specs.Step.{Exchange}
 use Rattle.mds_fronts.specs.Desks.{AreTurns, IsTurn}
-use Rattle.mds_fronts.specs.Fronts.{Turn, last_front, requests_in}
+use Rattle.mds_fronts.specs.Fronts.{Turn, last_front}
 use Rattle.mds_fronts.specs.Room.{AreRoomTurns, IsRoomTurn, authors_in, is_authors, is_the_author}
 use Rattle.mds_desk.specs.Desk.{DeskState, TakesTurn}
 use Rattle.mds_desk.specs.Room.{RoomState, IsNoted, held_in}
@@ -42,7 +41,7 @@ from_less c place operator known learnt rows [] after begins are = are
 from_less c place operator known learnt rows (turn ∷ turns) after begins are =
     (are.0, record { begins = prefix_on known learnt turn.front begins are.1.begins; answer = are.1.answer }, are.2)
 
-itself : (place : ℕ) → nat_eq place place ≡ true
+pub itself : (place : ℕ) → nat_eq place place ≡ true
 itself place = grind (arith, nat_tests)
 
 apart : (a b : ℕ) → nat_eq a b ≡ false → a ≡ b → ⊥
@@ -50,13 +49,13 @@ apart a b other same = absurd (grind (arith, nat_tests, other, same))
 
 -- ---- requests among entries
 
-first_own : (c : Configuration) (actor : Actor) (e : Entry) (entries : List Entry) (request : Request) → is_actor actor (actor_by c e.asker) ≡ true
+pub first_own : (c : Configuration) (actor : Actor) (e : Entry) (entries : List Entry) (request : Request) → is_actor actor (actor_by c e.asker) ≡ true
     → request_by c e ≡ Some request → requests_by c actor (e ∷ entries) ≡ request ∷ requests_by c actor entries
 first_own c actor e entries request own is =
     ap (λ (b : Bool). (cond b (option_to_list (request_by c e)) []) ++ requests_by c actor entries) own
     ∙ ap (λ (o : Option Request). option_to_list o ++ requests_by c actor entries) is
 
-first_other : (c : Configuration) (actor : Actor) (e : Entry) (entries : List Entry) → is_actor actor (actor_by c e.asker) ≡ false
+pub first_other : (c : Configuration) (actor : Actor) (e : Entry) (entries : List Entry) → is_actor actor (actor_by c e.asker) ≡ false
     → requests_by c actor (e ∷ entries) ≡ requests_by c actor entries
 first_other c actor e entries other = ap (λ (b : Bool). (cond b (option_to_list (request_by c e)) []) ++ requests_by c actor entries) other
 

@@ -1,8 +1,8 @@
 -- One desk after another, and one entry after another.
-use Rattle.std.proofs.Common.{◌≡◌, ℕ, zero, suc, ◌+◌, ◌<◌, ◌≤◌, List, [], ◌∷◌, ◌++◌, length, map, take, get_or, Option, Some, None, ◌⊎◌, inl, inr, refl, sym, ap, subst, ◌∙◌, arith, add-one}
+use Rattle.std.proofs.Common.{◌≡◌, ℕ, zero, suc, ◌+◌, ◌<◌, ◌≤◌, List, [], ◌∷◌, ◌++◌, length, map, take, get_or, Some, inl, inr, refl, sym, ap, subst, ◌∙◌, arith, add-one}
 use Rattle.std.specs.Prelude.{slice_get, slice_set, option_map}
-use Rattle.std.proofs.lemmas.Option.{slice_get-map, slice_get-get_or, slice_get_within}
-use Rattle.std.proofs.Math.Seq.{take-suc, take-length}
+use Rattle.std.proofs.lemmas.Option.{slice_get-map, slice_get-get_or}
+use Rattle.std.proofs.Math.Seq.{take-suc}
 use Rattle.std.proofs.lemmas.List.{map-append, take-map}
 use Rattle.mds_catalog.specs.Publication.{Publication}
 use Rattle.mds_request.specs.Configuration.{Configuration}
@@ -11,7 +11,7 @@ use Rattle.mds_request.specs.Reply.{Reply}
 use Rattle.mds_desk.specs.Desk.{DeskState, TakesTurn, Learns}
 use Rattle.mds_desk.specs.Room.{RoomState}
 use Rattle.mds_entries.specs.Entries.{Entry}
-use Rattle.mds_recovery.specs.Recovery.{Server, AllLearn, DeskAnswers, IsAnsweredAgain, AreAnswered, IsRefused, IsStopped}
+use Rattle.mds_recovery.specs.Recovery.{Server, DeskAnswers, IsAnsweredAgain, AreAnswered, IsRefused, IsStopped}
 use Rattle.mds_recovery.specs.declared.fault.Cause.{Cause}
 use Rattle.mds_recovery.proofs.Lists.{the_same, set_long, set_other, at_set}
 

@@ -1,12 +1,11 @@
 -- The desks that are made new.
-use Rattle.std.proofs.Common.{◌≡◌, ℕ, zero, suc, ◌+◌, ◌<◌, List, [], ◌∷◌, length, map, get_or, Option, Some, None, refl, sym, ap, ◌∙◌, arith}
+use Rattle.std.proofs.Common.{◌≡◌, ℕ, zero, suc, ◌+◌, ◌<◌, length, Option, Some, None, refl, sym, ap, ◌∙◌, arith}
 use Rattle.std.specs.Prelude.{slice_get, option_map}
 use Rattle.std.specs.List.{range_with_len}
 use Rattle.std.proofs.lemmas.List.FromFn.{length-map-range_with_len}
 use Rattle.std.proofs.lemmas.Option.{slice_get_within, slice_get-map}
 use Rattle.mds_request.specs.Configuration.{Configuration, Operator}
 use Rattle.mds_desk.specs.Desk.{DeskState, new_desk, new_desks}
-use Rattle.mds_desk.specs.Room.{new_room}
 use Rattle.mds_recovery.specs.Laws.{IsServerOf, new_server}
 use Rattle.mds_recovery.proofs.Lists.{the_same, none_some}
 

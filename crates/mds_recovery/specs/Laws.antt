@@ -1,26 +1,29 @@
 -- What answering entries again leads to.
 use mathlib.Core.List.{IsPrefix}
-use Rattle.std.specs.Prelude.{◌≡◌, ℕ, nat_eq, List, [], ◌∷◌, ◌++◌, length, Bool, true, false, if◌then◌else◌, Option, Some, None, option_to_list, slice_get}
+use Rattle.std.specs.Prelude.{◌≡◌, ◌≢◌, ◌&&◌, ℕ, nat_eq, List, [], ◌∷◌, ◌++◌, length, Bool, true, false, if◌then◌else◌, Some, option_to_list, slice_get}
 use Rattle.mds_catalog.specs.Publication.{Publication}
 use Rattle.mds_drafts.specs.Drafts.{Drafts}
 use Rattle.mds_fleet.specs.Books.{Rows}
-use Rattle.mds_request.specs.Configuration.{Configuration, Operator}
+use Rattle.mds_request.specs.Configuration.{Configuration, Operator, ids, repeats}
 use Rattle.mds_request.specs.Request.{Request}
 use Rattle.mds_request.specs.declared.config.Actor.{Actor}
 use Rattle.mds_request.specs.declared.config.Actor.TheVariants.{Author, Operator as OperatorAt, Nobody}
-use Rattle.mds_machine.specs.Step.{Exchange, new_state}
+use Rattle.mds_machine.specs.Step.{Exchange}
+use Rattle.mds_machine.specs.Views.{is_of}
 use Rattle.mds_fronts.specs.Desks.{AreTurns}
 use Rattle.mds_fronts.specs.Fronts.{Turn, last_front, requests_in}
 use Rattle.mds_fronts.specs.OneHistory.{HasServed}
-use Rattle.mds_fronts.specs.Room.{AreRoomTurns, authors_in}
-use Rattle.mds_restarts.specs.Kept.{AreSuccesses, kept}
+use Rattle.mds_fronts.specs.Room.{AreRoomTurns, is_authors, authors_in}
+use Rattle.mds_restarts.specs.Kept.{AreSuccesses, is_kept, kept}
 use Rattle.mds_restarts.specs.Kept.{requests_in as room_requests_in}
 use Rattle.mds_restarts.specs.Servers.{AreServed, kept_turns}
 use Rattle.mds_desk.specs.Desk.{DeskState, new_desks}
-use Rattle.mds_desk.specs.Room.{RoomState, held_in, new_room}
+use Rattle.mds_desk.specs.Room.{held_in, new_room}
 use Rattle.mds_entries.specs.Entries.{Entry}
-use Rattle.mds_entries.specs.Requests.{actor_by, request_by}
-use Rattle.mds_recovery.specs.Recovery.{Server, AreAnswered}
+use Rattle.mds_entries.specs.Requests.{actor_by, request_by, entry_by}
+use Rattle.mds_recovery.specs.Recovery.{Server, AreAnswered, IsStopped}
+use Rattle.mds_recovery.specs.declared.fault.StartFault.{StartFault}
+use Rattle.mds_recovery.specs.declared.fault.StartFault.TheVariants.{Opening, Stopped}
 
 abbrev pub is_actor : Actor → Actor → Bool
 is_actor Author Author = true
@@ -81,6 +84,50 @@ pub record IsJournalOf (configuration : Configuration) (entries : List Entry) (h
   pub operators : (place : ℕ) (operator : Operator) → slice_get configuration.operators place ≡ Some operator
       → requests_by configuration (OperatorAt place) entries ≡ requests_in (kept_turns configuration (turns place))
 
+-- the exchange is the author's, and is kept
+abbrev pub is_authors_kept : Configuration → Exchange → Bool
+is_authors_kept configuration e = is_authors configuration e.request && is_kept configuration e
+
+abbrev pub is_turn_kept : Configuration → Turn → Bool
+is_turn_kept configuration turn = is_kept configuration (record { request = turn.request; reply = turn.reply })
+
+-- no two operators have one identifier, and this is the entry that a request is
+abbrev pub IsEntryOf : Configuration → Request → Entry → Type 0
+IsEntryOf configuration request entry = (repeats (ids configuration.operators) ≡ false) × (entry_by configuration request ≡ Some entry)
+
+-- What a server appends at one more exchange of the author's room: its entry, where it is kept, and nothing where it isn't. Then the journal
+-- is one of what was done with that exchange too.
+abbrev pub JournalGrowsByExchange : Type 0
+JournalGrowsByExchange =
+    (configuration : Configuration) (entries : List Entry) (history : List Exchange) (turns : ℕ → List Turn) (e : Exchange)
+    → IsJournalOf configuration entries history turns
+    → (is_authors_kept configuration e ≡ false → IsJournalOf configuration entries (history ++ e ∷ []) turns)
+    × ((entry : Entry) → is_authors_kept configuration e ≡ true → IsEntryOf configuration e.request entry
+    → IsJournalOf configuration (entries ++ entry ∷ []) (history ++ e ∷ []) turns)
+
+-- the desk at a place has one more turn, and the others have none
+pub record IsOneTurnMore (turns : ℕ → List Turn) (place : ℕ) (turn : Turn) (next : ℕ → List Turn) : Type 0 where
+  pub here : next place ≡ turns place ++ turn ∷ []
+  pub others : (other : ℕ) → other ≢ place → next other ≡ turns other
+
+-- The same at one more turn of a desk, on a request of its operator where it is kept.
+abbrev pub JournalGrowsByTurn : Type 0
+JournalGrowsByTurn =
+    (configuration : Configuration) (entries : List Entry) (history : List Exchange) (turns next : ℕ → List Turn) (place : ℕ) (turn : Turn)
+    → IsJournalOf configuration entries history turns → IsOneTurnMore turns place turn next
+    → (is_turn_kept configuration turn ≡ false → IsJournalOf configuration entries history next)
+    × ((entry : Entry) → is_turn_kept configuration turn ≡ true → is_of configuration place turn.request ≡ true → IsEntryOf configuration turn.request entry
+    → IsJournalOf configuration (entries ++ entry ∷ []) history next)
+
+-- Each front of a journal's entries, as what was synced before a crash, is a journal of a front of what was done: of the exchanges at the
+-- room, and of the turns of each desk.
+abbrev pub FrontsAreJournals : Type 0
+FrontsAreJournals =
+    (configuration : Configuration) (front rest : List Entry) (history : List Exchange) (turns : ℕ → List Turn)
+    → IsJournalOf configuration (front ++ rest) history turns
+    → (before : List Exchange) × (turns_before : ℕ → List Turn) × IsJournalOf configuration front before turns_before
+    × IsPrefix before history × ((place : ℕ) → IsPrefix (turns_before place) (turns place))
+
 -- What a journal's entries lead back to: the drafts and publications, with their moments, and each operator's rows, that what was told
 -- had left; and the desks know all that was published.
 abbrev pub LeadsBack : Configuration → List Entry → Server → Type 0
@@ -126,3 +173,20 @@ abbrev pub AnsweredByParts : Type 0
 AnsweredByParts =
     (configuration : Configuration) (front rest : List Entry) (s between next : Server) → AreAnswered configuration front s between
     → AreAnswered configuration rest between next → AreAnswered configuration (front ++ rest) s next
+
+-- A room and desks that are started again from entries: these are answered again from the new ones on, so that they are the server's that
+-- wrote them.
+pub record IsStartedAgain (configuration : Configuration) (entries : List Entry) (s : Server) : Type 0 where
+  pub answered : AreAnswered configuration entries (new_server configuration) s
+  pub placed : IsServerOf configuration s
+  pub back : LeadsBack configuration entries s
+  pub one : IsOneServerFrom configuration entries s
+
+-- why a room and desks don't answer all of the entries again
+abbrev pub IsRefusedFrom : Configuration → List Entry → Server → StartFault → Type 0
+IsRefusedFrom configuration entries s (Opening fault) = Unit {0}
+IsRefusedFrom configuration entries s (Stopped fault) = (next : Server) × IsStopped configuration entries fault s next
+
+-- why no room and desks are started again
+abbrev pub IsStartRefused : Configuration → List Entry → StartFault → Type 0
+IsStartRefused configuration entries fault = IsRefusedFrom configuration entries (new_server configuration) fault

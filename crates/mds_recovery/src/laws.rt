@@ -1,7 +1,9 @@
 //! Laws of recovery. Each function's contract is the law; the functions themselves do nothing but call the laws that
 //! theirs follow from.
-ghost use Rattle.mds_recovery.specs.Laws.{AnsweredAreTurns, AnsweredByParts, JournalLeadsBack, GoesOnAsOneServer};
+ghost use Rattle.mds_recovery.specs.Laws.{AnsweredAreTurns, AnsweredByParts, FrontsAreJournals, JournalLeadsBack, GoesOnAsOneServer};
+ghost use Rattle.mds_recovery.specs.Laws.{JournalGrowsByExchange, JournalGrowsByTurn};
 
+use mds_entries::reads_the_request;
 use mds_restarts::laws as restarts;
 
 /// Entries that were answered again by parts were answered again, so that a long journal needn't be held as a whole.
@@ -31,3 +33,24 @@ pub fn goes_on_as_one_server()
     journal_leads_back();
     restarts::is_one_server();
 }
+
+/// What a server appends at an exchange of the author's room keeps its journal one of what it did: the exchange's entry
+/// where this is kept, nothing where it isn't.
+pub fn journal_grows_by_exchange()
+    ensures { JournalGrowsByExchange }
+{
+    reads_the_request();
+}
+
+/// The same at a turn of an operator's desk.
+pub fn journal_grows_by_turn()
+    ensures { JournalGrowsByTurn }
+{
+    reads_the_request();
+}
+
+/// Each front of a journal is a journal of a front of what was done, so that what was synced before a crash leaves
+/// nothing out between, and has nothing in part.
+pub fn fronts_are_journals()
+    ensures { FrontsAreJournals }
+{}

@@ -5,7 +5,9 @@ mod fault;
 pub mod laws;
 mod progress;
 mod recovering;
+mod starting;
 
-pub use fault::{Cause, Fault};
+pub use fault::{Cause, Fault, StartFault};
 pub use progress::{Progress, Silent};
 pub use recovering::recover;
+pub use starting::start_again;

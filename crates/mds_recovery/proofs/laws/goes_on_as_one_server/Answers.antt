@@ -1,5 +1,4 @@
-use mathlib.Core.List.{IsPrefix}
-use Rattle.std.proofs.Common.{◌≡◌, List, [], subst}
+use Rattle.std.proofs.Common.{List, [], subst}
 use Rattle.mds_catalog.specs.Publication.{Publication}
 use Rattle.mds_drafts.specs.Drafts.{Drafts}
 use Rattle.mds_fleet.specs.Books.{Rows}

@@ -1,13 +1,9 @@
 use mathlib.Core.List.{IsPrefix}
-use Rattle.std.proofs.Common.{◌≡◌, List, [], ap, subst, sym, ◌∙◌}
+use Rattle.std.proofs.Common.{List, [], ap, subst, sym, ◌∙◌}
 use Rattle.std.specs.FinMap.{empty}
 use Rattle.mds_catalog.specs.Publication.{Publication}
-use Rattle.mds_drafts.specs.Drafts.{Drafts}
-use Rattle.mds_machine.specs.Step.{Exchange}
-use Rattle.mds_fronts.specs.Room.{authors_in}
 use Rattle.mds_restarts.specs.Kept.{AreSuccesses, requests_in}
 use Rattle.mds_desk.specs.Desk.{new_desk}
-use Rattle.mds_desk.specs.Room.{held_in}
 use Rattle.mds_recovery.specs.Laws.{new_server}
 use Rattle.mds_recovery.proofs.Lists.{both}
 use Rattle.mds_recovery.proofs.New.{new_at, new_is}
