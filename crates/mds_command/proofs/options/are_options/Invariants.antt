@@ -1,0 +1,11 @@
+use Rattle.std.proofs.Common.{◌≡◌, map, length, string_bytes}
+use Rattle.mds_command.specs.Options.{are_options}
+use Rattle.mds_command.proofs.options.are_options.Given as goal
+
+-- all are options, if the words that are left are
+abbrev pub invariant-loop-word : goal.invariant-loop-word
+invariant-loop-word l =
+    are_options (map (λ n. n.now) l.names) (map string_bytes l.rest) ≡ are_options (map (λ n. n.now) l.names) (map string_bytes l.fn.words)
+
+abbrev pub decreases-loop-word : goal.decreases-loop-word
+decreases-loop-word l = length l.rest

@@ -1,0 +1,155 @@
+//! What the program is asked to do.
+ghost use Rattle.std.specs.Prelude.{◌≡◌, ◌∷◌, map, string_bytes, option_map};
+ghost use Rattle.uuid.specs.Text.{parsed};
+ghost use Rattle.mds_command.specs.Options.{moment_in};
+ghost use Rattle.mds_command.specs.Asked.{read_if, asked_to_serve, asked_to_audit, asked_alone, asked_of, asked_by, asked_view};
+
+use crate::moment::moment_of;
+use crate::options::{are_options, value_of};
+use mds_text::{Id, Moment};
+
+/// Where a city is kept and served.
+#[derive(Clone, Copy)]
+pub struct Service<'a> {
+    /// The file of the configuration.
+    pub config: &'a str,
+    /// The city's folder.
+    pub state: &'a str,
+    /// Where to listen.
+    pub listen: &'a str,
+    /// The operator whose entries are left out.
+    pub dropped: Option<Id>,
+}
+
+/// What of a journal is printed.
+#[derive(Clone, Copy)]
+pub struct Audit<'a> {
+    /// The city's folder.
+    pub folder: &'a str,
+    /// The file of the configuration.
+    pub config: &'a str,
+    /// The requests before the first later one; none, for all.
+    pub until: Option<Moment>,
+    /// This operator's and the author's alone; none, for everyone's.
+    pub operator: Option<Id>,
+}
+
+/// What the arguments ask for.
+#[derive(Clone, Copy)]
+pub enum Asked<'a> {
+    /// How the program is called.
+    Help,
+    /// The version.
+    Version,
+    /// To serve.
+    Serve(Service<'a>),
+    /// How the journal of this folder ends.
+    Check(&'a str),
+    /// The journal of a folder as a script.
+    Audit(Audit<'a>),
+}
+
+/// The identifier that a value is, if it is given; `None` where it is none.
+fn id_if(word: Option<&str>) -> Option<Option<Id>>
+    ensures { result ≡ read_if parsed (option_map (λ word. word.now) word.entry) }
+{
+    match word {
+        None => Some(None),
+        Some(word) => match Id::read(word) {
+            Some(id) => Some(Some(id)),
+            None => None,
+        },
+    }
+}
+
+/// The moment that a value is, if it is given; `None` where it is none.
+fn moment_if(word: Option<&str>) -> Option<Option<Moment>>
+    ensures { result ≡ read_if moment_in (option_map (λ word. word.now) word.entry) }
+{
+    match word {
+        None => Some(None),
+        Some(word) => match moment_of(word) {
+            Some(moment) => Some(Some(moment)),
+            None => None,
+        },
+    }
+}
+
+/// Where to serve, by options in any order.
+fn asked_to_serve(words: &[String]) -> Option<Asked<'_>>
+    ensures { option_map asked_view result ≡ asked_to_serve (map string_bytes words.now) }
+{
+    if !are_options(&["--config", "--state", "--listen", "--drop"], words) {
+        return None;
+    }
+    let config = value_of("--config", words)?;
+    let state = value_of("--state", words)?;
+    let listen = value_of("--listen", words)?;
+    let dropped = id_if(value_of("--drop", words))?;
+    Some(Asked::Serve(Service {
+        config,
+        state,
+        listen,
+        dropped,
+    }))
+}
+
+/// What of a folder's journal to print, by options in any order.
+fn asked_to_audit<'a>(folder: &'a str, words: &'a [String]) -> Option<Asked<'a>>
+    ensures { option_map asked_view result ≡ asked_to_audit folder.now (map string_bytes words.now) }
+{
+    if !are_options(&["--config", "--until", "--operator"], words) {
+        return None;
+    }
+    let config = value_of("--config", words)?;
+    let until = moment_if(value_of("--until", words))?;
+    let operator = id_if(value_of("--operator", words))?;
+    Some(Asked::Audit(Audit {
+        folder,
+        config,
+        until,
+        operator,
+    }))
+}
+
+/// What one word asks for.
+fn asked_alone(word: &str) -> Option<Asked<'_>>
+    ensures { option_map asked_view result ≡ asked_alone word.now }
+{
+    if word == "--help" {
+        Some(Asked::Help)
+    } else if word == "--version" {
+        Some(Asked::Version)
+    } else {
+        None
+    }
+}
+
+/// What a word asks for, with a folder and options.
+fn asked_of<'a>(verb: &str, folder: &'a str, words: &'a [String]) -> Option<Asked<'a>>
+    ensures { option_map asked_view result ≡ asked_of verb.now folder.now (map string_bytes words.now) }
+{
+    if words.is_empty() {
+        if verb == "check" {
+            Some(Asked::Check(folder))
+        } else {
+            None
+        }
+    } else if verb == "audit" {
+        asked_to_audit(folder, words)
+    } else {
+        None
+    }
+}
+
+/// What the words behind the program's name ask for; `None` for any others than those of `HELP`.
+pub fn asked_by(words: &[String]) -> Option<Asked<'_>>
+    ensures { option_map asked_view result ≡ asked_by (map string_bytes words.now) }
+{
+    match words {
+        [] => None,
+        [word] => asked_alone(word.as_str()),
+        [verb, rest @ ..] if verb.as_str() == "serve" => asked_to_serve(rest),
+        [verb, folder, rest @ ..] => asked_of(verb.as_str(), folder.as_str(), rest),
+    }
+}

@@ -1,0 +1,11 @@
+//! What the program ruffletuff is asked to do: its arguments, with what it says of them.
+#![tactic(auto)]
+
+mod asking;
+mod moment;
+mod options;
+mod text;
+
+pub use asking::{Asked, Audit, Service, asked_by};
+pub use moment::moment_of;
+pub use text::{HELP, USAGE, VERSION};

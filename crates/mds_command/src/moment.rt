@@ -1,0 +1,36 @@
+//! A moment that a word names.
+ghost use Rattle.std.specs.Prelude.{◌≡◌, ◌≤◌, ◌<◌, ◌^◌, length, Some, None, if◌then◌else◌, IfSome};
+ghost use Rattle.mds_command.specs.Options.{are_digits, decimal, moment_in};
+
+use mds_text::Moment;
+
+/// The most digits of a moment.
+const MOST_DIGITS: usize = 13;
+
+/// The moment that a text of 1 to 13 decimal digits names, in milliseconds of the Unix epoch; `None` for any other text,
+/// and for a moment out of range.
+pub fn moment_of(text: &str) -> Option<Moment>
+    ensures { result ≡ moment_in text.now }
+{
+    let digits = text.as_bytes();
+    if digits.is_empty() || digits.len() > MOST_DIGITS {
+        return None;
+    }
+    Moment::new(number_of(digits)? as i64)
+}
+
+/// The number that decimal digits stand for; `None` where another byte is among them.
+fn number_of(digits: &[u8]) -> Option<u64>
+    requires { length digits.now ≤ 13 }
+    ensures value { result ≡ (if are_digits digits.now then Some (decimal digits.now) else None) }
+    ensures bound { IfSome result (λ number. number < 10 ^ 13) }
+{
+    let mut number = 0;
+    for digit in digits {
+        if !digit.is_ascii_digit() {
+            return None;
+        }
+        number = 10 * number + u64::from(*digit - b'0');
+    }
+    Some(number)
+}

@@ -1,0 +1,58 @@
+//! Options, each a name and a value behind it.
+ghost use Rattle.std.specs.Prelude.{◌≡◌, map, string_bytes, bytes_eq, option_map};
+ghost use Rattle.std.specs.List.{list_any};
+ghost use Rattle.mds_command.specs.Options.{value_of, is_new, are_options};
+
+/// The value behind the first option of this name.
+pub(crate) fn value_of<'a>(name: &str, words: &'a [String]) -> Option<&'a str>
+    ensures { option_map (λ value. value.now) result ≡ value_of name.now (map string_bytes words.now) }
+{
+    let mut rest = words;
+    while let Some((word, values)) = rest.split_first() {
+        let Some((value, behind)) = values.split_first() else {
+            return None;
+        };
+        if word.as_str() == name {
+            return Some(value.as_str());
+        }
+        rest = behind;
+    }
+    None
+}
+
+/// Whether a word is one of these names.
+fn is_known(names: &[&str], word: &str) -> bool
+    ensures { result ≡ list_any (bytes_eq word.now) (map (λ name. name.now) names.now) }
+{
+    for name in names {
+        if word == *name {
+            return true;
+        }
+    }
+    false
+}
+
+/// Whether a word is one of these names, and no option of this name is among the words behind it.
+#[tactic(auto, unfolding(crate::specs::Options::is_new))]
+fn is_new(names: &[&str], word: &str, behind: &[String]) -> bool
+    ensures { result ≡ is_new (map (λ name. name.now) names.now) word.now (map string_bytes behind.now) }
+{
+    is_known(names, word) && value_of(word, behind).is_none()
+}
+
+/// Whether words are options of these names, each at most once, with a value each.
+pub(crate) fn are_options(names: &[&str], words: &[String]) -> bool
+    ensures { result ≡ are_options (map (λ name. name.now) names.now) (map string_bytes words.now) }
+{
+    let mut rest = words;
+    while let Some((word, values)) = rest.split_first() {
+        let Some((_, behind)) = values.split_first() else {
+            return false;
+        };
+        if !is_new(names, word.as_str(), behind) {
+            return false;
+        }
+        rest = behind;
+    }
+    true
+}

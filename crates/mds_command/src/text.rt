@@ -1,0 +1,52 @@
+//! What the program says of itself.
+
+/// The program's version.
+pub const VERSION: &str = "1.1.0";
+
+/// How the program is called, in one line.
+pub const USAGE: &str =
+    "usage: ruffletuff serve --config FILE --state DIR --listen ADDRESS (ruffletuff --help says more)";
+
+/// What `--help` answers.
+pub const HELP: &str = "\
+ruffletuff serve --config FILE --state DIR --listen ADDRESS [--drop ID]
+    serves one city over HTTP
+ruffletuff check DIR
+    says how many records and bytes a folder's journal has, and how it ends
+ruffletuff audit DIR --config FILE [--until MOMENT] [--operator ID]
+    prints a folder's journal as a script for mds_replay
+ruffletuff --help
+    says this
+ruffletuff --version
+    says the version
+
+ADDRESS  where to listen, as 127.0.0.1:8080
+DIR      the folder in which the city is kept; to serve, it is made where it
+         isn't there
+FILE     the configuration, a JSON object on as many lines as one likes:
+           author     the author's access token
+           operators  at most 64 objects with id (a UUID), limit (1 to 200000
+                      vehicles) and token
+           zone       Z, +hh:mm, -hh:mm or a POSIX rule
+         An access token is 1 to 64 letters, digits, '-' and '_'. No two are
+         equal.
+ID       an operator, by its UUID. --drop leaves out what the journal has of
+         an operator that isn't in the configuration any more; --operator
+         prints its requests and the author's alone
+MOMENT   in milliseconds of the Unix epoch: the requests before the first later
+         one are printed
+
+A journal is read while a server writes it as well. Standard output says
+'ready' once the server listens. After a fault standard error says which.
+
+Exit status: 0 done
+             1 nothing can be listened to at ADDRESS
+             2 the arguments or the configuration are wrong
+             3 memory ran out
+             4 the folder can't be used, or another program has it
+             5 the journal is damaged, or of another version
+             6 the configuration doesn't fit the journal
+             7 the journal couldn't be written any more
+
+Example: ruffletuff serve --config city.json --state city --listen 127.0.0.1:8080
+";

@@ -1,0 +1,309 @@
+//! What a server counts, in numbers that any thread may change.
+ghost use Rattle.std.specs.Prelude.{◌≡◌};
+ghost use Rattle.mds_control.specs.Counted.{call_of, outcome_of, place_of, request_place};
+
+use crate::lines::{Label, Line};
+use std::alloc::{AllocError, Global};
+use std::sync::atomic::{AtomicU64, Ordering};
+
+/// The kinds of requests.
+#[derive(Clone, Copy, PartialEq, Eq)]
+pub enum Call {
+    /// It reads.
+    Read,
+    /// It changes what one keeps.
+    Change,
+    /// It publishes.
+    Publish,
+}
+
+/// The kinds of answers.
+#[derive(Clone, Copy, PartialEq, Eq)]
+pub enum Outcome {
+    /// What was asked was done.
+    Done,
+    /// The request was refused.
+    Refused,
+    /// The server couldn't.
+    Failed,
+}
+
+/// What else is counted.
+#[derive(Clone, Copy, PartialEq, Eq)]
+pub enum Figure {
+    /// The bytes of the journal.
+    JournalBytes,
+    /// How often the journal was synced.
+    Syncs,
+    /// The records that aren't synced yet.
+    Pending,
+    /// The connections that are open.
+    Connections,
+    /// The revision that is published.
+    Revision,
+}
+
+/// What a server counts.
+#[derive(Drop)]
+pub struct Counters {
+    /// In the order of the rows.
+    values: Vec<AtomicU64>,
+    /// How many vehicles each operator has.
+    vehicles: Vec<AtomicU64>,
+}
+
+/// What is said of a number.
+struct Row {
+    before: &'static str,
+    name: &'static str,
+}
+
+/// How many milliseconds are no more than what each bucket counts. The last counts all.
+const BOUNDS: &[u64] = &[5, 10, 25, 100, 250, 1000, u64::MAX];
+
+const ROWS: &[Row] = &[
+    Row {
+        before: "# TYPE ruffletuff_requests_total counter\n",
+        name: "ruffletuff_requests_total{call=\"read\",status=\"2xx\"}",
+    },
+    Row {
+        before: "",
+        name: "ruffletuff_requests_total{call=\"read\",status=\"4xx\"}",
+    },
+    Row {
+        before: "",
+        name: "ruffletuff_requests_total{call=\"read\",status=\"5xx\"}",
+    },
+    Row {
+        before: "",
+        name: "ruffletuff_requests_total{call=\"change\",status=\"2xx\"}",
+    },
+    Row {
+        before: "",
+        name: "ruffletuff_requests_total{call=\"change\",status=\"4xx\"}",
+    },
+    Row {
+        before: "",
+        name: "ruffletuff_requests_total{call=\"change\",status=\"5xx\"}",
+    },
+    Row {
+        before: "",
+        name: "ruffletuff_requests_total{call=\"publish\",status=\"2xx\"}",
+    },
+    Row {
+        before: "",
+        name: "ruffletuff_requests_total{call=\"publish\",status=\"4xx\"}",
+    },
+    Row {
+        before: "",
+        name: "ruffletuff_requests_total{call=\"publish\",status=\"5xx\"}",
+    },
+    Row {
+        before: "# TYPE ruffletuff_journal_bytes gauge\n",
+        name: "ruffletuff_journal_bytes",
+    },
+    Row {
+        before: "# TYPE ruffletuff_syncs_total counter\n",
+        name: "ruffletuff_syncs_total",
+    },
+    Row {
+        before: "# TYPE ruffletuff_pending_records gauge\n",
+        name: "ruffletuff_pending_records",
+    },
+    Row {
+        before: "# TYPE ruffletuff_connections gauge\n",
+        name: "ruffletuff_connections",
+    },
+    Row {
+        before: "# TYPE ruffletuff_revision gauge\n",
+        name: "ruffletuff_revision",
+    },
+    Row {
+        before: "# TYPE ruffletuff_answer_milliseconds histogram\n",
+        name: "ruffletuff_answer_milliseconds_bucket{le=\"5\"}",
+    },
+    Row {
+        before: "",
+        name: "ruffletuff_answer_milliseconds_bucket{le=\"10\"}",
+    },
+    Row {
+        before: "",
+        name: "ruffletuff_answer_milliseconds_bucket{le=\"25\"}",
+    },
+    Row {
+        before: "",
+        name: "ruffletuff_answer_milliseconds_bucket{le=\"100\"}",
+    },
+    Row {
+        before: "",
+        name: "ruffletuff_answer_milliseconds_bucket{le=\"250\"}",
+    },
+    Row {
+        before: "",
+        name: "ruffletuff_answer_milliseconds_bucket{le=\"1000\"}",
+    },
+    Row {
+        before: "",
+        name: "ruffletuff_answer_milliseconds_bucket{le=\"+Inf\"}",
+    },
+    Row {
+        before: "",
+        name: "ruffletuff_answer_milliseconds_sum",
+    },
+    Row {
+        before: "",
+        name: "ruffletuff_answer_milliseconds_count",
+    },
+];
+
+/// The row of the first bucket. The sum and the count follow the buckets.
+const FIRST_BUCKET: usize = 14;
+
+const SUM: usize = 21;
+
+const COUNT: usize = 22;
+
+const VEHICLES: &str = "# TYPE ruffletuff_vehicles gauge\n";
+
+impl Call {
+    /// The kind of a request of this method and path.
+    pub fn of(method: &str, path: &str) -> Call
+        ensures { result ≡ call_of method.now path.now }
+    {
+        if method == "GET" {
+            Call::Read
+        } else if path == "/publish" {
+            Call::Publish
+        } else {
+            Call::Change
+        }
+    }
+}
+
+impl Outcome {
+    /// The kind of an answer of this status.
+    pub fn of(status: u16) -> Outcome
+        ensures { result ≡ outcome_of status }
+    {
+        match status {
+            0..400 => Outcome::Done,
+            400..500 => Outcome::Refused,
+            _ => Outcome::Failed,
+        }
+    }
+}
+
+/// The row of requests of this kind with such an answer.
+fn request_place(call: Call, outcome: Outcome) -> usize
+    ensures { result ≡ request_place call outcome }
+{
+    let first = match call {
+        Call::Read => 0,
+        Call::Change => 3,
+        Call::Publish => 6,
+    };
+    match outcome {
+        Outcome::Done => first,
+        Outcome::Refused => first + 1,
+        Outcome::Failed => first + 2,
+    }
+}
+
+impl Figure {
+    /// Its row.
+    fn place(self) -> usize
+        ensures { result ≡ place_of self }
+    {
+        match self {
+            Figure::JournalBytes => 9,
+            Figure::Syncs => 10,
+            Figure::Pending => 11,
+            Figure::Connections => 12,
+            Figure::Revision => 13,
+        }
+    }
+}
+
+/// So many numbers, each 0.
+fn zeros(alloc: Global, count: usize) -> Result<Vec<AtomicU64>, AllocError> {
+    let mut values = Vec::with_capacity(alloc, count)?;
+    for _ in 0..count {
+        values.push(AtomicU64::new(0))?;
+    }
+    Ok(values)
+}
+
+impl Counters {
+    /// Counters of a server of so many operators.
+    ///
+    /// # Errors
+    ///
+    /// Memory ran out.
+    pub fn new(alloc: Global, operators: usize) -> Result<Counters, AllocError> {
+        Ok(Counters {
+            values: zeros(alloc, ROWS.len())?,
+            vehicles: zeros(alloc, operators)?,
+        })
+    }
+
+    fn bump(&self, place: usize, by: u64) {
+        if let Some(value) = self.values.get(place) {
+            value.fetch_add(by, Ordering::SeqCst);
+        }
+    }
+
+    /// A request was answered with this status, so many milliseconds after it came.
+    pub fn answered(&self, call: Call, status: u16, millis: u64) {
+        self.bump(request_place(call, Outcome::of(status)), 1);
+        for (bucket, bound) in BOUNDS.iter().enumerate() {
+            if millis <= *bound {
+                self.bump(FIRST_BUCKET + bucket, 1);
+            }
+        }
+        self.bump(SUM, millis);
+        self.bump(COUNT, 1);
+    }
+
+    /// So much more of what is counted.
+    pub fn add(&self, figure: Figure, by: u64) {
+        self.bump(figure.place(), by);
+    }
+
+    /// So much of what is counted there is now.
+    pub fn set(&self, figure: Figure, value: u64) {
+        if let Some(held) = self.values.get(figure.place()) {
+            held.store(value, Ordering::SeqCst);
+        }
+    }
+
+    /// The operator at this place has so many vehicles.
+    pub fn set_vehicles(&self, operator: usize, count: u64) {
+        if let Some(held) = self.vehicles.get(operator) {
+            held.store(count, Ordering::SeqCst);
+        }
+    }
+
+    /// What is counted by now.
+    ///
+    /// # Errors
+    ///
+    /// Memory ran out.
+    pub fn lines(&self, alloc: Global) -> Result<Vec<Line>, AllocError> {
+        let mut lines = Vec::new(alloc);
+        for (row, value) in ROWS.iter().zip(&self.values) {
+            lines.push(Line {
+                before: row.before,
+                label: Label::City(row.name),
+                value: value.load(Ordering::SeqCst),
+            })?;
+        }
+        for (operator, count) in self.vehicles.iter().enumerate() {
+            lines.push(Line {
+                before: if operator == 0 { VEHICLES } else { "" },
+                label: Label::Operator("ruffletuff_vehicles", operator),
+                value: count.load(Ordering::SeqCst),
+            })?;
+        }
+        Ok(lines)
+    }
+}

@@ -1,0 +1,19 @@
+//! The control port of a server: whether it serves, what it counts, and how it is stopped.
+#![tactic(auto)]
+
+mod asked;
+mod client;
+mod counters;
+mod lines;
+mod pages;
+mod serving;
+
+pub use asked::{Asked, asked_by};
+pub use client::stop;
+pub use counters::{Call, Counters, Figure, Outcome};
+pub use lines::{Label, Line, metrics};
+pub use pages::{Answer, answer_for};
+pub use serving::{Control, Stop, serve_control};
+
+#[cfg(test)]
+mod tests;

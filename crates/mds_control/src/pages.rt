@@ -1,0 +1,102 @@
+//! What is answered to whom asks.
+ghost use Rattle.std.specs.Prelude.{◌≡◌};
+ghost use Rattle.mds_control.specs.Pages.{page_of, takes, answer_at, answer_of, status_of};
+
+/// What there is to ask for.
+#[derive(Clone, Copy, PartialEq, Eq)]
+enum Page {
+    /// Whether the server serves.
+    Health,
+    /// What it counts.
+    Metrics,
+    /// That it stops.
+    Stop,
+}
+
+/// What is answered.
+#[derive(Clone, Copy, Debug, PartialEq, Eq)]
+pub enum Answer {
+    /// The server serves.
+    Healthy,
+    /// It doesn't serve yet, or not any more.
+    Unready,
+    /// What is counted.
+    Metrics,
+    /// The server stops from now on.
+    Stops,
+    /// The request can't be read.
+    Unread,
+    /// There is nothing at that path.
+    NotFound,
+    /// The path takes another method.
+    NotAllowed,
+}
+
+impl Page {
+    fn of(path: &str) -> Option<Page>
+        ensures { result ≡ page_of path.now }
+    {
+        if path == "/healthz" {
+            Some(Page::Health)
+        } else if path == "/metrics" {
+            Some(Page::Metrics)
+        } else if path == "/stop" {
+            Some(Page::Stop)
+        } else {
+            None
+        }
+    }
+
+    /// Whether this is the method that the page takes.
+    fn takes(self, method: &str) -> bool
+        ensures { result ≡ takes self method.now }
+    {
+        match self {
+            Page::Health | Page::Metrics => method == "GET",
+            Page::Stop => method == "POST",
+        }
+    }
+
+    fn answer(self, serves: bool) -> Answer
+        ensures { result ≡ answer_at self serves }
+    {
+        match self {
+            Page::Health if serves => Answer::Healthy,
+            Page::Health => Answer::Unready,
+            Page::Metrics => Answer::Metrics,
+            Page::Stop => Answer::Stops,
+        }
+    }
+}
+
+/// What is answered to a method and a path, where the server serves or doesn't.
+pub fn answer_for(method: &str, path: &str, serves: bool) -> Answer
+    ensures { result ≡ answer_of method.now path.now serves }
+{
+    match Page::of(path) {
+        Some(page) => {
+            if page.takes(method) {
+                page.answer(serves)
+            } else {
+                Answer::NotAllowed
+            }
+        }
+        None => Answer::NotFound,
+    }
+}
+
+impl Answer {
+    /// Its status (RFC 9110, section 15).
+    pub fn status(self) -> u16
+        ensures { result ≡ status_of self }
+    {
+        match self {
+            Answer::Healthy | Answer::Metrics => 200,
+            Answer::Stops => 202,
+            Answer::Unread => 400,
+            Answer::NotFound => 404,
+            Answer::NotAllowed => 405,
+            Answer::Unready => 503,
+        }
+    }
+}

@@ -1,0 +1,116 @@
+//! What the control port says over loopback.
+use crate::counters::{Call, Counters, Figure};
+use crate::serving::{Control, Stop, serve_control};
+use crate::{metrics, stop};
+use std::alloc::{AllocGlobal, Global};
+use std::io::{self, Read, Write};
+use std::net::{Net, SocketAddr, TcpListener, TcpStream};
+use std::sync::atomic::{AtomicBool, Ordering};
+use std::test::Fail;
+use std::thread::join;
+
+/// A server that notes that it is to stop.
+#[derive(Drop)]
+struct Noted(AtomicBool);
+
+impl Stop for Noted {
+    fn stop(&self) {
+        self.0.store(true, Ordering::SeqCst);
+    }
+}
+
+/// The reply to one head.
+fn reply_to<R: Net + AllocGlobal>(rt: &R, address: SocketAddr, head: &str) -> io::Result<Vec<u8>> {
+    let mut stream = TcpStream::connect(rt, address)?;
+    stream.write_all(head.as_bytes())?;
+    let mut reply = Vec::new(rt.alloc());
+    stream.read_to_end(&mut reply)?;
+    Ok(reply)
+}
+
+/// Whether each request has its reply.
+fn are_right<R: Net + AllocGlobal>(
+    rt: &R,
+    address: SocketAddr,
+    control: &Control,
+) -> io::Result<bool> {
+    const HEALTH: &str = "GET /healthz HTTP/1.1\r\n\r\n";
+    let early = reply_to(rt, address, HEALTH)?;
+    control.serves();
+    let served = reply_to(rt, address, HEALTH)?;
+    let counted = reply_to(rt, address, "GET /metrics HTTP/1.1\r\n\r\n")?;
+    let lost = reply_to(rt, address, "GET /lost HTTP/1.1\r\n\r\n")?;
+    let wrong = reply_to(rt, address, "GET /stop HTTP/1.1\r\n\r\n")?;
+    let unread = reply_to(rt, address, "\r\n\r\n")?;
+    let stops = stop(rt, format!(in rt.alloc(); "{address}")?.as_str())?;
+    let late = reply_to(rt, address, HEALTH)?;
+    Ok(
+        early.starts_with(b"HTTP/1.1 503 ")
+            && served.starts_with(b"HTTP/1.1 200 ")
+            && served.ends_with(b"\r\n\r\nok\n")
+            && counted.ends_with(b"ruffletuff_vehicles{operator=\"0\"} 7\n")
+            && lost.starts_with(b"HTTP/1.1 404 ")
+            && wrong.starts_with(b"HTTP/1.1 405 ")
+            && unread.starts_with(b"HTTP/1.1 400 ")
+            && stops
+            && late.starts_with(b"HTTP/1.1 503 "),
+    )
+}
+
+/// Asks, and ends the control port whatever came.
+fn asked<R: Net + AllocGlobal>(rt: &R, address: SocketAddr, control: &Control) -> io::Result<bool> {
+    let are_right = are_right(rt, address, control);
+    control.end(rt, address);
+    are_right
+}
+
+#[test]
+fn answers_and_stops(rt: HostRuntime) -> Result<(), Fail> {
+    let listener = TcpListener::bind(&rt, "127.0.0.1:0")?;
+    let address = listener.local_addr()?;
+    let counters = Counters::new(rt.alloc(), 1)?;
+    counters.set_vehicles(0, 7);
+    let control = Control::new();
+    let noted = Noted(AtomicBool::new(false));
+    let (right, ()) = join(
+        &rt,
+        || asked(&rt, address, &control),
+        || serve_control(&rt, &listener, &control, &counters, &noted),
+    );
+    assert!(rt; right?);
+    assert!(rt; noted.0.load(Ordering::SeqCst));
+    Ok(())
+}
+
+/// Whether the text of what is counted has this line.
+fn has_line(alloc: Global, counters: &Counters, line: &str) -> Result<bool, Fail> {
+    let text = metrics(alloc, &counters.lines(alloc)?)?;
+    Ok(text.lines().any(|found| found == line))
+}
+
+#[test]
+fn counts_in_its_rows(rt: HostRuntime) -> Result<(), Fail> {
+    let alloc = rt.alloc();
+    let counters = Counters::new(alloc, 0)?;
+    counters.answered(Call::of("POST", "/publish"), 503, 20);
+    counters.answered(Call::of("GET", "/policies"), 200, 2000);
+    counters.add(Figure::Syncs, 3);
+    counters.set(Figure::Revision, 5);
+    for line in [
+        "ruffletuff_requests_total{call=\"publish\",status=\"5xx\"} 1",
+        "ruffletuff_requests_total{call=\"read\",status=\"2xx\"} 1",
+        "ruffletuff_requests_total{call=\"change\",status=\"2xx\"} 0",
+        "ruffletuff_answer_milliseconds_bucket{le=\"10\"} 0",
+        "ruffletuff_answer_milliseconds_bucket{le=\"25\"} 1",
+        "ruffletuff_answer_milliseconds_bucket{le=\"1000\"} 1",
+        "ruffletuff_answer_milliseconds_bucket{le=\"+Inf\"} 2",
+        "ruffletuff_answer_milliseconds_sum 2020",
+        "ruffletuff_answer_milliseconds_count 2",
+        "# TYPE ruffletuff_syncs_total counter",
+        "ruffletuff_syncs_total 3",
+        "ruffletuff_revision 5",
+    ] {
+        assert!(rt; has_line(alloc, &counters, line)?, "{line}");
+    }
+    Ok(())
+}

@@ -1,0 +1,7 @@
+use Rattle.std.proofs.Common.{◌≡◌, take, false, bytes_eq}
+use Rattle.std.specs.List.{list_any}
+use Rattle.mds_folder.proofs.choosing.is_dropped.Given as goal
+
+-- none so far is the one that is looked for
+abbrev pub invariant-loop-other : goal.invariant-loop-other
+invariant-loop-other l = list_any (bytes_eq l.id) (take l.other-index l.dropped) ≡ false

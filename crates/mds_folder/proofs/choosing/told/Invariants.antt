@@ -1,0 +1,11 @@
+use Rattle.std.proofs.Common.{◌≡◌, ◌++◌, map, drop}
+use Rattle.std.specs.List.{filter}
+use Rattle.mds_entries.specs.Entries.{entry_of}
+use Rattle.mds_folder.specs.Choosing.{concerns}
+use Rattle.mds_folder.proofs.choosing.told.Given as goal
+
+-- what is told so far, and what is to be, are all
+abbrev pub invariant-loop-entry : goal.invariant-loop-entry
+invariant-loop-entry l =
+    map entry_of l.kept.items ++ filter (λ e. concerns l.extract.operator e.asker) (map entry_of (drop l.entry-index l.early))
+    ≡ filter (λ e. concerns l.extract.operator e.asker) (map entry_of l.early)

@@ -1,0 +1,21 @@
+-- The exit statuses of the faults of a folder.
+use Rattle.std.specs.Prelude.{ℕ}
+use Rattle.mds_entries.specs.declared.head.HeadFault.{HeadFault}
+use Rattle.mds_entries.specs.declared.head.HeadFault.TheVariants as head
+use Rattle.mds_folder.specs.declared.fault.Damage.TheVariants.{Version, NoHead}
+use Rattle.mds_folder.specs.declared.fault.FolderFault.{FolderFault}
+use Rattle.mds_folder.specs.declared.fault.FolderFault.TheVariants.{Unusable, Locked, NoMemory, Damaged, Unfitting}
+
+-- 3 for want of memory, 4 for a folder that can't be used, 5 for a damaged journal, 6 for a configuration that doesn't fit it
+abbrev pub exit_status : FolderFault → ℕ
+exit_status NoMemory = 3
+exit_status Unusable = 4
+exit_status Locked = 4
+exit_status (Damaged damage) = 5
+exit_status (Unfitting unfit) = 6
+
+-- the fault of a journal whose first text is no head
+abbrev pub fault_of_head : HeadFault → FolderFault
+fault_of_head (head.Version version) = Damaged (Version version)
+fault_of_head head.Malformed = Damaged NoHead
+fault_of_head head.NoMemory = NoMemory

@@ -1,0 +1,145 @@
+//! Which entries of a journal are answered again, and which are told.
+ghost use Rattle.std.specs.Prelude.{◌≡◌, ◌≤◌, ◌++◌, ◌∷◌, [], length, map, take, IfOk, OnOk, bytes_eq};
+ghost use Rattle.mds_entries.specs.Entries.{entry_of};
+ghost use Rattle.mds_folder.specs.Choosing.{is_dropped, asks_dropped, without, concerns, is_later, in_time, told};
+
+use mds_entries::{Asker, Entry};
+use mds_text::{Id, Moment};
+use std::alloc::{AllocError, Global};
+
+/// What of a journal is told.
+#[derive(Clone, Copy)]
+pub struct Extract {
+    /// The entries before the first that is later; none, for all.
+    pub until: Option<Moment>,
+    /// The author's entries and this operator's; none, for everyone's.
+    pub operator: Option<Id>,
+}
+
+/// Whether two identifiers are the same.
+fn is_same(id: Id, other: Id) -> bool
+    ensures { result ≡ bytes_eq id other }
+{
+    id == other
+}
+
+/// Whether an operator is one of those that are left out.
+pub(crate) fn is_dropped(dropped: &[Id], id: Id) -> bool
+    ensures { result ≡ is_dropped dropped.now id }
+{
+    for other in dropped {
+        if is_same(id, *other) {
+            return true;
+        }
+    }
+    false
+}
+
+/// Whether who asks is left out.
+fn asks_dropped(dropped: &[Id], asker: Asker) -> bool
+    ensures { result ≡ asks_dropped dropped.now asker }
+{
+    match asker {
+        Asker::Author => false,
+        Asker::Operator(id) => is_dropped(dropped, id),
+    }
+}
+
+/// The same entry.
+fn again<'a>(entry: &Entry<'a>) -> Entry<'a>
+    ensures { entry_of result ≡ entry_of entry.now }
+{
+    Entry {
+        asker: entry.asker,
+        at: entry.at,
+        verb: entry.verb,
+        target: entry.target,
+        body: entry.body,
+    }
+}
+
+/// Adds an entry.
+fn keep<'a>(kept: &mut Vec<Entry<'a>>, entry: &Entry<'a>) -> Result<(), AllocError>
+    ensures { OnOk result (map entry_of kept.new.items ≡ map entry_of kept.old.items ++ entry_of entry.now ∷ []) }
+{
+    match kept.push(again(entry)) {
+        Ok(()) => Ok(()),
+        Err(_) => Err(AllocError),
+    }
+}
+
+/// The entries of all but these operators, in their order.
+///
+/// # Errors
+///
+/// Memory ran out.
+pub fn without<'a>(
+    alloc: Global,
+    entries: &[Entry<'a>],
+    dropped: &[Id],
+) -> Result<Vec<Entry<'a>>, AllocError>
+    ensures { IfOk result (λ kept. map entry_of kept.items ≡ without dropped.now (map entry_of entries.now)) }
+{
+    let mut kept = Vec::new(alloc);
+    for entry in entries {
+        if !asks_dropped(dropped, entry.asker) {
+            keep(&mut kept, entry)?;
+        }
+    }
+    Ok(kept)
+}
+
+/// Whether an entry is the author's, or of the operator that is asked for, if one is.
+fn concerns(extract: &Extract, asker: Asker) -> bool
+    ensures { result ≡ concerns extract.now.operator asker }
+{
+    match (extract.operator, asker) {
+        (Some(operator), Asker::Operator(id)) => is_same(id, operator),
+        _ => true,
+    }
+}
+
+/// Whether an entry is later than the last moment that is asked for, if one is.
+fn is_later(extract: &Extract, at: Moment) -> bool
+    ensures { result ≡ is_later extract.now.until at }
+{
+    match extract.until {
+        Some(last) => at > last,
+        None => false,
+    }
+}
+
+/// How many entries stand before the first that is later.
+fn front(entries: &[Entry<'_>], extract: &Extract) -> usize
+    ensures within { result ≤ length entries.now }
+    ensures front { map entry_of (take result entries.now) ≡ in_time extract.now.until (map entry_of entries.now) }
+{
+    for (count, entry) in entries.iter().enumerate() {
+        if is_later(extract, entry.at) {
+            return count;
+        }
+    }
+    entries.len()
+}
+
+/// The entries that are told, in their order.
+///
+/// # Errors
+///
+/// Memory ran out.
+pub fn told<'a>(
+    alloc: Global,
+    entries: &[Entry<'a>],
+    extract: &Extract,
+) -> Result<Vec<Entry<'a>>, AllocError>
+    ensures { IfOk result (λ kept. map entry_of kept.items ≡ told extract.now.until extract.now.operator (map entry_of entries.now)) }
+{
+    let early = &entries[..front(entries, extract)];
+    let mut kept = Vec::new(alloc);
+    for entry in early {
+        if concerns(extract, entry.asker) {
+            keep(&mut kept, entry)?;
+        }
+    }
+    Ok(kept)
+}

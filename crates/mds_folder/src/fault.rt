@@ -1,0 +1,162 @@
+//! Why a city's folder isn't opened.
+ghost use Rattle.std.specs.Prelude.{◌≡◌};
+ghost use Rattle.mds_folder.specs.Exit.{exit_status};
+
+use mds_entries::{EntryFault, HeadFault, Unfit};
+use mds_records::{AppendFault, NotSynced, OpenFault, ReadFault};
+use std::alloc::{AllocError, AllocFailed};
+use std::fmt;
+
+/// What is wrong with a journal.
+#[derive(Clone, Copy, Debug, PartialEq, Eq)]
+pub enum Damage {
+    /// It was synced up to this byte, and isn't whole up to there.
+    Lost(u64),
+    /// It is longer than a journal may be.
+    TooLong,
+    /// Its first record has this version, which isn't known.
+    Version(u8),
+    /// Its first record is no head.
+    NoHead,
+    /// The record of this number, counted from 0, is no entry, or one of a version that isn't known.
+    NoEntry(usize),
+}
+
+/// Why a city's folder isn't opened.
+#[derive(Clone, Copy)]
+pub enum FolderFault {
+    /// It can't be made, read or written.
+    Unusable,
+    /// Another program has it.
+    Locked,
+    /// Memory ran out.
+    NoMemory,
+    /// The journal isn't what was written.
+    Damaged(Damage),
+    /// The configuration isn't one that the journal may go on with.
+    Unfitting(Unfit),
+}
+
+impl FolderFault {
+    /// The program's exit status: 3 for want of memory, 4 for a folder that can't be used, 5 for a damaged journal, 6 for
+    /// a configuration that doesn't fit it.
+    pub fn status(self) -> u8
+        ensures { result ≡ exit_status self }
+    {
+        match self {
+            FolderFault::NoMemory => 3,
+            FolderFault::Unusable | FolderFault::Locked => 4,
+            FolderFault::Damaged(_) => 5,
+            FolderFault::Unfitting(_) => 6,
+        }
+    }
+}
+
+impl From<AllocError> for FolderFault {
+    ghost use Rattle.std.specs.Prelude.{◌≡◌};
+    ghost use Rattle.mds_folder.specs.declared.fault.FolderFault.TheVariants.{NoMemory};
+
+    ghost from_gives = { λ _ e. e ≡ NoMemory };
+
+    fn from(_: AllocError) -> FolderFault {
+        FolderFault::NoMemory
+    }
+}
+
+impl<T: Drop> From<AllocFailed<T>> for FolderFault {
+    fn from(_: AllocFailed<T>) -> FolderFault {
+        FolderFault::NoMemory
+    }
+}
+
+impl From<OpenFault> for FolderFault {
+    fn from(fault: OpenFault) -> FolderFault {
+        match fault {
+            OpenFault::Damaged(synced) => FolderFault::Damaged(Damage::Lost(synced)),
+            OpenFault::TooLong => FolderFault::Damaged(Damage::TooLong),
+            OpenFault::Failed => FolderFault::Unusable,
+            OpenFault::NoMemory => FolderFault::NoMemory,
+        }
+    }
+}
+
+impl From<ReadFault> for FolderFault {
+    fn from(fault: ReadFault) -> FolderFault {
+        match fault {
+            ReadFault::NoMemory => FolderFault::NoMemory,
+            ReadFault::NoAnswer | ReadFault::Damaged => FolderFault::Unusable,
+        }
+    }
+}
+
+impl From<AppendFault> for FolderFault {
+    fn from(fault: AppendFault) -> FolderFault {
+        match fault {
+            AppendFault::NoMemory => FolderFault::NoMemory,
+            _ => FolderFault::Unusable,
+        }
+    }
+}
+
+impl From<NotSynced> for FolderFault {
+    fn from(_: NotSynced) -> FolderFault {
+        FolderFault::Unusable
+    }
+}
+
+impl From<HeadFault> for FolderFault {
+    ghost use Rattle.std.specs.Prelude.{◌≡◌, ◌≢◌};
+    ghost use Rattle.mds_entries.specs.declared.fitting.Unfit.{Unfit};
+    ghost use Rattle.mds_folder.specs.Exit.{fault_of_head};
+    ghost use Rattle.mds_folder.specs.declared.fault.FolderFault.TheVariants.{Unfitting};
+
+    ghost from_gives = { λ fault e. (e ≡ fault_of_head fault) × ((against : Unfit) → e ≢ Unfitting against) };
+
+    fn from(fault: HeadFault) -> FolderFault {
+        match fault {
+            HeadFault::Version(version) => FolderFault::Damaged(Damage::Version(version)),
+            HeadFault::Malformed => FolderFault::Damaged(Damage::NoHead),
+            HeadFault::NoMemory => FolderFault::NoMemory,
+        }
+    }
+}
+
+impl From<Unfit> for FolderFault {
+    fn from(unfit: Unfit) -> FolderFault {
+        FolderFault::Unfitting(unfit)
+    }
+}
+
+/// Why the record of this number isn't read as an entry.
+pub(crate) fn at(number: usize, fault: EntryFault) -> FolderFault {
+    match fault {
+        EntryFault::NoMemory => FolderFault::NoMemory,
+        EntryFault::Version(_) | EntryFault::Malformed => {
+            FolderFault::Damaged(Damage::NoEntry(number))
+        }
+    }
+}
+
+impl fmt::Display for Damage {
+    fn fmt<W: fmt::Write>(&self, f: &mut fmt::Formatter<W>) -> fmt::Result {
+        match self {
+            Damage::Lost(synced) => {
+                write!(
+                    f,
+                    "it was synced up to byte {synced}, and isn't whole up to there"
+                )
+            }
+            Damage::TooLong => f.write_str("it is longer than a journal may be"),
+            Damage::Version(version) => {
+                write!(
+                    f,
+                    "it has version {version}, which this program doesn't know"
+                )
+            }
+            Damage::NoHead => f.write_str("its first record is no journal's head"),
+            Damage::NoEntry(number) => {
+                write!(f, "its record {number} is none that this program knows")
+            }
+        }
+    }
+}

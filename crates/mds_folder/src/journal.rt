@@ -1,0 +1,112 @@
+//! A journal's texts: the head, and the entries behind it.
+ghost use Rattle.std.specs.Prelude.{◌≡◌, ◌⊎◌, ℕ, List, [], ◌∷◌, ◌++◌, map, drop, take, Some, None, IfOk, IfErr, OnOk, IsErrOf};
+ghost use Rattle.mds_request.specs.Configuration.{configuration};
+ghost use Rattle.mds_entries.specs.Entries.{IsEntry, entry_of, entry_text};
+ghost use Rattle.mds_entries.specs.Heads.{Share as Part, AreShares, share_of, shares_of, head_text, unfit};
+ghost use Rattle.mds_entries.specs.declared.fitting.Unfit.{Unfit as Against};
+ghost use Rattle.mds_folder.specs.Choosing.{needed};
+
+use crate::choosing::is_dropped;
+use crate::fault::{FolderFault, at};
+use mds_entries::{Entry, Share, fits, head_text, read_entry, read_head, shares};
+use mds_records::Log;
+use mds_request::Config;
+use mds_text::Id;
+use std::alloc::{AllocError, Global};
+
+/// The texts of a log. Of one that has none the configuration's head is the first: it is appended and synced.
+///
+/// # Errors
+///
+/// The log couldn't be read, appended to or synced, or memory ran out.
+pub fn begun<L: Log>(
+    alloc: Global,
+    log: &mut L,
+    config: &Config,
+) -> Result<Vec<Vec<u8>>, FolderFault>
+    requires listed { (first : List (List ℕ)) × L.may_be log.old first }
+    ensures listed { IfOk result (λ texts. L.may_be log.new (map (λ t. t.items) texts.items)) }
+{
+    let texts = log.read_from(0)?;
+    if !texts.is_empty() {
+        return Ok(texts);
+    }
+    let group = head_group(alloc, config)?;
+    log.append(0, &group)?;
+    log.sync()?;
+    Ok(group)
+}
+
+/// The configuration's head, alone.
+fn head_group(alloc: Global, config: &Config) -> Result<Vec<Vec<u8>>, AllocError>
+    ensures { IfOk result (λ group. map (λ t. t.items) group.items ≡ head_text (shares_of (configuration config.now)) ∷ []) }
+{
+    let operators = shares(alloc, config)?;
+    let head = head_text(alloc, &operators)?;
+    let mut group = Vec::new(alloc);
+    group.push(head)?;
+    Ok(group)
+}
+
+/// What a configuration has to have room for of a head: each operator that isn't left out.
+fn needed(alloc: Global, shares: &[Share], dropped: &[Id]) -> Result<Vec<Share>, AllocError>
+    ensures { IfOk result (λ kept. map share_of kept.items ≡ needed dropped.now (map share_of shares.now)) }
+{
+    let mut kept = Vec::new(alloc);
+    for share in shares {
+        if !is_dropped(dropped, share.id) {
+            kept.push(Share {
+                id: share.id,
+                vehicles: 0,
+            })?;
+        }
+    }
+    Ok(kept)
+}
+
+/// Whether a server may go on from a journal of this first text with a configuration: each operator of the head is there,
+/// but for those that are left out.
+///
+/// # Errors
+///
+/// The text is no head of a known version, an operator is missing, or memory ran out.
+pub fn suits(alloc: Global, config: &Config, head: &[u8], dropped: &[Id]) -> Result<(), FolderFault>
+    ensures suits { OnOk result ((shares : List Part) × AreShares shares × (head.now ≡ head_text shares)
+        × (unfit (configuration config.now) (needed dropped.now shares) ≡ None)) }
+    ensures unfit { (against : Against) → IsErrOf result (FolderFault.Unfitting against) → (shares : List Part) × AreShares shares
+        × (head.now ≡ head_text shares) × (unfit (configuration config.now) (needed dropped.now shares) ≡ Some against) }
+{
+    let shares = read_head(alloc, head)?;
+    let needed = needed(alloc, &shares, dropped)?;
+    match fits(config, &needed) {
+        Ok(()) => Ok(()),
+        Err(against) => Err(FolderFault::Unfitting(against)),
+    }
+}
+
+/// The entries that texts are, in their order. They borrow from the texts, of which the first is the record of this number,
+/// counted from 0.
+///
+/// # Errors
+///
+/// The first text that is no entry of a known version, by the number of its record, or memory ran out.
+pub fn entries_in(
+    alloc: Global,
+    first: usize,
+    texts: &[Vec<u8>],
+) -> Result<Vec<Entry<'_>>, FolderFault>
+    ensures { IfOk result (λ entries. map (λ e. entry_text (entry_of e)) entries.items ≡ map (λ t. t.items) texts.now) }
+{
+    let mut entries = Vec::new(alloc);
+    for (number, text) in texts.iter().enumerate() {
+        match read_entry(alloc, text) {
+            Ok(entry) => {
+                if entries.push(entry).is_err() {
+                    return Err(FolderFault::NoMemory);
+                }
+            }
+            Err(fault) => return Err(at(first.saturating_add(number), fault)),
+        }
+    }
+    Ok(entries)
+}
