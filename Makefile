@@ -1,6 +1,6 @@
 # demo     the main job on real input: a policy is published, a vehicle reported, compliance asked for
 # test     all tests, and both programs on scripts, messages and short loads, before any proof: it proves nothing
-# prove    the gate: every proof from nothing, the edits that must fail, then scripts, messages, loads and stress on the proved programs
+# prove    the gate: every proof, the edits that must fail, then scripts, messages, loads and stress on the proved programs
 # edits    further edits that must fail, those of edits/: part of a release, not of the gate (CRATE=mds_text: those of one crate)
 # build    proves mds_replay with all that it stands on, and builds it
 # serve    the server on 127.0.0.1:8080 for the city of examples/city.json, with three lines to paste that ask it
@@ -19,7 +19,7 @@
 # What each takes where nothing is built, on a machine that does nothing else.
 DEMO_TIME := about a minute
 TEST_TIME := about 12 minutes on two processors
-PROVE_TIME := about two hours on four processors
+PROVE_TIME := an hour and more on four processors, two on two
 EDITS_TIME := about four hours
 BUILD_TIME := about 40 minutes
 SERVE_TIME := about an hour
@@ -48,15 +48,18 @@ test:
 	@python3 -B tests/quick.py
 
 prove:
-	@echo "make prove proves every crate from nothing, in $(PROVE_TIME); each crate prints its lines once it is proved."
+	@echo "make prove proves every crate that this machine hasn't proved yet, in $(PROVE_TIME) where it has proved none."
+	@echo "Each crate prints its lines once it is proved."
 	@bash tests/gate
 
 edits:
 	@bash tests/edits "$(EDITS_TIME)" $(CRATE)
 
 build:
-	@$(call is_built,$(PROGRAM)) || echo "this proves mds_replay and all below it, in $(BUILD_TIME) where nothing is built" >&2
-	cd crates/mds_replay && rt run < stdin > /dev/null
+	@if ! { $(call is_built,$(PROGRAM)); }; then \
+		echo "this proves mds_replay and all below it, in $(BUILD_TIME) where nothing is built" >&2; \
+		cd crates/mds_replay && rt run < stdin > /dev/null; \
+	fi
 
 # Proves and builds mds_serve with all that it stands on, where a source is newer.
 server:
