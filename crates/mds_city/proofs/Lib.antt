@@ -1,0 +1,5 @@
+mod Among
+pub mod Cities
+mod Getting
+mod Responses
+mod Turns

@@ -1,0 +1,73 @@
+-- What is kept of a turn.
+use Rattle.std.proofs.Common.{◌≡◌, ℕ, Bool, true, false, List, Option, Some, None, IfSome, IfNone, IsSome, option_map, refl, sym, subst}
+use Rattle.std.specs.Prelude.{◌&&◌, ◌==◌}
+use Rattle.std.proofs.lemmas.Bool.{eqb-true}
+use Rattle.mds_commit.specs.declared.backlog.Place.{Place}
+use Rattle.mds_request.specs.Call.{call_of}
+use Rattle.mds_request.specs.Configuration.{Configuration}
+use Rattle.mds_request.specs.Request.{Request}
+use Rattle.mds_request.specs.Reply.{Reply}
+use Rattle.mds_request.specs.declared.config.Actor.{Actor}
+use Rattle.mds_restarts.specs.Kept.{is_kept, may_change}
+use Rattle.mds_hall.specs.Respond.{TurnGives}
+use Rattle.mds_city.specs.City.{IsRecordedTurn}
+use Rattle.mds_city.specs.Records.{HasRecord, IsAmong, IsReserved, IsSettled, IsTitled, place_of}
+use Rattle.mds_city.specs.declared.records.Reserved.{Reserved}
+use Rattle.mds_city.specs.declared.records.Reserved.TheVariants.{Reads, Holds}
+use Rattle.mds_city.proofs.Getting.{reads_change_nothing}
+
+first_true : (a b : Bool) → (a && b) ≡ true → a ≡ true
+first_true true b is = refl
+first_true false b is = absurd cc
+
+second_true : (a b : Bool) → (a && b) ≡ true → b ≡ true
+second_true true b is = is
+second_true false b is = absurd cc
+
+has_record : (configuration : Configuration) (request : Request) (reply : Reply) (reserved : Reserved) (stamp : List (List ℕ))
+    → IsReserved configuration request reserved → IsSettled reserved reply.status stamp
+    → is_kept configuration (record { request = request; reply = reply }) ≡ true → HasRecord configuration request stamp
+has_record configuration request reply Reads stamp is settled kept =
+    let may = first_true (may_change (call_of configuration request)) (reply.status == 200) kept in
+    let reads = reads_change_nothing configuration request is in
+    absurd (cc (may, reads))
+has_record configuration request reply (Holds place) stamp is settled kept =
+    (place.text.items, is, settled (eqb-true reply.status 200 (second_true (may_change (call_of configuration request)) (reply.status == 200) kept)))
+
+-- a turn whose place was settled is recorded
+pub recorded : (configuration : Configuration) (actor : Actor) (request : Request) (reply : Reply) (reserved : Reserved) (stamp : List (List ℕ))
+    → TurnGives configuration actor request reply → IsReserved configuration request reserved → IsSettled reserved reply.status stamp
+    → IsRecordedTurn configuration actor request reply stamp
+recorded configuration actor request reply reserved stamp turn is settled =
+    record { turn = turn; recorded = has_record configuration request reply reserved stamp is settled }
+
+-- a place is settled where its text is among these
+pub settled_shown : (text : List ℕ) (reserved : Reserved) (status : ℕ) (stamp : List (List ℕ)) → IsTitled text reserved → IsAmong text stamp
+    → IsSettled reserved status stamp
+settled_shown text Reads status stamp is among = tt
+settled_shown text (Holds place) status stamp is among = λ success. subst (λ (t : List ℕ). IsAmong t stamp) (sym is) among
+
+-- or where the request was refused
+pub settled_refused : (reserved : Reserved) (status : ℕ) (stamp : List (List ℕ)) → (status ≡ 200 → ⊥) → IsSettled reserved status stamp
+settled_refused Reads status stamp refused = tt
+settled_refused (Holds place) status stamp refused = λ success. absurd (refused success)
+
+-- or where what is held of it is
+pub settled_held : {H : Type 0} (place : H → Place) (text : List ℕ) (reserved : Reserved) (held : Option H) (status : ℕ) (stamp : List (List ℕ))
+    → IsTitled text reserved → option_map place held ≡ place_of reserved
+    → IfSome held (λ _. status ≡ 200 → IsAmong text stamp) → IsSettled reserved status stamp
+settled_held place text Reads held status stamp is same settled = tt
+settled_held place text (Holds it) None status stamp is same settled = absurd cc
+settled_held place text (Holds it) (Some h) status stamp is same settled = λ success. subst (λ (t : List ℕ). IsAmong t stamp) (sym is) (settled success)
+
+-- and where no leave was asked
+pub settled_unasked : {H E : Type 0} (place : H → Place) (text : List ℕ) (reserved : Reserved) (held : Option H) (shown : Option E) (status : ℕ) (stamp : List (List ℕ))
+    → IsTitled text reserved → option_map place held ≡ place_of reserved → shown ≡ None
+    → IfNone shown (IfSome held (λ _. status ≡ 200 → IsAmong text stamp)) → IsSettled reserved status stamp
+settled_unasked place text reserved held None status stamp is same none settled = settled_held place text reserved held status stamp is same settled
+settled_unasked place text reserved held (Some e) status stamp is same none settled = absurd cc
+
+-- what is said of each value of an option that has one
+pub of_some : {A P : Type 0} (o : Option A) → IsSome o → IfSome o (λ _. P) → P
+of_some None some p = absurd cc
+of_some (Some a) some p = p

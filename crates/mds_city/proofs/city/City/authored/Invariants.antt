@@ -1,0 +1,6 @@
+use Rattle.mds_city.specs.Records.{text_of}
+use Rattle.mds_city.proofs.city.City.authored.Given as goal
+
+-- the text that a place is held for
+abbrev pub ghosts-room_turn : goal.ghosts-room_turn
+ghosts-room_turn g a = record { text = text_of a.reserved }

@@ -1,0 +1,9 @@
+use Rattle.mds_hall.specs.Asked.{request_in}
+use Rattle.mds_hall.specs.Early.{early}
+use Rattle.mds_hall.specs.Heard.{body_in}
+use Rattle.mds_city.proofs.Responses.{as_a_hall}
+use Rattle.mds_city.proofs.laws.responds_as_a_hall.Goals as goal
+
+pub returns : goal.returns
+returns c configuration parts arrived at stamp response answers =
+    as_a_hall configuration (early configuration parts arrived at) at (request_in parts (body_in arrived)) stamp response answers

@@ -1,0 +1,55 @@
+-- What an HTTP request is answered, and what its reply shows.
+use Rattle.std.specs.Prelude.{◌≡◌, ◌⊎◌, ℕ, true, List, Option, Some, IfSome, MatchOption}
+use Rattle.http.specs.declared.request.Parts.{Parts}
+use Rattle.http.specs.declared.response.Response.{Response}
+use Rattle.http_body_util.specs.declared.full.Full.{Full}
+use Rattle.mds_request.specs.Configuration.{Configuration, actor_of}
+use Rattle.mds_request.specs.Request.{Request}
+use Rattle.mds_request.specs.Reply.{Reply, refused}
+use Rattle.mds_request.specs.declared.config.Actor.{Actor}
+use Rattle.mds_restarts.specs.Kept.{is_kept}
+use Rattle.mds_hall.specs.Asked.{request_in}
+use Rattle.mds_hall.specs.declared.early.Arrived.{Arrived}
+use Rattle.mds_hall.specs.Early.{early}
+use Rattle.mds_hall.specs.Heard.{body_in}
+use Rattle.mds_hall.specs.Respond.{TurnGives}
+use Rattle.mds_hall.specs.Response.{Says}
+use Rattle.mds_city.specs.Away.{SaysNoRoom}
+use Rattle.mds_city.specs.Records.{HasRecord}
+
+-- One turn of who asks gives the reply. Where a journal keeps that exchange, its record is among these texts.
+pub record IsRecordedTurn (configuration : Configuration) (actor : Actor) (request : Request) (reply : Reply) (stamp : List (List ℕ)) : Type 0 where
+  pub turn : TurnGives configuration actor request reply
+  pub recorded : is_kept configuration (record { request = request; reply = reply }) ≡ true → HasRecord configuration request stamp
+
+-- the response says the reply of such a turn
+pub record IsCarriedOutBy (configuration : Configuration) (actor : Actor) (request : Request) (stamp : List (List ℕ)) (response : Response (Full (List ℕ))) : Type 0 where
+  pub reply : Reply
+  pub turn : IsRecordedTurn configuration actor request reply stamp
+  pub says : Says response reply
+
+-- the log has no room, and nothing was asked; or the request was carried out
+abbrev pub IsAnsweredBy : Configuration → Actor → Request → List (List ℕ) → Response (Full (List ℕ)) → Type 0
+IsAnsweredBy configuration actor request stamp response = SaysNoRoom response ⊎ IsCarriedOutBy configuration actor request stamp response
+
+-- who asks is the one whose access token the request carries
+abbrev pub IsCarriedOut : Configuration → Request → List (List ℕ) → Response (Full (List ℕ)) → Type 0
+IsCarriedOut configuration request stamp response = IsCarriedOutBy configuration (actor_of configuration request.token) request stamp response
+
+abbrev pub IsAnswered : Configuration → Request → List (List ℕ) → Response (Full (List ℕ)) → Type 0
+IsAnswered configuration request stamp response = IsAnsweredBy configuration (actor_of configuration request.token) request stamp response
+
+-- the reply that waits is this response
+abbrev pub Waits : (Response (Full (List ℕ)) → Type 0) → Option (Response (Full (List ℕ))) → Type 0
+Waits Kind reply = (response : Response (Full (List ℕ))) × (reply ≡ Some response) × Kind response
+
+-- The first early refusal that applies is said. Where none does, the request that the head and the body are at this moment is
+-- answered. The reply waits until all these texts are synced.
+abbrev pub Answers : Configuration → Parts → Arrived → Option ℕ → List (List ℕ) → Response (Full (List ℕ)) → Type 0
+Answers configuration parts arrived at stamp response =
+    MatchOption (early configuration parts arrived at)
+    (IfSome at (λ moment. IsAnswered configuration (request_in parts (body_in arrived) moment) stamp response))
+    (λ code. Says response (refused code))
+
+abbrev pub CityResponds : Configuration → Parts → Arrived → Option ℕ → Option (Response (Full (List ℕ))) → List (List ℕ) → Type 0
+CityResponds configuration parts arrived at reply stamp = Waits (Answers configuration parts arrived at stamp) reply

@@ -1,0 +1,37 @@
+-- What the answers of a city are good for.
+use Rattle.std.specs.Prelude.{◌≡◌, ◌⊎◌, ℕ, true, List, Option}
+use Rattle.http.specs.declared.request.Parts.{Parts}
+use Rattle.http.specs.declared.response.Response.{Response}
+use Rattle.http_body_util.specs.declared.full.Full.{Full}
+use Rattle.mds_commit.specs.Durable.{AreDurable}
+use Rattle.mds_hall.specs.Respond.{Responds, TurnGives}
+use Rattle.mds_hall.specs.Response.{Says}
+use Rattle.mds_hall.specs.declared.early.Arrived.{Arrived}
+use Rattle.mds_request.specs.Configuration.{Configuration, actor_of}
+use Rattle.mds_request.specs.Request.{Request}
+use Rattle.mds_request.specs.Reply.{Reply}
+use Rattle.mds_restarts.specs.Kept.{is_kept}
+use Rattle.mds_city.specs.Away.{SaysNoRoom}
+use Rattle.mds_city.specs.City.{Answers, IsCarriedOut}
+use Rattle.mds_city.specs.Records.{HasRecord}
+
+module _ {L : Type 0} (may_be : L → List (List ℕ) → Type 0) (is_synced : L → Type 0) where
+  -- a synced log may be of a list that has the request's record
+  abbrev pub HasDurableRecord : Configuration → Request → Type 0
+  HasDurableRecord configuration request =
+      (log : L) × (texts : List (List ℕ)) × is_synced log × may_be log texts × HasRecord configuration request texts
+
+  -- A response that is told says the reply of a turn of the one who asks. Where a journal keeps that exchange, a synced log has its record.
+  abbrev pub RecordedAreKept : Type 0
+  RecordedAreKept =
+      (configuration : Configuration) (request : Request) (response : Response (Full (List ℕ))) (stamp : List (List ℕ))
+      → IsCarriedOut configuration request stamp response → AreDurable may_be is_synced stamp
+      → (reply : Reply) × TurnGives configuration (actor_of configuration request.token) request reply × Says response reply
+      × (is_kept configuration (record { request = request; reply = reply }) ≡ true → HasDurableRecord configuration request)
+
+-- Where the log has room, a city responds as a hall does.
+abbrev pub RespondsAsAHall : Type 0
+RespondsAsAHall =
+    (configuration : Configuration) (parts : Parts) (arrived : Arrived) (at : Option ℕ) (stamp : List (List ℕ)) (response : Response (Full (List ℕ)))
+    → Answers configuration parts arrived at stamp response
+    → SaysNoRoom response ⊎ Responds configuration parts arrived at response

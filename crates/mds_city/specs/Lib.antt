@@ -1,0 +1,4 @@
+pub mod Away
+pub mod Records
+pub mod City
+pub mod Laws

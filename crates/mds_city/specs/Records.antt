@@ -1,0 +1,61 @@
+-- Records of requests, and their places in a log.
+use Rattle.std.specs.Prelude.{◌≡◌, ℕ, Bool, true, false, List, [], ◌∷◌, ◌++◌, Option, Some, None, IfSome, Result, Ok}
+use Rattle.mds_commit.specs.Durable.{AreDurable}
+use Rattle.mds_commit.specs.declared.backlog.Place.{Place}
+use Rattle.mds_entries.specs.Entries.{Entry, entry_text}
+use Rattle.mds_entries.specs.Requests.{entry_by}
+use Rattle.mds_request.specs.Configuration.{Configuration}
+use Rattle.mds_request.specs.Request.{Request}
+use Rattle.mds_request.specs.declared.request.Verb.{Verb}
+use Rattle.mds_request.specs.declared.request.Verb.TheVariants.{Get}
+use Rattle.mds_city.specs.declared.records.Reserved.{Reserved}
+use Rattle.mds_city.specs.declared.records.Reserved.TheVariants.{Reads, Holds}
+
+-- a request of any verb but GET may change something
+abbrev pub changes : Verb → Bool
+changes Get = false
+changes _ = true
+
+-- the text is one of these
+abbrev pub IsAmong : List ℕ → List (List ℕ) → Type 0
+IsAmong text texts = (before : List (List ℕ)) × (after : List (List ℕ)) × (texts ≡ before ++ text ∷ after)
+
+-- the text is that of the request's entry, with who asks and no access token
+pub record IsRecordOf (configuration : Configuration) (request : Request) (text : List ℕ) : Type 0 where
+  pub entry : Entry
+  pub is_its : entry_by configuration request ≡ Some entry
+  pub text_is : text ≡ entry_text entry
+
+-- the request's record is among these texts
+abbrev pub HasRecord : Configuration → Request → List (List ℕ) → Type 0
+HasRecord configuration request texts = (text : List ℕ) × IsRecordOf configuration request text × IsAmong text texts
+
+-- what is held is enough for the request: nothing where it reads, and else a place for its record
+abbrev pub IsReserved : Configuration → Request → Reserved → Type 0
+IsReserved configuration request Reads = request.verb ≡ Get
+IsReserved configuration request (Holds place) = IsRecordOf configuration request place.text.items
+
+-- where a request was answered with success, the text that a place was held for is among these
+abbrev pub IsSettled : Reserved → ℕ → List (List ℕ) → Type 0
+IsSettled Reads status stamp = Unit {0}
+IsSettled (Holds place) status stamp = status ≡ 200 → IsAmong place.text.items stamp
+
+-- the place that is held, if there is one
+abbrev pub place_of : Reserved → Option Place
+place_of Reads = None
+place_of (Holds place) = Some place
+
+-- the text that a place is held for
+abbrev pub text_of : Reserved → List ℕ
+text_of Reads = []
+text_of (Holds place) = place.text.items
+
+-- a place is held for no other text
+abbrev pub IsTitled : List ℕ → Reserved → Type 0
+IsTitled text reserved = IfSome (place_of reserved) (λ place. place.text.items ≡ text)
+
+module _ {L : Type 0} (may_be : L → List (List ℕ) → Type 0) (is_synced : L → Type 0) where
+  -- what was appended and synced is the text, with all before it
+  abbrev pub IsShown : {E : Type 0} → List ℕ → Option (Result (List (List ℕ)) E) → Type 0
+  IsShown text (Some (Ok stamp)) = IsAmong text stamp × AreDurable may_be is_synced stamp
+  IsShown text other = ⊥

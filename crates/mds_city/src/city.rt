@@ -1,0 +1,247 @@
+//! A hall whose accepted changes are kept.
+ghost use Rattle.std.specs.Prelude.{◌≡◌, ◌<◌, length, Some, IfOk, IfSome};
+ghost use Rattle.mds_request.specs.Configuration.{configuration, actor_of};
+ghost use Rattle.mds_request.specs.Reply.{refused};
+ghost use Rattle.mds_request.specs.declared.config.Actor.TheVariants.{Author, Operator};
+ghost use Rattle.mds_hall.specs.Asker.{IsWithin};
+ghost use Rattle.mds_hall.specs.Heard.{request_heard};
+ghost use Rattle.mds_hall.specs.Response.{Says};
+ghost use Rattle.mds_city.specs.Away.{SaysNoRoom};
+ghost use Rattle.mds_city.specs.City.{IsRecordedTurn, Waits};
+ghost use Rattle.mds_city.specs.Records.{IsReserved, IsTitled};
+
+use crate::away::no_room;
+use crate::recording::{Recording, Titled};
+use crate::records::{Reserved, give_back, reserve, settled};
+use bytes::Bytes;
+use http::Response;
+use http_body_util::Full;
+use mds_catalog::Catalogue;
+use mds_commit::{Keeper, Naming, NotTold, Settling, Space, Stamp};
+use mds_desk::OpenGate;
+use mds_hall::{Hall, Heard, Named, response};
+use mds_records::Log;
+use mds_request::{Actor, Code};
+use mds_shelf::Answer;
+use mds_verdict::Evaluator;
+use std::alloc::Global;
+use std::marker::Brand;
+use std::sync::{Arc, Wait};
+
+/// A hall whose accepted changes are kept: each has a record in the keeper's log. End it by `finish`.
+#[derive(Drop)]
+pub struct City<K: Named, N: Naming, L: Log, S: Space> {
+    hall: Hall<K>,
+    keeper: Arc<Keeper<N, L, S>>,
+    /// The stamp of nothing.
+    nothing: Stamp<N, L>,
+}
+
+/// What was answered, and the stamp of all that it shows.
+#[derive(Drop)]
+pub(crate) struct Answered<N: Naming, L: Log> {
+    pub answer: Answer,
+    pub stamp: Stamp<N, L>,
+}
+
+impl<K: Named, N: Naming, L: Log, S: Space> City<K, N, L, S> {
+    /// A hall with what keeps its changes, and the stamp of nothing.
+    pub fn new(
+        hall: Hall<K>,
+        keeper: Arc<Keeper<N, L, S>>,
+        nothing: Stamp<N, L>,
+    ) -> City<K, N, L, S>
+        ensures { configuration result.hall.config.value ≡ configuration hall.config.value }
+    {
+        City {
+            hall,
+            keeper,
+            nothing,
+        }
+    }
+
+    /// Whose access token it is.
+    pub fn asker(&self, token: &[u8]) -> Actor
+        ensures value { result ≡ actor_of (configuration self.now.hall.config.value) token.now }
+        ensures within { IsWithin (length (configuration self.now.hall.config.value).operators) result }
+    {
+        self.hall.asker(token)
+    }
+
+    /// Ends the author's room: no request can come any more.
+    pub fn finish<R: Wait>(self, rt: &R) {
+        let Self {
+            hall,
+            keeper: _keeper,
+            nothing: _nothing,
+        } = self;
+        hall.finish(rt);
+    }
+
+    /// A response that waits until all of a stamp is synced.
+    fn waiting(
+        &self,
+        stamp: Stamp<N, L>,
+        response: Response<Full<Bytes>>,
+    ) -> Result<Settling<Response<Full<Bytes>>, N, L, S>, NotTold>
+        ensures reply { IfOk result (λ s. s.reply ≡ Some response) }
+        ensures stamp { IfOk result (λ s. s.stamp ≡ stamp) }
+    {
+        let keeper = Arc::try_clone(&self.keeper)?;
+        Ok(Settling::new(keeper, stamp, response))
+    }
+
+    /// The response that says an answer, once all that it shows is synced.
+    ///
+    /// # Errors
+    ///
+    /// There was no memory for the response. What was done stays.
+    pub(crate) fn told(
+        &self,
+        alloc: Global,
+        answered: Answered<N, L>,
+    ) -> Result<Settling<Response<Full<Bytes>>, N, L, S>, NotTold>
+        ensures says { IfOk result (λ s. Waits (λ response. Says response answered.answer) s.reply) }
+        ensures stamp { IfOk result (λ s. s.stamp ≡ answered.stamp) }
+    {
+        let Answered { answer, stamp } = answered;
+        let response = response(alloc, answer)?;
+        self.waiting(stamp, response)
+    }
+
+    /// A refusal of what isn't asked.
+    ///
+    /// # Errors
+    ///
+    /// There was no memory for the response.
+    pub(crate) fn refused(
+        &self,
+        alloc: Global,
+        code: Code,
+    ) -> Result<Settling<Response<Full<Bytes>>, N, L, S>, NotTold>
+        ensures { IfOk result (λ s. Waits (λ response. Says response (refused code)) s.reply) }
+    {
+        let stamp = self.keeper.stamp(&self.nothing);
+        let answer = Answer::from(code);
+        self.told(alloc, Answered { answer, stamp })
+    }
+
+    /// The response that says that there is no room, of what isn't asked.
+    ///
+    /// # Errors
+    ///
+    /// There was no memory for the response.
+    pub(crate) fn turned_away(
+        &self,
+        alloc: Global,
+    ) -> Result<Settling<Response<Full<Bytes>>, N, L, S>, NotTold>
+        ensures { IfOk result (λ s. Waits SaysNoRoom s.reply) }
+    {
+        let stamp = self.keeper.stamp(&self.nothing);
+        let response = no_room(alloc)?;
+        self.waiting(stamp, response)
+    }
+
+    /// Holds what a request needs of the log before it is asked. None where there is no room: nothing is held then.
+    pub(crate) fn room_for<R: Wait>(
+        &self,
+        rt: &R,
+        alloc: Global,
+        heard: &Heard<'_>,
+    ) -> Option<Reserved>
+        ensures { IfSome result (IsReserved (configuration self.now.hall.config.value) (request_heard heard.now)) }
+    {
+        let Ok(config) = self.hall.configuration() else {
+            return None;
+        };
+        let request = heard.request();
+        reserve(rt, alloc, &*self.keeper, &*config, &request)
+    }
+
+    /// One turn of the desk of the operator at this place, and what is kept of it, all under the desk's lock.
+    ///
+    /// # Errors
+    ///
+    /// The keeper failed.
+    pub(crate) fn desk_turn<R: Wait, E: Evaluator<Catalogue>>(
+        &self,
+        rt: &R,
+        place: usize,
+        heard: Heard<'_>,
+        reserved: Reserved,
+        evaluator: &E,
+    ) -> Result<Answered<N, L>, NotTold>
+        requires judge { E.may_judge }
+        requires place { place < length (configuration self.now.hall.config.value).operators }
+        requires reserved { IsReserved (configuration self.now.hall.config.value) (request_heard heard) reserved }
+        ensures { IfOk result (λ answered. IsRecordedTurn (configuration self.now.hall.config.value) (Operator place)
+            (request_heard heard.entry) answered.answer answered.stamp) }
+    {
+        let Some(mut desk) = self.hall.desk_at(rt, place) else {
+            give_back(rt, &*self.keeper, reserved);
+            return Err(NotTold::NoMemory);
+        };
+        let note = self.hall.note(rt);
+        let answer = desk.answered(heard, note.as_ref(), &mut OpenGate, evaluator);
+        let status = answer.status();
+        match settled(rt, &*self.keeper, &self.nothing, reserved, status) {
+            Ok(stamp) => Ok(Answered { answer, stamp }),
+            Err(fault) => Err(fault),
+        }
+    }
+
+    /// One turn of the author's room, and what is kept of it, all under the room's lock. A publication's record is synced
+    /// before the publication is shown.
+    ///
+    /// # Errors
+    ///
+    /// The keeper failed.
+    pub(crate) fn room_turn<T: Titled, R: Wait + Copy + Drop>(
+        &self,
+        rt: &R,
+        heard: Heard<'_>,
+        keeper: Arc<Keeper<N, L, S>>,
+        reserved: Reserved,
+    ) -> Result<Answered<N, L>, NotTold>
+        requires title { IsTitled T.text reserved }
+        requires reserved { IsReserved (configuration self.now.hall.config.value) (request_heard heard) reserved }
+        ensures { IfOk result (λ answered. IsRecordedTurn (configuration self.now.hall.config.value) Author
+            (request_heard heard.entry) answered.answer answered.stamp) }
+    {
+        let mut recording = Recording::<T, R, N, L, S>::new(*rt, keeper, reserved);
+        let mut room = self.hall.room(rt);
+        let (answer, note) = room.answer_with(rt, heard, &mut recording);
+        let is_published = note.is_some();
+        if let Some(note) = note {
+            self.hall.keep_note(rt, note);
+        }
+        match recording.ended(&self.nothing, answer.status(), is_published) {
+            Ok(stamp) => Ok(Answered { answer, stamp }),
+            Err(fault) => Err(fault),
+        }
+    }
+
+    /// A turn of the author's room: see `room_turn`.
+    ///
+    /// # Errors
+    ///
+    /// The keeper failed, or a share of it couldn't be had: what was held is given back then.
+    pub(crate) fn authored<R: Wait + Copy + Drop>(
+        &self,
+        rt: &R,
+        heard: Heard<'_>,
+        reserved: Reserved,
+    ) -> Result<Answered<N, L>, NotTold>
+        requires { IsReserved (configuration self.now.hall.config.value) (request_heard heard) reserved }
+        ensures { IfOk result (λ answered. IsRecordedTurn (configuration self.now.hall.config.value) Author
+            (request_heard heard.entry) answered.answer answered.stamp) }
+    {
+        match Arc::try_clone(&self.keeper) {
+            Ok(keeper) => self.room_turn::<Brand, R>(rt, heard, keeper, reserved),
+            Err(_) => {
+                give_back(rt, &*self.keeper, reserved);
+                Err(NotTold::NoMemory)
+            }
+        }
+    }
+}
