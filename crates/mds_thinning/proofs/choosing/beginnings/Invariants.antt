@@ -1,0 +1,14 @@
+use Rattle.std.proofs.Common.{◌≡◌, [], ◌++◌, take, drop, reverse}
+use Rattle.std.specs.BTreeMap.{get}
+use Rattle.mds_thinning.specs.declared.kind.Device.{Device}
+use Rattle.mds_thinning.specs.Staying.{state_before}
+use Rattle.mds_thinning.specs.Passes.{device_cmp, beginnings}
+use Rattle.mds_thinning.proofs.choosing.beginnings.Given as goal
+
+-- what was found so far, and what is to be, are all
+abbrev pub invariant-loop-kind : goal.invariant-loop-kind
+invariant-loop-kind l =
+    record {
+      found : l.found.items ++ beginnings (reverse (take l.kind-index l.kinds)) (drop l.kind-index l.kinds) ≡ beginnings [] l.kinds;
+      known : (q : Device) → get device_cmp l.states q ≡ state_before q (reverse (take l.kind-index l.kinds));
+    }

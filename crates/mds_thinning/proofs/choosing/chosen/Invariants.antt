@@ -1,0 +1,14 @@
+use Rattle.std.proofs.Common.{◌≡◌, take, drop, reverse}
+use Rattle.std.specs.BTreeMap.{get}
+use Rattle.mds_thinning.specs.declared.kind.Device.{Device}
+use Rattle.mds_thinning.specs.Staying.{staying}
+use Rattle.mds_thinning.specs.Passes.{device_cmp, ahead_of}
+use Rattle.mds_thinning.proofs.choosing.chosen.Given as goal
+
+-- what was found of those behind
+abbrev pub invariant-loop-place : goal.invariant-loop-place
+invariant-loop-place l =
+    record {
+      found : reverse l.marks.items ≡ staying (reverse (take l.place l.kinds)) (drop l.place l.kinds);
+      behind : (q : Device) → get device_cmp l.behind q ≡ ahead_of q (drop l.place l.kinds);
+    }

@@ -1,0 +1,6 @@
+use Rattle.mds_snapshot.specs.Opening.{book_of}
+use Rattle.mds_thinning.proofs.place.thin_at.Given as goal
+
+-- the book of what was just prepared
+abbrev pub ghosts-thin_named : goal.ghosts-thin_named
+ghosts-thin_named g a = record { book = book_of a.one }

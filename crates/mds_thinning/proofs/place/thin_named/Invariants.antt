@@ -1,0 +1,6 @@
+use Rattle.mds_snapshot.specs.Opening.{book_of}
+use Rattle.mds_thinning.proofs.place.thin_named.Given as goal
+
+-- the book of the other blank
+abbrev pub ghosts-thin_both : goal.ghosts-thin_both
+ghosts-thin_both g a = record { book = book_of a.other }

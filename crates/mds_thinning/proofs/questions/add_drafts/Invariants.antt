@@ -1,0 +1,9 @@
+use Rattle.std.proofs.Common.{◌≡◌, ◌++◌, map, take}
+use Rattle.mds_entries.specs.Entries.{entry_of}
+use Rattle.mds_thinning.specs.Questions.{drafts}
+use Rattle.mds_thinning.proofs.questions.add_drafts.Given as goal
+
+-- what was added so far
+abbrev pub invariant-loop-entry : goal.invariant-loop-entry
+invariant-loop-entry l =
+    map entry_of l.list.items ≡ map entry_of l.initial.list.items ++ drafts l.at (map entry_of (take l.entry-index l.entries))

@@ -1,0 +1,10 @@
+use Rattle.std.proofs.Common.{◌≡◌, ◌++◌, map, take}
+use Rattle.mds_request.specs.Configuration.{operator}
+use Rattle.mds_entries.specs.Entries.{entry_of}
+use Rattle.mds_thinning.specs.Questions.{fleets}
+use Rattle.mds_thinning.proofs.questions.add_fleets.Given as goal
+
+-- what was added so far
+abbrev pub invariant-loop-operator : goal.invariant-loop-operator
+invariant-loop-operator l =
+    map entry_of l.list.items ≡ map entry_of l.initial.list.items ++ fleets l.at (map operator (take l.operator-index l.operators))

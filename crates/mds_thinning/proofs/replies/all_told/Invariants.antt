@@ -1,0 +1,11 @@
+use Rattle.std.proofs.Common.{map, take}
+use Rattle.mds_request.specs.Configuration.{configuration}
+use Rattle.mds_entries.specs.Entries.{entry_of}
+use Rattle.mds_recovery.specs.Recovery.{server_of}
+use Rattle.mds_thinning.specs.Replies.{AreTold}
+use Rattle.mds_thinning.proofs.replies.all_told.Given as goal
+
+-- the questions so far are answered
+abbrev pub invariant-loop-place : goal.invariant-loop-place
+invariant-loop-place g l =
+    AreTold (configuration l.config) (map entry_of (take l.place l.questions)) l.replies.items (server_of l.fn.room l.fn.desks) (server_of l.room l.desks)

@@ -1,0 +1,9 @@
+use Rattle.std.proofs.Common.{◌≡◌, map, take}
+use Rattle.mds_request.specs.Configuration.{configuration}
+use Rattle.mds_entries.specs.Entries.{entry_of}
+use Rattle.mds_thinning.specs.Kinds.{kind_of}
+use Rattle.mds_thinning.proofs.thinned.kinds_of.Given as goal
+
+-- what the entries so far are
+abbrev pub invariant-loop-entry : goal.invariant-loop-entry
+invariant-loop-entry l = l.kinds.items ≡ map (kind_of (configuration l.config)) (map entry_of (take l.entry-index l.entries))

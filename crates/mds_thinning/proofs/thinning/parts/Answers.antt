@@ -1,0 +1,8 @@
+use Rattle.mds_entries.specs.Entries.{entry_of, entry_text}
+use Rattle.mds_thinning.proofs.Journals.{head_and_rest}
+use Rattle.mds_thinning.proofs.thinning.parts.Goals as goal
+
+pub returns-in-Ok : goal.returns-in-Ok
+returns-in-Ok c =
+    head_and_rest (λ t. t.items) entry_of entry_text c.args.texts.now c.in-Some.head.now c.in-Some.rest.now c.as_slice.result.now c.in-Ok.entries.items
+    c.in-Some.ensures.cases.0 c.as_slice.ensures.value c.in-Ok.ensures

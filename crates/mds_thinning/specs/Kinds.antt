@@ -1,0 +1,38 @@
+-- What an entry is to thinning: a report of a device with its state, the removal of a device, or something else.
+use Rattle.std.specs.Prelude.{ℕ, List, Option, Some, None, Result, Ok, Err}
+use Rattle.mds_fleet.specs.Books.{Report as Told}
+use Rattle.mds_fleet.specs.Reading.{read_report}
+use Rattle.mds_text.specs.Fault.{Fault}
+use Rattle.mds_request.specs.Call.{call_of}
+use Rattle.mds_request.specs.Configuration.{Configuration}
+use Rattle.mds_request.specs.Request.{Request}
+use Rattle.mds_request.specs.declared.call.Call.{Call}
+use Rattle.mds_request.specs.declared.call.Call.TheVariants.{Operator as OperatorAt}
+use Rattle.mds_request.specs.declared.call.OperatorCall.TheVariants.{Report as Reports, RemoveVehicle}
+use Rattle.mds_request.specs.declared.code.Code.{Code}
+use Rattle.mds_entries.specs.Entries.{Entry}
+use Rattle.mds_entries.specs.Requests.{request_by}
+use Rattle.mds_thinning.specs.declared.kind.Kind.{Kind}
+use Rattle.mds_thinning.specs.declared.kind.Kind.TheVariants.{Report, Removal, Other}
+
+abbrev pub as_report : ℕ → Result Told Fault → Kind
+as_report operator (Ok report) = Report (record { operator = operator; id = report.device }) report.state
+as_report operator (Err fault) = Other
+
+-- what a body is that the operator at a place reports
+abbrev pub reported : ℕ → List ℕ → Kind
+reported operator body = as_report operator (read_report body)
+
+-- what a call with this body is
+abbrev pub kind_by : Result Call Code → List ℕ → Kind
+kind_by (Ok (OperatorAt operator Reports)) body = reported operator body
+kind_by (Ok (OperatorAt operator (RemoveVehicle id))) body = Removal (record { operator = operator; id = id })
+kind_by other body = Other
+
+abbrev pub kind_asked : Configuration → Option Request → Kind
+kind_asked configuration None = Other
+kind_asked configuration (Some request) = kind_by (call_of configuration request) request.body
+
+-- what an entry is with the operators of a configuration
+abbrev pub kind_of : Configuration → Entry → Kind
+kind_of configuration e = kind_asked configuration (request_by configuration e)

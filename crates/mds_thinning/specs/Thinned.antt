@@ -1,0 +1,10 @@
+-- The entries of a thinned journal.
+use Rattle.std.specs.Prelude.{List, [], map}
+use Rattle.mds_request.specs.Configuration.{Configuration}
+use Rattle.mds_entries.specs.Entries.{Entry}
+use Rattle.mds_thinning.specs.Kinds.{kind_of}
+use Rattle.mds_thinning.specs.Staying.{staying, picked}
+
+-- the entries that stay, in their order
+abbrev pub thinned : Configuration → List Entry → List Entry
+thinned configuration entries = picked (staying [] (map (kind_of configuration) entries)) entries

@@ -1,0 +1,26 @@
+//! Whether two servers answered alike.
+ghost use Rattle.std.specs.Prelude.{◌≡◌, ◌↔◌, IsTrue};
+
+use mds_shelf::Answer;
+
+/// Whether two answers have the same status, and the same body byte for byte.
+fn is_same(one: &Answer, other: &Answer) -> bool
+    ensures { IsTrue result ↔ (one.now ≡ other.now) }
+{
+    one.status() == other.status() && one.body() == other.body()
+}
+
+/// Whether two servers answered the same questions alike, each of them.
+pub(crate) fn are_same(ones: &[Answer], others: &[Answer]) -> bool
+    ensures { IsTrue result ↔ (ones.now ≡ others.now) }
+{
+    if ones.len() != others.len() {
+        return false;
+    }
+    for place in 0..ones.len() {
+        if !is_same(&ones[place], &others[place]) {
+            return false;
+        }
+    }
+    true
+}

@@ -1,0 +1,89 @@
+//! What an entry is to thinning.
+ghost use Rattle.std.specs.Prelude.{◌≡◌, IfOk};
+ghost use Rattle.mds_request.specs.Configuration.{configuration};
+ghost use Rattle.mds_entries.specs.Entries.{entry_of};
+ghost use Rattle.mds_thinning.specs.Kinds.{kind_of, kind_by, reported};
+
+use mds_entries::{Entry, request_by};
+use mds_fleet::Report;
+use mds_request::{Call, Code, Config, OperatorCall, Routes, read_call};
+use mds_text::{Id, TextFault, Token};
+use std::alloc::{AllocError, Global};
+
+/// A device of an operator.
+#[derive(Clone, Copy, PartialEq, Eq, PartialOrd, Ord)]
+pub(crate) struct Device {
+    /// The operator's place in the configuration.
+    pub operator: usize,
+    pub id: Id,
+}
+
+/// What an entry is to thinning.
+#[derive(Clone, Copy)]
+pub(crate) enum Kind {
+    /// A report of a device, with the state that it tells.
+    Report(Device, Token),
+    /// The removal of a device.
+    Removal(Device),
+    /// Anything else.
+    Other,
+}
+
+/// What stands of a device behind an entry, where something does.
+#[derive(Clone, Copy)]
+pub(crate) enum Ahead {
+    /// Reports of this state alone.
+    Run(Token),
+    /// A removal, or reports of several states.
+    Settled,
+}
+
+/// What a body is that the operator at a place reports.
+fn reported(alloc: Global, operator: usize, body: &[u8]) -> Result<Kind, AllocError>
+    ensures { IfOk result (λ kind. kind ≡ reported operator body.now) }
+{
+    match Report::read(alloc, body) {
+        Ok(report) => {
+            let id = report.device;
+            Ok(Kind::Report(Device { operator, id }, report.state))
+        }
+        Err(TextFault::NoMemory) => Err(AllocError),
+        Err(_) => Ok(Kind::Other),
+    }
+}
+
+/// What a call with this body is.
+fn kind_by(alloc: Global, call: &Result<Call, Code>, body: &[u8]) -> Result<Kind, AllocError>
+    ensures { IfOk result (λ kind. kind ≡ kind_by call.now body.now) }
+{
+    match call {
+        Ok(Call::Operator(operator, OperatorCall::Report)) => reported(alloc, *operator, body),
+        Ok(Call::Operator(operator, OperatorCall::RemoveVehicle(id))) => {
+            Ok(Kind::Removal(Device {
+                operator: *operator,
+                id: *id,
+            }))
+        }
+        _ => Ok(Kind::Other),
+    }
+}
+
+/// What an entry is with the operators of a configuration: a report or a removal of a device, or something else, as an
+/// entry of the author, of an operator that isn't there, or with a body that is no report.
+///
+/// # Errors
+///
+/// Memory ran out.
+pub(crate) fn kind_of(
+    alloc: Global,
+    routes: &Routes,
+    config: &Config,
+    entry: &Entry<'_>,
+) -> Result<Kind, AllocError>
+    ensures { IfOk result (λ kind. kind ≡ kind_of (configuration config.now) (entry_of entry.now)) }
+{
+    match request_by(config, entry) {
+        Some(request) => kind_by(alloc, &read_call(routes, config, &request), request.body),
+        None => Ok(Kind::Other),
+    }
+}

@@ -1,0 +1,23 @@
+//! Thinning a city's journal: a shorter one that leads to the same server, written beside it, compared and put in its place.
+#![tactic(auto)]
+
+mod choosing;
+mod comparing;
+mod fault;
+mod folder;
+mod kind;
+pub mod laws;
+mod place;
+mod questions;
+mod replies;
+#[cfg(test)]
+mod tests;
+mod thinned;
+mod thinning;
+mod writing;
+
+pub use fault::ThinFault;
+pub use folder::thin_folder;
+pub use place::{Place, thin_at};
+pub use thinned::thinned_entries;
+pub use thinning::{Counts, Old, thin};

@@ -1,0 +1,95 @@
+//! The order in which a thinned journal comes to stand in the place of the old one.
+ghost use Rattle.std.specs.Prelude.{◌≡◌, ◌⊎◌, map};
+ghost use Rattle.mds_snapshot.specs.Opening.{book_of};
+ghost use Rattle.mds_thinning.specs.Thinning.{IsThinned};
+ghost use Rattle.mds_thinning.specs.declared.thinning.Counts.{Counts as Numbers};
+
+use crate::fault::ThinFault;
+use crate::thinning::{Counts, Old, thin};
+use mds_folder::FolderFault;
+use mds_records::Log;
+use mds_snapshot::{Blank, Naming, prepare};
+use std::alloc::Global;
+use std::marker::Brand;
+use std::sync::Wait;
+
+/// Where a journal stands, and another beside it: a folder of files, or memory in tests. A crash at any step leaves the one
+/// or the other in its place, whole.
+pub trait Place<L: Log> {
+    ghost use Rattle.std.specs.Prelude.{[], IfOk};
+
+    /// Another journal than at first stands in the place.
+    ghost is_replaced: { Self → Type 0 };
+
+    /// Makes a log that has nothing, beside the journal.
+    fn beside(&mut self) -> Result<L, FolderFault>
+        ensures empty { IfOk result (λ log. L.may_be log []) }
+        ensures kept { is_replaced self.new → is_replaced self.old };
+
+    /// Puts what stands beside the journal into its place at once, and waits until the disk has it so.
+    fn replace(&mut self) -> Result<(), FolderFault>;
+}
+
+/// Thins a journal where it stands, where both openings are named.
+fn thin_both<P: Place<L>, K: Naming, O: Naming, L: Log, R: Wait>(
+    rt: &R,
+    alloc: Global,
+    place: &mut P,
+    old: &Old<'_>,
+    one: Blank,
+    other: Blank,
+) -> Result<Counts, ThinFault>
+    requires one { book_of one ≡ K.book }
+    requires other { book_of other ≡ O.book }
+    ensures { P.is_replaced place.new → P.is_replaced place.old
+        ⊎ ((log : L) × L.is_synced log × (counts : Numbers)
+        × IsThinned (L.may_be log) old.now.config.now old.now.at (map (λ t. t.items) old.now.texts.now) counts) }
+{
+    let mut log = place.beside()?;
+    let counts = thin::<K, O, L, R>(rt, alloc, old, &mut log, (one, other))?;
+    drop(log);
+    place.replace()?;
+    Ok(counts)
+}
+
+/// The same, where one opening is named. It names the other.
+fn thin_named<P: Place<L>, K: Naming, L: Log, R: Wait>(
+    rt: &R,
+    alloc: Global,
+    place: &mut P,
+    old: &Old<'_>,
+    one: Blank,
+    other: Blank,
+) -> Result<Counts, ThinFault>
+    requires { book_of one ≡ K.book }
+    ensures { P.is_replaced place.new → P.is_replaced place.old
+        ⊎ ((log : L) × L.is_synced log × (counts : Numbers)
+        × IsThinned (L.may_be log) old.now.config.now old.now.at (map (λ t. t.items) old.now.texts.now) counts) }
+{
+    thin_both::<P, K, Brand, L, R>(rt, alloc, place, old, one, other)
+}
+
+/// Thins a journal where it stands: the thinned one is written beside it, synced and compared, and then put into its place.
+///
+/// # Errors
+///
+/// Those of `thin`, and `Folder` where the place can't be used. Unless it was the last step that failed, of which nothing is
+/// known but that one of the two journals stands there, the old journal does.
+pub fn thin_at<P: Place<L>, L: Log, R: Wait>(
+    rt: &R,
+    alloc: Global,
+    place: &mut P,
+    old: &Old<'_>,
+) -> Result<Counts, ThinFault>
+    ensures { P.is_replaced place.new → P.is_replaced place.old
+        ⊎ ((log : L) × L.is_synced log × (counts : Numbers)
+        × IsThinned (L.may_be log) old.now.config.now old.now.at (map (λ t. t.items) old.now.texts.now) counts) }
+{
+    let Ok(one) = prepare(alloc) else {
+        return Err(ThinFault::NoMemory);
+    };
+    let Ok(other) = prepare(alloc) else {
+        return Err(ThinFault::NoMemory);
+    };
+    thin_named::<P, Brand, L, R>(rt, alloc, place, old, one, other)
+}

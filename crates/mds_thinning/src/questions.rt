@@ -1,0 +1,109 @@
+//! What a server is asked, to tell it from another.
+ghost use Rattle.std.specs.Prelude.{◌≡◌, [], ◌∷◌, ◌++◌, map, IfOk, OnOk, if◌then◌else◌};
+ghost use Rattle.mds_request.specs.Configuration.{configuration, operator};
+ghost use Rattle.mds_entries.specs.Entries.{entry_of};
+ghost use Rattle.mds_thinning.specs.Questions.{asks, is_draft, fleets, drafts, questions};
+
+use mds_entries::{Asker, Entry};
+use mds_request::{Config, Operator, Verb};
+use mds_text::Moment;
+use std::alloc::{AllocError, Global};
+
+/// A question of who asks, for this target.
+fn asks<'a>(at: Moment, asker: Asker, target: &'a [u8]) -> Entry<'a>
+    ensures { entry_of result ≡ asks at asker target.now }
+{
+    Entry {
+        asker,
+        at,
+        verb: Verb::Get,
+        target,
+        body: b"",
+    }
+}
+
+/// Whether an entry is one by which the author kept a draft.
+fn is_draft(entry: &Entry<'_>) -> bool
+    ensures { result ≡ is_draft (entry_of entry.now) }
+{
+    match (entry.asker, entry.verb) {
+        (Asker::Author, Verb::Put) => true,
+        _ => false,
+    }
+}
+
+/// Adds a question.
+fn add<'a>(
+    list: &mut Vec<Entry<'a>>,
+    at: Moment,
+    asker: Asker,
+    target: &'a [u8],
+) -> Result<(), AllocError>
+    ensures { OnOk result (map entry_of list.new.items ≡ map entry_of list.old.items ++ asks at asker target.now ∷ []) }
+{
+    match list.push(asks(at, asker, target)) {
+        Ok(()) => Ok(()),
+        Err(_) => Err(AllocError),
+    }
+}
+
+/// Adds the question for each operator's vehicles.
+fn add_fleets<'a>(
+    list: &mut Vec<Entry<'a>>,
+    operators: &[Operator],
+    at: Moment,
+) -> Result<(), AllocError>
+    ensures { OnOk result (map entry_of list.new.items ≡ map entry_of list.old.items ++ fleets at (map operator operators.now)) }
+{
+    for operator in operators {
+        add(list, at, Asker::Operator(operator.id), b"/fleet/vehicles")?;
+    }
+    Ok(())
+}
+
+/// Adds the question for an entry's draft, where it is one by which the author kept one.
+fn add_draft<'a>(list: &mut Vec<Entry<'a>>, entry: &Entry<'a>, at: Moment) -> Result<(), AllocError>
+    ensures { OnOk result (map entry_of list.new.items ≡ map entry_of list.old.items ++ drafts at (entry_of entry.now ∷ [])) }
+{
+    if is_draft(entry) {
+        add(list, at, Asker::Author, entry.target)
+    } else {
+        Ok(())
+    }
+}
+
+/// Adds the questions for the drafts that the author kept by these entries.
+fn add_drafts<'a>(
+    list: &mut Vec<Entry<'a>>,
+    entries: &[Entry<'a>],
+    at: Moment,
+) -> Result<(), AllocError>
+    ensures { OnOk result (map entry_of list.new.items ≡ map entry_of list.old.items ++ drafts at (map entry_of entries.now)) }
+{
+    for entry in entries {
+        add_draft(list, entry, at)?;
+    }
+    Ok(())
+}
+
+/// What a server of a journal with these entries is asked at this moment: the author for the policies, the geographies
+/// and each draft that an entry kept, and each operator for its vehicles.
+///
+/// # Errors
+///
+/// Memory ran out.
+pub(crate) fn questions<'a>(
+    alloc: Global,
+    config: &Config,
+    entries: &[Entry<'a>],
+    at: Moment,
+) -> Result<Vec<Entry<'a>>, AllocError>
+    ensures { IfOk result (λ list. map entry_of list.items ≡ questions (configuration config.now) at (map entry_of entries.now)) }
+{
+    let mut list = Vec::new(alloc);
+    add(&mut list, at, Asker::Author, b"/policies")?;
+    add(&mut list, at, Asker::Author, b"/geographies")?;
+    add_fleets(&mut list, config.operators(), at)?;
+    add_drafts(&mut list, entries, at)?;
+    Ok(list)
+}

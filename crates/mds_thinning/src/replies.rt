@@ -1,0 +1,166 @@
+//! What a server that is started again answers to questions.
+ghost use Rattle.std.specs.Prelude.{◌≡◌, ◌<◌, List, length, map, IfOk, IfSome};
+ghost use Rattle.mds_request.specs.Configuration.{configuration};
+ghost use Rattle.mds_request.specs.Request.{request_of};
+ghost use Rattle.mds_snapshot.specs.Opening.{book_of};
+ghost use Rattle.mds_desk.specs.Desk.{DeskState, state_of};
+ghost use Rattle.mds_desk.specs.Room.{RoomState, room_of};
+ghost use Rattle.mds_entries.specs.Entries.{entry_of};
+ghost use Rattle.mds_recovery.specs.Recovery.{server_of, DeskAnswers};
+ghost use Rattle.mds_thinning.specs.Replies.{RoomTells, Tells, IsTold, AreTold, AreReplies};
+
+use crate::fault::ThinFault;
+use mds_desk::{AuthorRoom, Desk, OpenGate};
+use mds_entries::{Entry, actor_by, request_by};
+use mds_recovery::{Silent, StartFault, start_again};
+use mds_request::{Actor, Config, Request};
+use mds_shelf::Answer;
+use mds_snapshot::{Blank, Naming};
+use mds_verdict::Plain;
+use std::alloc::Global;
+use std::sync::Wait;
+
+/// The status of a server that has no memory, or shows nothing.
+const BUSY: u16 = 503;
+
+/// What a server is started with.
+pub(crate) struct Opening {
+    pub config: Config,
+    pub blank: Blank,
+}
+
+/// The desk at a place answers its operator's request.
+fn desk_tells<K: Naming>(desks: &mut [Desk<K>], place: usize, request: &Request<'_>) -> Answer
+    requires { place < length desks.old }
+    ensures { (room : RoomState) → DeskAnswers place (request_of request.now) result
+        (record { room = room; desks = map state_of desks.old }) (record { room = room; desks = map state_of desks.new }) }
+{
+    desks[place].answer(request, &mut OpenGate, &Plain)
+}
+
+/// The author's room answers a request. A question publishes nothing, so that there is nothing for desks to learn.
+fn room_tells<K: Naming, R: Wait>(rt: &R, room: &mut AuthorRoom<K>, request: &Request<'_>) -> Answer
+    ensures { (desks : List DeskState) → RoomTells (request_of request.now) result
+        (record { room = room_of room.old; desks = desks }) (record { room = room_of room.new; desks = desks }) }
+{
+    let (answer, _note) = room.answer(rt, request);
+    answer
+}
+
+/// The author's room, or an operator's desk, answers a request; `None` where there is no such desk.
+fn tells<K: Naming, R: Wait>(
+    rt: &R,
+    room: &mut AuthorRoom<K>,
+    desks: &mut [Desk<K>],
+    actor: Actor,
+    request: &Request<'_>,
+) -> Option<Answer>
+    ensures { IfSome result (λ reply. Tells actor (request_of request.now) reply
+        (server_of room.old desks.old) (server_of room.new desks.new)) }
+{
+    match actor {
+        Actor::Author => Some(room_tells(rt, room, request)),
+        Actor::Operator(place) => {
+            if place < desks.len() {
+                Some(desk_tells(desks, place, request))
+            } else {
+                None
+            }
+        }
+        Actor::Nobody => None,
+    }
+}
+
+/// A question's answer.
+///
+/// # Errors
+///
+/// `NoMemory` where the answer is that there is none, `Differs` where nobody is there who asks.
+fn told<K: Naming, R: Wait>(
+    rt: &R,
+    config: &Config,
+    room: &mut AuthorRoom<K>,
+    desks: &mut [Desk<K>],
+    question: &Entry<'_>,
+) -> Result<Answer, ThinFault>
+    ensures { IfOk result (λ reply. IsTold (configuration config.now) (entry_of question.now) reply
+        (server_of room.old desks.old) (server_of room.new desks.new)) }
+{
+    let Some(request) = request_by(config, question) else {
+        return Err(ThinFault::Differs);
+    };
+    let actor = actor_by(config, question.asker);
+    let Some(answer) = tells(rt, room, desks, actor, &request) else {
+        return Err(ThinFault::Differs);
+    };
+    if answer.status() == BUSY {
+        return Err(ThinFault::NoMemory);
+    }
+    Ok(answer)
+}
+
+/// The answers to questions, in their order.
+fn all_told<K: Naming, R: Wait>(
+    rt: &R,
+    alloc: Global,
+    config: &Config,
+    room: &mut AuthorRoom<K>,
+    desks: &mut [Desk<K>],
+    questions: &[Entry<'_>],
+) -> Result<Vec<Answer>, ThinFault>
+    ensures { IfOk result (λ replies. AreTold (configuration config.now) (map entry_of questions.now) replies.items
+        (server_of room.old desks.old) (server_of room.new desks.new)) }
+{
+    let mut replies = Vec::new(alloc);
+    for place in 0..questions.len() {
+        let reply = told(rt, config, room, desks, &questions[place])?;
+        replies.push(reply)?;
+    }
+    Ok(replies)
+}
+
+/// Why the replies aren't to be had.
+pub(crate) enum ReplyFault {
+    /// The server isn't started.
+    Refused(StartFault),
+    /// It doesn't answer a question.
+    Untold(ThinFault),
+}
+
+/// A server that is started from entries answers questions, and is ended.
+///
+/// # Errors
+///
+/// The server isn't started, or a question isn't answered.
+pub(crate) fn replies<K: Naming, R: Wait>(
+    rt: &R,
+    alloc: Global,
+    config: &Config,
+    opening: Opening,
+    entries: &[Entry<'_>],
+    questions: &[Entry<'_>],
+) -> Result<Vec<Answer>, ReplyFault>
+    requires named { book_of opening.blank ≡ K.book }
+    requires same { configuration opening.config ≡ configuration config.now }
+    ensures { IfOk result (λ replies. AreReplies (configuration config.now) (map entry_of entries.now)
+        (map entry_of questions.now) replies.items) }
+{
+    let Opening { config: own, blank } = opening;
+    let (mut room, mut desks) = match start_again::<K, R, Silent>(
+        rt,
+        alloc,
+        own,
+        blank,
+        entries,
+        &mut Silent,
+    ) {
+        Ok(started) => started,
+        Err(fault) => return Err(ReplyFault::Refused(fault)),
+    };
+    let told = all_told(rt, alloc, config, &mut room, &mut desks, questions);
+    room.finish(rt);
+    match told {
+        Ok(replies) => Ok(replies),
+        Err(fault) => Err(ReplyFault::Untold(fault)),
+    }
+}

@@ -1,0 +1,88 @@
+//! The entries of a thinned journal.
+ghost use Rattle.std.specs.Prelude.{◌≡◌, [], ◌∷◌, ◌++◌, map, length, IfOk, OnOk, if◌then◌else◌};
+ghost use Rattle.mds_request.specs.Configuration.{configuration};
+ghost use Rattle.mds_entries.specs.Entries.{entry_of};
+ghost use Rattle.mds_thinning.specs.Kinds.{kind_of};
+ghost use Rattle.mds_thinning.specs.Staying.{staying, picked};
+ghost use Rattle.mds_thinning.specs.Thinned.{thinned};
+
+use crate::choosing::chosen;
+use crate::kind::{Kind, kind_of};
+use mds_entries::Entry;
+use mds_request::{Config, Routes};
+use std::alloc::{AllocError, Global};
+
+/// What the entries are, each of them.
+fn kinds_of(alloc: Global, config: &Config, entries: &[Entry<'_>]) -> Result<Vec<Kind>, AllocError>
+    ensures { IfOk result (λ kinds. kinds.items ≡ map (kind_of (configuration config.now)) (map entry_of entries.now)) }
+{
+    let routes = Routes::new(alloc)?;
+    let mut kinds = Vec::new(alloc);
+    for entry in entries {
+        kinds.push(kind_of(alloc, &routes, config, entry)?)?;
+    }
+    Ok(kinds)
+}
+
+/// The same entry.
+fn again<'a>(entry: &Entry<'a>) -> Entry<'a>
+    ensures { entry_of result ≡ entry_of entry.now }
+{
+    Entry {
+        asker: entry.asker,
+        at: entry.at,
+        verb: entry.verb,
+        target: entry.target,
+        body: entry.body,
+    }
+}
+
+/// Adds an entry where it is marked.
+fn keep<'a>(kept: &mut Vec<Entry<'a>>, entry: &Entry<'a>, mark: bool) -> Result<(), AllocError>
+    ensures { OnOk result (map entry_of kept.new.items ≡ map entry_of kept.old.items ++ (if mark then entry_of entry.now ∷ [] else [])) }
+{
+    if !mark {
+        return Ok(());
+    }
+    match kept.push(again(entry)) {
+        Ok(()) => Ok(()),
+        Err(_) => Err(AllocError),
+    }
+}
+
+/// The entries that are marked, in their order.
+fn picked<'a>(
+    alloc: Global,
+    entries: &[Entry<'a>],
+    marks: &[bool],
+) -> Result<Vec<Entry<'a>>, AllocError>
+    requires { length marks.now ≡ length entries.now }
+    ensures { IfOk result (λ kept. map entry_of kept.items ≡ picked marks.now (map entry_of entries.now)) }
+{
+    let mut kept = Vec::new(alloc);
+    for place in 0..entries.len() {
+        keep(&mut kept, &entries[place], marks[place])?;
+    }
+    Ok(kept)
+}
+
+/// The entries of a journal that stay where it is thinned, in their order: of each device of an operator, since it was
+/// last removed, its last report and the one that began the run of that one's state; and whatever is no report and no
+/// removal of a device, as all of the author's. Answered again, they lead to the same drafts, publications and rows.
+///
+/// It takes time for each entry that grows by the logarithm of how many devices there are.
+///
+/// # Errors
+///
+/// Memory ran out.
+pub fn thinned_entries<'a>(
+    alloc: Global,
+    config: &Config,
+    entries: &[Entry<'a>],
+) -> Result<Vec<Entry<'a>>, AllocError>
+    ensures { IfOk result (λ kept. map entry_of kept.items ≡ thinned (configuration config.now) (map entry_of entries.now)) }
+{
+    let kinds = kinds_of(alloc, config, entries)?;
+    let marks = chosen(alloc, &kinds)?;
+    picked(alloc, entries, &marks)
+}

@@ -1,0 +1,194 @@
+//! A journal is thinned to a new log, and the servers of both are compared.
+ghost use Rattle.std.specs.Prelude.{◌≡◌, [], map, Ok, IfOk, OnOk};
+ghost use Rattle.mds_request.specs.Configuration.{configuration, read_configuration};
+ghost use Rattle.mds_entries.specs.Entries.{entry_of};
+ghost use Rattle.mds_snapshot.specs.Opening.{book_of};
+ghost use Rattle.mds_thinning.specs.Replies.{AreReplies};
+ghost use Rattle.mds_thinning.specs.Thinning.{IsThinned, IsJournal, AreAlike};
+
+use crate::comparing::are_same;
+use crate::fault::ThinFault;
+use crate::questions::questions;
+use crate::replies::{Opening, ReplyFault, replies};
+use crate::thinned::thinned_entries;
+use crate::writing::written;
+use mds_entries::Entry;
+use mds_folder::{Damage, FolderFault, entries_in, suits};
+use mds_records::Log;
+use mds_request::Config;
+use mds_shelf::Answer;
+use mds_snapshot::{Blank, Naming};
+use mds_text::Moment;
+use std::alloc::Global;
+use std::sync::Wait;
+
+/// A journal that is to be thinned.
+#[derive(Clone, Copy)]
+pub struct Old<'a> {
+    /// The text of the configuration, as `mds_request::Config::read` reads it.
+    pub config: &'a [u8],
+    /// The journal's texts, the head first.
+    pub texts: &'a [Vec<u8>],
+    /// The moment at which the servers are asked.
+    pub at: Moment,
+}
+
+/// How many entries a journal had, and how many the thinned one has.
+#[derive(Clone, Copy, Debug, PartialEq, Eq)]
+pub struct Counts {
+    pub before: usize,
+    pub after: usize,
+}
+
+/// What both servers are asked.
+#[derive(Clone, Copy)]
+struct Asking<'a> {
+    config: &'a Config,
+    /// The text of the configuration.
+    text: &'a [u8],
+    questions: &'a [Entry<'a>],
+}
+
+/// The configuration that a text is.
+fn config_of(alloc: Global, text: &[u8]) -> Result<Config, ThinFault>
+    ensures { IfOk result (λ config. read_configuration text.now ≡ Ok (configuration config)) }
+{
+    match Config::read(alloc, text) {
+        Ok(config) => Ok(config),
+        Err(fault) => Err(ThinFault::from(fault)),
+    }
+}
+
+/// The head and the entries that a journal's texts are.
+fn parts<'a>(alloc: Global, texts: &'a [Vec<u8>]) -> Result<(&'a [u8], Vec<Entry<'a>>), ThinFault>
+    ensures { IfOk result (λ r. IsJournal (map (λ t. t.items) texts.now) r.0.now (map entry_of r.1.items)) }
+{
+    let Some((head, rest)) = texts.split_first() else {
+        return Err(ThinFault::Folder(FolderFault::Damaged(Damage::NoHead)));
+    };
+    match entries_in(alloc, 1, rest) {
+        Ok(entries) => Ok((head.as_slice(), entries)),
+        Err(fault) => Err(ThinFault::Folder(fault)),
+    }
+}
+
+/// What a server that is started from entries answers.
+fn replies_of<K: Naming, R: Wait>(
+    rt: &R,
+    alloc: Global,
+    asking: &Asking<'_>,
+    blank: Blank,
+    entries: &[Entry<'_>],
+) -> Result<Vec<Answer>, ReplyFault>
+    requires named { book_of blank ≡ K.book }
+    requires read { read_configuration asking.now.text.now ≡ Ok (configuration asking.now.config.now) }
+    ensures { IfOk result (λ replies. AreReplies (configuration asking.now.config.now) (map entry_of entries.now)
+        (map entry_of asking.now.questions.now) replies.items) }
+{
+    let config = match config_of(alloc, asking.text) {
+        Ok(config) => config,
+        Err(fault) => return Err(ReplyFault::Untold(fault)),
+    };
+    let opening = Opening { config, blank };
+    replies::<K, R>(rt, alloc, asking.config, opening, entries, asking.questions)
+}
+
+/// Why the server of the old journal has no replies.
+fn of_old(fault: ReplyFault) -> ThinFault {
+    match fault {
+        ReplyFault::Refused(fault) => ThinFault::OldRefused(fault),
+        ReplyFault::Untold(fault) => fault,
+    }
+}
+
+/// Why the server of the thinned journal has no replies.
+fn of_new(fault: ReplyFault) -> ThinFault {
+    match fault {
+        ReplyFault::Refused(fault) => ThinFault::NewRefused(fault),
+        ReplyFault::Untold(fault) => fault,
+    }
+}
+
+/// Whether servers that are started from the entries and from the texts of the thinned journal answer alike.
+fn are_alike<K: Naming, O: Naming, R: Wait>(
+    rt: &R,
+    alloc: Global,
+    asking: &Asking<'_>,
+    blanks: (Blank, Blank),
+    entries: &[Entry<'_>],
+    texts: &[Vec<u8>],
+) -> Result<(), ThinFault>
+    requires one { book_of blanks.0 ≡ K.book }
+    requires other { book_of blanks.1 ≡ O.book }
+    requires read { read_configuration asking.now.text.now ≡ Ok (configuration asking.now.config.now) }
+    ensures { OnOk result (AreAlike (configuration asking.now.config.now) (map entry_of entries.now) (map (λ t. t.items) texts.now)
+        (map entry_of asking.now.questions.now)) }
+{
+    let (one, other) = blanks;
+    let before = match replies_of::<K, R>(rt, alloc, asking, one, entries) {
+        Ok(replies) => replies,
+        Err(fault) => return Err(of_old(fault)),
+    };
+    let (_, back) = match parts(alloc, texts) {
+        Ok(found) => found,
+        Err(fault) => return Err(fault),
+    };
+    let after = match replies_of::<O, R>(rt, alloc, asking, other, &back) {
+        Ok(replies) => replies,
+        Err(fault) => return Err(of_new(fault)),
+    };
+    if are_same(&before, &after) {
+        Ok(())
+    } else {
+        Err(ThinFault::Differs)
+    }
+}
+
+/// Writes the thinned journal of an old one to a new log, which has nothing yet, syncs it, reads it back, starts a server
+/// from each of the two, and compares what they answer: to the author for the policies, the geographies and each draft that
+/// an entry kept, and to each operator for its vehicles, byte for byte.
+///
+/// The blanks are of one opening each, which K and O name.
+///
+/// # Errors
+///
+/// `Configuration` where the configuration's text is none, `Folder` where the old texts are no journal, or one that the
+/// configuration doesn't fit; `OldRefused` and `NewRefused` where no server starts from a journal, `NotWritten` where
+/// the new log fails, `Differs` where the two servers don't answer alike, `NoMemory`. The new log is of no use then.
+pub fn thin<K: Naming, O: Naming, L: Log, R: Wait>(
+    rt: &R,
+    alloc: Global,
+    old: &Old<'_>,
+    log: &mut L,
+    blanks: (Blank, Blank),
+) -> Result<Counts, ThinFault>
+    requires empty { L.may_be log.old [] }
+    requires one { book_of blanks.0 ≡ K.book }
+    requires other { book_of blanks.1 ≡ O.book }
+    ensures thinned { IfOk result (λ counts. IsThinned (L.may_be log.new) old.now.config.now old.now.at
+        (map (λ t. t.items) old.now.texts.now) counts) }
+    ensures synced { OnOk result (L.is_synced log.new) }
+{
+    let config = match config_of(alloc, old.config) {
+        Ok(config) => config,
+        Err(fault) => return Err(fault),
+    };
+    let (head, entries) = match parts(alloc, old.texts) {
+        Ok(found) => found,
+        Err(fault) => return Err(fault),
+    };
+    suits(alloc, &config, head, &[])?;
+    let kept = thinned_entries(alloc, &config, &entries)?;
+    let texts = written(alloc, log, head, &kept)?;
+    let questions = questions(alloc, &config, &entries, old.at)?;
+    let asking = Asking {
+        config: &config,
+        text: old.config,
+        questions: &questions,
+    };
+    are_alike::<K, O, R>(rt, alloc, &asking, blanks, &entries, &texts)?;
+    Ok(Counts {
+        before: entries.len(),
+        after: kept.len(),
+    })
+}
