@@ -1,0 +1,5 @@
+use Rattle.mds_keeping_tests.proofs.commits.journal_bounded.Given as goal
+
+-- the book of what was just opened
+abbrev pub ghosts-bounded : goal.ghosts-bounded
+ghosts-bounded g a = record { book = a.opened.seen.book }

@@ -1,0 +1,206 @@
+//! Serving over a journal in memory, whose calls fail from the Nth on.
+ghost use Rattle.std.specs.Prelude.{◌≡◌, ℕ, List};
+
+use futures::executor::block_on;
+use mds_commit::{
+    Counted, FlushFault, Keeper, Naming, NotTold, Opened, ReserveFault, Settling, Stamp, Telling,
+    open,
+};
+use mds_records::{AppendFault, Journal, Log, Memory};
+use std::alloc::{AllocError, AllocGlobal, Global};
+use std::marker::Brand;
+use std::process::Abort;
+use std::random::RandomSource;
+use std::sync::{Arc, Wait};
+use std::test::Fail;
+use std::thread::{Threads, join};
+
+/// Why there is no place for a text. A place is given back.
+fn refused<K: Naming, L: Log, R: Wait>(
+    rt: &R,
+    keeper: &Keeper<K, L, Counted>,
+    text: Vec<u8>,
+) -> Option<ReserveFault> {
+    match keeper.reserve(rt, text) {
+        Ok(place) => {
+            keeper.release(rt, place);
+            None
+        }
+        Err(fault) => Some(fault),
+    }
+}
+
+fn text(rt: &impl AllocGlobal, text: &[u8]) -> Result<Vec<u8>, AllocError> {
+    Vec::from_slice(rt.alloc(), text)
+}
+
+/// Appends a text, and gives a reply that shows it once it is synced; then publishes.
+fn replied<K: Naming, L: Log, R: Wait + RandomSource + AllocGlobal>(
+    rt: &R,
+    keeper: &Arc<Keeper<K, L, Counted>>,
+    text: &[u8],
+) -> Result<Result<u32, NotTold>, Fail> {
+    let Ok(place) = keeper.reserve(rt, Vec::from_slice(rt.alloc(), text)?) else {
+        return Ok(Err(NotTold::NoMemory));
+    };
+    let stamp = match keeper.append(rt, place) {
+        Ok(stamp) => keeper.stamp(&stamp),
+        Err(fault) => return Ok(Err(fault)),
+    };
+    let reply = Settling::new(Arc::try_clone(keeper)?, stamp, 7u32);
+    Ok(block_on(rt, reply)?)
+}
+
+/// Publishes a text: how many texts are durable then.
+fn published<K: Naming, L: Log, R: Wait + AllocGlobal>(
+    rt: &R,
+    keeper: &Keeper<K, L, Counted>,
+    text: &[u8],
+) -> Result<Option<u64>, Fail> {
+    match keeper.reserve(rt, Vec::from_slice(rt.alloc(), text)?) {
+        Ok(place) => Ok(
+            keeper
+                .append_synced(rt, place)
+                .ok()
+                .map(|stamp| stamp.len()),
+        ),
+        Err(_) => Ok(None),
+    }
+}
+
+/// What a client was told.
+#[derive(Drop)]
+struct Told {
+    reply: Result<u32, NotTold>,
+    published: Option<u64>,
+}
+
+fn asked<K: Naming, L: Log, R: Wait + RandomSource + AllocGlobal>(
+    rt: &R,
+    keeper: &Arc<Keeper<K, L, Counted>>,
+) -> Result<Told, Fail> {
+    Ok(Told {
+        reply: replied(rt, keeper, b"one")?,
+        published: published(rt, keeper, b"two")?,
+    })
+}
+
+/// Serves one client, and gives what the flusher ended with and what the client was told.
+fn served<K, L, R>(rt: &R, opened: Opened<L>, log: L) -> Result<(Result<L, FlushFault>, Told), Fail>
+where
+    K: Naming + Send + Sync,
+    L: Log + Send + Sync,
+    R: Wait + Threads + RandomSource + AllocGlobal + Sync,
+    requires book { opened.seen.book ≡ K.book }
+    requires listed { (first : List (List ℕ)) × L.may_be log first }
+{
+    let space = Counted {
+        left: 100_000_000,
+        aside: 0,
+    };
+    let (keeper, flusher, _nothing) = open::<K, L, Counted>(rt.alloc(), opened, log, space)?;
+    let keeper = Arc::new(rt.alloc(), keeper)?;
+    let (log, told) = join(
+        rt,
+        || flusher.run(rt, &keeper),
+        || {
+            let told = asked(rt, &keeper);
+            keeper.stop(rt);
+            told
+        },
+    );
+    Ok((log, told?))
+}
+
+/// An empty medium, of which so many calls are answered. Two are for opening a journal, and one for beginning to serve.
+fn medium(alloc: Global, calls_left: u32) -> Memory {
+    Memory {
+        bytes: Vec::new(alloc),
+        calls_left,
+        is_synced: true,
+    }
+}
+
+/// Serves one client over a journal of which so many calls are answered.
+fn journal_served<R: Wait + Threads + RandomSource + AllocGlobal + Sync>(
+    rt: &R,
+    calls_left: u32,
+) -> Result<(Result<Journal<Memory>, FlushFault>, Told), Fail> {
+    let Ok(mut log) = Journal::open(rt.alloc(), medium(rt.alloc(), calls_left)) else {
+        return Err("a journal".into());
+    };
+    let Ok(opened) = Opened::new(&mut log) else {
+        return Err("a history".into());
+    };
+    served::<Brand, Journal<Memory>, R>(rt, opened, log)
+}
+
+#[test]
+fn replies_leave_once_synced(rt: HostRuntime) -> Result<(), Fail> {
+    let (log, told) = journal_served(&rt, 100)?;
+    assert!(rt; told.reply == Ok(7) && told.published == Some(2));
+    let medium = log.ok().ok_or("a log")?.into_medium();
+    assert!(rt; medium.is_synced);
+    // Two groups, each of a mark of 44 bytes and a record of 15.
+    assert!(rt; medium.bytes.len() == 118);
+    Ok(())
+}
+
+#[test]
+fn nothing_is_told_after_a_failed_sync(rt: HostRuntime) -> Result<(), Fail> {
+    let (log, told) = journal_served(&rt, 4)?;
+    assert!(rt; told.reply == Err(NotTold::Failed) && told.published == None);
+    assert!(rt; log.err() == Some(FlushFault::NotSynced));
+    Ok(())
+}
+
+#[test]
+fn nothing_is_told_after_a_failed_append(rt: HostRuntime) -> Result<(), Fail> {
+    let (log, told) = journal_served(&rt, 3)?;
+    assert!(rt; told.reply == Err(NotTold::Failed) && told.published == None);
+    assert!(rt; log.err() == Some(FlushFault::NotAppended(AppendFault::Unknown)));
+    Ok(())
+}
+
+#[test]
+fn places_are_bounded(rt: HostRuntime) -> Result<(), Fail> {
+    journal_bounded(&rt)
+}
+
+fn journal_bounded<R: Wait + Abort + AllocGlobal>(rt: &R) -> Result<(), Fail> {
+    let Ok(mut log) = Journal::open(rt.alloc(), medium(rt.alloc(), 3)) else {
+        return Err("a journal".into());
+    };
+    let Ok(opened) = Opened::new(&mut log) else {
+        return Err("a history".into());
+    };
+    bounded::<Brand, Journal<Memory>, R>(rt, opened, log)
+}
+
+/// There is room for one record of three bytes, which takes 59.
+fn bounded<K: Naming, L: Log, R: Wait + Abort + AllocGlobal>(
+    rt: &R,
+    opened: Opened<L>,
+    log: L,
+) -> Result<(), Fail>
+    requires book { opened.seen.book ≡ K.book }
+    requires listed { (first : List (List ℕ)) × L.may_be log first }
+{
+    let space = Counted { left: 59, aside: 0 };
+    let (keeper, _flusher, nothing) = open::<K, L, Counted>(rt.alloc(), opened, log, space)?;
+    assert!(rt; keeper.may_tell(&nothing) == Telling::Now && nothing.len() == 0);
+    assert!(rt; refused(rt, &keeper, text(rt, b"")?) == Some(ReserveFault::Untaken));
+    assert!(rt; refused(rt, &keeper, text(rt, b"four")?) == Some(ReserveFault::NoRoom));
+    assert!(rt; refused(rt, &keeper, text(rt, b"one")?) == None);
+    let (first, second, third) = (text(rt, b"one")?, text(rt, b"two")?, text(rt, b"two")?);
+    let Ok(place) = keeper.reserve(rt, first) else {
+        return Err("a place".into());
+    };
+    let none = refused(rt, &keeper, second);
+    let stamp = keeper.append(rt, place).ok().ok_or("a stamp")?;
+    assert!(rt; none == Some(ReserveFault::NoRoom));
+    assert!(rt; keeper.may_tell(&stamp) == Telling::Later && stamp.len() == 1);
+    keeper.stop(rt);
+    assert!(rt; refused(rt, &keeper, third) == Some(ReserveFault::Stopping));
+    Ok(())
+}
