@@ -3,15 +3,16 @@ use Rattle.std.specs.Prelude.{ℕ, List, [], ◌∷◌, bytes_eq, codes, option_
 use Rattle.uuid.specs.Text.{parsed}
 use Rattle.mds_command.specs.Options.{value_of, are_options, moment_in}
 use Rattle.mds_command.specs.declared.asking.Asked.{Asked}
-use Rattle.mds_command.specs.declared.asking.Asked.TheVariants.{Help, Version, Serve, Check, Audit}
+use Rattle.mds_command.specs.declared.asking.Asked.TheVariants.{Help, Version, Serve, Check, Audit, Stop}
 
 -- what the program is asked to do
 pub data Request : Type 0 where
   help : Request
   version : Request
-  serve : (config state listen : List ℕ) → (dropped : Option (List ℕ)) → Request
+  serve : (config state listen : List ℕ) → (control dropped : Option (List ℕ)) → Request
   check : (folder : List ℕ) → Request
   audit : (folder config : List ℕ) → (until : Option ℕ) → (operator : Option (List ℕ)) → Request
+  stop : (address : List ℕ) → Request
 
 -- what a value that may be left out reads as: nothing without it, none where it isn't read
 abbrev pub read_if : {A : Type 0} → (List ℕ → Option A) → Option (List ℕ) → Option (Option A)
@@ -19,18 +20,18 @@ read_if read None = Some None
 read_if read (Some word) = option_map Some (read word)
 
 abbrev pub serving_options : List (List ℕ)
-serving_options = codes "--config" ∷ codes "--state" ∷ codes "--listen" ∷ codes "--drop" ∷ []
+serving_options = codes "--config" ∷ codes "--state" ∷ codes "--listen" ∷ codes "--control" ∷ codes "--drop" ∷ []
 
 -- to serve, where these three are given
-abbrev pub serve_with : Option (List ℕ) → Option (List ℕ) → Option (List ℕ) → Option (Option (List ℕ)) → Option Request
-serve_with (Some config) (Some state) (Some listen) (Some dropped) = Some (serve config state listen dropped)
-serve_with config state listen dropped = None
+abbrev pub serve_with : Option (List ℕ) → Option (List ℕ) → Option (List ℕ) → Option (List ℕ) → Option (Option (List ℕ)) → Option Request
+serve_with (Some config) (Some state) (Some listen) control (Some dropped) = Some (serve config state listen control dropped)
+serve_with config state listen control dropped = None
 
 abbrev pub asked_to_serve : List (List ℕ) → Option Request
 asked_to_serve words =
     if are_options serving_options words
     then serve_with (value_of (codes "--config") words) (value_of (codes "--state") words) (value_of (codes "--listen") words)
-    (read_if parsed (value_of (codes "--drop") words))
+    (value_of (codes "--control") words) (read_if parsed (value_of (codes "--drop") words))
     else None
 
 abbrev pub auditing_options : List (List ℕ)
@@ -54,10 +55,16 @@ asked_alone word =
     if bytes_eq word (codes "--help") then Some help
     else (if bytes_eq word (codes "--version") then Some version else None)
 
--- what the word `check` or `audit` asks for, with a folder and options
+-- what the word `check` or `stop` asks for, with a folder or an address
+abbrev pub asked_with : List ℕ → List ℕ → Option Request
+asked_with verb name =
+    if bytes_eq verb (codes "check") then Some (check name)
+    else (if bytes_eq verb (codes "stop") then Some (stop name) else None)
+
+-- what a word asks for, with a folder or an address, and options: `audit` alone has any
 abbrev pub asked_of : List ℕ → List ℕ → List (List ℕ) → Option Request
-asked_of verb folder [] = if bytes_eq verb (codes "check") then Some (check folder) else None
-asked_of verb folder (word ∷ words) = if bytes_eq verb (codes "audit") then asked_to_audit folder (word ∷ words) else None
+asked_of verb name [] = asked_with verb name
+asked_of verb name (word ∷ words) = if bytes_eq verb (codes "audit") then asked_to_audit name (word ∷ words) else None
 
 -- what the words behind the program's name ask for
 abbrev pub asked_by : List (List ℕ) → Option Request
@@ -68,6 +75,7 @@ asked_by (verb ∷ word ∷ words) = if bytes_eq verb (codes "serve") then asked
 abbrev pub asked_view : Asked → Request
 asked_view Help = help
 asked_view Version = version
-asked_view (Serve s) = serve s.config.now s.state.now s.listen.now s.dropped
+asked_view (Serve s) = serve s.config.now s.state.now s.listen.now (option_map (λ word. word.now) s.control) s.dropped
 asked_view (Check folder) = check folder.now
 asked_view (Audit a) = audit a.folder.now a.config.now a.until a.operator
+asked_view (Stop address) = stop address.now

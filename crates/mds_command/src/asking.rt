@@ -2,7 +2,7 @@
 ghost use Rattle.std.specs.Prelude.{◌≡◌, ◌∷◌, map, string_bytes, option_map};
 ghost use Rattle.uuid.specs.Text.{parsed};
 ghost use Rattle.mds_command.specs.Options.{moment_in};
-ghost use Rattle.mds_command.specs.Asked.{read_if, asked_to_serve, asked_to_audit, asked_alone, asked_of, asked_by, asked_view};
+ghost use Rattle.mds_command.specs.Asked.{read_if, asked_to_serve, asked_to_audit, asked_alone, asked_with, asked_of, asked_by, asked_view};
 
 use crate::moment::moment_of;
 use crate::options::{are_options, value_of};
@@ -17,6 +17,8 @@ pub struct Service<'a> {
     pub state: &'a str,
     /// Where to listen.
     pub listen: &'a str,
+    /// Where to listen for who controls the server; none, nowhere.
+    pub control: Option<&'a str>,
     /// The operator whose entries are left out.
     pub dropped: Option<Id>,
 }
@@ -47,6 +49,8 @@ pub enum Asked<'a> {
     Check(&'a str),
     /// The journal of a folder as a script.
     Audit(Audit<'a>),
+    /// To stop the server whose control port is at this address.
+    Stop(&'a str),
 }
 
 /// The identifier that a value is, if it is given; `None` where it is none.
@@ -79,17 +83,20 @@ fn moment_if(word: Option<&str>) -> Option<Option<Moment>>
 fn asked_to_serve(words: &[String]) -> Option<Asked<'_>>
     ensures { option_map asked_view result ≡ asked_to_serve (map string_bytes words.now) }
 {
-    if !are_options(&["--config", "--state", "--listen", "--drop"], words) {
+    let names = &["--config", "--state", "--listen", "--control", "--drop"];
+    if !are_options(names, words) {
         return None;
     }
     let config = value_of("--config", words)?;
     let state = value_of("--state", words)?;
     let listen = value_of("--listen", words)?;
+    let control = value_of("--control", words);
     let dropped = id_if(value_of("--drop", words))?;
     Some(Asked::Serve(Service {
         config,
         state,
         listen,
+        control,
         dropped,
     }))
 }
@@ -125,18 +132,27 @@ fn asked_alone(word: &str) -> Option<Asked<'_>>
     }
 }
 
-/// What a word asks for, with a folder and options.
-fn asked_of<'a>(verb: &str, folder: &'a str, words: &'a [String]) -> Option<Asked<'a>>
-    ensures { option_map asked_view result ≡ asked_of verb.now folder.now (map string_bytes words.now) }
+/// What a word asks for, with a folder or an address.
+fn asked_with<'a>(verb: &str, name: &'a str) -> Option<Asked<'a>>
+    ensures { option_map asked_view result ≡ asked_with verb.now name.now }
+{
+    if verb == "check" {
+        Some(Asked::Check(name))
+    } else if verb == "stop" {
+        Some(Asked::Stop(name))
+    } else {
+        None
+    }
+}
+
+/// What a word asks for, with a folder or an address, and options.
+fn asked_of<'a>(verb: &str, name: &'a str, words: &'a [String]) -> Option<Asked<'a>>
+    ensures { option_map asked_view result ≡ asked_of verb.now name.now (map string_bytes words.now) }
 {
     if words.is_empty() {
-        if verb == "check" {
-            Some(Asked::Check(folder))
-        } else {
-            None
-        }
+        asked_with(verb, name)
     } else if verb == "audit" {
-        asked_to_audit(folder, words)
+        asked_to_audit(name, words)
     } else {
         None
     }
@@ -150,6 +166,6 @@ pub fn asked_by(words: &[String]) -> Option<Asked<'_>>
         [] => None,
         [word] => asked_alone(word.as_str()),
         [verb, rest @ ..] if verb.as_str() == "serve" => asked_to_serve(rest),
-        [verb, folder, rest @ ..] => asked_of(verb.as_str(), folder.as_str(), rest),
+        [verb, name, rest @ ..] => asked_of(verb.as_str(), name.as_str(), rest),
     }
 }

@@ -9,18 +9,23 @@ pub const USAGE: &str =
 
 /// What `--help` answers.
 pub const HELP: &str = "\
-ruffletuff serve --config FILE --state DIR --listen ADDRESS [--drop ID]
+ruffletuff serve --config FILE --state DIR --listen ADDRESS
+                 [--control ADDRESS] [--drop ID]
     serves one city over HTTP
 ruffletuff check DIR
     says how many records and bytes a folder's journal has, and how it ends
 ruffletuff audit DIR --config FILE [--until MOMENT] [--operator ID]
     prints a folder's journal as a script for mds_replay
+ruffletuff stop ADDRESS
+    stops the server whose control port is at this address
 ruffletuff --help
     says this
 ruffletuff --version
     says the version
 
-ADDRESS  where to listen, as 127.0.0.1:8080
+ADDRESS  where to listen, as 127.0.0.1:8080. The control port, at the address
+         behind --control, says whether the server serves and what it counts,
+         and stops it: let nobody else reach it
 DIR      the folder in which the city is kept; to serve, it is made where it
          isn't there
 FILE     the configuration, a JSON object on as many lines as one likes:
@@ -40,7 +45,7 @@ A journal is read while a server writes it as well. Standard output says
 'ready' once the server listens. After a fault standard error says which.
 
 Exit status: 0 done
-             1 nothing can be listened to at ADDRESS
+             1 nothing can be listened to at ADDRESS, or no server there stops
              2 the arguments or the configuration are wrong
              3 memory ran out
              4 the folder can't be used, or another program has it
