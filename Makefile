@@ -1,20 +1,23 @@
 # demo     the main job on real input: a policy is published, a vehicle reported, compliance asked for
-# test     all tests, and both programs on scripts, messages and short loads, before any proof: it proves nothing
-# prove    the gate: every proof, the edits that must fail, then scripts, messages, loads and stress on the proved programs
+# test     all tests, and the programs on scripts, messages, kills and short loads, before any proof: it proves nothing
+# prove    the gate: every proof, the edits that must fail, then scripts, messages, kills, loads and stress on the proved programs
 # edits    further edits that must fail, those of edits/: part of a release, not of the gate (CRATE=mds_text: those of one crate)
 # build    proves mds_replay with all that it stands on, and builds it
-# serve    the server on 127.0.0.1:8080 for the city of examples/city.json, with three lines to paste that ask it
+# server   proves ruffletuff with all that it stands on, and builds it
+# plain    the same of mds_serve, which keeps nothing
+# serve    the server on 127.0.0.1:8080 for the city of examples/city.json, kept in out/city, with three lines to paste that ask it
 # try      River City to look at in a browser, on 127.0.0.1:8090: the built mds_serve, the page beside it, six policies and two fleets
 # test-web  the page's checks in headless Chromium (Debian's chromium and nodejs; minutes, once a server is built)
 # shots    the README's screenshots, by the same Chromium
 # openapi  checks docs/openapi.yaml against the protocol and the scripts (Debian's python3-yaml, python3-jsonschema)
 # bench    times mds_replay on generated input, and a program in plain Rust beside it, in three forms (minutes, once built)
+# bench-journal  times reports to ruffletuff beside mds_serve and SQLite (minutes, once built)
 # stress   publishes 500 batches at mds_serve while 8 operators ask, and checks each reply against a replay (seconds, once built)
 # dist     packs the built programs: a tar and a Debian package in out/dist (seconds, once built)
 # dist-try  installs that package into a clean Debian root and asks its server (as root, minutes)
 # help     these lines
 
-.PHONY: demo test prove edits build server serve try test-web shots openapi bench stress dist dist-try help
+.PHONY: demo test prove edits build server plain serve try test-web shots openapi bench bench-journal stress dist dist-try help
 
 # What each takes where nothing is built, on a machine that does nothing else.
 DEMO_TIME := about a minute
@@ -26,7 +29,9 @@ SERVE_TIME := about an hour
 
 PROGRAM := crates/mds_replay/out/mds_replay
 SCRIPT := examples/first-verdict.replay
-SERVER := crates/mds_serve/out/mds_serve
+SERVER := crates/ruffletuff/out/ruffletuff
+PLAIN := crates/mds_serve/out/mds_serve
+CITY := out/city
 
 # Whether a proved program is built and no source is newer.
 is_built = [ -x $(1) ] && [ -z "$$(find crates.txt crates -path '*/out' -prune -o -newer $(1) \( -name '*.rt' -o -name crates.txt \) -print)" ]
@@ -61,23 +66,29 @@ build:
 		cd crates/mds_replay && rt run < stdin > /dev/null; \
 	fi
 
-# Proves and builds mds_serve with all that it stands on, where a source is newer.
+# Proves and builds ruffletuff with all that it stands on, where a source is newer.
 server:
 	@if ! { $(call is_built,$(SERVER)); }; then \
+		echo "this proves ruffletuff and all below it, in $(SERVE_TIME) where nothing is built" >&2; \
+		cd crates/ruffletuff && rt run -- --version > /dev/null; \
+	fi
+
+plain:
+	@if ! { $(call is_built,$(PLAIN)); }; then \
 		echo "this proves mds_serve and all below it, in $(SERVE_TIME) where nothing is built" >&2; \
 		cd crates/mds_serve && rt run -- 127.0.0.1:0 0 < stdin > /dev/null; \
 	fi
 
-# The lines publish, report and ask.
+# The lines publish, report and ask. What they change stays in the folder: behind a restart the last one is answered the same.
 serve: server
 	@cat examples/serve.curl
-	@$(SERVER) 127.0.0.1:8080 < examples/city.json
+	@exec $(SERVER) serve --config examples/city.json --state $(CITY) --listen 127.0.0.1:8080 --control 127.0.0.1:8081
 
 try:
-	@if $(call is_built,$(SERVER)); then \
-		exec python3 -B examples/river-city/try.py $(SERVER); \
+	@if $(call is_built,$(PLAIN)); then \
+		exec python3 -B examples/river-city/try.py $(PLAIN); \
 	else \
-		echo "mds_serve isn't built: make server comes first, which takes $(SERVE_TIME)" >&2; \
+		echo "mds_serve isn't built: make plain comes first, which takes $(SERVE_TIME)" >&2; \
 		exit 1; \
 	fi
 
@@ -91,13 +102,16 @@ shots:
 bench: build
 	python3 -B bench/measure.py
 
-stress: build server
+bench-journal: server plain
+	python3 -B bench/journal.py
+
+stress: build plain
 	python3 -B tests/stress.py
 
 openapi:
 	/usr/bin/python3 -B tests/openapi.py docs/PROTOCOL.md
 
-dist: build server
+dist: build server plain
 	@bash dist/build
 
 dist-try:

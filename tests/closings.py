@@ -5,7 +5,7 @@ import http.client
 import time
 
 from messages import BODY_LIMIT, CLOSE, METHOD, NO_POLICY, NO_ROUTE, REPORT, TOKEN, TOO_LARGE, chunks, code
-from wire import FIRST, SECOND, Closed, identifier, request
+from wire import FIRST, PATIENCE, SECOND, Closed, identifier, request
 
 PAST_LIMIT = 1_048_576
 HELD_LIMIT = 67_108_864
@@ -131,7 +131,7 @@ def a_busy_server(server):
 
 def until_busy(server):
     """The first answer to a report that isn't taken, once the heads before it have come."""
-    for _ in range(100):
+    for _ in range(100 * PATIENCE):
         answer = server.ask("POST", "/fleet/events", body=REPORT)
         server.ask("DELETE", REPORTED)
         if answer.status != 200:
@@ -142,7 +142,7 @@ def until_busy(server):
 
 def is_served_again(server):
     """Whether a report is taken in time, once those that waited have gone."""
-    for _ in range(100):
+    for _ in range(100 * PATIENCE):
         answer = server.ask("POST", "/fleet/events", body=REPORT)
         server.ask("DELETE", REPORTED)
         if answer.status == 200:

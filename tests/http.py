@@ -1,14 +1,16 @@
 #!/usr/bin/env python3
-"""Tries a built mds_serve over loopback, by raw sockets: good requests, broken ones and hostile ones.
+"""Tries a built mds_serve or ruffletuff over loopback, by raw sockets: good requests, broken ones and hostile ones.
 
-    http.py PROGRAM [messages | loads | short-loads]
+    http.py PROGRAM [messages | exchanges | loads | short-loads]
 
 What is accepted as an answer stands in the protocol, and where a message is no HTTP in RFC 9110 and 9112: where these leave a
 choice, each of its sides is accepted. After each broken or hostile message the next request on a new connection is answered as if
 it hadn't come. The scripts of tests/replays are run too, those whose answers don't depend on when a request comes; the others are
-named. Then come the loads of tests/load.py, one after another. With a second word one of both is done, or the short ones of the loads,
-side by side. The messages take about 80 seconds, since the deadlines are waited for, the loads some four minutes, the short ones up to
-90 seconds. Prints what differs, and last 'N passed, M failed'; ends with 1 where one failed.
+named. Then come the loads of tests/load.py, one after another. With a second word one of both is done, or of the messages those that
+wait for no deadline and no script, or the short ones of the loads, side by side. A server that keeps its state has a folder of its own
+for each run, and is tried by messages alone; how it ends tests/journals.py tries. The messages take about 80 seconds, since the
+deadlines are waited for, the loads some four minutes, the short ones up to 90 seconds. Prints what differs, and last 'N passed, M
+failed'; ends with 1 where one failed.
 """
 
 import contextlib
@@ -16,8 +18,8 @@ import json
 import math
 import os
 import re
-import subprocess
 import sys
+import tempfile
 import threading
 import time
 from concurrent.futures import ThreadPoolExecutor
@@ -25,9 +27,10 @@ from concurrent.futures import ThreadPoolExecutor
 import load
 from closings import CLOSINGS
 from ends import ENDS, TOLD_AT_ONCE, an_address_that_is_taken, an_end, is_refused, is_told_at_once, so_many_connections
+from kept import City, Tried, is_keeping, serving
 from messages import BODIES, BODY_LIMIT, CLOSE, HEADS, METHOD, NEW, NO_POLICY, NO_ROUTE, REPORT, TOKEN, TOO_LARGE
 from messages import chunked, code, head, sized
-from wire import AUTHOR, FIRST, PATIENCE, SECOND, SECONDS, Answer, Closed, Server, identifier, report, request
+from wire import AUTHOR, FIRST, PATIENCE, SECOND, SECONDS, Answer, Closed, identifier, report, request
 
 HERE = os.path.dirname(os.path.abspath(__file__))
 
@@ -485,7 +488,7 @@ def without_moments(reply):
 def a_script(program, given, requests, replies):
     """The answers by HTTP are those of the replay, but for the moments, which are now or a publication's."""
     published = set()
-    with Server(program, given) as server, server.link() as link:
+    with serving(program, given=given) as server, server.link() as link:
         for number, ((_, token, method, target, body), wanted) in enumerate(zip(requests, replies)):
             begun = time.time_ns() // 1_000_000
             link.send(request(method.decode(), target.decode(), token.decode(), body))
@@ -508,7 +511,8 @@ def scripts(program):
         given, requests, replies, status, count = script(name)
         lines[name] = 0 if status else count
         if status:
-            yield name, is_refused(program, given.strip(b"\n"), status, refusal(name))
+            refused = is_refused_in_a_file if is_keeping(program) else is_refused
+            yield name, refused(program, given.strip(b"\n"), status, refusal(name))
         elif moments_matter(requests):
             left.append(name)
         else:
@@ -516,6 +520,17 @@ def scripts(program):
     print(f"{len(left)} scripts are left out, since their answers depend on their moments: {', '.join(left)}")
     told = [f"{count} of {name}" for name, count in lines.items() if count and name not in left]
     print(f"lines are left out that HTTP can't carry: {', '.join(told)}")
+
+
+def is_refused_in_a_file(program, given, status, said):
+    """The configuration is refused by a server that reads it from a file, with the same words of what is wrong, and no folder is made."""
+    with tempfile.TemporaryDirectory() as room:
+        city = City(program, room, given)
+        wanted = f"ruffletuff: the configuration is wrong: {city.file}\n{said.partition(chr(10))[2]}\n".encode()
+        if (found := city.refused()) != (status, b"", wanted):
+            yield f"ends with {found}, not {(status, wanted)}"
+        if os.path.exists(city.folder):
+            yield "its folder is made"
 
 
 def refusal(name):
@@ -530,25 +545,6 @@ def refusal(name):
 # --- All of it -----------------------------------------------------------------------------------------------------
 
 
-class Tried:
-    """What was tried, and what of it failed."""
-
-    def __init__(self):
-        self.passed = self.failed = 0
-
-    def one(self, name, found):
-        """Counts a test by its faults, or why they can't be told."""
-        faults = []
-        try:
-            faults.extend(found)
-        except (OSError, ValueError, Closed, subprocess.SubprocessError) as fault:
-            faults.append(repr(fault))
-        for fault in faults:
-            print(f"{name}: {fault}", flush=True)
-        self.passed += not faults
-        self.failed += bool(faults)
-
-
 def still_silent(server):
     """A server that wasn't told to end is there, and has printed nothing but 'ready'."""
     status, out, err = server.stop()
@@ -556,30 +552,37 @@ def still_silent(server):
         yield f"status {status}, output {out[:200]!r}, standard error {err[:200]!r}"
 
 
-def messages(tried, server):
-    """What comes to a server that keeps nothing."""
+def messages(tried, server, left_out=()):
+    """What comes to one server and leaves nothing behind, but for messages of these names."""
     for name, (sent, accepted) in (HEADS | BODIES).items():
-        tried.one(name, first_on_a_connection(server, sent, accepted))
+        if name not in left_out:
+            tried.one(name, first_on_a_connection(server, sent, accepted))
     for case in (many_on_one_connection, a_thousand_at_once, a_head_without_a_body, a_body_that_is_awaited, gone_without_a_word, *CLOSINGS):
         tried.one(case.__name__, case(server))
 
 
 def programs(tried, program):
     """Runs of the program, each for itself."""
+    if not is_keeping(program):
+        ends(tried, program)
+    for name, found in scripts(program):
+        tried.one(name, found)
+
+
+def ends(tried, program):
+    """How mds_serve ends."""
     for name, (arguments, given, status, said) in ENDS.items():
         tried.one(name, an_end(program, arguments, given, status, said))
     for name, (words, said) in TOLD_AT_ONCE.items():
         tried.one(name, is_told_at_once(program, words, said))
     for case in (an_address_that_is_taken, so_many_connections):
         tried.one(case.__name__, case(program))
-    for name, found in scripts(program):
-        tried.one(name, found)
 
 
 def all_messages(tried, program, stack):
     """All tests but the loads. The deadlines are waited for while the others run."""
     limits = (2, 2, 200, 2_000, 40_000)
-    waited, plain, large, held, wide = (stack.enter_context(Server(program, limit=limit)) for limit in limits)
+    waited, plain, large, held, wide = (stack.enter_context(serving(program, limit=limit)) for limit in limits)
     patience = Patience()
     patience.start()
     tried.one("deadlines", deadlines(waited, patience))
@@ -588,8 +591,10 @@ def all_messages(tried, program, stack):
     programs(tried, program)
     tried.one("who_never_reads", who_never_reads(large))
     tried.one("a_slow_body_in_time", a_slow_body_in_time(large))
-    tried.one("long_questions", long_questions(held))
-    tried.one("a_question_by_threads", a_question_by_threads(wide))
+    # Nothing of these goes by what is kept, and large fleets wait for many syncs.
+    if not is_keeping(program):
+        tried.one("long_questions", long_questions(held))
+        tried.one("a_question_by_threads", a_question_by_threads(wide))
     patience.over.set()
     patience.join()
     for name, faults in patience.faults.items():
@@ -599,23 +604,36 @@ def all_messages(tried, program, stack):
         tried.one(f"still_silent, {name}", still_silent(server))
 
 
-def main(program, which=("messages", "loads")):
+# Reading so many blanks takes a minute where the program isn't proved and the machine is busy.
+LONG_BODIES = ("a body at its limit", "chunks at the limit")
+
+
+def exchanges(tried, program):
+    """The tests that wait for no deadline, at one server, but for those of the longest bodies."""
+    with serving(program, limit=2) as server:
+        messages(tried, server, LONG_BODIES)
+        tried.one("still_silent", still_silent(server))
+    print(f"left out, and tried by make prove: deadlines, slow readers and writers, long questions, {', '.join(LONG_BODIES)}")
+
+
+def main(program, which="all"):
     tried = Tried()
     try:
-        if "messages" in which:
+        if which in ("all", "messages"):
             with contextlib.ExitStack() as stack:
                 all_messages(tried, program, stack)
-        if which != ["messages"]:
-            for name, found in load.loads(program, which == ["short-loads"]):
+        if which == "exchanges":
+            exchanges(tried, program)
+        if which in ("all", "loads", "short-loads"):
+            for name, found in load.loads(program, which == "short-loads"):
                 tried.one(name, found)
     except (OSError, ValueError) as fault:
         print(fault)
         tried.failed += 1
-    print(f"{tried.passed} passed, {tried.failed} failed")
-    return 1 if tried.failed else 0
+    return tried.told()
 
 
 if __name__ == "__main__":
-    if len(sys.argv) not in (2, 3) or sys.argv[2:] not in ([], ["messages"], ["loads"], ["short-loads"]):
-        sys.exit("usage: http.py PROGRAM [messages | loads | short-loads]")
-    sys.exit(main(os.path.abspath(sys.argv[1]), *[sys.argv[2:]][: len(sys.argv) - 2]))
+    if len(sys.argv) not in (2, 3) or sys.argv[2:] not in ([], ["messages"], ["exchanges"], ["loads"], ["short-loads"]):
+        sys.exit("usage: http.py PROGRAM [messages | exchanges | loads | short-loads]")
+    sys.exit(main(os.path.abspath(sys.argv[1]), *sys.argv[2:]))

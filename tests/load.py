@@ -20,8 +20,9 @@ import time
 
 import clients
 from beside import LEAST, Neighbour, Watch, measured, waits_too_long
+from kept import serving
 from messages import BODY_LIMIT, NO_POLICY, code
-from wire import AUTHOR, PATIENCE, SECONDS, Closed, Server, identifier, may_open, report, request
+from wire import AUTHOR, PATIENCE, SECONDS, Closed, identifier, may_open, report, request
 
 # How long a load lasts at most, a short one and another; and how much earlier it waits for nothing more, so that what it found is told.
 SHORT_SECONDS, MOST_SECONDS = (40, 40) if PATIENCE == 1 else (60, 120)
@@ -132,7 +133,7 @@ def within_bounds(kind, watch):
 def under_load(program, name, kind, is_short):
     """The faults of one load, on a server of its own."""
     with contextlib.ExitStack() as stack:
-        server = stack.enter_context(Server(program, city()))
+        server = stack.enter_context(serving(program, given=city()))
         if kind.prepare:
             yield from tell(kind.prepare(server, is_short))
         server.ask("GET", "/policies", token(NEIGHBOUR))

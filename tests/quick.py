@@ -1,13 +1,15 @@
 #!/usr/bin/env python3
-"""What `make test` does: all tests, and both programs on all scripts and messages, before any proof. It proves nothing.
+"""What `make test` does: all tests, and the programs on scripts, messages, kills and journals, before any proof. It proves nothing.
 
     quick.py
 
-The tests of each crate that has some are built and run by `rt try --test`, and mds_replay and mds_serve are built by `rt try`
+The tests of each crate that has some are built and run by `rt try --test`, and mds_replay and ruffletuff are built by `rt try`
 (tests/unproved.py), as many at once as there are processors and memory; a proved program is taken where it is built and no source is
-newer. Then come the scripts (replays.py), the messages and the short loads (http.py), a short stress (stress.py), some refused growths
-of memory (growths.py) and the check of docs/openapi.yaml (openapi.py), which has failed where its two Debian packages are missing. What a
-part prints comes once the part is over. Last comes 'N passed, M failed' over all parts; ends with 1 where one failed.
+newer. Then come the scripts (replays.py), ruffletuff on the messages that wait for no deadline and on the short loads (http.py), some
+kills (kills.py), journals (journals.py) and a short stress (stress.py), some refused growths of memory (growths.py) and the check of
+docs/openapi.yaml (openapi.py), which has failed where its two Debian packages are missing. The other messages, and mds_serve, which
+serves by the same crates, are tried by `make prove` alone. What a part prints comes once the part is over. Last comes
+'N passed, M failed' over all parts; ends with 1 where one failed.
 """
 
 import contextlib
@@ -27,6 +29,8 @@ HERE = os.path.dirname(os.path.abspath(__file__))
 MEMORY = 3 << 30  # bytes for one part, at most
 SCRIPT_PARTS = 3
 GROWTH_SECONDS = 20  # for the growths of a crate's tests
+KILLS = "10"
+STRIDE = "29"  # of a journal's bytes, each so many are changed
 SWEPT = ("mds_core_tests", "mds_server_tests")  # the crates whose tests for want of memory bear a refused growth in their set-up too
 SLOW = "8"  # how many times as long a part waits for a program that isn't proved
 WORD = re.compile(r"^(\d+) passed, (\d+) failed$", re.M)
@@ -110,14 +114,16 @@ def parts(room):
         made.append(Part(name, minutes, needs, call))
         return [made[-1]]
 
-    for name, minutes in (("mds_serve", 3), ("mds_replay", 1.5)):
+    for name, minutes in (("ruffletuff", 4), ("mds_replay", 1.5)):
         program = unproved.proved(name)
         needs = [] if program else add(f"{name} is built unproved", minutes, [], lambda name=name: program_of(name, f"{room}/{name}"))
         built[name], slow[name] = (program or f"{room}/{name}", needs), not program
-    (serve, served), (replay, replayed) = built["mds_serve"], built["mds_replay"]
-    either = slow["mds_serve"] or slow["mds_replay"]
-    stress = ("stress.py", "20", "4", "--serve", serve, "--replay", replay)
-    add("messages", 5, served, lambda: script("http.py", serve, "messages", slow=slow["mds_serve"]))
+    (keep, kept), (replay, replayed) = built["ruffletuff"], built["mds_replay"]
+    slowly = slow["ruffletuff"] or slow["mds_replay"]
+    stress = ("stress.py", "20", "4", "--serve", keep, "--replay", replay)
+    add("messages", 1.5, kept, lambda: script("http.py", keep, "exchanges", slow=slow["ruffletuff"]))
+    add("kills", 1.5, kept + replayed, lambda: script("kills.py", keep, KILLS, "--replay", replay, slow=slowly))
+    add("journals", 1.5, kept + replayed, lambda: script("journals.py", keep, "--replay", replay, "--stride", STRIDE, slow=slowly))
     for part in range(1, SCRIPT_PARTS + 1):
         words = ("replays.py", replay, str(part), str(SCRIPT_PARTS))
         call = lambda words=words: script(*words, slow=slow["mds_replay"])
@@ -128,10 +134,10 @@ def parts(room):
         words = ("growths.py", program, str(GROWTH_SECONDS))
         if name in SWEPT:
             add(f"some growths refused to {name}", GROWTH_SECONDS / 60, needs, lambda words=words: script(*words))
-    add("a short stress", 0.5, served + replayed, lambda: script(*stress, slow=either))
+    add("a short stress", 0.5, kept + replayed, lambda: script(*stress, slow=slowly))
     add("the description of the protocol", 0.1, [], description)
     # Last and with nothing beside them, so that no other part makes them late.
-    add("short loads", 1.5, [*made], lambda: script("http.py", serve, "short-loads", slow=slow["mds_serve"]))
+    add("short loads", 1.5, [*made], lambda: script("http.py", keep, "short-loads", slow=slow["ruffletuff"]))
     return made
 
 

@@ -24,6 +24,8 @@ MESSAGES = {0: b"", 1: b"replay: write fault\n", 2: b"replay: bad configuration\
 BODY_LIMIT = 1_048_576
 LINE_LIMIT = 2_097_152
 FLEET_LIMIT = 200_000
+# The limit of a fleet that is filled: a program that isn't proved takes its time.
+FILLED = FLEET_LIMIT if PATIENCE == 1 else 5_000
 DRAFT_LIMIT = 256
 CATALOGUE_LIMIT = 512
 DEVICES_LISTED = 100
@@ -136,7 +138,7 @@ def a_neighbour_with_5000_vehicles():
 
 def a_fleet_at_its_limit():
     """The largest fleet that may be, or a smaller one before the proof: every vehicle is counted, and one more isn't taken."""
-    limit = FLEET_LIMIT // PATIENCE
+    limit = FILLED
     lines, answers = capped(limit)
     for number in range(limit):
         lines.append(report(FIRST, number))
@@ -552,7 +554,7 @@ def main(program, part=1, parts=1):
     for line in (line for found in tried.values() for line in found):
         print(line)
     if PATIENCE > 1 and a_fleet_at_its_limit.__name__ in tried:
-        print(f"a_fleet_at_its_limit has a limit of {FLEET_LIMIT // PATIENCE}, not of {FLEET_LIMIT} as in make prove")
+        print(f"a_fleet_at_its_limit has a limit of {FILLED}, not of {FLEET_LIMIT} as in make prove")
     failed = sum(bool(found) for found in tried.values())
     print(f"{len(tried) - failed} passed, {failed} failed")
     return 1 if failed else 0

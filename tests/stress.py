@@ -19,7 +19,8 @@ import subprocess
 import sys
 import time
 
-from wire import AUTHOR, PATIENCE, Link, Server, identifier, request
+from kept import serving
+from wire import AUTHOR, PATIENCE, Link, identifier, request
 
 HERE = os.path.dirname(os.path.abspath(__file__))
 SERVE, REPLAY = (os.path.join(HERE, "..", "crates", name, "out", name) for name in ("mds_serve", "mds_replay"))
@@ -166,14 +167,14 @@ def main():
     parser = argparse.ArgumentParser(description=__doc__, formatter_class=argparse.RawDescriptionHelpFormatter)
     parser.add_argument("publications", type=int, nargs="?", default=PUBLICATIONS)
     parser.add_argument("operators", type=int, nargs="?", default=OPERATORS)
-    parser.add_argument("--serve", default=SERVE, help="the built mds_serve")
+    parser.add_argument("--serve", default=SERVE, help="the built mds_serve, or ruffletuff")
     parser.add_argument("--replay", default=REPLAY, help="the built mds_replay")
     options = parser.parse_args()
     publications, operators = options.publications, options.operators
     if not 0 < publications <= MOST_PUBLICATIONS or not 0 < operators <= MOST_OPERATORS:
         parser.error(f"1 to {MOST_PUBLICATIONS} publications, and 1 to {MOST_OPERATORS} operators")
     with contextlib.ExitStack() as stack:
-        server = stack.enter_context(Server(os.path.abspath(options.serve), (configuration(operators) + "\n").encode()))
+        server = stack.enter_context(serving(os.path.abspath(options.serve), given=(configuration(operators) + "\n").encode()))
         dates, seconds, found = overlapped(server.port, publications, operators)
     replay = os.path.abspath(options.replay)
     passed = sum(is_as_replayed(replay, operator, replies, dates, operators) for operator, _, replies in found)

@@ -1,0 +1,165 @@
+"""Times ruffletuff, which keeps what it serves, over loopback: beside mds_serve, which doesn't, and beside SQLite on the same disk.
+
+    journal.py [--program FILE] [--without FILE] [--folder FOLDER] [--rounds N] [--seconds N]
+
+Reports over HTTP by wrk, on 32 and on 256 connections, by turns of both servers in each round; rows of SQLite (bench/commits.c: a
+write-ahead log, synchronous FULL, one row a commit, of as many bytes as a report's record); the 99th percentile of a short list, idle and
+while 32 connections report; the bytes of the journal for a report; and how long a start takes with 200,000 vehicles. The folder is on the
+disk that is timed; without one a temporary one is taken. Each figure is the median of the rounds, with the least and the greatest. It
+needs Debian's wrk, and gcc with libsqlite3-dev for SQLite, which else is left out.
+"""
+
+import argparse
+import contextlib
+import os
+import re
+import shutil
+import subprocess
+import sys
+import tempfile
+import time
+
+import generate
+
+HERE = os.path.dirname(os.path.abspath(__file__))
+sys.path.append(os.path.join(HERE, "..", "tests"))
+
+# This folder's http.py, not the library's package of that name.
+from http import REPORTS, SMALL, Load, districts, line, policies, send, send_many, spread  # noqa: E402
+
+from kept import City  # noqa: E402
+from wire import Server  # noqa: E402
+
+PROGRAM, WITHOUT = (os.path.join(HERE, "..", "crates", it, "out", it) for it in ("ruffletuff", "mds_serve"))
+CONNECTIONS = (32, 256)
+ROUNDS, SECONDS = 3, 5
+REPORTING, READING = generate.token(1), generate.token(0)
+EVENTS, LIST = "/fleet/events", "/policies"
+
+
+def commits(folder, seconds, size):
+    """Commits a second of SQLite, and the bytes of its files for each; None where it can't be built."""
+    program = os.path.join(folder, "commits")
+    words = ["gcc", "-O2", "-o", program, os.path.join(HERE, "commits.c"), "-lsqlite3"]
+    if not os.path.exists(program) and (not shutil.which("gcc") or subprocess.run(words, capture_output=True, check=False).returncode):
+        return None
+    with tempfile.TemporaryDirectory(dir=folder) as room:
+        ran = subprocess.run([program, os.path.join(room, "rows"), str(seconds), str(size)], capture_output=True, text=True, check=True)
+    return [float(it) for it in re.findall(r"[\d.]+", ran.stdout)]
+
+
+class Rounds:
+    """What was measured, by rounds."""
+
+    def __init__(self):
+        self.found = {}
+
+    def add(self, name, value):
+        self.found.setdefault(name, []).append(value)
+        print(f"{name}: {value:.6g}", file=sys.stderr)
+
+    def tell(self, label, name, scale=1, unit="", against=None, must="", aim=""):
+        """A row: a measure, and its ratio to another by rounds."""
+        if name not in self.found:
+            return
+        ratio = ""
+        if against in self.found:
+            ratio = spread([one / other for one, other in zip(self.found[name], self.found[against])], 1, "")
+        line([label, spread(self.found[name], scale, unit), ratio, must, aim])
+
+
+def loads(city, without, folder, script, rounds, seconds):
+    """Reports to both servers, a short list idle and beside reports, and rows of SQLite."""
+    random = generate.Xorshift(generate.SEED)
+    lines = districts(random) + policies(random, SMALL)
+    with city.serve() as keeping, Server(without, (generate.config() + "\n").encode()) as plain:
+        for server in (keeping, plain):
+            with server.link() as link:
+                for it in lines:
+                    send(link, it)
+        for connections in CONNECTIONS:
+            for name, server in (("kept", keeping), ("plain", plain)):
+                before = len(city.bytes())
+                load = Load(server.process.pid, server.port, EVENTS, connections, seconds, REPORTING, script)
+                rounds.add(f"{name} {connections}", load.rate)
+                rounds.add(f"{name} {connections} worst", load.worst)
+                if server is keeping:
+                    rounds.add(f"bytes {connections}", (len(city.bytes()) - before) / max(1, load.rate * seconds))
+        rounds.add("idle", Load(keeping.process.pid, keeping.port, LIST, 32, seconds, READING).worst)
+        rounds.add("busy", beside_reports(keeping, script, seconds))
+    if found := commits(folder, seconds, 250):
+        rounds.add("commits", found[0])
+        rounds.add("bytes of a row", found[1])
+
+
+def beside_reports(server, script, seconds):
+    """The 99th percentile of a short list while 32 connections report."""
+    reporting = ["wrk", "-t1", "-c32", f"-d{seconds + 2}s", "-H", f"authorization: Bearer {REPORTING}", "-s", script]
+    Load.taken += 1
+    environment = os.environ | {"LOAD": str(Load.taken)}
+    address = f"http://127.0.0.1:{server.port}{EVENTS}"
+    with subprocess.Popen([*reporting, address], stdout=subprocess.DEVNULL, env=environment) as other:
+        time.sleep(1)
+        worst = Load(server.process.pid, server.port, LIST, 32, seconds, READING).worst
+        other.wait()
+    return worst
+
+
+def large_start(city, rounds, count):
+    """The seconds of a start with the largest fleet, `count` times, and the bytes of its journal."""
+    with city.serve() as server, server.link() as link:
+        send_many(link, generate.fleet(generate.Xorshift(generate.SEED), generate.MOST_VEHICLES))
+        server.end()
+    for _ in range(count):
+        begun = time.perf_counter()
+        with city.serve():
+            rounds.add("start", time.perf_counter() - begun)
+    rounds.add("journal", len(city.bytes()))
+
+
+def tell(rounds, count):
+    print(f"\nMedians of {count} rounds, with the least and the greatest.\n")
+    line(["Measure", "seen", "ratio", "must", "aim"])
+    print("|---|---|---|---|---|")
+    for connections in CONNECTIONS:
+        label = f"reports a second, {connections} connections"
+        rounds.tell(f"{label}, mds_serve", f"plain {connections}")
+        rounds.tell(f"{label}, ruffletuff, against mds_serve", f"kept {connections}", against=f"plain {connections}")
+        rounds.tell(f"{label}, ruffletuff, against SQLite's commits", f"kept {connections}", against="commits")
+        rounds.tell(f"99th percentile of a report, {connections} connections", f"kept {connections} worst", 1e3, " ms", f"plain {connections} worst")
+        rounds.tell(f"bytes of the journal for a report, {connections} connections", f"bytes {connections}", against="bytes of a row")
+    rounds.tell("commits of SQLite a second, one writer", "commits")
+    rounds.tell("bytes of SQLite's files for a row of 250 bytes", "bytes of a row")
+    rounds.tell("99th percentile of GET of a short list, 32 connections, idle", "idle", 1e3, " ms")
+    rounds.tell("the same while 32 connections report, against idle", "busy", 1e3, " ms", "idle")
+    rounds.tell("a start with 200,000 vehicles, each reported once", "start", 1, " s")
+    rounds.tell("the journal of these", "journal", 1e-6, " MB")
+
+
+def main():
+    parser = argparse.ArgumentParser(description=__doc__, formatter_class=argparse.RawDescriptionHelpFormatter)
+    parser.add_argument("--program", default=PROGRAM, help="the built ruffletuff")
+    parser.add_argument("--without", default=WITHOUT, help="the built mds_serve")
+    parser.add_argument("--folder", help="a folder on the disk that is timed")
+    parser.add_argument("--rounds", type=int, default=ROUNDS)
+    parser.add_argument("--seconds", type=int, default=SECONDS, help="how long each measure takes")
+    options = parser.parse_args()
+    if not shutil.which("wrk"):
+        sys.exit("the benchmark needs wrk")
+    program, without, rounds = os.path.abspath(options.program), os.path.abspath(options.without), Rounds()
+    given = generate.config().encode()
+    with tempfile.TemporaryDirectory(dir=options.folder) as folder:
+        script = os.path.join(folder, "reports.lua")
+        with open(script, "w", encoding="ascii") as text:
+            text.write(REPORTS % generate.START)
+        for number in range(options.rounds):
+            with tempfile.TemporaryDirectory(dir=folder) as room:
+                loads(City(program, room, given), without, folder, script, rounds, options.seconds)
+            print("load of the machine after round %d: %.2f" % (number + 1, os.getloadavg()[0]), file=sys.stderr)
+        with tempfile.TemporaryDirectory(dir=folder) as room, contextlib.suppress(OSError):
+            large_start(City(program, room, given), rounds, options.rounds)
+    tell(rounds, options.rounds)
+
+
+if __name__ == "__main__":
+    main()

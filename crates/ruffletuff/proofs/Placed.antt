@@ -1,0 +1,13 @@
+-- The room and desks of a server that is started again are those of its configuration.
+use Rattle.std.proofs.Common.{◌≡◌, ℕ, Some, slice_get}
+use Rattle.mds_request.specs.Configuration.{Configuration}
+use Rattle.mds_desk.specs.Desk.{DeskState}
+use Rattle.mds_hall.specs.Turn.{AreDesksOf, IsDeskAt}
+use Rattle.mds_recovery.specs.Laws.{IsServerOf}
+use Rattle.mds_recovery.specs.Recovery.{Server}
+
+pub desks_of_server : (configuration : Configuration) (s : Server) → IsServerOf configuration s → AreDesksOf configuration s.desks
+desks_of_server configuration s is = record {
+  long = is.long;
+  each = λ place d at. let both = is.desks place d at in record { configured = both.0; placed = both.1 };
+}

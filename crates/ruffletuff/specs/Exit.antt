@@ -1,0 +1,68 @@
+-- The exit statuses, and what is said first of each end.
+use Rattle.std.specs.Prelude.{ℕ, ◌==◌, List, codes, if◌then◌else◌, Result, Ok, Err}
+use Rattle.mds_folder.specs.Exit as folder
+use Rattle.mds_folder.specs.declared.fault.FolderFault.{FolderFault}
+use Rattle.mds_folder.specs.declared.fault.FolderFault.TheVariants as faults
+use Rattle.mds_recovery.specs.declared.fault.Cause.{Cause}
+use Rattle.mds_recovery.specs.declared.fault.Cause.TheVariants as causes
+use Rattle.mds_recovery.specs.declared.fault.StartFault.{StartFault}
+use Rattle.mds_recovery.specs.declared.fault.StartFault.TheVariants.{Opening, Stopped}
+use Rattle.ruffletuff.specs.declared.ending.Ending.{Ending}
+use Rattle.ruffletuff.specs.declared.ending.Ending.TheVariants.{Usage, Misconfigured, NoMemory, NoListener, NoControl, NotStopped, NotPrinted, Folder, Refused, NotKept}
+
+-- an entry that isn't answered again: 503 is want of memory, and any other is one of another configuration
+abbrev pub cause_status : Cause → ℕ
+cause_status causes.NoDesk = 6
+cause_status (causes.Refused status) = if status == 503 then 3 else 6
+
+-- 1 for what can't be listened to or written to, 2 for wrong arguments or a wrong configuration, 3 for want of memory, 4 to 6 for a folder,
+-- 7 where the journal couldn't be written
+abbrev pub exit_status : Ending → ℕ
+exit_status NoListener = 1
+exit_status NoControl = 1
+exit_status NotStopped = 1
+exit_status NotPrinted = 1
+exit_status Usage = 2
+exit_status (Misconfigured detail) = 2
+exit_status NoMemory = 3
+exit_status (Folder fault) = folder.exit_status fault
+exit_status (Refused fault) = cause_status fault.cause
+exit_status NotKept = 7
+
+abbrev pub status_of : Result (Unit {0}) Ending → ℕ
+status_of (Ok done) = 0
+status_of (Err ending) = exit_status ending
+
+abbrev pub out_of_memory : List ℕ
+out_of_memory = codes "ruffletuff: memory ran out"
+
+abbrev pub does_not_fit : List ℕ
+does_not_fit = codes "ruffletuff: the configuration doesn't fit the journal"
+
+abbrev pub cause_message : Cause → List ℕ
+cause_message causes.NoDesk = does_not_fit
+cause_message (causes.Refused status) = if status == 503 then out_of_memory else does_not_fit
+
+abbrev pub folder_message : FolderFault → List ℕ
+folder_message faults.NoMemory = out_of_memory
+folder_message faults.Unusable = codes "ruffletuff: the folder can't be used"
+folder_message faults.Locked = codes "ruffletuff: another program has the folder"
+folder_message (faults.Damaged damage) = codes "ruffletuff: the journal is damaged, or of another version"
+folder_message (faults.Unfitting unfit) = does_not_fit
+
+abbrev pub message_of : Ending → List ℕ
+message_of Usage = codes "ruffletuff: the arguments are wrong"
+message_of (Misconfigured detail) = codes "ruffletuff: the configuration is wrong"
+message_of NoMemory = out_of_memory
+message_of NoListener = codes "ruffletuff: nothing can be listened to"
+message_of NoControl = codes "ruffletuff: nothing can be listened to for control"
+message_of NotStopped = codes "ruffletuff: no server says that it stops"
+message_of NotPrinted = codes "ruffletuff: standard output can't be written"
+message_of (Folder fault) = folder_message fault
+message_of (Refused fault) = cause_message fault.cause
+message_of NotKept = codes "ruffletuff: the journal couldn't be written any more"
+
+-- why a program ends whose server isn't started again
+abbrev pub ending_of : StartFault → Ending
+ending_of (Opening fault) = NoMemory
+ending_of (Stopped fault) = Refused fault

@@ -1,0 +1,6 @@
+pub mod Ends
+pub mod Exit
+pub mod Progress
+pub mod Script
+pub mod Starting
+pub mod Words

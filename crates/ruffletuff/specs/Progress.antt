@@ -1,0 +1,7 @@
+-- When it is said how far the journal is answered again.
+use Rattle.std.specs.Prelude.{ℕ, ◌%◌, ◌==◌, Bool}
+use Rattle.ruffletuff.specs.declared.progress.TheConstants.{STEP}
+
+-- each so many entries
+abbrev pub is_told : ℕ → Bool
+is_told entries = entries % STEP == 0

@@ -1,0 +1,36 @@
+-- The file, folder or address at which a fault is.
+use Rattle.std.specs.Prelude.{ℕ, List, Option, Some, None}
+use Rattle.mds_command.specs.Asked.{Request, serve, check, audit, stop}
+use Rattle.ruffletuff.specs.declared.ending.Ending.{Ending}
+use Rattle.ruffletuff.specs.declared.ending.Ending.TheVariants.{Misconfigured, NoListener, NoControl, NotStopped, Folder, Refused, NotKept}
+
+abbrev pub config_of : Request → Option (List ℕ)
+config_of (serve config state listen control dropped) = Some config
+config_of (audit folder config until operator) = Some config
+config_of asked = None
+
+abbrev pub listener_of : Request → Option (List ℕ)
+listener_of (serve config state listen control dropped) = Some listen
+listener_of asked = None
+
+-- the address of the control port, to serve it or to stop its server
+abbrev pub control_of : Request → Option (List ℕ)
+control_of (serve config state listen control dropped) = control
+control_of (stop address) = Some address
+control_of asked = None
+
+abbrev pub folder_of : Request → Option (List ℕ)
+folder_of (serve config state listen control dropped) = Some state
+folder_of (check folder) = Some folder
+folder_of (audit folder config until operator) = Some folder
+folder_of asked = None
+
+abbrev pub place_in : Request → Ending → Option (List ℕ)
+place_in asked (Misconfigured detail) = config_of asked
+place_in asked NoListener = listener_of asked
+place_in asked NoControl = control_of asked
+place_in asked NotStopped = control_of asked
+place_in asked (Folder fault) = folder_of asked
+place_in asked (Refused fault) = folder_of asked
+place_in asked NotKept = folder_of asked
+place_in asked ending = None

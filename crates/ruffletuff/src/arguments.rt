@@ -1,0 +1,25 @@
+//! The words behind the program's name.
+
+use crate::ending::Ending;
+use std::alloc::AllocGlobal;
+use std::env;
+use std::env::Env;
+
+/// The words behind the program's name.
+///
+/// # Errors
+///
+/// `Usage` where they can't be read, `NoMemory`.
+pub fn read_words<R: Env + AllocGlobal>(rt: &R) -> Result<Vec<String>, Ending> {
+    let Ok(mut all) = env::args(rt) else {
+        return Err(Ending::Usage);
+    };
+    let _program = all.next();
+    let mut words = Vec::new(rt.alloc());
+    for word in all {
+        if words.push(word).is_err() {
+            return Err(Ending::NoMemory);
+        }
+    }
+    Ok(words)
+}

@@ -1,0 +1,174 @@
+//! A folder's journal as a script, which mds_replay answers.
+ghost use Rattle.std.specs.Prelude.{◌≡◌, ◌++◌, ◌∷◌, [], ℕ, List, map, IfOk, OnOk};
+ghost use Rattle.std.specs.Io.KnownBytes.{Appends};
+ghost use Rattle.mds_entries.specs.Entries.{entry_of};
+ghost use Rattle.mds_folder.specs.Script.{blanked};
+ghost use Rattle.mds_request.specs.Configuration.{configuration};
+ghost use Rattle.ruffletuff.specs.Script.{IsLineOf};
+ghost use Rattle.ruffletuff.specs.Starting.{behind_head};
+
+use crate::checking::intact;
+use crate::configuration::{configuration_in, configuration_text};
+use crate::ending::Ending;
+use mds_command::Audit;
+use mds_entries::{Asker, Entry, Unfit, request_by};
+use mds_folder::{
+    Extract, FolderFault, entries_in, journal_bytes, push_blanked, request_line, surveyed, told,
+};
+use mds_request::Config;
+use std::alloc::{AllocError, AllocGlobal, Global};
+use std::fs::{File, Files};
+use std::io::{self, BufWriter, Print, Write};
+
+/// Writes bytes.
+///
+/// # Errors
+///
+/// `NotPrinted`.
+fn put<W: Write>(out: &mut W, bytes: &[u8]) -> Result<(), Ending>
+    ensures { OnOk result (Appends (W.contents out.old) (W.contents out.new) bytes.now) }
+{
+    match out.write_all(bytes) {
+        Ok(()) => Ok(()),
+        Err(_) => Err(Ending::NotPrinted),
+    }
+}
+
+/// The configuration's line, with its end.
+///
+/// # Errors
+///
+/// Memory ran out.
+fn first_line(alloc: Global, text: &[u8]) -> Result<Vec<u8>, AllocError>
+    ensures { IfOk result (λ line. line.items ≡ blanked text.now ++ 10 ∷ []) }
+{
+    let mut line = Vec::new(alloc);
+    push_blanked(&mut line, text)?;
+    line.push(b'\n')?;
+    Ok(line)
+}
+
+/// Why an entry is no request of a configuration: its operator isn't there. The author always is.
+fn without_token(asker: Asker) -> Ending {
+    match asker {
+        Asker::Author => Ending::NoMemory,
+        Asker::Operator(id) => Ending::Folder(FolderFault::Unfitting(Unfit::Missing(id))),
+    }
+}
+
+/// The line of an entry, as the request that it is with the access token of a configuration.
+///
+/// # Errors
+///
+/// `Folder` where its operator isn't in the configuration, `NoMemory`.
+fn line_of(alloc: Global, config: &Config, entry: &Entry<'_>) -> Result<Vec<u8>, Ending>
+    ensures { IfOk result (λ line. IsLineOf (configuration config.now) (entry_of entry.now) line.items) }
+{
+    match request_by(config, entry) {
+        Some(request) => match request_line(alloc, &request) {
+            Ok(line) => Ok(line),
+            Err(_) => Err(Ending::NoMemory),
+        },
+        None => Err(without_token(entry.asker)),
+    }
+}
+
+/// Writes the line of an entry.
+///
+/// # Errors
+///
+/// As `line_of`, and `NotPrinted`.
+fn print_line<W: Write>(
+    alloc: Global,
+    out: &mut W,
+    config: &Config,
+    entry: &Entry<'_>,
+) -> Result<(), Ending>
+    ensures { OnOk result ((line : List ℕ) × IsLineOf (configuration config.now) (entry_of entry.now) line
+        × Appends (W.contents out.old) (W.contents out.new) line) }
+{
+    let line = line_of(alloc, config, entry)?;
+    put(out, &line)
+}
+
+/// Writes the line of each entry.
+///
+/// # Errors
+///
+/// As `line_of`, and `NotPrinted`.
+fn print_lines<W: Write>(
+    alloc: Global,
+    out: &mut W,
+    config: &Config,
+    entries: &[Entry<'_>],
+) -> Result<(), Ending> {
+    for entry in entries {
+        print_line(alloc, out, config, entry)?;
+    }
+    Ok(())
+}
+
+/// The texts behind a journal's head, which are those of its entries.
+pub fn behind_head<'a>(texts: &'a [Vec<u8>]) -> &'a [Vec<u8>]
+    ensures { map (λ t. t.items) result.now ≡ behind_head (map (λ t. t.items) texts.now) }
+{
+    match texts {
+        [] => texts,
+        [_, entries @ ..] => entries,
+    }
+}
+
+/// Writes the script of a configuration's text and a journal's texts.
+///
+/// # Errors
+///
+/// `Misconfigured`; `Folder` where a text is no entry, or an entry's operator isn't in the configuration; `NotPrinted`,
+/// `NoMemory`. What was written by then is a front of the script.
+fn print_script<W: Write>(
+    alloc: Global,
+    out: &mut W,
+    text: &[u8],
+    texts: &[Vec<u8>],
+    extract: &Extract,
+) -> Result<(), Ending> {
+    let config = configuration_in(alloc, text)?;
+    let all = match entries_in(alloc, 1, behind_head(texts)) {
+        Ok(all) => all,
+        Err(fault) => return Err(Ending::Folder(fault)),
+    };
+    let entries = match told(alloc, &all, extract) {
+        Ok(entries) => entries,
+        Err(_) => return Err(Ending::NoMemory),
+    };
+    put(out, &first_line(alloc, text)?)?;
+    print_lines(alloc, out, &config, &entries)
+}
+
+/// Prints the journal of a folder as a script: the configuration on one line, then each entry that is asked for as a
+/// request. Nothing is locked or changed.
+///
+/// # Errors
+///
+/// `Misconfigured`, `Folder`, `NotPrinted` or `NoMemory`. What was printed by then is a front of the script.
+pub fn audit<R: Files<File = File> + Print + AllocGlobal>(
+    rt: &R,
+    asked: &Audit<'_>,
+) -> Result<(), Ending> {
+    let alloc = rt.alloc();
+    let text = configuration_text(rt, alloc, asked.config)?;
+    let bytes = journal_bytes(rt, alloc, asked.folder)?;
+    let survey = surveyed(alloc, &bytes)?;
+    intact(survey.ending)?;
+    let extract = Extract {
+        until: asked.until,
+        operator: asked.operator,
+    };
+    let Ok(mut out) = BufWriter::new(alloc, io::writer(rt)) else {
+        return Err(Ending::NoMemory);
+    };
+    print_script(alloc, &mut out, &text, &survey.texts, &extract)?;
+    match out.flush() {
+        Ok(()) => Ok(()),
+        Err(_) => Err(Ending::NotPrinted),
+    }
+}

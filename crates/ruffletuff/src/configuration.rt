@@ -1,0 +1,70 @@
+//! The configuration, from its file.
+ghost use Rattle.std.specs.Prelude.{◌≡◌, ◌≤◌, length, IfOk, Ok};
+ghost use Rattle.mds_lines.specs.declared.gather.TheConstants.{LINE_LIMIT};
+ghost use Rattle.mds_request.specs.Configuration.{configuration, read_configuration};
+
+use crate::ending::Ending;
+use mds_diagnosis::Detail;
+use mds_lines::LINE_LIMIT;
+use mds_request::{Config, ConfigFault};
+use mds_text::TextFault;
+use std::alloc::Global;
+use std::fs::{File, Files};
+use std::io::{ErrorKind, Read};
+
+/// The text of a source, as a configuration may be long.
+///
+/// # Errors
+///
+/// `Misconfigured` where it can't be read or is longer than a line of a script may be, `NoMemory`.
+fn text_in<S: Read + Drop>(alloc: Global, source: S) -> Result<Vec<u8>, Ending>
+    ensures { IfOk result (λ text. length text.items ≤ LINE_LIMIT) }
+{
+    let mut text = Vec::new(alloc);
+    let mut front = source.take(LINE_LIMIT as u64 + 1);
+    if let Err(error) = front.read_to_end(&mut text) {
+        return Err(match error.kind() {
+            ErrorKind::OutOfMemory => Ending::NoMemory,
+            _ => Ending::Misconfigured(Detail::Unreadable),
+        });
+    }
+    if text.len() > LINE_LIMIT {
+        return Err(Ending::Misconfigured(Detail::TooLong));
+    }
+    Ok(text)
+}
+
+/// The text of a configuration's file.
+///
+/// # Errors
+///
+/// `Misconfigured` where it can't be read or is longer than a line of a script may be, `NoMemory`.
+pub fn configuration_text<R: Files<File = File>>(
+    rt: &R,
+    alloc: Global,
+    path: &str,
+) -> Result<Vec<u8>, Ending>
+    ensures { IfOk result (λ text. length text.items ≤ LINE_LIMIT) }
+{
+    match File::open(rt, path) {
+        Ok(file) => text_in(alloc, file),
+        Err(_) => Err(Ending::Misconfigured(Detail::Unreadable)),
+    }
+}
+
+/// The configuration that a text is. Line ends in it are no matter.
+///
+/// # Errors
+///
+/// `Misconfigured` with what is wrong, where it is none; `NoMemory`.
+pub fn configuration_in(alloc: Global, text: &[u8]) -> Result<Config, Ending>
+    ensures { IfOk result (λ config. read_configuration text.now ≡ Ok (configuration config)) }
+{
+    match Config::read(alloc, text) {
+        Ok(config) => Ok(config),
+        Err(ConfigFault::NoMemory | ConfigFault::Text(TextFault::NoMemory)) => {
+            Err(Ending::NoMemory)
+        }
+        Err(_) => Err(Ending::Misconfigured(Detail::of(alloc, text))),
+    }
+}

@@ -1,0 +1,146 @@
+//! A server with a control port.
+
+use crate::board::Board;
+use crate::ending::Ending;
+use crate::errand::{Errand, beside};
+use crate::opening::serve_city;
+use mds_command::Service;
+use mds_control::{Stop, serve_control};
+use mds_doors::Closing;
+use mds_request::Config;
+use std::alloc::AllocGlobal;
+use std::fs::{File, Files};
+use std::io::{Eprint, Print};
+use std::net::{Net, SocketAddr, TcpListener, TcpStream};
+use std::random::RandomSource;
+use std::sync::Wait;
+use std::thread::Threads;
+use std::time::Clock;
+
+/// Ends the server of a closing.
+#[derive(Drop)]
+struct Stopping<'a> {
+    closing: &'a Closing,
+}
+
+impl Stop for Stopping<'_> {
+    fn stop(&self) {
+        self.closing.close();
+    }
+}
+
+/// Answers at the control port until the server has ended.
+#[derive(Drop)]
+struct Controlling<'a, R> {
+    rt: R,
+    listener: TcpListener,
+    board: Board<'a>,
+}
+
+impl<R: Clock + AllocGlobal + Drop> Errand for Controlling<'_, R> {
+    type Outcome = ();
+
+    fn run(self) {
+        let board = self.board;
+        let stopping = Stopping {
+            closing: board.closing,
+        };
+        serve_control(
+            &self.rt,
+            &self.listener,
+            board.control,
+            board.counters,
+            &stopping,
+        );
+    }
+}
+
+/// A city that is served beside its control port.
+#[derive(Drop)]
+struct Controlled<'a> {
+    service: &'a Service<'a>,
+    config: Config,
+    board: Board<'a>,
+    /// The control port's.
+    address: SocketAddr,
+}
+
+/// Serves a city, and ends the control port behind it.
+///
+/// # Errors
+///
+/// As the server ends.
+fn serve_and_end<R>(rt: &R, controlled: Controlled<'_>) -> Result<(), Ending>
+where
+    R: Wait
+        + Threads
+        + Clock
+        + RandomSource
+        + AllocGlobal
+        + Net
+        + Files<File = File>
+        + Print
+        + Eprint
+        + Sync
+        + Send
+        + Copy
+        + Drop,
+{
+    let Controlled {
+        service,
+        config,
+        board,
+        address,
+    } = controlled;
+    let served = serve_city(rt, service, config, board);
+    board.control.end(rt, address);
+    served
+}
+
+/// Serves a city with a control port at this address, from before its folder is opened until the server has ended.
+///
+/// # Errors
+///
+/// `NoControl` where nothing can be listened to there, or as the server ends.
+pub fn serve_controlled<R>(
+    rt: &R,
+    service: &Service<'_>,
+    address: &str,
+    config: Config,
+    board: Board<'_>,
+) -> Result<(), Ending>
+where
+    R: Wait
+        + Threads
+        + Clock
+        + RandomSource
+        + AllocGlobal
+        + Net<Listener = TcpListener, Stream = TcpStream>
+        + Files<File = File>
+        + Print
+        + Eprint
+        + Sync
+        + Send
+        + Copy
+        + Drop,
+{
+    let Ok(listener) = TcpListener::bind(rt, address) else {
+        return Err(Ending::NoControl);
+    };
+    let Ok(address) = listener.local_addr() else {
+        return Err(Ending::NoControl);
+    };
+    let controlling = Controlling {
+        rt: *rt,
+        listener,
+        board,
+    };
+    let controlled = Controlled {
+        service,
+        config,
+        board,
+        address,
+    };
+    let ((), served) = beside(rt, controlling, move || serve_and_end(rt, controlled));
+    served
+}

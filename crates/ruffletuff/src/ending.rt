@@ -1,0 +1,150 @@
+//! Why the program ends other than as it was asked to.
+ghost use Rattle.std.specs.Prelude.{◌≡◌};
+ghost use Rattle.ruffletuff.specs.Exit.{cause_status, exit_status, cause_message, folder_message, message_of};
+
+use mds_diagnosis::Detail;
+use mds_folder::FolderFault;
+use mds_recovery::{Cause, Fault, StartFault};
+use mds_snapshot::OpenFault;
+use std::alloc::AllocError;
+
+/// Why the program ends.
+#[derive(Clone, Copy)]
+pub enum Ending {
+    /// The arguments ask for nothing that the program does.
+    Usage,
+    /// The configuration's file is no configuration.
+    Misconfigured(Detail),
+    /// Memory ran out.
+    NoMemory,
+    /// Nothing can be listened to at the server's address, or threads or the waiting for events couldn't be had.
+    NoListener,
+    /// Nothing can be listened to at the control port's address.
+    NoControl,
+    /// No server with a control port at this address says that it stops.
+    NotStopped,
+    /// Standard output couldn't be written.
+    NotPrinted,
+    /// The city's folder isn't opened.
+    Folder(FolderFault),
+    /// An entry of the journal isn't answered again.
+    Refused(Fault),
+    /// The journal couldn't be written any more.
+    NotKept,
+}
+
+/// The exit status where an entry isn't answered again.
+fn cause_status(cause: Cause) -> u8
+    ensures { result ≡ cause_status cause }
+{
+    match cause {
+        Cause::Refused(503) => 3,
+        Cause::Refused(_) | Cause::NoDesk => 6,
+    }
+}
+
+/// What is said where an entry isn't answered again.
+fn cause_message(cause: Cause) -> &'static str
+    ensures { result.now ≡ cause_message cause }
+{
+    match cause {
+        Cause::Refused(503) => "ruffletuff: memory ran out",
+        Cause::Refused(_) | Cause::NoDesk => {
+            "ruffletuff: the configuration doesn't fit the journal"
+        }
+    }
+}
+
+/// What is said of a folder that isn't opened.
+fn folder_message(fault: &FolderFault) -> &'static str
+    ensures { result.now ≡ folder_message fault.now }
+{
+    match fault {
+        FolderFault::NoMemory => "ruffletuff: memory ran out",
+        FolderFault::Unusable => "ruffletuff: the folder can't be used",
+        FolderFault::Locked => "ruffletuff: another program has the folder",
+        FolderFault::Damaged(_) => "ruffletuff: the journal is damaged, or of another version",
+        FolderFault::Unfitting(_) => "ruffletuff: the configuration doesn't fit the journal",
+    }
+}
+
+impl Ending {
+    /// The program's exit status.
+    pub fn status(self) -> u8
+        ensures { result ≡ exit_status self }
+    {
+        match self {
+            Ending::NoListener | Ending::NoControl | Ending::NotStopped | Ending::NotPrinted => 1,
+            Ending::Usage | Ending::Misconfigured(_) => 2,
+            Ending::NoMemory => 3,
+            Ending::Folder(fault) => fault.status(),
+            Ending::Refused(fault) => cause_status(fault.cause),
+            Ending::NotKept => 7,
+        }
+    }
+
+    /// What the program says of it first on standard error.
+    pub fn message(&self) -> &'static str
+        ensures { result.now ≡ message_of self.now }
+    {
+        match self {
+            Ending::Usage => "ruffletuff: the arguments are wrong",
+            Ending::Misconfigured(_) => "ruffletuff: the configuration is wrong",
+            Ending::NoMemory => "ruffletuff: memory ran out",
+            Ending::NoListener => "ruffletuff: nothing can be listened to",
+            Ending::NoControl => "ruffletuff: nothing can be listened to for control",
+            Ending::NotStopped => "ruffletuff: no server says that it stops",
+            Ending::NotPrinted => "ruffletuff: standard output can't be written",
+            Ending::Folder(fault) => folder_message(fault),
+            Ending::Refused(fault) => cause_message(fault.cause),
+            Ending::NotKept => "ruffletuff: the journal couldn't be written any more",
+        }
+    }
+}
+
+impl From<AllocError> for Ending {
+    ghost use Rattle.std.specs.Prelude.{◌≡◌};
+    ghost use Rattle.ruffletuff.specs.declared.ending.Ending.TheVariants.{NoMemory};
+
+    ghost from_gives = { λ _ e. e ≡ NoMemory };
+
+    fn from(_: AllocError) -> Ending {
+        Ending::NoMemory
+    }
+}
+
+impl From<OpenFault> for Ending {
+    ghost use Rattle.std.specs.Prelude.{◌≡◌};
+    ghost use Rattle.ruffletuff.specs.declared.ending.Ending.TheVariants.{NoMemory};
+
+    ghost from_gives = { λ _ e. e ≡ NoMemory };
+
+    fn from(_: OpenFault) -> Ending {
+        Ending::NoMemory
+    }
+}
+
+impl From<FolderFault> for Ending {
+    ghost use Rattle.std.specs.Prelude.{◌≡◌};
+    ghost use Rattle.ruffletuff.specs.declared.ending.Ending.TheVariants.{Folder};
+
+    ghost from_gives = { λ fault e. e ≡ Folder fault };
+
+    fn from(fault: FolderFault) -> Ending {
+        Ending::Folder(fault)
+    }
+}
+
+impl From<StartFault> for Ending {
+    ghost use Rattle.std.specs.Prelude.{◌≡◌};
+    ghost use Rattle.ruffletuff.specs.Exit.{ending_of};
+
+    ghost from_gives = { λ fault e. e ≡ ending_of fault };
+
+    fn from(fault: StartFault) -> Ending {
+        match fault {
+            StartFault::Opening(_) => Ending::NoMemory,
+            StartFault::Stopped(fault) => Ending::Refused(fault),
+        }
+    }
+}

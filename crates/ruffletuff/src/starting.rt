@@ -1,0 +1,109 @@
+//! A server's room and desks, from its log.
+ghost use Rattle.std.specs.Prelude.{◌≡◌, map, IfOk, option_to_list};
+ghost use Rattle.mds_request.specs.Configuration.{configuration};
+ghost use Rattle.mds_snapshot.specs.Opening.{book_of};
+ghost use Rattle.mds_entries.specs.Entries.{entry_of};
+ghost use Rattle.mds_recovery.specs.Laws.{IsStartedAgain};
+ghost use Rattle.mds_recovery.specs.Recovery.{server_of};
+ghost use Rattle.ruffletuff.specs.Starting.{HasHead, IsStartedFrom};
+
+use crate::ending::Ending;
+use crate::progress::Told;
+use mds_desk::{AuthorRoom, Desk};
+use mds_entries::Entry;
+use mds_folder::{Damage, FolderFault, entries_in, suits, without};
+use mds_recovery::start_again;
+use mds_request::Config;
+use mds_snapshot::{Blank, Naming};
+use mds_text::Id;
+use std::alloc::{AllocError, AllocGlobal, Global};
+use std::io::Eprint;
+use std::sync::Wait;
+
+/// The operators that are left out: the one that is named, or none.
+pub fn left_out(alloc: Global, dropped: Option<Id>) -> Result<Vec<Id>, AllocError>
+    ensures { IfOk result (λ ids. ids.items ≡ option_to_list dropped) }
+{
+    let mut ids = Vec::new(alloc);
+    if let Some(id) = dropped {
+        ids.push(id)?;
+    }
+    Ok(ids)
+}
+
+/// The texts of a journal's entries, behind its head, where a server may go on from it with this configuration.
+///
+/// # Errors
+///
+/// `Folder` where the first text is no head of a known version or the configuration isn't one for it; `NoMemory`.
+fn fitting_texts<'a>(
+    alloc: Global,
+    config: &Config,
+    texts: &'a [Vec<u8>],
+    dropped: &[Id],
+) -> Result<&'a [Vec<u8>], Ending>
+    ensures { IfOk result (λ rest. HasHead (configuration config.now) dropped.now (map (λ t. t.items) texts.now) (map (λ t. t.items) rest.now)) }
+{
+    let Some((head, rest)) = texts.split_first() else {
+        return Err(Ending::Folder(FolderFault::Damaged(Damage::NoHead)));
+    };
+    match suits(alloc, config, head, dropped) {
+        Ok(()) => Ok(rest),
+        Err(fault) => Err(Ending::Folder(fault)),
+    }
+}
+
+/// The author's room and the desks, in the configuration's order, as the server left them that wrote a journal of these texts:
+/// each of its entries is answered again, but for those of the operators that are left out. K names the opening.
+///
+/// What was told before and what is done from here on are what one server did.
+///
+/// # Errors
+///
+/// `Folder` where the texts aren't a journal's of this configuration; `Refused` at the first entry that isn't answered with
+/// success; `NoMemory`.
+pub fn started<K: Naming, R: Wait + Eprint + AllocGlobal + Copy>(
+    rt: &R,
+    texts: &[Vec<u8>],
+    config: Config,
+    blank: Blank,
+    dropped: &[Id],
+) -> Result<(AuthorRoom<K>, Vec<Desk<K>>), Ending>
+    requires book { book_of blank ≡ K.book }
+    ensures { IfOk result (λ r. IsStartedFrom (configuration config) dropped.now (map (λ t. t.items) texts.now) (server_of r.0 r.1.items)) }
+{
+    let rest = match fitting_texts(rt.alloc(), &config, texts, dropped) {
+        Ok(rest) => rest,
+        Err(fault) => return Err(fault),
+    };
+    let all = match entries_in(rt.alloc(), 1, rest) {
+        Ok(all) => all,
+        Err(fault) => return Err(Ending::Folder(fault)),
+    };
+    let entries = match without(rt.alloc(), &all, dropped) {
+        Ok(entries) => entries,
+        Err(_) => return Err(Ending::NoMemory),
+    };
+    answered(rt, config, blank, &entries)
+}
+
+/// The author's room and the desks that answer these entries again.
+///
+/// # Errors
+///
+/// `Refused` at the first that isn't answered with success, `NoMemory`.
+fn answered<K: Naming, R: Wait + Eprint + AllocGlobal + Copy>(
+    rt: &R,
+    config: Config,
+    blank: Blank,
+    entries: &[Entry<'_>],
+) -> Result<(AuthorRoom<K>, Vec<Desk<K>>), Ending>
+    requires book { book_of blank ≡ K.book }
+    ensures { IfOk result (λ r. IsStartedAgain (configuration config) (map entry_of entries.now) (server_of r.0 r.1.items)) }
+{
+    let mut progress = Told(*rt);
+    match start_again::<K, R, Told<R>>(rt, rt.alloc(), config, blank, entries, &mut progress) {
+        Ok(started) => Ok(started),
+        Err(fault) => Err(Ending::from(fault)),
+    }
+}

@@ -1,0 +1,129 @@
+//! What is said on standard error after a fault: what, where, and what is wrong.
+ghost use Rattle.std.specs.Prelude.{◌≡◌, option_map};
+ghost use Rattle.mds_command.specs.Asked.{asked_view};
+ghost use Rattle.ruffletuff.specs.Words.{config_of, listener_of, control_of, folder_of, place_in};
+
+use crate::ending::Ending;
+use mds_command::{Asked, USAGE};
+use mds_entries::Unfit;
+use mds_folder::FolderFault;
+use mds_recovery::{Cause, Fault};
+use std::alloc::AllocGlobal;
+use std::io::Eprint;
+
+/// The file of the configuration.
+fn config_of<'a>(asked: &Asked<'a>) -> Option<&'a str>
+    ensures { option_map (λ place. place.now) result ≡ config_of (asked_view asked.now) }
+{
+    match asked {
+        Asked::Serve(service) => Some(service.config),
+        Asked::Audit(audit) => Some(audit.config),
+        _ => None,
+    }
+}
+
+/// Where is listened.
+fn listener_of<'a>(asked: &Asked<'a>) -> Option<&'a str>
+    ensures { option_map (λ place. place.now) result ≡ listener_of (asked_view asked.now) }
+{
+    match asked {
+        Asked::Serve(service) => Some(service.listen),
+        _ => None,
+    }
+}
+
+/// The address of the control port.
+fn control_of<'a>(asked: &Asked<'a>) -> Option<&'a str>
+    ensures { option_map (λ place. place.now) result ≡ control_of (asked_view asked.now) }
+{
+    match asked {
+        Asked::Serve(service) => service.control,
+        Asked::Stop(address) => Some(*address),
+        _ => None,
+    }
+}
+
+/// The city's folder.
+fn folder_of<'a>(asked: &Asked<'a>) -> Option<&'a str>
+    ensures { option_map (λ place. place.now) result ≡ folder_of (asked_view asked.now) }
+{
+    match asked {
+        Asked::Serve(service) => Some(service.state),
+        Asked::Check(folder) => Some(*folder),
+        Asked::Audit(audit) => Some(audit.folder),
+        _ => None,
+    }
+}
+
+/// The file, folder or address at which the fault is.
+fn place_in<'a>(asked: &Asked<'a>, ending: &Ending) -> Option<&'a str>
+    ensures { option_map (λ place. place.now) result ≡ place_in (asked_view asked.now) ending.now }
+{
+    match ending {
+        Ending::Misconfigured(_) => config_of(asked),
+        Ending::NoListener => listener_of(asked),
+        Ending::NoControl | Ending::NotStopped => control_of(asked),
+        Ending::Folder(_) | Ending::Refused(_) | Ending::NotKept => folder_of(asked),
+        Ending::Usage | Ending::NoMemory | Ending::NotPrinted => None,
+    }
+}
+
+/// Says what went wrong, and where.
+pub fn tell<R: Eprint + AllocGlobal>(rt: &R, asked: &Asked<'_>, ending: &Ending) {
+    let message = ending.message();
+    let _ = match place_in(asked, ending) {
+        Some(place) => eprintln!(rt; "{message}: {place}"),
+        None => eprintln!(rt; "{message}"),
+    };
+    explain(rt, ending);
+}
+
+/// Says that the arguments are wrong, and how the program is called.
+pub fn tell_usage<R: Eprint>(rt: &R, ending: &Ending) {
+    let message = ending.message();
+    let _ = eprintln!(rt; "{message}");
+    let _ = eprintln!(rt; "{USAGE}");
+}
+
+/// Says more of a fault, where there is more to say.
+fn explain<R: Eprint + AllocGlobal>(rt: &R, ending: &Ending) {
+    match ending {
+        Ending::Misconfigured(detail) => {
+            let _ = eprintln!(rt; "{detail}");
+        }
+        Ending::Folder(FolderFault::Damaged(damage)) => {
+            let _ = eprintln!(rt; "{damage}");
+        }
+        Ending::Folder(FolderFault::Unfitting(unfit)) => explain_unfit(rt, unfit),
+        Ending::Refused(fault) => explain_refusal(rt, fault),
+        _ => {}
+    }
+}
+
+/// Says which operator a configuration has no room for.
+fn explain_unfit<R: Eprint + AllocGlobal>(rt: &R, unfit: &Unfit) {
+    let (id, flaw) = match unfit {
+        Unfit::Missing(id) => (id, "has entries in it and isn't in the configuration"),
+        Unfit::LowLimit(id) => (id, "has held more vehicles than its limit allows"),
+    };
+    if let Ok(id) = id.print(rt.alloc()) {
+        let _ = eprintln!(rt; "operator {id} {flaw}");
+    }
+}
+
+/// Says which entry isn't answered again.
+fn explain_refusal<R: Eprint>(rt: &R, fault: &Fault) {
+    let number = fault.entry;
+    let _ = match fault.cause {
+        Cause::NoDesk => {
+            eprintln!(rt;
+                "entry {number} of those that are answered again is of an operator that isn't in the configuration"
+            )
+        }
+        Cause::Refused(status) => {
+            eprintln!(rt;
+                "entry {number} of those that are answered again is answered with status {status}"
+            )
+        }
+    };
+}

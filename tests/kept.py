@@ -1,0 +1,171 @@
+"""A city that is kept in a folder, and the program ruffletuff that serves it: what its tests start, read and count by."""
+
+import functools
+import json
+import os
+import re
+import shutil
+import subprocess
+import tempfile
+
+from wire import SECONDS, Closed, Link, Server, configuration, first_line, free_port
+
+# As long as a program may take that ends by itself.
+END_SECONDS = 3 * SECONDS
+
+
+@functools.cache
+def is_keeping(program):
+    """Whether a program keeps what it serves in a folder: ruffletuff does, and mds_serve doesn't."""
+    return ended(program, "--version")[1].startswith(b"ruffletuff ")
+
+
+def ended(program, *words, **how):
+    """Status, standard output and standard error of a run that ends by itself."""
+    streams = {"stdin": subprocess.DEVNULL, "stdout": subprocess.PIPE, "stderr": subprocess.PIPE}
+    ran = subprocess.run([program, *words], timeout=END_SECONDS, check=False, **streams, **how)
+    return ran.returncode, ran.stdout, ran.stderr
+
+
+class Keeping(Server):
+    """The program, serving a folder."""
+
+    def __init__(self, program, folder, file, words=(), is_awaited=True, **how):
+        self.program, self.folder = program, folder
+        self.port, self.control = free_port(), free_port()
+        ports = ["--listen", f"127.0.0.1:{self.port}", "--control", f"127.0.0.1:{self.control}"]
+        streams = {"stdin": subprocess.DEVNULL, "stdout": subprocess.PIPE, "stderr": subprocess.PIPE}
+        self.process = subprocess.Popen([program, "serve", "--config", file, "--state", folder, *ports, *words], **streams, **how)
+        self.ended = None
+        self.ready = first_line(self.process.stdout) if is_awaited else None
+
+    def __enter__(self):
+        if self.ready != b"ready\n":
+            status, _, said = self.stop()
+            raise ValueError(f"it isn't ready: it printed {self.ready!r}, and with status {status} {said[:300]!r}")
+        return self
+
+    def end(self, told=True):
+        """Its status, and what it printed behind 'ready', once it ended: it is told so at its control port, or was told before."""
+        if told:
+            status, _, said = ended(self.program, "stop", f"127.0.0.1:{self.control}")
+            if status:
+                raise ValueError(f"stop ends with {status}: {said[:200]!r}")
+        out, err = self.process.communicate(timeout=END_SECONDS)
+        self.ended = self.process.returncode, out, err
+        return self.ended
+
+    def asked(self, method, path):
+        """The status and the text that its control port answers."""
+        with Link(self.control) as link:
+            link.send(f"{method} {path} HTTP/1.1\r\nhost: x\r\n\r\n".encode())
+            answer = link.answer()
+            return answer.status, answer.body
+
+
+class Alone(Keeping):
+    """The program, serving a folder of its own, which goes with it."""
+
+    def __init__(self, program, given=None, arguments=(), limit=2):
+        self.room = tempfile.mkdtemp(prefix="kept-")
+        file = os.path.join(self.room, "city.json")
+        with open(file, "wb") as text:
+            text.write(given or configuration(limit))
+        super().__init__(program, os.path.join(self.room, "city"), file, arguments)
+
+    def stop(self):
+        found = super().stop()
+        shutil.rmtree(self.room, ignore_errors=True)
+        return found
+
+
+def serving(program, **how):
+    """The program, started: one that keeps what it serves has a folder of its own."""
+    return Alone(program, **how) if is_keeping(program) else Server(program, **how)
+
+
+class City:
+    """A folder and a configuration, on which the program is started as often as one likes."""
+
+    def __init__(self, program, room, given):
+        self.program, self.room = program, room
+        self.folder, self.file = os.path.join(room, "city"), os.path.join(room, "city.json")
+        self.journal = os.path.join(self.folder, "journal")
+        self.configure(given)
+
+    def configure(self, given):
+        """Another configuration from now on: a text, or what it is of."""
+        with open(self.file, "wb") as text:
+            text.write(given if isinstance(given, bytes) else json.dumps(given).encode())
+
+    def serve(self, *words, **how):
+        """The program, started."""
+        return Keeping(self.program, self.folder, self.file, words, **how)
+
+    def refused(self, *words, **how):
+        """Status, standard output and standard error of a start that doesn't come to serve."""
+        places = ["--config", self.file, "--state", self.folder, "--listen", "127.0.0.1:0"]
+        return ended(self.program, "serve", *places, *words, **how)
+
+    def check(self):
+        return ended(self.program, "check", self.folder)
+
+    def audit(self, *words):
+        """The script of the journal: its first line, which is the configuration, and the others."""
+        status, out, err = ended(self.program, "audit", self.folder, "--config", self.file, *words)
+        if status or err:
+            raise ValueError(f"audit ends with {status}: {err[:200]!r}")
+        first, *lines = out.decode().splitlines()
+        return first, lines
+
+    def bytes(self):
+        with open(self.journal, "rb") as journal:
+            return journal.read()
+
+
+def replayed(replay, first, lines):
+    """What mds_replay answers to each line behind a configuration."""
+    script = "".join(f"{line}\n" for line in [first, *lines])
+    answers = subprocess.run([replay], input=script.encode(), stdout=subprocess.PIPE, check=True, timeout=6 * END_SECONDS).stdout
+    return answers.decode().splitlines()
+
+
+def line_of(token, method, target, body=""):
+    """A request as a script has it, without its moment."""
+    return f"{token} {method} {target} {body}".rstrip(" ")
+
+
+def split(line):
+    """The moment of a line of a script, and the request."""
+    moment, _, asked = line.partition(" ")
+    return int(moment), asked
+
+
+def told_moment(body):
+    """The moment that a reply tells as that of its request, if it does."""
+    found = re.search(r'"(?:at|published_date)":(\d+)', body)
+    return int(found[1]) if found else None
+
+
+class Tried:
+    """What was tried, and what of it failed."""
+
+    def __init__(self):
+        self.passed = self.failed = 0
+
+    def one(self, name, found):
+        """Counts a test by its faults, or why they can't be told."""
+        faults = []
+        try:
+            faults.extend(found)
+        except (OSError, ValueError, Closed, subprocess.SubprocessError) as fault:
+            faults.append(repr(fault))
+        for fault in faults:
+            print(f"{name}: {fault}", flush=True)
+        self.passed += not faults
+        self.failed += bool(faults)
+
+    def told(self):
+        """Says how many passed, and gives the status to end with."""
+        print(f"{self.passed} passed, {self.failed} failed")
+        return 1 if self.failed else 0
