@@ -105,7 +105,7 @@ def a_busy_server(server):
         links = [stack.enter_context(server.link()) for _ in range(HELD_LIMIT // BODY_LIMIT + 4)]
         for link in links:
             link.send(waiting)
-        refused = until_busy(server)
+        refused = until_busy(server, lambda: stack.enter_context(server.link()).send(waiting))
         if refused is None:
             yield "it is never busy"
             return
@@ -129,13 +129,15 @@ def a_busy_server(server):
         yield "it stays busy"
 
 
-def until_busy(server):
-    """The first answer to a report that isn't taken, once the heads before it have come."""
+def until_busy(server, one_more):
+    """The first answer to a report that isn't taken. Behind each that is taken one more body is awaited, since some of those before may
+    have been refused for bodies of other connections that have gone since."""
     for _ in range(100 * PATIENCE):
         answer = server.ask("POST", "/fleet/events", body=REPORT)
         server.ask("DELETE", REPORTED)
         if answer.status != 200:
             return answer
+        one_more()
         time.sleep(0.05)
     return None
 

@@ -66,7 +66,7 @@ def counted(status, text, pattern):
 
 
 def tests_of(name, program):
-    """Builds and runs the tests of a crate; those that passed are counted alone."""
+    """Builds and runs the tests of a crate; those that passed are counted alone. Where a file is named, the program is kept there."""
     status, text = unproved.build(name, program, tests=True)
     passed, failed, text = counted(status, text, TESTS)
     kept = [line for line in text.splitlines() if not re.fullmatch(r"test \S+ \.\.\. ok|tests: \d+", line)]
@@ -129,7 +129,7 @@ def parts(room):
         call = lambda words=words: script(*words, slow=slow["mds_replay"])
         add(f"scripts, part {part} of {SCRIPT_PARTS}", 2, replayed, call)
     for name in crates_with_tests():
-        program = f"{room}/{name}-tests"
+        program = f"{room}/{name}-tests" if name in SWEPT else None
         needs = add(f"the tests of {name}", 3, [], lambda name=name, program=program: tests_of(name, program))
         words = ("growths.py", program, str(GROWTH_SECONDS))
         if name in SWEPT:
