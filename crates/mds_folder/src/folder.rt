@@ -46,7 +46,19 @@ fn sync_names<R: Files<File = File>>(rt: &R, folder: &str) -> Result<(), FolderF
     }
 }
 
-/// The files of a city's folder, locked. The folder and the files are made where they aren't there.
+/// Makes a folder where it isn't there, and waits until its name is on the disk.
+fn make<R: Files<File = File>>(rt: &R, alloc: Global, folder: &str) -> Result<(), FolderFault> {
+    if File::open(rt, folder).is_ok() {
+        return Ok(());
+    }
+    if fs::create_dir_all(rt, folder).is_err() {
+        return Err(FolderFault::Unusable);
+    }
+    let above = format!(in alloc; "{folder}/..")?;
+    sync_names(rt, above.as_str())
+}
+
+/// The files of a city's folder, locked. The folder and the files are made where they aren't there, and their names are on the disk.
 ///
 /// # Errors
 ///
@@ -56,9 +68,7 @@ pub fn open_folder<R: Files<File = File>>(
     alloc: Global,
     folder: &str,
 ) -> Result<Folder, FolderFault> {
-    if fs::create_dir_all(rt, folder).is_err() {
-        return Err(FolderFault::Unusable);
-    }
+    make(rt, alloc, folder)?;
     let lock = opened(rt, alloc, folder, "lock")?;
     match lock.try_lock() {
         Ok(()) => {}
