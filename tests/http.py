@@ -8,7 +8,7 @@ choice, each of its sides is accepted. After each broken or hostile message the 
 it hadn't come. The scripts of tests/replays are run too, those whose answers don't depend on when a request comes; the others are
 named. Then come the loads of tests/load.py, one after another. With a second word one of both is done, or of the messages those that
 wait for no deadline and no script, or the short ones of the loads, side by side. A server that keeps its state has a folder of its own
-for each run, and is tried by messages alone; how it ends tests/journals.py tries. The messages take about 80 seconds, since the
+for each run, and isn't asked long questions; how it ends tests/journals.py tries. The messages take about 80 seconds, since the
 deadlines are waited for, the loads some four minutes, the short ones up to 90 seconds. Prints what differs, and last 'N passed, M
 failed'; ends with 1 where one failed.
 """
@@ -242,7 +242,10 @@ def long_questions(server):
     for answer in what_makes_questions_long(server):
         if answer.status != 200:
             yield f"what makes questions long is answered {answer}"
-    for count in (1, 2 * (os.cpu_count() or 1) + 4):
+    for number, count in enumerate((1, 2 * (os.cpu_count() or 1) + 4)):
+        # A further vehicle drops what is kept of the others, so that a question looks at each again.
+        if (further := server.ask("POST", "/fleet/events", FIRST, report(50_000 + number))).status != 200:
+            yield f"a further vehicle is answered {further}"
         with contextlib.ExitStack() as stack:
             links = [stack.enter_context(server.link()) for _ in range(count)]
             begun, waited = time.monotonic(), []
@@ -309,7 +312,12 @@ def a_question_by_threads(server):
     with server.link() as link:
         for numbers, wanted in ((range(few), False), (range(few, many), True)):
             yield from reported(link, numbers)
-            asked = [most_threads(server, link) for _ in range(max(3, 20 // PATIENCE))]
+            asked = []
+            for _ in range(max(3, 20 // PATIENCE)):
+                # Behind a new device nothing of the fleet lies ready.
+                server.ask("DELETE", f"/fleet/vehicles/{identifier(4, numbers.start)}")
+                yield from reported(link, numbers[:1])
+                asked.append(most_threads(server, link))
             if any(answer.status != 200 for answer, _ in asked):
                 yield f"a question over {numbers.stop} vehicles isn't answered"
             most = max(most for _, most in asked)
@@ -486,10 +494,12 @@ def without_moments(reply):
 
 
 def a_script(program, given, requests, replies):
-    """The answers by HTTP are those of the replay, but for the moments, which are now or a publication's."""
-    published = set()
+    """The answers by HTTP are those of the replay, but for the moments, which are now or a publication's, and where the page is."""
+    published, has_page = set(), is_keeping(program)
     with serving(program, given=given) as server, server.link() as link:
         for number, ((_, token, method, target, body), wanted) in enumerate(zip(requests, replies)):
+            if has_page and target == b"/":
+                continue
             begun = time.time_ns() // 1_000_000
             link.send(request(method.decode(), target.decode(), token.decode(), body))
             answer = link.answer()
@@ -561,6 +571,11 @@ def messages(tried, server, left_out=()):
         tried.one(case.__name__, case(server))
 
 
+def by_the_page(program):
+    """The messages that a program with the page answers by it: page.py says how."""
+    return ("a whole URI without a path",) if is_keeping(program) else ()
+
+
 def programs(tried, program):
     """Runs of the program, each for itself."""
     if not is_keeping(program):
@@ -581,13 +596,13 @@ def ends(tried, program):
 
 def all_messages(tried, program, stack):
     """All tests but the loads. The deadlines are waited for while the others run."""
-    limits = (2, 2, 200, 2_000, 40_000)
+    limits = (2, 2, 200, 2_002, 40_000)
     waited, plain, large, held, wide = (stack.enter_context(serving(program, limit=limit)) for limit in limits)
     patience = Patience()
     patience.start()
     tried.one("deadlines", deadlines(waited, patience))
     tried.one("the_slow_and_the_others", the_slow_and_the_others(waited, patience))
-    messages(tried, plain)
+    messages(tried, plain, by_the_page(program))
     programs(tried, program)
     tried.one("who_never_reads", who_never_reads(large))
     tried.one("a_slow_body_in_time", a_slow_body_in_time(large))
@@ -611,7 +626,7 @@ LONG_BODIES = ("a body at its limit", "chunks at the limit")
 def exchanges(tried, program):
     """The tests that wait for no deadline, at one server, but for those of the longest bodies."""
     with serving(program, limit=2) as server:
-        messages(tried, server, LONG_BODIES)
+        messages(tried, server, (*LONG_BODIES, *by_the_page(program)))
         tried.one("still_silent", still_silent(server))
     print(f"left out, and tried by make prove: deadlines, slow readers and writers, long questions, {', '.join(LONG_BODIES)}")
 

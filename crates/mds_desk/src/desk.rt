@@ -1,6 +1,8 @@
 //! An operator's own place.
 ghost use Rattle.std.specs.Prelude.{◌≡◌, Some, option_map, slice_get};
+ghost use Rattle.mds_fleet.specs.Fleet.{Fits};
 ghost use Rattle.mds_request.specs.Configuration.{configuration};
+ghost use Rattle.mds_world.specs.Lasting.{fits_prop, lasting_in};
 
 use crate::gate::Gate;
 use crate::operator::answered;
@@ -24,6 +26,8 @@ pub struct Desk<K: Naming> {
     book: Book,
     pane: Pane<K>,
     ghost limit: { Some book.limit ≡ option_map (λ o. o.limit) (slice_get (configuration seat.config.value).operators seat.place) },
+    // what the book keeps is right for all publications that were seen or learnt
+    ghost fits: { Fits (lasting_in pane) book } by { fits_prop (lasting_in pane) book },
 }
 
 impl<K: Naming> Desk<K> {

@@ -1,5 +1,6 @@
 //! What an operator is answered, over its own book and a front of what is published alone.
 ghost use Rattle.std.specs.Prelude.{◌≡◌, ◌⊎◌, IfSome, Some, option_map, slice_get};
+ghost use Rattle.mds_fleet.specs.Fleet.{Fits};
 ghost use Rattle.mds_request.specs.Call.{call_of};
 ghost use Rattle.mds_request.specs.Configuration.{configuration};
 ghost use Rattle.mds_request.specs.Request.{request_of};
@@ -9,6 +10,7 @@ ghost use Rattle.mds_machine.specs.Answer.{Gives};
 ghost use Rattle.mds_machine.specs.Meaning.{own_step};
 ghost use Rattle.mds_machine.specs.Operator.{operator_does};
 ghost use Rattle.mds_fronts.specs.Desks.{refusal_of, desk_does};
+ghost use Rattle.mds_world.specs.Lasting.{lasting_in};
 
 use crate::seat::Seat;
 use mds_catalog::Catalogue;
@@ -42,10 +44,12 @@ fn called<K: Naming, E: Evaluator<Catalogue>>(
     requires ready { E.may_judge }
     requires limit { Some book.old.limit
         ≡ option_map (λ o. o.limit) (slice_get (configuration seat.now.config.value).operators seat.now.place) }
+    requires fits { Fits (lasting_in look.now) book.old }
     ensures answer { IfSome (slice_get (configuration seat.now.config.value).operators seat.now.place) (λ o.
         Gives (Unit {0}) book.old.rows (operator_does (configuration seat.now.config.value).zone o look.now book.old.rows call.now (request_of request.now))
         result book.new.rows) }
     ensures limit { book.new.limit ≡ book.old.limit }
+    ensures fits { Fits (lasting_in look.now) book.new }
 {
     let catalogue = look.catalogue();
     let asked = ready_for_operator(seat.alloc, catalogue, seat.operator(), call);
@@ -77,10 +81,12 @@ fn own<K: Naming, E: Evaluator<Catalogue>>(
     requires ready { E.may_judge }
     requires limit { Some book.old.limit
         ≡ option_map (λ o. o.limit) (slice_get (configuration seat.now.config.value).operators seat.now.place) }
+    requires fits { Fits (lasting_in look.now) book.old }
     ensures answer { IfSome (slice_get (configuration seat.now.config.value).operators seat.now.place) (λ o.
         let own = own_step (configuration seat.now.config.value) o look.now book.old.rows (request_of request.now) in
         ((result ≡ own.0) × (book.new.rows ≡ own.1)) ⊎ ((result ≡ refused NoMemory) × (book.new.rows ≡ book.old.rows))) }
     ensures limit { book.new.limit ≡ book.old.limit }
+    ensures fits { Fits (lasting_in look.now) book.new }
 {
     match read_call(&seat.routes, &seat.config, request) {
         Ok(Call::Operator(_, call)) => called(seat, book, look, &call, request, evaluator),
@@ -100,10 +106,12 @@ pub(crate) fn answered<K: Naming, E: Evaluator<Catalogue>>(
     requires ready { E.may_judge }
     requires limit { Some book.old.limit
         ≡ option_map (λ o. o.limit) (slice_get (configuration seat.now.config.value).operators seat.now.place) }
+    requires fits { Fits (lasting_in look.now) book.old }
     ensures answer { IfSome (slice_get (configuration seat.now.config.value).operators seat.now.place) (λ o.
         let does = desk_does (configuration seat.now.config.value) seat.now.place o look.now book.old.rows (request_of request.now) in
         ((result ≡ does.0) × (book.new.rows ≡ does.1)) ⊎ ((result ≡ refused NoMemory) × (book.new.rows ≡ book.old.rows))) }
     ensures limit { book.new.limit ≡ book.old.limit }
+    ensures fits { Fits (lasting_in look.now) book.new }
 {
     match seat.config.actor(request.token) {
         Actor::Operator(asker) if asker == seat.place => own(seat, book, look, request, evaluator),

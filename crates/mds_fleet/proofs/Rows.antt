@@ -161,9 +161,9 @@ own_kept old new device held updates here own other =
     by true same = subst (λ k. IfSome held (λ v. v.value.device ≡ k)) (tells_apart device_exact device other same) here
     by false apart = own other
 
-pub removed_kept : (limit : ℕ) (old new : Vehicles) (device : List ℕ) → Updates old device None new → btree_map_len new ≤ btree_map_len old → IsKept limit old → IsKept limit new
-removed_kept limit old new device updates fewer kept =
-    record { own = own_kept old new device None updates tt kept.own; within = omega (arith, fewer, kept.within) }
+pub removed_kept : (limit : ℕ) (old new : Vehicles) (device : List ℕ) → Updates old device None new → IsOrdered device_cmp new → btree_map_len new ≤ btree_map_len old → IsKept limit old → IsKept limit new
+removed_kept limit old new device updates ordered fewer kept =
+    record { ordered = ordered; own = own_kept old new device None updates tt kept.own; within = omega (arith, fewer, kept.within) }
 
 -- ---- a report of a device that is held
 
@@ -214,8 +214,9 @@ module _ (old new : Vehicles) (report : Report) (before after : Box Vehicle Glob
       by (Ok Same) rows is = unchanged (rows.others (λ e. absurd (cc)))
       by (Err fault) rows is = unchanged (rows.others (λ e. absurd (cc)))
 
-  pub held_kept : (limit : ℕ) (r : Result Taken BookFault) → ByOutcome r → btree_map_len new ≡ btree_map_len old → IsKept limit old → IsKept limit new
-  held_kept limit r rows same kept = record {
+  pub held_kept : (limit : ℕ) (r : Result Taken BookFault) → ByOutcome r → IsOrdered device_cmp new → btree_map_len new ≡ btree_map_len old → IsKept limit old → IsKept limit new
+  held_kept limit r rows rises same kept = record {
+    ordered = rises;
     own = own_kept old new report.device (Some after) updates (by r rows) kept.own;
     within = omega (arith, same, kept.within);
   }
@@ -253,8 +254,9 @@ module _ (old : Vehicles) (ordered : IsOrdered device_cmp old) (report : Report)
         inserted_row old new report.device vehicle updates ∙ ap (finite.insert (rows_of old) report.device) is,
       ) (λ e. absurd (cc))
 
-      pub new_kept : btree_map_len new ≡ btree_map_len old + 1 → IsKept limit old → IsKept limit new
-      new_kept more kept = record {
+      pub new_kept : IsOrdered device_cmp new → btree_map_len new ≡ btree_map_len old + 1 → IsKept limit old → IsKept limit new
+      new_kept rises more kept = record {
+        ordered = rises;
         own = own_kept old new report.device (Some vehicle) updates (ap (λ (row : Row). row.device) is) kept.own;
         within = omega (arith, more, room);
       }

@@ -1,19 +1,25 @@
--- What a book holds: an operator's rows, and how many there may be.
+-- What a book holds: an operator's rows, how many there may be, and what is kept of them between questions.
 use Rattle.std.specs.Prelude.{◌≡◌, ℕ, ℤ, ◌≤◌, List, map, IfSome, refl}
 use Rattle.std.specs.Coded.{Coded, code_by, coded×, coded_ℕ, coded_ℤ, coded_list}
 use Rattle.std.specs.declared.boxed.Box.{Box}
-use Rattle.std.specs.BTreeMap.{BTreeMap, get, btree_map_len}
+use Rattle.std.specs.BTreeMap.{BTreeMap, get, btree_map_len, IsOrdered}
 use Rattle.std.specs.FinMap as finite
 use Rattle.std.specs.FinMap.{from_entries}
 use Rattle.std.specs.declared.alloc.Global.{Global}
+use Rattle.mds_geometry.specs.declared.position.Position.{Position}
+use Rattle.mds_policy.specs.Policy.{Policy}
 use Rattle.mds_match.specs.Row.{Row, row_of}
 use Rattle.mds_match.specs.declared.vehicle.Vehicle.{Vehicle}
+use Rattle.mds_kept.specs.Kept as kept
+use Rattle.mds_kept.specs.Kept.{IsPublished, Published}
+use Rattle.mds_kept.specs.declared.kept.Kept.{Kept}
 use Rattle.mds_fleet.specs.Books.{Rows, device_cmp}
 
--- an operator's rows, and the most that there may be
+-- an operator's rows, the most that there may be, and what is kept of them
 pub record Fleet : Type 0 where
   pub rows : Rows
   pub limit : ℕ
+  pub kept : Kept
 
 -- vehicles by device id
 abbrev pub Vehicles : Type 0
@@ -23,10 +29,20 @@ Vehicles = BTreeMap (List ℕ) (Box Vehicle Global)
 abbrev pub rows_of : Vehicles → Rows
 rows_of vehicles = from_entries (map (λ e. (e.0, row_of e.1.value)) vehicles.entries)
 
--- each under its own device id, and at most as many as the limit
+-- each under its own device id, in the order of these, and at most as many as the limit
 pub record IsKept (limit : ℕ) (vehicles : Vehicles) : Type 0 where
+  pub ordered : IsOrdered device_cmp vehicles
   pub own : (device : List ℕ) → IfSome (get device_cmp vehicles device) (λ v. v.value.device ≡ device)
   pub within : btree_map_len vehicles ≤ limit
+
+-- what is kept is right for vehicles with these rows and for what is published
+abbrev pub Fits : Published → Fleet → Type 0
+Fits published fleet =
+    (vehicles : Vehicles) → IsOrdered device_cmp vehicles → rows_of vehicles ≡ fleet.rows → kept.Fits published vehicles fleet.kept
+
+-- what is kept is right for what is published, and the policy is among that
+abbrev pub MayAsk : Fleet → Policy → (List ℕ → List (List (List Position))) → Type 0
+MayAsk fleet policy polygons = (published : Published) × Fits published fleet × IsPublished published policy polygons
 
 -- rows and a fleet are stored as the tuples of their fields
 abbrev pub coded_word : Coded (List ℕ)
@@ -60,6 +76,7 @@ coded_row =
     (coded× (coded× coded_word coded_word) (coded× (coded× coded_words coded_words) (coded× (coded× coded_word (coded× coded_ℕ coded_ℕ)) (coded× coded_ℤ coded_ℤ))))
     fields_of row_of_fields (λ _. refl)
 
-abbrev pub coded_fleet : Coded Fleet
-coded_fleet =
-    code_by (Rows × ℕ) (coded× (finite.code coded_word coded_row) coded_ℕ) (λ a. (a.rows, a.limit)) (λ p. record { rows = p.0; limit = p.1 }) (λ _. refl)
+abbrev pub coded_fleet : Coded Kept → Coded Fleet
+coded_fleet kept =
+    code_by ((Rows × ℕ) × Kept) (coded× (coded× (finite.code coded_word coded_row) coded_ℕ) kept) (λ a. ((a.rows, a.limit), a.kept))
+    (λ p. record { rows = p.0.0; limit = p.0.1; kept = p.1 }) (λ _. refl)

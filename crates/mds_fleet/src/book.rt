@@ -1,16 +1,22 @@
-ghost use Rattle.std.specs.Prelude.{◌≡◌, ◌≢◌, ℕ, ◌≤◌, ◌↔◌, Ok, Some, option_map, IsTrue, IfOk, OnOk, OnErr, map};
+ghost use Rattle.std.specs.Prelude.{◌≡◌, ◌≢◌, ℕ, ◌^◌, ◌≤◌, ◌<◌, ◌↔◌, Ok, Some, option_map, IsTrue, IfOk, IfSome, OnOk, OnErr, All, map};
 ghost use Rattle.std.specs.Result.{result_ok};
 ghost use Rattle.std.specs.FinMap as finite;
 ghost use Rattle.std.specs.BTreeMap.{values, IsOrdered};
 ghost use Rattle.std.specs.List.Sorted.{IsStrictlySortedBy};
+ghost use Rattle.mds_policy.specs.Policy.{policy_document};
 ghost use Rattle.mds_match.specs.Row.{row_of};
 ghost use Rattle.mds_match.specs.declared.vehicle.TheConstants.{MOST_VEHICLES};
+ghost use Rattle.mds_verdict.specs.Verdict.{verdict_document, verdicts};
+ghost use Rattle.mds_kept.specs.Kept.{IsChanged, IsPublished, Published};
 ghost use Rattle.mds_fleet.specs.Books.{device_cmp, Take, outcome_at, report_document, reported, row_after, row_from, run_start};
 ghost use Rattle.mds_fleet.specs.Fleet.{rows_of, IsKept};
 
 use crate::report::Report;
-use mds_match::Vehicle;
+use mds_kept::Kept;
+use mds_match::{Local, Places, Vehicle};
+use mds_policy::Policy;
 use mds_text::{Id, Moment, Token};
+use mds_verdict::RuleVerdict;
 use std::alloc::{AllocError, AllocFailed, Global};
 use std::collections::BTreeMap;
 use std::marker::Model;
@@ -43,24 +49,27 @@ pub enum BookFault {
 #[derive(Clone, Copy, Debug, PartialEq, Eq)]
 pub struct Absent;
 
-/// The vehicles of one operator, by device id, and the most that it may hold. Contracts see the map
-/// from device ids to rows, and the limit.
+/// The vehicles of one operator, by device id, and the most that it may hold. Between questions it
+/// keeps what each vehicle is to the policies that were asked about, and so a question costs no more
+/// than a pass over words. Contracts see the map from device ids to rows, the limit, and what is kept.
 #[derive(Drop)]
 pub struct Book {
     // each under its own device id, and boxed, since a node of the map has room for more than it holds
     vehicles: BTreeMap<Id, Box<Vehicle>>,
     limit: u32,
     alloc: Global,
+    kept: Kept,
 }
 
 impl Model for Book {
+    ghost use Rattle.mds_kept.specs.contracts.kept.Kept.{the_row as kept_row};
     ghost use Rattle.mds_fleet.specs.Fleet.{Fleet, coded_fleet, rows_of, IsKept};
 
     ghost Value = { Fleet };
 
-    ghost coded = { coded_fleet };
+    ghost coded = { coded_fleet kept_row.coded };
 
-    ghost view = { λ b. record { rows = rows_of b.vehicles; limit = b.limit } };
+    ghost view = { λ b. record { rows = rows_of b.vehicles; limit = b.limit; kept = b.kept } };
 
     ghost invariant = { λ b. IsKept b.limit b.vehicles };
 }
@@ -77,21 +86,25 @@ impl<T: Drop> From<AllocFailed<T>> for BookFault {
 }
 
 impl Book {
+    ghost use Rattle.mds_fleet.specs.Fleet.{Fits, MayAsk};
+
     /// An empty book with this limit, at most `MOST_VEHICLES`. Takes no memory.
     pub fn new(alloc: Global, limit: u32) -> Book
         requires least { 1 ≤ limit }
         requires most { limit ≤ MOST_VEHICLES }
         ensures rows { result.rows ≡ finite.empty }
         ensures limit { result.limit ≡ limit }
+        ensures fits { (published : Published) → Fits published result }
     {
         Book {
             vehicles: BTreeMap::new(alloc),
             limit,
             alloc,
+            kept: Kept::new(),
         }
     }
 
-    /// Takes a report that comes at this moment.
+    /// Takes a report that comes at this moment. What is kept stays right for whatever is published.
     ///
     /// # Errors
     ///
@@ -102,11 +115,20 @@ impl Book {
     pub fn report(&mut self, report: Report, moment: Moment) -> Result<Taken, BookFault>
         ensures taken { Take self.old.rows self.old.limit (report_document report) moment result self.new.rows }
         ensures limit { self.new.limit ≡ self.old.limit }
+        ensures fits { (published : Published) → Fits published self.old → Fits published self.new }
     {
-        take(self.alloc, &mut self.vehicles, self.limit, report, moment)
+        let device = report.device;
+        let taken = take(self.alloc, &mut self.vehicles, self.limit, report, moment);
+        match taken {
+            Ok(Taken::New) => self.kept.clear(),
+            Ok(Taken::Changed) => self.kept.note(device),
+            _ => {}
+        }
+        taken
     }
 
-    /// Removes a device, and gives what was held of it. Takes no memory.
+    /// Removes a device, and gives what was held of it. Takes no memory. What is kept stays right for
+    /// whatever is published.
     ///
     /// # Errors
     ///
@@ -116,11 +138,41 @@ impl Book {
         ensures rows { OnOk result (self.new.rows ≡ finite.remove self.old.rows device) }
         ensures absent { OnErr result (self.new.rows ≡ self.old.rows) }
         ensures limit { self.new.limit ≡ self.old.limit }
+        ensures fits { (published : Published) → Fits published self.old → Fits published self.new }
     {
         match self.vehicles.remove(&device) {
-            Some(vehicle) => Ok(Box::into_inner(vehicle)),
+            Some(vehicle) => {
+                self.kept.clear();
+                Ok(Box::into_inner(vehicle))
+            }
             None => Err(Absent),
         }
+    }
+
+    /// The verdict on each rule of a policy, in their order, at a local time and at the moment up to
+    /// which a vehicle's time in its state counts, by what is kept. `None` the first time that the policy
+    /// is asked about since a device came or went, where it has more than 64 rules, where there are more
+    /// than 4,194,304 vehicles or where memory ran out; then the rows are to be asked. The vehicles stay
+    /// as they are.
+    pub fn verdicts<P: Places>(
+        &mut self,
+        policy: &Policy,
+        places: &P,
+        local: Local,
+        moment: Moment,
+    ) -> Option<Vec<RuleVerdict>>
+        requires { MayAsk self.old (policy_document policy.now) (P.polygons places.now) }
+        ensures exact { IfSome result (λ found. map verdict_document found.items
+            ≡ verdicts (policy_document policy.now) (P.polygons places.now) (finite.values self.old.rows) local moment) }
+        ensures within { IfSome result (λ found. All (λ v. v.measure < 2 ^ 63) found.items) }
+        ensures rows { self.new.rows ≡ self.old.rows }
+        ensures limit { self.new.limit ≡ self.old.limit }
+        ensures fits { (published : Published) → Fits published self.old →
+            IsPublished published (policy_document policy.now) (P.polygons places.now) → Fits published self.new }
+    {
+        let (alloc, vehicles) = (self.alloc, &self.vehicles);
+        self.kept
+            .verdicts(alloc, policy, places, vehicles, local, moment)
     }
 
     /// What is held of a device, for who asks for one alone. Takes no memory.
@@ -174,6 +226,7 @@ fn take(
     requires { IsKept limit vehicles.old }
     ensures taken { Take (rows_of vehicles.old) limit (report_document report) moment result (rows_of vehicles.new) }
     ensures kept { IsKept limit vehicles.new }
+    ensures changed { result ≡ Ok Taken.Changed → IsChanged report.device vehicles.old vehicles.new }
 {
     if report.timestamp > moment {
         return Err(BookFault::Future);

@@ -41,10 +41,12 @@ pub(crate) struct Listed {
     pub(crate) changed: Vec<Id>,
 }
 
-/// What is kept of an operator's vehicles between questions, if anything is.
+/// What is kept of an operator's vehicles between questions, if anything is, and which policies were
+/// asked about since anything was dropped last.
 #[derive(Drop)]
 pub struct Kept {
     pub(crate) listed: Option<Listed>,
+    pub(crate) asked: Option<Vec<Id>>,
 }
 
 impl Kept {
@@ -57,7 +59,10 @@ impl Kept {
     pub fn new() -> Kept
         ensures { (published : Published) (vehicles : Vehicles) → Fits published vehicles result }
     {
-        Kept { listed: None }
+        Kept {
+            listed: None,
+            asked: None,
+        }
     }
 
     /// Notes that the vehicle of a device changed, where no device came or went. Where there is no room
@@ -76,12 +81,14 @@ impl Kept {
         ensures { (published : Published) (vehicles : Vehicles) → Fits published vehicles self.new }
     {
         self.listed = None;
+        self.asked = None;
     }
 
     /// The verdict on each rule of a policy, in their order, at a local time and at the moment up to which
     /// a vehicle's time in its state counts: what is kept is brought up to date and looked at alone. `None`
-    /// where the policy has more than 64 rules, where there are more than 4,194,304 vehicles or where
-    /// memory ran out; then the vehicles themselves are to be asked.
+    /// where the policy wasn't asked about since all was dropped, where it has more than 64 rules, where
+    /// there are more than 4,194,304 vehicles or where memory ran out; then the vehicles themselves are to
+    /// be asked. So what is asked once costs no more than that, whatever it would cost to keep it.
     pub fn verdicts<P: Places>(
         &mut self,
         alloc: Global,
@@ -102,6 +109,9 @@ impl Kept {
         if policy.rules().len() > MOST_RULES || vehicles.len() > MOST_MASKS {
             return None;
         }
+        if !was_asked(alloc, &mut self.asked, policy.id()) {
+            return None;
+        }
         let listed = kept_or_new(alloc, self.listed.take(), vehicles)?;
         let mut listed = with_sinces(alloc, listed, vehicles)?;
         let column = taken_out(
@@ -120,6 +130,17 @@ impl Kept {
         self.listed = Some(put_back(listed, column));
         found.ok()
     }
+}
+
+/// Whether a policy is among those that were asked about. It is from now on, if there is memory for it.
+fn was_asked(alloc: Global, asked: &mut Option<Vec<Id>>, policy: Id) -> bool {
+    let mut policies = asked.take().unwrap_or_else(|| Vec::new(alloc));
+    let is_there = policies.contains(&policy);
+    if !is_there {
+        policies.push(policy).ok();
+    }
+    *asked = Some(policies);
+    is_there
 }
 
 /// What is kept after a device changed, if it can be noted.

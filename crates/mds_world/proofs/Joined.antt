@@ -1,7 +1,7 @@
 -- Texts that are joined are the printed text of what they are joined to.
-use Rattle.std.proofs.Common.{◌≡◌, ℕ, pos, ◌≤◌, List, [], ◌∷◌, ◌++◌, map, length, codes, true, false, cond, Option, Some, None, option_map, Result, Ok, Err, refl, subst, ap, sym, ◌∙◌, append_assoc}
+use Rattle.std.proofs.Common.{◌≡◌, ℕ, ◌≤◌, List, [], ◌∷◌, ◌++◌, map, length, codes, true, false, cond, Option, Some, None, option_map, Result, Ok, Err, refl, ap, sym, ◌∙◌, append_assoc}
 use Rattle.std.specs.Fmt.{decimal}
-use Rattle.std.specs.List.{flat_map, join_with_byte, All}
+use Rattle.std.specs.List.{flat_map, join_with_byte}
 use Rattle.std.proofs.lemmas.List.{append-nil}
 use Rattle.std.proofs.lemmas.List.Elements.{All-from_recursion}
 use Rattle.mds_text.specs.Tree.{Json, items_of}
@@ -12,7 +12,7 @@ use Rattle.mds_catalog.specs.Catalogue.{served_policy, served_geography}
 use Rattle.mds_catalog.specs.Publication.{Publication, Published, find_policy, find_geography}
 use Rattle.mds_catalog.specs.Texts.{policy_text, geography_text}
 use Rattle.mds_text.proofs.Lines.{IsLine-printed}
-use Rattle.mds_request.specs.Reply.{Reply, is_line, success}
+use Rattle.mds_request.specs.Reply.{Reply, is_line}
 use Rattle.mds_request.specs.declared.code.Code.{Code}
 use Rattle.mds_request.specs.declared.code.Code.TheVariants.{NotFound}
 use Rattle.mds_machine.specs.Answer.{told, or_code, if_it, ◌>>=◌}

@@ -1,6 +1,8 @@
 mod Ascending
 mod Books
+mod Distinct
 mod Joined
+pub mod Lasting
 mod OneLine
 mod Places
 mod Replies

@@ -1,4 +1,5 @@
 pub mod Acts
 pub mod Denied
+pub mod Lasting
 pub mod Texts
 pub mod World

@@ -1,26 +1,30 @@
 //! Reports on the policies that are in force for an operator, over its own vehicles.
-ghost use Rattle.std.specs.Prelude.{◌≡◌, IfOk, map};
+ghost use Rattle.std.specs.Prelude.{◌≡◌, ◌^◌, ◌<◌, All, IfOk, IfSome, map};
 ghost use Rattle.std.specs.FinMap as finite;
+ghost use Rattle.std.specs.List.{list_all};
 ghost use Rattle.mds_text.specs.View.{view};
-ghost use Rattle.mds_policy.specs.Policy.{policy_document};
+ghost use Rattle.mds_policy.specs.Policy.{policy_document, rule_document};
 ghost use Rattle.mds_match.specs.Row.{row_of};
-ghost use Rattle.mds_verdict.specs.Verdict.{Ascends, verdicts, reported};
-ghost use Rattle.mds_catalog.specs.Publication.{published_area};
+ghost use Rattle.mds_verdict.specs.Verdict.{Ascends, verdict_document, verdicts, reported};
+ghost use Rattle.mds_fleet.specs.Fleet.{Fits};
+ghost use Rattle.mds_catalog.specs.Publication.{is_geography_published, published_area};
 ghost use Rattle.mds_catalog.specs.Catalogue.{publications_of, lent_policy};
+ghost use Rattle.mds_catalog.specs.Laws.{AreLawful};
 ghost use Rattle.mds_request.specs.Configuration.{operator as operator_of};
 ghost use Rattle.mds_machine.specs.Bodies.{list_json};
 ghost use Rattle.mds_machine.specs.Operator.{compliance_reply, policy_compliance_answer};
 ghost use Rattle.mds_world.specs.Denied.{Meets};
+ghost use Rattle.mds_world.specs.Lasting.{IsOfItsId, is_placed, lasting_in};
 
 use crate::bodies::compliance_reply;
 use crate::denied::Denied;
 use mds_catalog::{Catalogue, Published};
 use mds_fleet::Book;
 use mds_match::{Local, Vehicle, Zone};
-use mds_policy::Policy;
+use mds_policy::{Policy, Rule};
 use mds_request::{Code, Operator, Reply};
 use mds_text::{Id, Moment, Tree, list_tree};
-use mds_verdict::{Evaluator, report_tree};
+use mds_verdict::{Evaluator, RuleVerdict, report_tree};
 use std::alloc::{AllocError, Global};
 
 /// The vehicles of a book, ascending by device id.
@@ -32,48 +36,133 @@ fn fleet(book: &Book) -> Result<Vec<&Vehicle>, AllocError>
     book.rows()
 }
 
-/// The report on a policy.
+/// Whether each of these geographies is published.
+fn are_published(catalogue: &Catalogue, geographies: &[Id]) -> bool
+    ensures { result ≡ list_all (is_geography_published (publications_of catalogue.now)) geographies.now }
+{
+    geographies
+        .iter()
+        .all(|id| catalogue.geography(*id).is_some())
+}
+
+/// Whether the geographies of each of these rules are published.
+fn are_placed(catalogue: &Catalogue, rules: &[Rule]) -> bool
+    ensures { result ≡ list_all (λ rule. list_all (is_geography_published (publications_of catalogue.now)) (rule_document rule).geographies) rules.now }
+{
+    rules
+        .iter()
+        .all(|rule| are_published(catalogue, &rule.geographies))
+}
+
+/// Whether the geographies of all rules of a policy are published.
+fn is_placed(catalogue: &Catalogue, policy: &Policy) -> bool
+    ensures { result ≡ is_placed (publications_of catalogue.now) (policy_document policy.now) }
+{
+    are_placed(catalogue, policy.rules())
+}
+
+/// The verdicts on a published policy's rules by what the book keeps of its vehicles. `None` where it
+/// has none, where a geography of the policy isn't published, or where what is kept has no answer.
+fn kept_verdicts(
+    book: &mut Book,
+    catalogue: &Catalogue,
+    policy: &Policy,
+    local: Local,
+    at: Moment,
+) -> Option<Vec<RuleVerdict>>
+    requires published { IsOfItsId (publications_of catalogue.now) (policy_document policy.now) }
+    requires fits { Fits (lasting_in (publications_of catalogue.now)) book.old }
+    ensures exact { IfSome result (λ found. map verdict_document found.items ≡ verdicts (policy_document policy.now)
+        (published_area (publications_of catalogue.now)) (finite.values book.old.rows) local at) }
+    ensures within { IfSome result (λ found. All (λ v. v.measure < 2 ^ 63) found.items) }
+    ensures rows { book.new.rows ≡ book.old.rows }
+    ensures limit { book.new.limit ≡ book.old.limit }
+    ensures fits { Fits (lasting_in (publications_of catalogue.now)) book.new }
+{
+    if book.len() == 0 || !is_placed(catalogue, policy) {
+        return None;
+    }
+    book.verdicts(policy, catalogue, local, at)
+}
+
+/// The verdicts on a published policy's rules: by what the book keeps, and by the evaluator where that
+/// has no answer.
+fn policy_verdicts<E: Evaluator<Catalogue>>(
+    alloc: Global,
+    evaluator: &E,
+    book: &mut Book,
+    catalogue: &Catalogue,
+    policy: &Policy,
+    local: Local,
+    at: Moment,
+) -> Result<Vec<RuleVerdict>, AllocError>
+    requires ready { E.may_judge }
+    requires published { IsOfItsId (publications_of catalogue.now) (policy_document policy.now) }
+    requires fits { Fits (lasting_in (publications_of catalogue.now)) book.old }
+    ensures exact { IfOk result (λ found. map verdict_document found.items ≡ verdicts (policy_document policy.now)
+        (published_area (publications_of catalogue.now)) (finite.values book.old.rows) local at) }
+    ensures within { IfOk result (λ found. All (λ v. v.measure < 2 ^ 63) found.items) }
+    ensures rows { book.new.rows ≡ book.old.rows }
+    ensures limit { book.new.limit ≡ book.old.limit }
+    ensures fits { Fits (lasting_in (publications_of catalogue.now)) book.new }
+{
+    if let Some(found) = kept_verdicts(book, catalogue, policy, local, at) {
+        return Ok(found);
+    }
+    let vehicles = fleet(book)?;
+    evaluator.verdicts(alloc, policy, catalogue, &vehicles, local, at)
+}
+
+/// The report on a published policy.
 fn policy_report<E: Evaluator<Catalogue>>(
     alloc: Global,
     evaluator: &E,
+    book: &mut Book,
     catalogue: &Catalogue,
     policy: &Policy,
-    vehicles: &[&Vehicle],
     local: Local,
     at: Moment,
 ) -> Result<Tree, AllocError>
     requires ready { E.may_judge }
-    requires ascends { Ascends (map (λ v. row_of v.now) vehicles.now) }
-    ensures { IfOk result (λ t. view t ≡ reported (policy_document policy.now)
-        (verdicts (policy_document policy.now) (published_area (publications_of catalogue.now)) (map (λ v. row_of v.now) vehicles.now) local at)) }
+    requires published { IsOfItsId (publications_of catalogue.now) (policy_document policy.now) }
+    requires fits { Fits (lasting_in (publications_of catalogue.now)) book.old }
+    ensures report { IfOk result (λ t. view t ≡ reported (policy_document policy.now)
+        (verdicts (policy_document policy.now) (published_area (publications_of catalogue.now)) (finite.values book.old.rows) local at)) }
+    ensures rows { book.new.rows ≡ book.old.rows }
+    ensures limit { book.new.limit ≡ book.old.limit }
+    ensures fits { Fits (lasting_in (publications_of catalogue.now)) book.new }
 {
-    let verdicts = evaluator.verdicts(alloc, policy, catalogue, vehicles, local, at)?;
+    let verdicts = policy_verdicts(alloc, evaluator, book, catalogue, policy, local, at)?;
     report_tree(alloc, policy, &verdicts)
 }
 
-/// The reports on these policies.
+/// The reports on these published policies.
 fn policy_reports<E: Evaluator<Catalogue>>(
     alloc: Global,
     evaluator: &E,
+    book: &mut Book,
     catalogue: &Catalogue,
     policies: &[Published<'_, Policy>],
-    vehicles: &[&Vehicle],
     local: Local,
     at: Moment,
 ) -> Result<Tree, AllocError>
     requires ready { E.may_judge }
-    requires ascends { Ascends (map (λ v. row_of v.now) vehicles.now) }
-    ensures { IfOk result (λ t. view t ≡ list_json (map (λ p. reported p.document
-        (verdicts p.document (published_area (publications_of catalogue.now)) (map (λ v. row_of v.now) vehicles.now) local at)) (map lent_policy policies.now))) }
+    requires published { All (λ p. IsOfItsId (publications_of catalogue.now) (lent_policy p).document) policies.now }
+    requires fits { Fits (lasting_in (publications_of catalogue.now)) book.old }
+    ensures reports { IfOk result (λ t. view t ≡ list_json (map (λ p. reported p.document
+        (verdicts p.document (published_area (publications_of catalogue.now)) (finite.values book.old.rows) local at)) (map lent_policy policies.now))) }
+    ensures rows { book.new.rows ≡ book.old.rows }
+    ensures limit { book.new.limit ≡ book.old.limit }
+    ensures fits { Fits (lasting_in (publications_of catalogue.now)) book.new }
 {
     let mut reports = Vec::with_capacity(alloc, policies.len())?;
     for policy in policies {
         let report = policy_report(
             alloc,
             evaluator,
+            book,
             catalogue,
             policy.document,
-            vehicles,
             local,
             at,
         )?;
@@ -86,19 +175,23 @@ fn policy_reports<E: Evaluator<Catalogue>>(
 pub(crate) fn compliance<E: Evaluator<Catalogue>>(
     alloc: Global,
     evaluator: &E,
-    book: &Book,
+    book: &mut Book,
     catalogue: &Catalogue,
     zone: &Zone,
     operator: &Operator,
     at: Moment,
 ) -> Result<Reply, AllocError>
-    requires { E.may_judge }
-    ensures { IfOk result (λ r. r ≡ compliance_reply zone.now (operator_of operator.now) (publications_of catalogue.now) book.now.rows at) }
+    requires ready { E.may_judge }
+    requires lawful { AreLawful (publications_of catalogue.now) }
+    requires fits { Fits (lasting_in (publications_of catalogue.now)) book.old }
+    ensures reply { IfOk result (λ r. r ≡ compliance_reply zone.now (operator_of operator.now) (publications_of catalogue.now) book.old.rows at) }
+    ensures rows { book.new.rows ≡ book.old.rows }
+    ensures limit { book.new.limit ≡ book.old.limit }
+    ensures fits { Fits (lasting_in (publications_of catalogue.now)) book.new }
 {
-    let vehicles = fleet(book)?;
     let local = zone.local(at)?;
     let policies = catalogue.in_force(alloc, operator.id, at)?;
-    let reports = policy_reports(alloc, evaluator, catalogue, &policies, &vehicles, local, at)?;
+    let reports = policy_reports(alloc, evaluator, book, catalogue, &policies, local, at)?;
     let reply = compliance_reply(alloc, at, "policies", reports, catalogue.revision())?;
     Ok(reply)
 }
@@ -107,16 +200,20 @@ pub(crate) fn compliance<E: Evaluator<Catalogue>>(
 pub(crate) fn policy_compliance<E: Evaluator<Catalogue>>(
     alloc: Global,
     evaluator: &E,
-    book: &Book,
+    book: &mut Book,
     catalogue: &Catalogue,
     zone: &Zone,
     operator: &Operator,
     at: Moment,
     id: Id,
 ) -> Result<Reply, Denied>
-    requires { E.may_judge }
-    ensures { Meets (λ r. r) result
-        (policy_compliance_answer zone.now (operator_of operator.now) (publications_of catalogue.now) book.now.rows at id) }
+    requires ready { E.may_judge }
+    requires fits { Fits (lasting_in (publications_of catalogue.now)) book.old }
+    ensures answer { Meets (λ r. r) result
+        (policy_compliance_answer zone.now (operator_of operator.now) (publications_of catalogue.now) book.old.rows at id) }
+    ensures rows { book.new.rows ≡ book.old.rows }
+    ensures limit { book.new.limit ≡ book.old.limit }
+    ensures fits { Fits (lasting_in (publications_of catalogue.now)) book.new }
 {
     let Some(found) = catalogue.policy(id) else {
         return Err(Denied::Refused(Code::NotFound));
@@ -124,17 +221,8 @@ pub(crate) fn policy_compliance<E: Evaluator<Catalogue>>(
     if !catalogue.is_in_force(operator.id, at, &found) {
         return Err(Denied::Refused(Code::NotFound));
     }
-    let vehicles = fleet(book)?;
     let local = zone.local(at)?;
-    let report = policy_report(
-        alloc,
-        evaluator,
-        catalogue,
-        found.document,
-        &vehicles,
-        local,
-        at,
-    )?;
+    let report = policy_report(alloc, evaluator, book, catalogue, found.document, local, at)?;
     let reply = compliance_reply(alloc, at, "policy", report, catalogue.revision())?;
     Ok(reply)
 }

@@ -2,7 +2,10 @@
 ghost use Rattle.std.specs.Prelude.{◌≡◌, ◌<◌, ◌≤◌, length, IfOk, OnErr, IfSome, Some, option_map, slice_get, IsTrue};
 ghost use Rattle.std.specs.FinMap as finite;
 ghost use Rattle.mds_text.specs.Printed.{printed};
+ghost use Rattle.mds_fleet.specs.Fleet.{Fits};
+ghost use Rattle.mds_kept.specs.Kept.{Published};
 ghost use Rattle.mds_catalog.specs.Catalogue.{publications_of};
+ghost use Rattle.mds_catalog.specs.Laws.{AreLawful};
 ghost use Rattle.mds_request.specs.Configuration.{configuration, operator as operator_of, Operator as Configured};
 ghost use Rattle.mds_request.specs.Request.{request_of};
 ghost use Rattle.mds_request.specs.Reply.{is_line};
@@ -10,6 +13,7 @@ ghost use Rattle.mds_machine.specs.Answer.{told, Gives};
 ghost use Rattle.mds_machine.specs.Bodies.{result_json, vehicles_json};
 ghost use Rattle.mds_machine.specs.Operator.{taken_word, report, removal, operator_does};
 ghost use Rattle.mds_world.specs.Denied.{Meets};
+ghost use Rattle.mds_world.specs.Lasting.{lasting_in};
 ghost use Rattle.mds_world.specs.declared.bodies.TheConstants.{ROOM};
 
 use crate::bodies::{in_room, removed_reply, room, vehicles_reply};
@@ -42,6 +46,7 @@ fn report(alloc: Global, book: &mut Book, request: &Request<'_>) -> Result<Reply
         → Meets (λ r. (r, book.new.rows)) result (report o book.old.rows (request_of request.now)) }
     ensures refused { OnErr result (book.new.rows ≡ book.old.rows) }
     ensures limit { book.new.limit ≡ book.old.limit }
+    ensures fits { (published : Published) → Fits published book.old → Fits published book.new }
 {
     let report = Report::read(alloc, request.body)?;
     let body = room(alloc)?;
@@ -61,6 +66,7 @@ fn remove(alloc: Global, book: &mut Book, device: Id) -> Result<Reply, Denied>
     ensures answer { Meets (λ r. (r, book.new.rows)) result (removal book.old.rows device) }
     ensures refused { OnErr result (book.new.rows ≡ book.old.rows) }
     ensures limit { book.new.limit ≡ book.old.limit }
+    ensures fits { (published : Published) → Fits published book.old → Fits published book.new }
 {
     let reply = removed_reply(alloc, device)?;
     match book.remove(device) {
@@ -82,10 +88,13 @@ fn answered<E: Evaluator<Catalogue>>(
 ) -> Result<Reply, Denied>
     requires ready { E.may_judge }
     requires limit { book.old.limit ≡ (operator_of operator.now).limit }
+    requires lawful { AreLawful (publications_of catalogue.now) }
+    requires fits { Fits (lasting_in (publications_of catalogue.now)) book.old }
     ensures answer { Meets (λ r. (r, book.new.rows)) result (operator_does (configuration config.now).zone (operator_of operator.now)
         (publications_of catalogue.now) book.old.rows call.now (request_of request.now)) }
     ensures refused { OnErr result (book.new.rows ≡ book.old.rows) }
     ensures limit { book.new.limit ≡ book.old.limit }
+    ensures fits { Fits (lasting_in (publications_of catalogue.now)) book.new }
 {
     let (zone, at) = (config.zone(), request.at);
     match *call {
@@ -109,7 +118,8 @@ fn answered<E: Evaluator<Catalogue>>(
 /// published catalogue alone.
 ///
 /// The reply is a success, the first refusal that applies, or 503 `no_memory`; a call that isn't a
-/// success changes nothing.
+/// success changes nothing of what the book holds. What the book keeps beside its vehicles is right for
+/// the catalogue before the call and after it, and so for any catalogue that goes on from this one.
 pub fn operator_step<E: Evaluator<Catalogue>>(
     alloc: Global,
     book: &mut Book,
@@ -123,10 +133,13 @@ pub fn operator_step<E: Evaluator<Catalogue>>(
     requires ready { E.may_judge }
     requires place { operator < length (configuration config.now).operators }
     requires limit { Some book.old.limit ≡ option_map (λ o. o.limit) (slice_get (configuration config.now).operators operator) }
+    requires lawful { AreLawful (publications_of catalogue.now) }
+    requires fits { Fits (lasting_in (publications_of catalogue.now)) book.old }
     ensures answer { IfSome (slice_get (configuration config.now).operators operator) (λ o.
         Gives (Unit {0}) book.old.rows (operator_does (configuration config.now).zone o (publications_of catalogue.now)
         book.old.rows call.now (request_of request.now)) result book.new.rows) }
     ensures limit { book.new.limit ≡ book.old.limit }
+    ensures fits { Fits (lasting_in (publications_of catalogue.now)) book.new }
 {
     let operator = &config.operators()[operator];
     match answered(

@@ -1,6 +1,11 @@
-ghost use Rattle.std.specs.Prelude.{◌≡◌, map, length, IfOk, OnErr};
+ghost use Rattle.std.specs.Prelude.{◌≡◌, All, map, length, IfOk, OnErr};
 ghost use Rattle.std.specs.FinMap.{empty};
+ghost use Rattle.mds_kept.specs.Kept.{Published};
+ghost use Rattle.mds_fleet.specs.Fleet.{Fits};
+ghost use Rattle.mds_catalog.specs.Catalogue.{publications_of};
+ghost use Rattle.mds_catalog.specs.Laws.{AreLawful};
 ghost use Rattle.mds_request.specs.Configuration.{configuration, operator as operator_of};
+ghost use Rattle.mds_world.specs.Lasting.{all_fit_prop, lasting_in};
 
 use crate::author::{AuthorAct, author_step};
 use crate::operator::operator_step;
@@ -25,12 +30,16 @@ pub struct World<E: Drop> {
     books: Vec<Book>,
     evaluator: E,
     ghost limits: { map (λ book. book.limit) books.items ≡ map (λ operator. operator.limit) (configuration config).operators },
+    ghost lawful: { AreLawful (publications_of catalogue) },
+    // what the books keep is right for what is published
+    ghost fits: { All (Fits (lasting_in (publications_of catalogue))) books.items } by { all_fit_prop (lasting_in (publications_of catalogue)) books.items },
 }
 
 /// An empty book of each operator, with the operator's limit.
 fn empty_books(alloc: Global, operators: &[Operator]) -> Result<Vec<Book>, AllocError>
     ensures rows { IfOk result (λ books. map (λ book. book.rows) books.items ≡ map (λ operator. empty) (map operator_of operators.now)) }
     ensures limits { IfOk result (λ books. map (λ book. book.limit) books.items ≡ map (λ operator. operator.limit) (map operator_of operators.now)) }
+    ensures fits { IfOk result (λ books. (published : Published) → All (Fits published) books.items) }
 {
     let mut books = Vec::with_capacity(alloc, operators.len())?;
     for operator in operators {

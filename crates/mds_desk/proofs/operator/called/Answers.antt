@@ -1,12 +1,14 @@
 use Rattle.std.proofs.Common.{◌≡◌, IfSome, slice_get, sym, subst}
 use Rattle.mds_catalog.specs.Catalogue.{publications_of}
-use Rattle.mds_catalog.specs.Publication.{Publication}
+use Rattle.mds_catalog.specs.Laws.{AreLawful}
+use Rattle.mds_fleet.specs.Fleet.{Fits}
 use Rattle.mds_request.specs.Configuration.{configuration}
 use Rattle.mds_request.specs.Request.{request_of}
 use Rattle.mds_request.specs.declared.config.Config.{Config}
 use Rattle.mds_machine.specs.Answer.{Gives}
 use Rattle.mds_machine.specs.Operator.{operator_does}
 use Rattle.mds_shelf.specs.Ready.{AnswersOperator, IsFound, IsReplyTo}
+use Rattle.mds_world.specs.Lasting.{lasting_in}
 use Rattle.mds_desk.proofs.Shelving.{operator_found, operator_laid, operator_told}
 use Rattle.mds_desk.proofs.operator.called.Goals as goal
 
@@ -20,7 +22,16 @@ returns-in-Some g c =
           (subst (λ ps. IfSome asked (AnswersOperator ps c.operator.result c.args.call.now)) c.catalogue-catalogue.ensures.publications c.ready_for_operator-asked.ensures)
           (subst (λ ps. IsFound ps asked c.in-Some.body) c.note-note.ensures c.in-Some.ensures) c.ready.ensures;
       limit = cc;
+      fits = c.requires.fits;
     }
+
+pub operator_step-reply-requires-clause-lawful : goal.operator_step-reply-requires-clause-lawful
+operator_step-reply-requires-clause-lawful g c =
+    subst AreLawful (sym c.catalogue-catalogue.ensures.publications) c.catalogue-catalogue.ensures.lawful
+
+pub operator_step-reply-requires-clause-fits : goal.operator_step-reply-requires-clause-fits
+operator_step-reply-requires-clause-fits g c =
+    subst (λ ps. Fits (lasting_in ps) c.args.book.now) (sym c.catalogue-catalogue.ensures.publications) c.requires.fits
 
 pub answer-requires : goal.answer-requires
 answer-requires g c =
@@ -62,4 +73,5 @@ returns g c =
       answer = operator_laid configured.zone c.args.look.now c.operator.result call rows request (slice_get configured.operators place) asked reply c.answer.result after c.operator.ensures
           (subst (λ ps. IfSome asked (AnswersOperator ps c.operator.result call)) c.catalogue-catalogue.ensures.publications c.ready_for_operator-asked.ensures) gives c.answer.ensures;
       limit = c.operator_step-reply.ensures.limit;
+      fits = subst (λ ps. Fits (lasting_in ps) c.operator_step-reply.new.book) c.catalogue-catalogue.ensures.publications c.operator_step-reply.ensures.fits;
     }

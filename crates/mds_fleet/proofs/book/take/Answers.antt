@@ -16,6 +16,7 @@ use Rattle.mds_fleet.specs.declared.book.BookFault.TheVariants.{NoMemory}
 use Rattle.mds_fleet.specs.Books.{device_cmp, report_document, outcome_at, row_after, row_from}
 use Rattle.mds_fleet.specs.Fleet.{Vehicles, rows_of}
 use Rattle.mds_fleet.proofs.Rows.{Updates, ByOutcome, entry, take_held, held_kept, take_full, take_refused, take_new, new_kept}
+use Rattle.mds_fleet.proofs.Fitting.{changed_one}
 use Rattle.mds_fleet.proofs.book.take.Goals as goal
 
 -- a time that isn't greater
@@ -49,7 +50,13 @@ returns-in-Some-clause-taken c =
 pub returns-in-Some-clause-kept : goal.returns-in-Some-clause-kept
 returns-in-Some-clause-kept c =
     held_kept c.args.vehicles.now (c.get_mut.follows.lender (with_value c.in-Some.vehicle.now c.update.new.vehicle)) (report_document c.args.report) _ _ (sym c.in-Some.ensures.value) (updated c) c.args.limit c.update.result (by_outcome c)
-    (c.get_mut.follows.holds (with_value c.in-Some.vehicle.now c.update.new.vehicle)).2 c.requires
+    (c.get_mut.follows.holds (with_value c.in-Some.vehicle.now c.update.new.vehicle)).4 (c.get_mut.follows.holds (with_value c.in-Some.vehicle.now c.update.new.vehicle)).2 c.requires
+
+-- no device came or went
+pub returns-in-Some-clause-changed : goal.returns-in-Some-clause-changed
+returns-in-Some-clause-changed c is =
+    let after = c.get_mut.follows.lender (with_value c.in-Some.vehicle.now c.update.new.vehicle) in
+    changed_one c.args.vehicles.now after c.args.report.device _ (updated c) (c.get_mut.follows.holds (with_value c.in-Some.vehicle.now c.update.new.vehicle)).1
 
 -- ---- it isn't
 
@@ -96,4 +103,4 @@ returns-clause-kept c =
     let absent : c.in_ok-insert.field-0 ≡ None = c.in_ok-insert.ensures.old ∙ ap (λ m. tree.get device_cmp m c.args.report.device) same ∙ sym c.in_default.ensures.value in
     let more = c.in_ok-insert.ensures.len ∙ ap (λ found. btree_map_len c.get_mut.follows.lender-at-none + cond (is_some found) 0 1) absent ∙ ap (λ m. btree_map_len m + 1) same in
     new_kept c.args.vehicles.now c.get_mut.ensures.ordered (report_document c.args.report) (sym c.in_default.ensures.value) c.args.limit c.args.moment (in_past _ _ c.if-gt.ensures) room
-    c.insert.new.self c.in_ok-vehicle.vehicle (boxed c) (inserted c) more c.requires
+    c.insert.new.self c.in_ok-vehicle.vehicle (boxed c) (inserted c) c.in_ok-insert.ensures.ordered more c.requires

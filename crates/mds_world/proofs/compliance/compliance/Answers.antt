@@ -1,21 +1,24 @@
-use Rattle.std.proofs.Common.{◌≡◌, map, ap, ◌∙◌}
+use Rattle.std.proofs.Common.{◌≡◌, map, refl, ap, ◌∙◌}
 use Rattle.std.specs.FinMap.{values}
-use Rattle.mds_match.specs.Row.{row_of}
 use Rattle.mds_match.specs.Zone.{local_of}
 use Rattle.mds_catalog.specs.Catalogue.{publications_of, lent_policy}
 use Rattle.mds_catalog.specs.Publication.{in_force}
 use Rattle.mds_machine.specs.Bodies.{list_json}
 use Rattle.mds_request.specs.Configuration.{operator}
+use Rattle.mds_world.proofs.Distinct.{all_own}
 use Rattle.mds_world.proofs.Replies.{all_told, local_told, report}
 use Rattle.mds_world.proofs.compliance.compliance.Goals as goal
 
-pub returns : goal.returns
-returns g c =
-    let rows : map (λ v. row_of v.now) c.deref-2.result.now ≡ values c.args.book.now.rows =
-    ap (λ vehicles. map (λ v. row_of v.now) vehicles) c.deref-2.ensures.value ∙ c.in_ok-vehicles.ensures.whole in
+pub policy_reports-requires-clause-published : goal.policy_reports-requires-clause-published
+policy_reports-requires-clause-published g c =
+    all_own (publications_of c.args.catalogue.now) c.args.operator.now.id c.args.at c.deref.result.now c.requires.lawful (ap (map lent_policy) c.deref.ensures.value ∙ c.in_ok-policies.ensures)
+
+pub returns-clause-reply : goal.returns-clause-reply
+returns-clause-reply g c =
+    let rows = values c.args.book.now.rows in
     let policies : map lent_policy c.deref.result.now ≡ in_force (publications_of c.args.catalogue.now) c.args.operator.now.id c.args.at =
     ap (map lent_policy) c.deref.ensures.value ∙ c.in_ok-policies.ensures in
     let local : c.in_ok-local.local ≡ local_of c.args.zone.now c.args.at = local_told _ _ _ c.in_ok-local.was c.local.ensures in
-    all_told c.args.zone.now (operator c.args.operator.now) (publications_of c.args.catalogue.now) c.args.book.now.rows c.args.at _ _ _ _ _ rows local
-    (c.in_ok-reports.ensures ∙ ap (λ ps. list_json (map (report c.args.zone.now (operator c.args.operator.now) (publications_of c.args.catalogue.now) c.args.book.now.rows c.args.at (map (λ v. row_of v.now) c.deref-2.result.now) c.in_ok-local.local) ps)) policies)
+    all_told c.args.zone.now (operator c.args.operator.now) (publications_of c.args.catalogue.now) c.args.book.now.rows c.args.at rows _ _ _ _ refl local
+    (c.in_ok-reports.ensures.reports ∙ ap (λ ps. list_json (map (report c.args.zone.now (operator c.args.operator.now) (publications_of c.args.catalogue.now) c.args.book.now.rows c.args.at rows c.in_ok-local.local) ps)) policies)
     c.revision.ensures.count c.in_ok-reply.ensures

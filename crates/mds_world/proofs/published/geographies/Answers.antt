@@ -1,4 +1,4 @@
-use Rattle.std.proofs.Common.{◌≡◌, List, ℕ, map, length, codes, ap, ◌∙◌}
+use Rattle.std.proofs.Common.{map, length, codes, ap, ◌∙◌}
 use Rattle.mds_catalog.specs.Catalogue.{publications_of}
 use Rattle.mds_catalog.specs.Publication.{published_geographies}
 use Rattle.mds_request.specs.Reply.{success}

@@ -1,4 +1,4 @@
-use Rattle.std.proofs.Common.{◌≡◌, List, ℕ, length, codes, ap, ◌∙◌}
+use Rattle.std.proofs.Common.{length, codes, ap, ◌∙◌}
 use Rattle.mds_catalog.specs.Catalogue.{publications_of}
 use Rattle.mds_request.specs.Reply.{success}
 use Rattle.mds_machine.specs.Published.{geography_json}

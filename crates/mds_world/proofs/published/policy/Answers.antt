@@ -1,4 +1,4 @@
-use Rattle.std.proofs.Common.{◌≡◌, length, codes, ap, sym, ◌∙◌}
+use Rattle.std.proofs.Common.{length, codes, ap, sym, ◌∙◌}
 use Rattle.mds_catalog.specs.Catalogue.{publications_of, lent_policy}
 use Rattle.mds_request.specs.Reply.{success}
 use Rattle.mds_machine.specs.Published.{policy_json}

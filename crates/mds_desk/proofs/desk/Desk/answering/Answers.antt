@@ -2,8 +2,13 @@ use mathlib.Core.List.{IsPrefix}
 use Rattle.std.proofs.Common.{◌≡◌, sym, subst}
 use Rattle.mds_request.specs.Configuration.{configuration}
 use Rattle.mds_request.specs.Request.{request_of}
+use Rattle.mds_world.proofs.Lasting.{fits_front}
 use Rattle.mds_desk.proofs.Turning.{looked}
 use Rattle.mds_desk.proofs.desk.Desk.answering.Goals as goal
+
+-- what the book keeps stays right for a front that begins with all that is known
+pub answered-answer-requires-clause-fits : goal.answered-answer-requires-clause-fits
+answered-answer-requires-clause-fits g c = fits_front c.args.self.pane c.in-Ok.look c.args.self.book c.in-Ok.ensures c.args.self.fits
 
 pub returns-in-Ok : goal.returns-in-Ok
 returns-in-Ok g c =

@@ -23,7 +23,7 @@ refreshed-requires-clause-seen g c =
     let listed = c.in_ok-listed-2.listed in
     let kept = subst (λ (o : Option Listed). IfSome o (IsListed published vehicles)) (sym c.take.ensures.value) c.requires.asked.1 in
     let is : IsListed published vehicles listed = c.in_ok-listed-2.ensures.kept published (c.in_ok-listed.ensures.kept published kept) in
-    (c.taken_out-column.ensures.kept published vehicles listed.devices.items listed.changed.items (omega (arith, c.len-2.ensures)) (lasts published policy polygons c.requires.asked.2 c.id.result c.id.ensures) is.columns).1.seen
+    (c.taken_out-column.ensures.kept published vehicles listed.devices.items listed.changed.items (omega (arith, c.len-2.ensures)) (lasts published policy polygons c.requires.asked.2 c.id-2.result c.id-2.ensures) is.columns).1.seen
 
 pub refreshed-requires-clause-kept : goal.refreshed-requires-clause-kept
 refreshed-requires-clause-kept g c =
@@ -34,8 +34,8 @@ refreshed-requires-clause-kept g c =
     let listed = c.in_ok-listed-2.listed in
     let kept = subst (λ (o : Option Listed). IfSome o (IsListed published vehicles)) (sym c.take.ensures.value) c.requires.asked.1 in
     let is : IsListed published vehicles listed = c.in_ok-listed-2.ensures.kept published (c.in_ok-listed.ensures.kept published kept) in
-    let parts = c.taken_out-column.ensures.kept published vehicles listed.devices.items listed.changed.items (omega (arith, c.len-2.ensures)) (lasts published policy polygons c.requires.asked.2 c.id.result c.id.ensures) is.columns in
-    asked_column published policy polygons c.requires.asked.2 vehicles listed.devices.items listed.changed.items c.taken_out-column.result (c.taken_out-column.ensures.policy ∙ c.id.ensures) parts.1
+    let parts = c.taken_out-column.ensures.kept published vehicles listed.devices.items listed.changed.items (omega (arith, c.len-2.ensures)) (lasts published policy polygons c.requires.asked.2 c.id-2.result c.id-2.ensures) is.columns in
+    asked_column published policy polygons c.requires.asked.2 vehicles listed.devices.items listed.changed.items c.taken_out-column.result (c.taken_out-column.ensures.policy ∙ c.id-2.ensures) parts.1
 
 pub verdicts_by-found-requires-clause-columns : goal.verdicts_by-found-requires-clause-columns
 verdicts_by-found-requires-clause-columns g c =
@@ -70,6 +70,6 @@ returns-clause-kept g c published fits asked =
     let listed = c.in_ok-listed-2.listed in
     let kept = subst (λ (o : Option Listed). IfSome o (IsListed published vehicles)) (sym c.take.ensures.value) fits in
     let is : IsListed published vehicles listed = c.in_ok-listed-2.ensures.kept published (c.in_ok-listed.ensures.kept published kept) in
-    let parts = c.taken_out-column.ensures.kept published vehicles listed.devices.items listed.changed.items (omega (arith, c.len-2.ensures)) (lasts published policy polygons asked c.id.result c.id.ensures) is.columns in
-    let column = fresh_column published policy polygons asked vehicles c.len.ensures.ordered listed.devices.items listed.changed.items is.devices c.in_ok-column.column (c.in_ok-column.ensures.policy ∙ c.taken_out-column.ensures.policy ∙ c.id.ensures) c.in_ok-column.ensures.seen c.in_ok-column.ensures.masks in
+    let parts = c.taken_out-column.ensures.kept published vehicles listed.devices.items listed.changed.items (omega (arith, c.len-2.ensures)) (lasts published policy polygons asked c.id-2.result c.id-2.ensures) is.columns in
+    let column = fresh_column published policy polygons asked vehicles c.len.ensures.ordered listed.devices.items listed.changed.items is.devices c.in_ok-column.column (c.in_ok-column.ensures.policy ∙ c.taken_out-column.ensures.policy ∙ c.id-2.ensures) c.in_ok-column.ensures.seen c.in_ok-column.ensures.masks in
     c.put_back.ensures published vehicles (record { devices = is.devices; seen = is.seen; sinces = is.sinces; columns = parts.0 }) column

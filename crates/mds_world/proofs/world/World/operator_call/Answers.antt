@@ -1,8 +1,11 @@
-use Rattle.std.proofs.Common.{arith}
+use Rattle.std.proofs.Common.{arith, subst, sym}
+use Rattle.std.proofs.lemmas.List.Elements.{All-get_or, All-set}
+use Rattle.mds_fleet.specs.Fleet.{Fits}
 use Rattle.mds_catalog.specs.Catalogue.{publications_of}
 use Rattle.mds_drafts.specs.Shelf.{drafts_of}
 use Rattle.mds_request.specs.Configuration.{configuration}
 use Rattle.mds_request.specs.Request.{request_of}
+use Rattle.mds_world.specs.Lasting.{lasting_in}
 use Rattle.mds_world.proofs.Books.{as_many, limit_at, limits_kept, comes}
 use Rattle.mds_world.proofs.world.World.operator_call.Goals as goal
 
@@ -18,10 +21,21 @@ operator_step-requires-clause-limit g c =
     let same = as_many now.books.items (configuration now.config).operators now.limits in
     limit_at now.books.items (configuration now.config).operators c.args.place c.index_mut.result.now now.limits (omega (arith, c.requires, same)) c.index_mut.ensures.value
 
+pub operator_step-requires-clause-fits : goal.operator_step-requires-clause-fits
+operator_step-requires-clause-fits g c =
+    let now = c.args.self.now in
+    let same = as_many now.books.items (configuration now.config).operators now.limits in
+    let Fit = Fits (lasting_in (publications_of now.catalogue)) in
+    subst Fit (sym c.index_mut.ensures.value) (All-get_or Fit now.books.items c.args.place c.index_mut.result.now (omega (arith, c.requires, same)) now.fits)
+
 pub invariant_of-self : goal.invariant_of-self
 invariant_of-self g c =
     let now = c.args.self.now in
-    record { limits = limits_kept now.books.items (configuration now.config).operators c.args.place c.index_mut.result.now c.operator_step.new.book now.limits c.index_mut.ensures.value c.operator_step.ensures.limit }
+    record {
+      limits = limits_kept now.books.items (configuration now.config).operators c.args.place c.index_mut.result.now c.operator_step.new.book now.limits c.index_mut.ensures.value c.operator_step.ensures.limit;
+      lawful = now.lawful;
+      fits = All-set (Fits (lasting_in (publications_of now.catalogue))) now.books.items c.args.place c.operator_step.new.book c.operator_step.ensures.fits now.fits;
+    }
 
 pub returns : goal.returns
 returns g c =
