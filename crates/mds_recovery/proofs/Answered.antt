@@ -105,8 +105,10 @@ stays c request reply (OperatorAt at) s b is again = record {
   desks = λ place after there.
       elim (at_set s.desks at place again.after after (ap (λ (ds : List DeskState). slice_get ds place) (sym again.desks) ∙ there)) [
         | inl here ↦
-            let first = is.desks at again.before again.there in
-            (ap (λ (x : DeskState). x.configuration) (sym here.1) ∙ again.turn.same.configuration ∙ first.0, ap (λ (x : DeskState). x.place) (sym here.1) ∙ again.turn.same.place ∙ first.1 ∙ sym here.0)
+            let first = is.desks at again.before again.there in (
+              ap (λ (x : DeskState). x.configuration) (sym here.1) ∙ again.turn.same.configuration ∙ first.0,
+              ap (λ (x : DeskState). x.place) (sym here.1) ∙ again.turn.same.place ∙ first.1 ∙ sym here.0,
+            )
         | inr old ↦ is.desks place after old.1
       ];
 }

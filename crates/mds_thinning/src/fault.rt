@@ -10,7 +10,7 @@ use std::fmt;
 /// Why a journal isn't thinned. The journal stays as it was.
 #[derive(Clone, Copy)]
 pub enum ThinFault {
-    /// Memory ran out, or a server that was asked answered that it ran out of it.
+    /// Memory ran out, in this program or in a server that it starts or asks. No other fault tells of that.
     NoMemory,
     /// The configuration's text is none.
     Configuration(ConfigFault),
@@ -40,13 +40,19 @@ impl<T: Drop> From<AllocFailed<T>> for ThinFault {
 
 impl From<ConfigFault> for ThinFault {
     fn from(fault: ConfigFault) -> ThinFault {
-        ThinFault::Configuration(fault)
+        match fault {
+            ConfigFault::NoMemory => ThinFault::NoMemory,
+            _ => ThinFault::Configuration(fault),
+        }
     }
 }
 
 impl From<FolderFault> for ThinFault {
     fn from(fault: FolderFault) -> ThinFault {
-        ThinFault::Folder(fault)
+        match fault {
+            FolderFault::NoMemory => ThinFault::NoMemory,
+            _ => ThinFault::Folder(fault),
+        }
     }
 }
 

@@ -10,8 +10,6 @@ pub mod laws;
 mod place;
 mod questions;
 mod replies;
-#[cfg(test)]
-mod tests;
 mod thinned;
 mod thinning;
 mod writing;

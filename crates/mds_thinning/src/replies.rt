@@ -12,10 +12,10 @@ ghost use Rattle.mds_thinning.specs.Replies.{RoomTells, Tells, IsTold, AreTold, 
 use crate::fault::ThinFault;
 use mds_desk::{AuthorRoom, Desk, OpenGate};
 use mds_entries::{Entry, actor_by, request_by};
-use mds_recovery::{Silent, StartFault, start_again};
+use mds_recovery::{Cause, Fault, Silent, StartFault, start_again};
 use mds_request::{Actor, Config, Request};
 use mds_shelf::Answer;
-use mds_snapshot::{Blank, Naming};
+use mds_snapshot::{Blank, Naming, OpenFault};
 use mds_verdict::Plain;
 use std::alloc::Global;
 use std::sync::Wait;
@@ -127,6 +127,20 @@ pub(crate) enum ReplyFault {
     Untold(ThinFault),
 }
 
+/// Why a server isn't started: for want of memory, or else for this fault.
+fn refused(fault: StartFault) -> ReplyFault {
+    match fault {
+        StartFault::Opening(OpenFault::NoMemory) => ReplyFault::Untold(ThinFault::NoMemory),
+        StartFault::Stopped(
+            Fault {
+                cause: Cause::Refused(BUSY),
+                ..
+            },
+        ) => ReplyFault::Untold(ThinFault::NoMemory),
+        _ => ReplyFault::Refused(fault),
+    }
+}
+
 /// A server that is started from entries answers questions, and is ended.
 ///
 /// # Errors
@@ -155,7 +169,7 @@ pub(crate) fn replies<K: Naming, R: Wait>(
         &mut Silent,
     ) {
         Ok(started) => started,
-        Err(fault) => return Err(ReplyFault::Refused(fault)),
+        Err(fault) => return Err(refused(fault)),
     };
     let told = all_told(rt, alloc, config, &mut room, &mut desks, questions);
     room.finish(rt);

@@ -36,7 +36,9 @@ pub struct Old<'a> {
 /// How many entries a journal had, and how many the thinned one has.
 #[derive(Clone, Copy, Debug, PartialEq, Eq)]
 pub struct Counts {
+    /// Of the journal.
     pub before: usize,
+    /// Of the thinned one.
     pub after: usize,
 }
 
@@ -68,7 +70,7 @@ fn parts<'a>(alloc: Global, texts: &'a [Vec<u8>]) -> Result<(&'a [u8], Vec<Entry
     };
     match entries_in(alloc, 1, rest) {
         Ok(entries) => Ok((head.as_slice(), entries)),
-        Err(fault) => Err(ThinFault::Folder(fault)),
+        Err(fault) => Err(ThinFault::from(fault)),
     }
 }
 

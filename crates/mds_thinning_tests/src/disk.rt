@@ -1,0 +1,215 @@
+//! A disk in memory, one call of which isn't answered.
+use mds_folder::FolderFault;
+use mds_records::{Journal, Log, Medium, MediumFault, Memory};
+use mds_thinning::Place;
+use std::alloc::Global;
+use std::cell::{Cell, RefCell};
+
+/// The bytes for which there is room beside a journal, so that no growth of them is refused.
+const ROOM: usize = 16_384;
+
+/// When a disk answers no more.
+#[derive(Clone, Copy, PartialEq, Eq)]
+pub(crate) enum Failing {
+    /// At one call alone.
+    Once,
+    /// From a call on.
+    Onward,
+}
+
+/// A disk with a journal and what stands beside it, which answers so many calls before one that it doesn't. Of bytes that are to be
+/// appended then half are. What wasn't synced is lost where it takes the journal's place.
+#[derive(Drop)]
+pub(crate) struct Disk {
+    alloc: Global,
+    journal: RefCell<Vec<u8>>,
+    beside: RefCell<Vec<u8>>,
+    /// How many bytes of what stands beside the journal are synced.
+    synced: Cell<usize>,
+    calls_left: Cell<u32>,
+    failing: Failing,
+}
+
+impl Disk {
+    /// A disk with a journal of these texts; none, memory ran out.
+    pub(crate) fn new(
+        alloc: Global,
+        texts: &[Vec<u8>],
+        calls: u32,
+        failing: Failing,
+    ) -> Option<Disk> {
+        let mut log = Journal::open(alloc, memory(Vec::new(alloc))).ok()?;
+        log.append(0, texts).ok()?;
+        let beside = Vec::with_capacity(alloc, ROOM).ok()?;
+        Some(Disk {
+            alloc,
+            journal: RefCell::new(log.into_medium().bytes),
+            beside: RefCell::new(beside),
+            synced: Cell::new(0),
+            calls_left: Cell::new(calls),
+            failing,
+        })
+    }
+
+    /// Answers all calls from here on.
+    pub(crate) fn mend(&self) {
+        self.calls_left.set(u32::MAX);
+    }
+
+    /// The texts of the journal, as who opens it reads them; none, memory ran out.
+    pub(crate) fn texts(&self) -> Option<Vec<Vec<u8>>> {
+        let bytes = copied(self.alloc, &self.journal).ok()?;
+        let mut log = Journal::open(self.alloc, memory(bytes)).ok()?;
+        log.read_from(0).ok()
+    }
+
+    /// Counts a call, and tells whether it is answered.
+    fn is_answered(&self) -> bool {
+        let left = self.calls_left.get();
+        if left > 0 {
+            self.calls_left.set(left - 1);
+            return true;
+        }
+        if self.failing == Failing::Once {
+            self.mend();
+        }
+        false
+    }
+
+    /// Empties what stands beside the journal, and tells whether that was answered.
+    fn empties(&self) -> bool {
+        if !self.is_answered() {
+            return false;
+        }
+        let Ok(mut beside) = self.beside.try_borrow_mut() else {
+            return false;
+        };
+        beside.truncate(0);
+        self.synced.set(0);
+        true
+    }
+
+    /// Puts what is synced of what stands beside the journal into its place, and tells whether that was answered.
+    fn renames(&self) -> bool {
+        if !self.is_answered() {
+            return false;
+        }
+        let Ok(mut bytes) = self.beside.try_replace(Vec::new(self.alloc)) else {
+            return false;
+        };
+        bytes.truncate(self.synced.get());
+        self.journal.try_replace(bytes).is_ok()
+    }
+}
+
+/// A medium that answers the calls of a test.
+fn memory(bytes: Vec<u8>) -> Memory {
+    Memory {
+        bytes,
+        calls_left: 5,
+        is_synced: true,
+    }
+}
+
+/// A copy of what a cell has.
+fn copied(alloc: Global, cell: &RefCell<Vec<u8>>) -> Result<Vec<u8>, MediumFault> {
+    match cell.try_borrow() {
+        Ok(bytes) => Ok(Vec::from_slice(alloc, &bytes)?),
+        Err(_) => Err(MediumFault::Failed),
+    }
+}
+
+/// What stands beside the journal of a disk.
+#[derive(Drop)]
+pub(crate) struct Beside<'d> {
+    disk: &'d Disk,
+}
+
+impl Medium for Beside<'_> {
+    ghost use Rattle.std.specs.Prelude.{⊤};
+
+    // of what stands in cells nothing is known in the proofs
+    ghost holds = { λ _ _. ⊤ };
+
+    ghost is_synced = { λ _. ⊤ };
+
+    fn read(&mut self, alloc: Global) -> Result<Vec<u8>, MediumFault> {
+        if !self.disk.is_answered() {
+            return Err(MediumFault::Failed);
+        }
+        copied(alloc, &self.disk.beside)
+    }
+
+    fn append(&mut self, bytes: &[u8]) -> Result<(), MediumFault> {
+        let is_answered = self.disk.is_answered();
+        let Ok(mut beside) = self.disk.beside.try_borrow_mut() else {
+            return Err(MediumFault::Failed);
+        };
+        if !is_answered {
+            beside.extend_from_slice(&bytes[..bytes.len() / 2])?;
+            return Err(MediumFault::Failed);
+        }
+        beside.extend_from_slice(bytes)?;
+        Ok(())
+    }
+
+    fn cut(&mut self, len: u64) -> Result<(), MediumFault> {
+        if !self.disk.is_answered() {
+            return Err(MediumFault::Failed);
+        }
+        let Ok(mut beside) = self.disk.beside.try_borrow_mut() else {
+            return Err(MediumFault::Failed);
+        };
+        beside.truncate(len as usize);
+        Ok(())
+    }
+
+    fn sync(&mut self) -> Result<(), MediumFault> {
+        if !self.disk.is_answered() {
+            return Err(MediumFault::Failed);
+        }
+        match self.disk.beside.try_borrow() {
+            Ok(bytes) => self.disk.synced.set(bytes.len()),
+            Err(_) => return Err(MediumFault::Failed),
+        }
+        Ok(())
+    }
+}
+
+/// The place of a disk's journal.
+#[derive(Drop)]
+pub(crate) struct Held<'d> {
+    pub(crate) disk: &'d Disk,
+}
+
+impl<'d> Place<Journal<Beside<'d>>> for Held<'d> {
+    ghost use Rattle.std.specs.Prelude.{⊤};
+
+    // of what stands in cells nothing is known in the proofs
+    ghost is_replaced = { λ _. ⊤ };
+
+    fn beside(&mut self) -> Result<Journal<Beside<'d>>, FolderFault> {
+        let disk = self.disk;
+        if !disk.empties() {
+            return Err(FolderFault::Unusable);
+        }
+        let mut log = match Journal::open(disk.alloc, Beside { disk }) {
+            Ok(log) => log,
+            Err(fault) => return Err(FolderFault::from(fault)),
+        };
+        match log.read_from(0) {
+            Ok(texts) if texts.is_empty() => Ok(log),
+            Ok(_) => Err(FolderFault::Unusable),
+            Err(fault) => Err(FolderFault::from(fault)),
+        }
+    }
+
+    fn replace(&mut self) -> Result<(), FolderFault> {
+        // the second call syncs the names
+        if self.disk.renames() && self.disk.is_answered() {
+            Ok(())
+        } else {
+            Err(FolderFault::Unusable)
+        }
+    }
+}

@@ -1,0 +1,86 @@
+//! A server is started again from a journal's entries.
+ghost use Rattle.std.specs.Prelude.{◌≡◌};
+ghost use Rattle.mds_snapshot.specs.Opening.{book_of};
+
+use crate::journal::{Asked, configuration, entries, request};
+use mds_desk::{AuthorRoom, Desk, OpenGate};
+use mds_exchanges::{
+    EXCEEDED, Exchange, GEOGRAPHIES, NONE_FOR_BRAVO, PUBLISH, PUT_CAP, PUT_SQUARE, REPORT_FIRST,
+    REPORT_SECOND, VEHICLES, WITHDRAW,
+};
+use mds_recovery::{Silent, start_again};
+use mds_request::Config;
+use mds_shelf::Answer;
+use mds_snapshot::{Blank, Naming, prepare};
+use mds_verdict::Plain;
+use std::alloc::AllocGlobal;
+use std::marker::Brand;
+use std::process::Abort;
+use std::sync::Wait;
+
+/// A publication, and a report of each of alfa's vehicles.
+const JOURNAL: &[Asked<'static>] = &[
+    (1000, &PUT_SQUARE),
+    (1000, &PUT_CAP),
+    (1000, &PUBLISH),
+    (2000, &REPORT_FIRST),
+    (2001, &REPORT_SECOND),
+];
+
+/// Whether an answer is the exchange's reply.
+fn is_reply(answer: &Answer, exchange: &Exchange) -> bool {
+    answer.status() == exchange.status && answer.body() == exchange.reply.as_bytes()
+}
+
+/// The room gives the exchange's reply.
+fn room_replies<K: Naming, R: Wait>(rt: &R, room: &mut AuthorRoom<K>, exchange: &Exchange) -> bool {
+    let Some(request) = request(exchange.at, exchange) else {
+        return false;
+    };
+    let (answer, _note) = room.answer(rt, &request);
+    is_reply(&answer, exchange)
+}
+
+/// The desk at a place gives the exchange's reply.
+fn desk_replies<K: Naming>(desks: &mut [Desk<K>], place: usize, exchange: &Exchange) -> bool {
+    let Some(request) = request(exchange.at, exchange) else {
+        return false;
+    };
+    if place >= desks.len() {
+        return false;
+    }
+    let answer = desks[place].answer(&request, &mut OpenGate, &Plain);
+    is_reply(&answer, exchange)
+}
+
+/// A room and desks that are started again reply as those whose journal it is: the desks know what was published, and alfa's has both
+/// vehicles; the room goes on at the next revision.
+fn go_on<K: Naming, R: Wait + Abort + AllocGlobal>(
+    rt: &R,
+    config: Config,
+    blank: Blank,
+    journal: &[Asked<'_>],
+)
+    requires { book_of blank ≡ K.book }
+{
+    let Some(entries) = entries(rt.alloc(), &config, journal) else {
+        panic!(rt; "entries");
+    };
+    let started = start_again::<K, R, Silent>(rt, rt.alloc(), config, blank, &entries, &mut Silent);
+    let Ok((mut room, mut desks)) = started else {
+        panic!(rt; "a server");
+    };
+    assert!(rt; desk_replies(&mut desks, 0, &GEOGRAPHIES));
+    assert!(rt; desk_replies(&mut desks, 0, &EXCEEDED));
+    assert!(rt; desk_replies(&mut desks, 0, &VEHICLES));
+    assert!(rt; desk_replies(&mut desks, 1, &NONE_FOR_BRAVO));
+    assert!(rt; room_replies(rt, &mut room, &WITHDRAW));
+    room.finish(rt);
+}
+
+#[test]
+fn goes_on_from_a_journal(rt: HostRuntime) {
+    let config = configuration(rt.alloc()).expect(&rt, "a configuration");
+    let blank = prepare(rt.alloc()).expect(&rt, "a blank");
+    go_on::<Brand, HostRuntime>(&rt, config, blank, JOURNAL);
+}

@@ -1,0 +1,98 @@
+//! Journals of which the entries that stay are worked out by hand.
+use crate::journal::{Asked, configuration, entries};
+use mds_exchanges::{Exchange, PUT_CAP, REPORT_FIRST, REPORT_SECOND};
+use mds_thinning::thinned_entries;
+use std::alloc::Global;
+use std::process::Abort;
+
+/// Alfa's first vehicle is in another state.
+const FIRST_RESERVED: &Exchange = &Exchange {
+    at: 2001,
+    token: "alfa",
+    method: "POST",
+    target: "/fleet/events",
+    body: r#"{"device_id":"00000000-0000-4000-8000-000000000401","vehicle_type":"scooter","propulsion_types":["electric"],"vehicle_state":"reserved","event_types":["reservation_start"],"timestamp":2001,"location":{"lat":5,"lng":5}}"#,
+    status: 200,
+    reply: r#"{"result":"changed"}"#,
+};
+
+/// A report whose body is none.
+const NO_REPORT: &Exchange = &Exchange {
+    at: 2001,
+    token: "alfa",
+    method: "POST",
+    target: "/fleet/events",
+    body: "{}",
+    status: 400,
+    reply: "",
+};
+
+/// Alfa's first vehicle is removed.
+const REMOVE_FIRST: &Exchange = &Exchange {
+    at: 2001,
+    token: "alfa",
+    method: "DELETE",
+    target: "/fleet/vehicles/00000000-0000-4000-8000-000000000401",
+    body: "",
+    status: 200,
+    reply: "",
+};
+
+/// Three reports of the first device, of one state, and one of the second between them.
+const RUN: &[Asked<'static>] = &[
+    (2001, &REPORT_FIRST),
+    (2002, &REPORT_SECOND),
+    (2003, &REPORT_FIRST),
+    (2004, &REPORT_FIRST),
+];
+
+/// A state that changes back.
+const BACK: &[Asked<'static>] = &[
+    (2001, &REPORT_FIRST),
+    (2002, FIRST_RESERVED),
+    (2003, &REPORT_FIRST),
+    (2004, &REPORT_FIRST),
+];
+
+/// A device is removed and comes back, among what is no report.
+const REMOVED: &[Asked<'static>] = &[
+    (2001, &REPORT_FIRST),
+    (2002, REMOVE_FIRST),
+    (2003, &PUT_CAP),
+    (2004, &REPORT_FIRST),
+    (2005, NO_REPORT),
+    (2006, &REPORT_SECOND),
+];
+
+/// Of a journal those entries stay that are of these moments.
+fn stay(rt: &impl Abort, alloc: Global, journal: &[Asked<'_>], moments: &[i64]) {
+    let config = configuration(alloc).expect(rt, "a configuration");
+    let Some(entries) = entries(alloc, &config, journal) else {
+        panic!(rt; "entries");
+    };
+    let Ok(kept) = thinned_entries(alloc, &config, &entries) else {
+        panic!(rt; "a thinned journal");
+    };
+    assert!(rt; kept.len() == moments.len());
+    for (entry, moment) in kept.iter().zip(moments) {
+        assert!(rt; entry.at.get() == *moment);
+    }
+}
+
+/// The middle one of the three goes.
+#[test]
+fn a_run_keeps_its_ends(rt: HostRuntime) {
+    stay(&rt, rt.alloc(), RUN, &[2001, 2002, 2004]);
+}
+
+/// It begins a run of its own.
+#[test]
+fn a_state_that_comes_back_begins_anew(rt: HostRuntime) {
+    stay(&rt, rt.alloc(), BACK, &[2003, 2004]);
+}
+
+/// The device's entries up to its removal go with it; what isn't a report stays.
+#[test]
+fn a_removal_goes_with_what_stands_before(rt: HostRuntime) {
+    stay(&rt, rt.alloc(), REMOVED, &[2003, 2004, 2005, 2006]);
+}
