@@ -1,0 +1,11 @@
+use Rattle.std.proofs.Common.{rules, tests}
+use Rattle.std.proofs.lemmas.Iterator.Search.{any_from_yields_List}
+use Rattle.std.proofs.lemmas.Iterator.Splits.{YieldsList-from_slice_split}
+use Rattle.mds_page.specs.Tag.{is_comma, is_member}
+use Rattle.mds_page.proofs.tag.is_listed.Goals as goal
+
+pub returns : goal.returns
+returns c =
+    any_from_yields_List (is_member c.args.tag.now) _ _ _ c.any.ensures.ran
+    (YieldsList-from_slice_split _ is_comma c.args.list.now c.split.ensures.rest c.split.ensures.done c.split.ensures.closure (λ x b q k. search (rules, tests)))
+    (λ x b q k. search (rules, tests))

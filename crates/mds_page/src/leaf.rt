@@ -1,0 +1,32 @@
+//! A file with its tag.
+ghost use Rattle.std.specs.Prelude.{◌≡◌, IfOk};
+ghost use Rattle.mds_page.specs.File.{text_of};
+ghost use Rattle.mds_page.specs.Tag.{tag_of};
+
+use crate::file::File;
+use crate::tag::tag_of;
+use std::alloc::{AllocError, Global};
+
+/// A file with its tag.
+#[derive(Drop)]
+pub(crate) struct Leaf {
+    pub(crate) file: File,
+    pub(crate) tag: Vec<u8>,
+    ghost tagged: { tag.items ≡ tag_of (text_of file) },
+}
+
+impl Leaf {
+    /// This file with its tag.
+    ///
+    /// # Errors
+    ///
+    /// Memory ran out.
+    pub(crate) fn new(alloc: Global, file: File) -> Result<Leaf, AllocError>
+        ensures { IfOk result (λ leaf. leaf.file ≡ file) }
+    {
+        Ok(Leaf {
+            file,
+            tag: tag_of(alloc, file.text().as_bytes())?,
+        })
+    }
+}

@@ -1,0 +1,32 @@
+//! The texts of the files of `web/`, as `tests/web/texts.py` writes them.
+mod author_js;
+mod cards_js;
+mod dom_js;
+mod fleet_js;
+mod geometry_js;
+mod index_html;
+mod layers_js;
+mod map_js;
+mod page_css;
+mod page_js;
+mod rules_js;
+mod server_js;
+mod settings_json;
+mod state_js;
+mod zone_js;
+
+pub use author_js::AUTHOR_JS;
+pub use cards_js::CARDS_JS;
+pub use dom_js::DOM_JS;
+pub use fleet_js::FLEET_JS;
+pub use geometry_js::GEOMETRY_JS;
+pub use index_html::INDEX_HTML;
+pub use layers_js::LAYERS_JS;
+pub use map_js::MAP_JS;
+pub use page_css::PAGE_CSS;
+pub use page_js::PAGE_JS;
+pub use rules_js::RULES_JS;
+pub use server_js::SERVER_JS;
+pub use settings_json::SETTINGS_JSON;
+pub use state_js::STATE_JS;
+pub use zone_js::ZONE_JS;

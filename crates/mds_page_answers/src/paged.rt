@@ -1,0 +1,62 @@
+//! The page before what answers requests.
+ghost use Rattle.std.specs.Prelude.{◌≡◌, Some, IfSome, IsSome};
+ghost use Rattle.futures.specs.declared.future.either.Either.TheVariants.{Left, Right};
+ghost use Rattle.http_uri.specs.Uri.{uri_path};
+ghost use Rattle.mds_limits.specs.declared.asker.Asker.TheVariants.{Stranger};
+ghost use Rattle.mds_page.specs.File.{path_of};
+ghost use Rattle.mds_page.specs.Response.{IsNoFile, Tells};
+ghost use Rattle.mds_page.specs.declared.file.File.{File};
+
+use bytes::Bytes;
+use futures::future::{Either, Ready, ready};
+use http::Response;
+use http::request::Parts;
+use http_body_util::Full;
+use mds_connections::{Answers, Taken};
+use mds_limits::Asker;
+use mds_page::Page;
+use std::alloc::{AllocError, Global};
+
+/// What the page tells at once.
+type Told = Ready<Result<Response<Full<Bytes>>, AllocError>>;
+
+/// What answers requests, with the page before it. A request for a file of the page is a stranger's, and is told of the file:
+/// nothing else is asked. Any other is answered as if there were no page.
+#[derive(Drop)]
+pub struct Paged<A> {
+    pub alloc: Global,
+    pub page: Page,
+    pub answers: A,
+}
+
+impl<A: Answers> Answers for Paged<A> {
+    type Reply = Either<Told, A::Reply>;
+
+    ghost may_answer = { A.may_answer };
+
+    fn asker(&self, parts: &Parts) -> Asker
+        ensures { (file : File) → path_of file ≡ uri_path parts.now.uri → result ≡ Stranger }
+    {
+        if self.page.has(parts.uri.path().as_bytes()) {
+            Asker::Stranger
+        } else {
+            self.answers.asker(parts)
+        }
+    }
+
+    fn answer(&self, parts: &Parts, taken: Taken) -> Either<Told, A::Reply>
+        requires ready { A.may_answer }
+        ensures poll { elim result [ Left told ↦ IsSome told.0 | Right reply ↦ A.Reply.can_poll reply ] }
+        ensures told { elim result [
+          | Left told ↦ IfSome told.0 (λ r. Tells parts.now.method (uri_path parts.now.uri) parts.now.headers (Some r))
+          | Right reply ↦ IsNoFile (uri_path parts.now.uri)
+        ] }
+    {
+        let method = parts.method.as_str().as_bytes();
+        let path = parts.uri.path().as_bytes();
+        match self.page.respond(self.alloc, method, path, &parts.headers) {
+            Some(told) => Either::Left(ready(told)),
+            None => Either::Right(self.answers.answer(parts, taken)),
+        }
+    }
+}
