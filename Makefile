@@ -6,7 +6,7 @@
 # server   proves ruffletuff with all that it stands on, and builds it
 # plain    the same of mds_serve, which keeps nothing
 # serve    the server on 127.0.0.1:8080 for the city of examples/city.json, kept in out/city, with three lines to paste that ask it
-# try      River City to look at in a browser, on 127.0.0.1:8090: the built mds_serve, the page beside it, six policies and two fleets
+# try      River City to look at in a browser, on 127.0.0.1:8090: the built ruffletuff, the page beside it, six policies and two fleets
 # test-web  the page's checks in headless Chromium (Debian's chromium and nodejs; minutes, once a server is built)
 # shots    the README's screenshots, by the same Chromium
 # openapi  checks docs/openapi.yaml against the protocol and the scripts (Debian's python3-yaml, python3-jsonschema)
@@ -85,10 +85,10 @@ serve: server
 	@exec $(SERVER) serve --config examples/city.json --state $(CITY) --listen 127.0.0.1:8080 --control 127.0.0.1:8081
 
 try:
-	@if $(call is_built,$(PLAIN)); then \
-		exec python3 -B examples/river-city/try.py $(PLAIN); \
+	@if $(call is_built,$(SERVER)); then \
+		exec python3 -B examples/river-city/try.py $(SERVER); \
 	else \
-		echo "mds_serve isn't built: make plain comes first, which takes $(SERVE_TIME)" >&2; \
+		echo "ruffletuff isn't built: make server comes first, which takes $(SERVE_TIME)" >&2; \
 		exit 1; \
 	fi
 

@@ -1,12 +1,14 @@
-"""Times ruffletuff, which keeps what it serves, over loopback: beside mds_serve, which doesn't, and beside SQLite on the same disk.
+"""Times ruffletuff, which keeps what it serves, over loopback: beside mds_serve, which doesn't, and beside SQLite and PostgreSQL on the
+same disk.
 
     journal.py [--program FILE] [--without FILE] [--folder FOLDER] [--rounds N] [--seconds N]
 
 Reports over HTTP by wrk, on 32 and on 256 connections, by turns of both servers in each round; rows of SQLite (bench/commits.c: a
-write-ahead log, synchronous FULL, one row a commit, of as many bytes as a report's record); the 99th percentile of a short list, idle and
-while 32 connections report; the bytes of the journal for a report; and how long a start takes with 200,000 vehicles. The folder is on the
-disk that is timed; without one a temporary one is taken. Each figure is the median of the rounds, with the least and the greatest. It
-needs Debian's wrk, and gcc with libsqlite3-dev for SQLite, which else is left out.
+write-ahead log, synchronous FULL, one row a commit, of as many bytes as a report's record), and of PostgreSQL by 32 clients
+(postgres.py); the 99th percentile of a short list, idle and while 32 connections report; the bytes of the journal for a report; and how
+long a start takes with 200,000 vehicles, thinned. The folder is on the disk that is timed; without one a temporary one is taken. Each
+figure is the median of the rounds, with the least and the greatest. It needs Debian's wrk; gcc with libsqlite3-dev for SQLite, and as root
+Debian's postgresql, which else are left out.
 """
 
 import argparse
@@ -28,6 +30,8 @@ sys.path.append(os.path.join(HERE, "..", "tests"))
 from http import REPORTS, SMALL, Load, districts, line, policies, send, send_many, spread  # noqa: E402
 
 from kept import City  # noqa: E402
+from postgres import inserts  # noqa: E402
+from thinning import thin  # noqa: E402
 from wire import Server  # noqa: E402
 
 PROGRAM, WITHOUT = (os.path.join(HERE, "..", "crates", it, "out", it) for it in ("ruffletuff", "mds_serve"))
@@ -35,6 +39,7 @@ CONNECTIONS = (32, 256)
 ROUNDS, SECONDS = 3, 5
 REPORTING, READING = generate.token(1), generate.token(0)
 EVENTS, LIST = "/fleet/events", "/policies"
+ROW = 250  # bytes, as of a report's record
 
 
 def commits(folder, seconds, size):
@@ -87,9 +92,11 @@ def loads(city, without, folder, script, rounds, seconds):
                     rounds.add(f"bytes {connections}", (len(city.bytes()) - before) / max(1, load.rate * seconds))
         rounds.add("idle", Load(keeping.process.pid, keeping.port, LIST, 32, seconds, READING).worst)
         rounds.add("busy", beside_reports(keeping, script, seconds))
-    if found := commits(folder, seconds, 250):
+    if found := commits(folder, seconds, ROW):
         rounds.add("commits", found[0])
         rounds.add("bytes of a row", found[1])
+    if found := inserts(folder, CONNECTIONS[0], seconds, ROW):
+        rounds.add("inserts", found)
 
 
 def beside_reports(server, script, seconds):
@@ -106,15 +113,20 @@ def beside_reports(server, script, seconds):
 
 
 def large_start(city, rounds, count):
-    """The seconds of a start with the largest fleet, `count` times, and the bytes of its journal."""
+    """The seconds of a start with the largest fleet, thinned, `count` times, and the bytes of its journal for a vehicle."""
     with city.serve() as server, server.link() as link:
         send_many(link, generate.fleet(generate.Xorshift(generate.SEED), generate.MOST_VEHICLES))
         server.end()
+    begun = time.perf_counter()
+    status, _, said = thin(city)
+    if status:
+        raise ValueError(f"thin ends with {status}: {said[:200]!r}")
+    rounds.add("thinning", time.perf_counter() - begun)
     for _ in range(count):
         begun = time.perf_counter()
         with city.serve():
             rounds.add("start", time.perf_counter() - begun)
-    rounds.add("journal", len(city.bytes()))
+    rounds.add("bytes of a vehicle", len(city.bytes()) / generate.MOST_VEHICLES)
 
 
 def tell(rounds, count):
@@ -122,18 +134,22 @@ def tell(rounds, count):
     line(["Measure", "seen", "ratio", "must", "aim"])
     print("|---|---|---|---|---|")
     for connections in CONNECTIONS:
-        label = f"reports a second, {connections} connections"
+        label, kept = f"reports a second, {connections} connections", f"kept {connections}"
         rounds.tell(f"{label}, mds_serve", f"plain {connections}")
-        rounds.tell(f"{label}, ruffletuff, against mds_serve", f"kept {connections}", against=f"plain {connections}")
-        rounds.tell(f"{label}, ruffletuff, against SQLite's commits", f"kept {connections}", against="commits")
-        rounds.tell(f"99th percentile of a report, {connections} connections", f"kept {connections} worst", 1e3, " ms", f"plain {connections} worst")
-        rounds.tell(f"bytes of the journal for a report, {connections} connections", f"bytes {connections}", against="bytes of a row")
+        rounds.tell(f"{label}, ruffletuff, against mds_serve", kept, against=f"plain {connections}", must="0.3", aim="0.6")
+        rounds.tell(f"{label}, ruffletuff, against SQLite's commits", kept, against="commits", must="5", aim="20")
+        rounds.tell(f"{label}, ruffletuff, against PostgreSQL's commits", kept, against="inserts", must="1", aim="3")
+        rounds.tell(f"99th percentile of a report, {connections} connections", f"{kept} worst", 1e3, " ms", f"plain {connections} worst")
+        name = f"bytes of the journal for a report, {connections} connections"
+        rounds.tell(name, f"bytes {connections}", against="bytes of a row", must="400", aim="250")
     rounds.tell("commits of SQLite a second, one writer", "commits")
+    rounds.tell("commits of PostgreSQL a second, 32 clients", "inserts")
     rounds.tell("bytes of SQLite's files for a row of 250 bytes", "bytes of a row")
     rounds.tell("99th percentile of GET of a short list, 32 connections, idle", "idle", 1e3, " ms")
-    rounds.tell("the same while 32 connections report, against idle", "busy", 1e3, " ms", "idle")
-    rounds.tell("a start with 200,000 vehicles, each reported once", "start", 1, " s")
-    rounds.tell("the journal of these", "journal", 1e-6, " MB")
+    rounds.tell("the same while 32 connections report, against idle", "busy", 1e3, " ms", "idle", "3", "1.5")
+    rounds.tell("a start with 200,000 vehicles, thinned", "start", 1, " s", must="2 s", aim="0.7 s")
+    rounds.tell("bytes of the journal for a vehicle, thinned", "bytes of a vehicle", must="800", aim="500")
+    rounds.tell("thinning it", "thinning", 1, " s")
 
 
 def main():

@@ -25,8 +25,8 @@ EDGES = (4, 1_000, generate.MOST_POSITIONS - 1)
 RULES = 64
 RADIUS = 0.2
 FLEET = generate.MOST_VEHICLES
-# How often each program is asked behind its first question: often, where that is cheap.
-QUESTIONS = {"ours": 20, "good": 20, "keeping": 400}
+# How often each program is asked behind its second question: often, where that is cheap.
+QUESTIONS = {"ours": 100, "good": 20, "keeping": 400}
 POLICIES, POLICY_RULES, PART_FLEET = 30, 8, 20_000
 SMALL_POLICIES, SMALL_RULES, SMALL_PLACES, SMALL_CITY = 5, 4, 8, 1_000
 NEW_DEVICES = 20_000
@@ -71,10 +71,11 @@ def city(random, first, edges):
 
 
 def asked(name, lines, target):
-    """These lines, the same with a first question, and for each program that is asked again with its further ones."""
-    scripts = {name: lines, f"first {name}": lines + [generate.get(target)]}
+    """These lines, the same with a first question, with a second one, and for each program that is asked again with its further ones."""
+    question = [generate.get(target)]
+    scripts = {name: lines, f"first {name}": lines + question, f"second {name}": lines + question * 2}
     for who, count in QUESTIONS.items():
-        scripts[f"ask {name}, {who}"] = lines + [generate.get(target)] * (1 + count)
+        scripts[f"ask {name}, {who}"] = lines + question * (2 + count)
     return scripts
 
 
@@ -146,9 +147,10 @@ def scripts_for(who, scripts):
         only = name.partition(", ")[2]
         if only and only != who:
             continue
-        if who == "scan" and (name.startswith("large") or name == f"first {EDGES[-1]}"):
+        if who == "scan" and (name.startswith(("large", "second")) or name == f"first {EDGES[-1]}"):
             continue
-        if who == "keeping" and not (only or name.startswith("first") or f"first {name}" in scripts or name == "fleet"):
+        asked = name.startswith(("first", "second")) or f"first {name}" in scripts
+        if who == "keeping" and not (only or asked or name == "fleet"):
             continue
         yield name
 
@@ -208,11 +210,13 @@ class Table:
         return self.print_row(label, {who: self.seconds(who, longer, shorter, count) for who in WHO}, scale, unit, bounds)
 
     def question(self, label, name, bounds, shorter=None):
-        """The same for a question: a further one, and the first one, which is the plain program's only one."""
+        """The same for a question: a further one, the first one, which is the plain program's only one, and the second."""
         first = {who: self.seconds(who, f"first {name}", shorter or name, 1) for who in WHO}
-        further = {who: self.seconds(who, f"ask {name}, {who}", f"first {name}", count) for who, count in QUESTIONS.items()}
+        second = {who: self.seconds(who, f"second {name}", f"first {name}", 1) for who in WHO}
+        further = {who: self.seconds(who, f"ask {name}, {who}", f"second {name}", count) for who, count in QUESTIONS.items()}
         asked = self.print_row(label, further | {"scan": first["scan"]}, 1e3, "ms", bounds)
-        self.print_row("the first " + label.removeprefix("a "), first | {"scan": None}, 1e3, "ms", None)
+        for which, found in (("first", first), ("second", second)):
+            self.print_row(f"the {which} {label.removeprefix('a ')}", found | {"scan": None}, 1e3, "ms", None)
         return asked
 
     def print_row(self, label, found, scale, unit, bounds):

@@ -102,12 +102,12 @@ class Watch(threading.Thread):
 
     def files(self):
         """How many files it has open; none, once it has ended."""
-        with contextlib.suppress(FileNotFoundError):
+        with contextlib.suppress(FileNotFoundError, ProcessLookupError):
             return len(os.listdir(f"/proc/{self.pid}/fd"))
         return 0
 
     def run(self):
-        with contextlib.suppress(FileNotFoundError):
+        with contextlib.suppress(FileNotFoundError, ProcessLookupError):
             while not self.over.wait(0.05) and not self.why:
                 self.most, self.most_files = max(self.most, self.memory()), max(self.most_files, self.files())
                 self.most_kernel = max(self.most_kernel, memory_of_connections())

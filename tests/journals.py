@@ -1,12 +1,14 @@
 #!/usr/bin/env python3
-"""Tries ruffletuff on journals that were changed, cut or copied, on other configurations, on full disks, and its ends.
+"""Tries ruffletuff on journals that were changed, cut or copied, on other configurations, on full and failing disks, what it counts, and
+its ends.
 
     journals.py PROGRAM [--replay FILE] [--stride NUMBER]
 
 A small journal is changed in each byte, and cut at each length. What the program may make of it is worked out here a second time, by
 tests/records.py: it goes on from a front of the journal, or refuses it by name; what was synced before the last group is never cut
-silently. With a stride only each so many bytes. The full disk is a file system in memory, where one may be mounted; else that test is
-left out, and said so. Takes up to two minutes. Prints what differs, and last 'N passed, M failed'; ends with 1 where one failed.
+silently. With a stride only each so many bytes. The full disk is a file system in memory, and the failing one a file on such a one that
+seems larger, where these may be mounted; else a test is left out, and said so. Takes up to two minutes. Prints what differs, and last
+'N passed, M failed'; ends with 1 where one failed.
 """
 
 import argparse
@@ -39,6 +41,8 @@ COUNT = "records, "
 DISK, FILLED = 2 << 20, 1_200_000  # bytes of a small disk, and of what fills it at first
 MOST_OF_A_FILE = 300_000  # bytes of a journal that can't grow further
 LARGE = 20_000  # bytes of a report that fills either soon
+SEEMING, THERE, BLOCK = 64_000_000, 9_000_000, 4096  # bytes that a disk seems to have, of those that are there, and of its blocks
+LARGER = 100_000  # bytes of a report that fills it soon
 
 DAMAGED = b"ruffletuff: the journal is damaged, or of another version: "
 UNFIT = b"ruffletuff: the configuration doesn't fit the journal: "
@@ -430,9 +434,27 @@ def stopped_under_load(small):
 
 
 def counted(server):
-    """What the control port tells of the journal, by its names."""
+    """What the control port tells that is counted, by its names."""
     text = server.asked("GET", "/metrics")[1].decode()
-    return {name: int(value) for name, value in re.findall(r"^ruffletuff_(journal_bytes|syncs_total) (\d+)$", text, re.M)}
+    found = {name: int(value) for name, value in re.findall(r"^ruffletuff_(\S+) (\d+)$", text, re.M)}
+    lines = [it for it in text.splitlines() if not it.startswith(("# HELP ruffletuff_", "# TYPE ruffletuff_"))]
+    if len(lines) != len(found):
+        raise ValueError(f"its metrics have other lines: {text}")
+    return found
+
+
+def calls(server):
+    """How many answers are counted, by what was asked and the class of the status; those that are any."""
+    found = re.compile(r'requests_total\{call="(\w+)",status="(\dxx)"\}')
+    return {found.fullmatch(name).groups(): value for name, value in counted(server).items() if found.fullmatch(name) and value}
+
+
+def until(server, name, is_right):
+    """The number of this name once it is right, or the last one that was told in time."""
+    end = time.monotonic() + SECONDS
+    while not is_right(value := counted(server)[name]) and time.monotonic() < end:
+        time.sleep(0.002)
+    return value
 
 
 def the_control_port(small):
@@ -447,15 +469,75 @@ def the_control_port(small):
                 yield f"{method} {path} is answered {found}"
         if (found := server.asked("GET", "/healthz")) != (200, b"ok\n"):
             yield f"its health is {found}"
-        before = counted(server)
-        server.ask("POST", "/fleet/events", ALFA, report(1, 3000).encode())
-        after = counted(server)
-        if (before["journal_bytes"], after["journal_bytes"]) != (len(small.bytes), len(city.bytes())):
-            yield f"it counts {before['journal_bytes']} and {after['journal_bytes']} bytes"
-        if after["syncs_total"] <= before["syncs_total"]:
-            yield f"it counts {after['syncs_total']} syncs"
         if server.ask("GET", "/healthz", AUTHOR).status != 404:
             yield "the city's port has its pages too"
+
+
+def what_is_counted(small):
+    """What the control port counts is what was asked, what is published and what the journal has."""
+    further = identifier(2, 9)
+    put = ("PUT", f"/drafts/policies/{further}", DRAFTS[1][2].replace(CAP, further))
+    published = ("POST", "/publish", f'{{"policies":["{further}"]}}')
+    asked = [
+        (ALFA, "POST", "/fleet/events", report(1, 3000), 200, "change"),
+        (ALFA, "POST", "/fleet/events", "{}", 400, "change"),
+        (ALFA, "POST", "/fleet/events", "x" * 1_048_577, 413, "change"),
+        (BRAVO, "DELETE", f"/fleet/vehicles/{identifier(4, 2)}", "", 404, "change"),
+        (AUTHOR, *put, 200, "change"),
+        (AUTHOR, *published, 200, "publish"),
+        (AUTHOR, *published, 404, "publish"),
+        (AUTHOR, "GET", "/policies", "", 200, "read"),
+        (ALFA, "GET", "/compliance", "", 200, "read"),
+        ("nobody", "GET", "/policies", "", 401, "read"),
+    ]
+    with small.copy() as city, city.serve() as server:
+        before, wanted = counted(server), {}
+        if (before["revision"], before["journal_bytes"], before["pending_replies"], calls(server)) != (1, len(small.bytes), 0, {}):
+            yield f"before anything is asked it counts {before}"
+        for token, method, target, body, status, call in asked:
+            if (answer := server.ask(method, target, token, body.encode())).status != status:
+                yield f"{method} {target} is answered {answer}"
+            kind = call, f"{status // 100}xx"
+            wanted[kind] = wanted.get(kind, 0) + 1
+        after = counted(server)
+        if calls(server) != wanted:
+            yield f"it counts {calls(server)}, and not {wanted}"
+        buckets = [value for name, value in after.items() if name.startswith("answer_milliseconds_bucket")]
+        if buckets != sorted(buckets) or {buckets[-1], after["answer_milliseconds_count"]} != {len(asked)}:
+            yield f"it counts the answers {buckets} by how long they took, and {after['answer_milliseconds_count']}"
+        if (after["revision"], after["journal_bytes"]) != (2, len(city.bytes())) or after["syncs_total"] <= before["syncs_total"]:
+            yield f"it counts {after}"
+        yield from pending_replies(server)
+        if server.end() != (0, b"", b""):
+            yield f"it ends with {server.ended}"
+        with city.serve() as again:
+            if (found := counted(again))["revision"] != 2 or found["journal_bytes"] != len(city.bytes()):
+                yield f"after a restart it counts {found}"
+
+
+def pending_replies(server):
+    """Replies on their way are counted while they are, and not any more once they are told or given up."""
+    over, heads = threading.Event(), [request("POST", "/fleet/events", ALFA, report(1, 7000 + it).encode()) for it in range(50)]
+
+    def reports():
+        with contextlib.suppress(Closed), Link(server.port) as link:
+            while not over.is_set():
+                link.send(heads[0])
+                link.answer()
+
+    asking = [threading.Thread(target=reports) for _ in range(4)]
+    for it in asking:
+        it.start()
+    if not until(server, "pending_replies", lambda value: value > 0):
+        yield "it counts no reply on its way"
+    over.set()
+    for it in asking:
+        it.join()
+    for head in heads:
+        with Link(server.port) as link:
+            link.send(head)
+    if (found := until(server, "pending_replies", lambda value: value == 0)) != 0:
+        yield f"once all are told or given up it counts {found} on their way"
 
 
 def copied_while_it_runs(small):
@@ -523,6 +605,7 @@ def told_what_is_wrong(small):
             (("check", os.path.join(room, "none")), 4, unusable),
             (("audit", os.path.join(room, "none"), "--config", file), 4, unusable),
             (("audit", folder, "--config", bad), 2, misconfigured),
+            (("thin", folder), 2, b"ruffletuff: the arguments are wrong\nusage: ruffletuff serve "),
             (("stop", "127.0.0.1:1"), 1, b"ruffletuff: no server says that it stops: 127.0.0.1:1\n"),
         ]
         for words, status, said in cases:
@@ -548,18 +631,49 @@ def until_not_taken(server, begun=10_000, more=LARGE):
     return None, count
 
 
+def done(*words):
+    """Whether a command could be run and ended well."""
+    with contextlib.suppress(FileNotFoundError):
+        return not subprocess.run(words, stdout=subprocess.DEVNULL, stderr=subprocess.DEVNULL, check=False).returncode
+    return False
+
+
 @contextlib.contextmanager
 def small_disk(room, bytes_):
     """A disk of so many bytes at a folder; None where none may be mounted."""
     os.mkdir(place := os.path.join(room, "disk"))
-    words = ["mount", "-t", "tmpfs", "-o", f"size={bytes_}", "tmpfs", place]
-    if subprocess.run(words, stdout=subprocess.DEVNULL, stderr=subprocess.DEVNULL, check=False).returncode:
+    if not done("mount", "-t", "tmpfs", "-o", f"size={bytes_}", "tmpfs", place):
         yield None
         return
     try:
         yield place
     finally:
-        subprocess.run(["umount", "-l", place], check=False)
+        done("umount", "-l", place)
+
+
+@contextlib.contextmanager
+def failing_disk(below):
+    """A disk in a file of the small one `below`, which seems larger: what doesn't fit fails once it is synced. Its device, and its folder;
+    None where none may be mounted."""
+    file, place = os.path.join(below, "file"), os.path.join(os.path.dirname(below), "failing")
+    os.mkdir(place)
+    with open(file, "wb") as made:
+        made.truncate(SEEMING)
+    device = ""
+    # A file system that keeps its own tables whole, though what it writes fails.
+    if done("mkfs.ext4", "-q", "-F", "-b", str(BLOCK), "-m", "0", "-N", "16", "-J", "size=4", file):
+        found = subprocess.run(["losetup", "--find", "--show", file], stdout=subprocess.PIPE, stderr=subprocess.DEVNULL, check=False)
+        device = found.stdout.decode().strip()
+    try:
+        # Linux takes a write of which a part fitted for one that was done, so each is of one block, which fits or doesn't.
+        queue = f"/sys/block/{os.path.basename(device)}/queue/max_sectors_kb"
+        with contextlib.suppress(OSError), open(queue, "w", encoding="ascii") as most:
+            most.write(str(BLOCK // 1024))
+        yield (device, place) if device and done("mount", device, place) else None
+    finally:
+        done("umount", "-l", place)
+        if device:
+            done("losetup", "-d", device)
 
 
 def a_full_disk(small):
@@ -624,6 +738,36 @@ def a_journal_that_can_not_be_written(small):
             yield f"{count} reports were answered, and {len(lines) - len(SMALL)} are there"
 
 
+def a_disk_that_fails(small):
+    """Where the disk fails a sync nothing more is told and the program ends with 7; each report that was answered is on the disk."""
+    with contextlib.ExitStack() as stack:
+        room = stack.enter_context(tempfile.TemporaryDirectory())
+        below = stack.enter_context(small_disk(room, THERE))
+        found = stack.enter_context(failing_disk(below)) if below else None
+        if found is None:
+            print("no disk may be mounted on a file here: one that fails isn't tried")
+            return
+        device, disk = found
+        city = City(small.program, disk, BOTH)
+        with city.serve() as server:
+            answer, count = until_not_taken(server, more=LARGER)
+            if answer or not count:
+                yield f"behind {count} reports one is answered {answer}"
+            status, out, said = server.end(told=False)
+            if (status, out) != (7, b"") or b"the journal couldn't be written any more" not in said:
+                yield f"it ends with {server.ended}"
+        # What is read again is what lies on the disk, and not what was to be written.
+        if not all((done("umount", disk), done("mount", "-o", f"remount,size={2 * SEEMING}", below), done("mount", device, disk))):
+            yield "the disk can't be taken out and put in again"
+            return
+        city.configure(BOTH)
+        with city.serve() as server:
+            yield from is_as_replayed(server, city, small.replay)
+            server.end()
+        if not count <= len(city.audit()[1]) <= count + 1:
+            yield f"{count} reports were answered, and {len(city.audit()[1])} are there"
+
+
 CASES = (
     has_its_layout,
     is_checked,
@@ -637,11 +781,13 @@ CASES = (
     ended_by_signals,
     stopped_under_load,
     the_control_port,
+    what_is_counted,
     copied_while_it_runs,
     parts_of_an_audit,
     told_what_is_wrong,
     a_full_disk,
     a_journal_that_can_not_be_written,
+    a_disk_that_fails,
     starts_from_some,
 )
 

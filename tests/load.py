@@ -1,4 +1,4 @@
-"""What many connections, slow ones and large bodies do to a running mds_serve, and to another operator beside them.
+"""What many connections, slow ones and large bodies do to a running server, and to another operator beside them.
 
 While a load lasts, another operator asks in a process of its own, at least 500 times, within a median of 10 ms and a 99th percentile of
 150 ms; the server's memory and open files are read from /proc. A load lasts at most 40 seconds. All loads are tried one after another on

@@ -5,11 +5,11 @@
 
 The tests of each crate that has some are built and run by `rt try --test`, and mds_replay and ruffletuff are built by `rt try`
 (tests/unproved.py), as many at once as there are processors and memory; a proved program is taken where it is built and no source is
-newer. Then come the scripts (replays.py), ruffletuff on the messages that wait for no deadline and on the short loads (http.py), some
-kills (kills.py), journals (journals.py) and a short stress (stress.py), some refused growths of memory (growths.py) and the check of
-docs/openapi.yaml (openapi.py), which has failed where its two Debian packages are missing. The other messages, and mds_serve, which
-serves by the same crates, are tried by `make prove` alone. What a part prints comes once the part is over. Last comes
-'N passed, M failed' over all parts; ends with 1 where one failed.
+newer. Then come the scripts (replays.py), questions that are asked once and again (columns.py), ruffletuff on the messages that wait for
+no deadline and on the short loads (http.py), some kills (kills.py), journals (journals.py, thinning.py), the page (page.py) and a short
+stress (stress.py), some refused growths of memory (growths.py) and the check of docs/openapi.yaml (openapi.py), which has failed where
+its two Debian packages are missing. The other messages, and mds_serve, which serves by the same crates, are tried by `make prove` alone.
+What a part prints comes once the part is over. Last comes 'N passed, M failed' over all parts; ends with 1 where one failed.
 """
 
 import contextlib
@@ -31,7 +31,9 @@ SCRIPT_PARTS = 3
 GROWTH_SECONDS = 20  # for the growths of a crate's tests
 KILLS = "10"
 STRIDE = "29"  # of a journal's bytes, each so many are changed
-SWEPT = ("mds_core_tests", "mds_server_tests")  # the crates whose tests for want of memory bear a refused growth in their set-up too
+DAY = ("--vehicles", "1", "--kills", "2")  # of a journal that is thinned
+# The crates whose tests for want of memory bear a refused growth in their set-up too.
+SWEPT = ("mds_core_tests", "mds_server_tests", "mds_thinning_tests")
 SLOW = "8"  # how many times as long a part waits for a program that isn't proved
 WORD = re.compile(r"^(\d+) passed, (\d+) failed$", re.M)
 TESTS = re.compile(r"^test result: \w+\. (\d+) passed; (\d+) failed;", re.M)
@@ -124,10 +126,13 @@ def parts(room):
     add("messages", 1.5, kept, lambda: script("http.py", keep, "exchanges", slow=slow["ruffletuff"]))
     add("kills", 1.5, kept + replayed, lambda: script("kills.py", keep, KILLS, "--replay", replay, slow=slowly))
     add("journals", 1.5, kept + replayed, lambda: script("journals.py", keep, "--replay", replay, "--stride", STRIDE, slow=slowly))
+    add("the page", 0.2, kept, lambda: script("page.py", keep, slow=slow["ruffletuff"]))
+    add("thinned journals", 1, kept + replayed, lambda: script("thinning.py", keep, "--replay", replay, *DAY, slow=slowly))
     for part in range(1, SCRIPT_PARTS + 1):
         words = ("replays.py", replay, str(part), str(SCRIPT_PARTS))
         call = lambda words=words: script(*words, slow=slow["mds_replay"])
         add(f"scripts, part {part} of {SCRIPT_PARTS}", 2, replayed, call)
+    add("questions again", 0.5, replayed, lambda: script("columns.py", replay, slow=slow["mds_replay"]))
     for name in crates_with_tests():
         program = f"{room}/{name}-tests" if name in SWEPT else None
         needs = add(f"the tests of {name}", 3, [], lambda name=name, program=program: tests_of(name, program))

@@ -1,6 +1,6 @@
-"""Publishes at a running mds_serve while operators ask, and checks what each is told against a replay of its view.
+"""Publishes at a running server while operators ask, and checks what each is told against a replay of its view.
 
-    stress.py [PUBLICATIONS OPERATORS]
+    stress.py [PUBLICATIONS OPERATORS] [--serve PROGRAM] [--replay PROGRAM]
 
 Each operator is a process with one connection. By turns it reports its one vehicle, in the square or out of it, and asks for
 compliance, until the author has published all, and then some more. After that mds_replay answers each operator's requests behind the

@@ -1,4 +1,4 @@
-"""What the tests of mds_serve send and receive by: connections, responses by the grammar of RFC 9112, and the program, running."""
+"""What the tests of a server send and receive by: connections, responses by the grammar of RFC 9112, and the program, running."""
 
 import contextlib
 import os

@@ -1,10 +1,11 @@
 #!/usr/bin/env python3
-"""River City to look at: starts mds_serve and the page beside it, fills both, and prints the address and the access tokens.
+"""River City to look at: starts a server and the page beside it, fills both, and prints the address and the access tokens.
 
     try.py PROGRAM [--port N] [--vehicles N] [--app] [--settings FILE]
 
-PROGRAM is a built mds_serve. The page is at 127.0.0.1:8090, or at port N (0: one that is free). Ends at Ctrl-C, and all with it.
-With --app the page is also told what mds_serve doesn't tell yet (tests/web/serve.py).
+PROGRAM is a built ruffletuff, or mds_serve. The page is at 127.0.0.1:8090, or at port N (0: one that is free): the same that ruffletuff
+serves, with the settings of this folder. Ends at Ctrl-C, and all with it. With --app the page is also told what no server tells yet
+(tests/web/serve.py).
 """
 
 import argparse
@@ -15,6 +16,7 @@ import signal
 import socket
 import subprocess
 import sys
+import tempfile
 import threading
 
 HERE = os.path.dirname(os.path.abspath(__file__))
@@ -32,16 +34,19 @@ def free_port():
 
 @contextlib.contextmanager
 def city(program, port):
-    """mds_serve for the configuration of this folder, once it is ready."""
-    with open(f"{HERE}/city.json", "rb") as configuration:
-        process = subprocess.Popen([program, f"127.0.0.1:{port}"], stdin=configuration, stdout=subprocess.PIPE)
-    try:
-        if process.stdout.readline() != b"ready\n":
-            raise SystemExit(f"try: {program} didn't start")
-        yield process
-    finally:
-        process.terminate()
-        process.wait()
+    """A server of the configuration of this folder, once it is ready. What ruffletuff keeps goes with it."""
+    address, file = f"127.0.0.1:{port}", f"{HERE}/city.json"
+    is_keeping = subprocess.run([program, "--version"], stdout=subprocess.PIPE, check=True).stdout.startswith(b"ruffletuff ")
+    with tempfile.TemporaryDirectory(prefix="river-city-") as room, open(file, "rb") as configuration:
+        words = ["serve", "--config", file, "--state", room, "--listen", address] if is_keeping else [address]
+        process = subprocess.Popen([program, *words], stdin=configuration, stdout=subprocess.PIPE)
+        try:
+            if process.stdout.readline() != b"ready\n":
+                raise SystemExit(f"try: {program} didn't start")
+            yield process
+        finally:
+            process.terminate()
+            process.wait()
 
 
 def main():

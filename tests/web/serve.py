@@ -1,4 +1,4 @@
-"""The page of web/ beside a running mds_serve, on one origin, for trying: what nginx does with deploy/nginx.conf.
+"""The page of web/ before a running server, on one origin, for trying: what nginx does with deploy/nginx.conf.
 
     serve.py PORT BACKEND [--settings FILE] [--app CONFIGURATION]
 

@@ -3,7 +3,7 @@ use Rattle.std.specs.Prelude.{ℕ, List, [], ◌∷◌, bytes_eq, codes, option_
 use Rattle.uuid.specs.Text.{parsed}
 use Rattle.mds_command.specs.Options.{value_of, are_options, moment_in}
 use Rattle.mds_command.specs.declared.asking.Asked.{Asked}
-use Rattle.mds_command.specs.declared.asking.Asked.TheVariants.{Help, Version, Serve, Check, Audit, Stop}
+use Rattle.mds_command.specs.declared.asking.Asked.TheVariants.{Help, Version, Serve, Check, Audit, Thin, Stop}
 
 -- what the program is asked to do
 pub data Request : Type 0 where
@@ -12,6 +12,7 @@ pub data Request : Type 0 where
   serve : (config state listen : List ℕ) → (control dropped : Option (List ℕ)) → Request
   check : (folder : List ℕ) → Request
   audit : (folder config : List ℕ) → (until : Option ℕ) → (operator : Option (List ℕ)) → Request
+  thin : (folder config : List ℕ) → Request
   stop : (address : List ℕ) → Request
 
 -- what a value that may be left out reads as: nothing without it, none where it isn't read
@@ -49,6 +50,15 @@ asked_to_audit folder words =
     (read_if parsed (value_of (codes "--operator") words))
     else None
 
+-- to thin a journal, where the configuration is given
+abbrev pub thin_with : List ℕ → Option (List ℕ) → Option Request
+thin_with folder (Some config) = Some (thin folder config)
+thin_with folder None = None
+
+abbrev pub asked_to_thin : List ℕ → List (List ℕ) → Option Request
+asked_to_thin folder words =
+    if are_options (codes "--config" ∷ []) words then thin_with folder (value_of (codes "--config") words) else None
+
 -- what one word asks for
 abbrev pub asked_alone : List ℕ → Option Request
 asked_alone word =
@@ -61,10 +71,12 @@ asked_with verb name =
     if bytes_eq verb (codes "check") then Some (check name)
     else (if bytes_eq verb (codes "stop") then Some (stop name) else None)
 
--- what a word asks for, with a folder or an address, and options: `audit` alone has any
+-- what a word asks for, with a folder or an address, and options: `audit` and `thin` alone have any
 abbrev pub asked_of : List ℕ → List ℕ → List (List ℕ) → Option Request
 asked_of verb name [] = asked_with verb name
-asked_of verb name (word ∷ words) = if bytes_eq verb (codes "audit") then asked_to_audit name (word ∷ words) else None
+asked_of verb name (word ∷ words) =
+    if bytes_eq verb (codes "audit") then asked_to_audit name (word ∷ words)
+    else (if bytes_eq verb (codes "thin") then asked_to_thin name (word ∷ words) else None)
 
 -- what the words behind the program's name ask for
 abbrev pub asked_by : List (List ℕ) → Option Request
@@ -78,4 +90,5 @@ asked_view Version = version
 asked_view (Serve s) = serve s.config.now s.state.now s.listen.now (option_map (λ word. word.now) s.control) s.dropped
 asked_view (Check folder) = check folder.now
 asked_view (Audit a) = audit a.folder.now a.config.now a.until a.operator
+asked_view (Thin t) = thin t.folder.now t.config.now
 asked_view (Stop address) = stop address.now

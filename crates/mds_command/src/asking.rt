@@ -2,7 +2,7 @@
 ghost use Rattle.std.specs.Prelude.{◌≡◌, ◌∷◌, map, string_bytes, option_map};
 ghost use Rattle.uuid.specs.Text.{parsed};
 ghost use Rattle.mds_command.specs.Options.{moment_in};
-ghost use Rattle.mds_command.specs.Asked.{read_if, asked_to_serve, asked_to_audit, asked_alone, asked_with, asked_of, asked_by, asked_view};
+ghost use Rattle.mds_command.specs.Asked.{read_if, asked_to_serve, asked_to_audit, asked_to_thin, asked_alone, asked_with, asked_of, asked_by, asked_view};
 
 use crate::moment::moment_of;
 use crate::options::{are_options, value_of};
@@ -36,6 +36,15 @@ pub struct Audit<'a> {
     pub operator: Option<Id>,
 }
 
+/// Whose journal is thinned.
+#[derive(Clone, Copy)]
+pub struct Thinning<'a> {
+    /// The city's folder.
+    pub folder: &'a str,
+    /// The file of the configuration.
+    pub config: &'a str,
+}
+
 /// What the arguments ask for.
 #[derive(Clone, Copy)]
 pub enum Asked<'a> {
@@ -49,6 +58,8 @@ pub enum Asked<'a> {
     Check(&'a str),
     /// The journal of a folder as a script.
     Audit(Audit<'a>),
+    /// To thin the journal of a folder.
+    Thin(Thinning<'a>),
     /// To stop the server whose control port is at this address.
     Stop(&'a str),
 }
@@ -119,6 +130,17 @@ fn asked_to_audit<'a>(folder: &'a str, words: &'a [String]) -> Option<Asked<'a>>
     }))
 }
 
+/// Whose journal to thin, by its one option.
+fn asked_to_thin<'a>(folder: &'a str, words: &'a [String]) -> Option<Asked<'a>>
+    ensures { option_map asked_view result ≡ asked_to_thin folder.now (map string_bytes words.now) }
+{
+    if !are_options(&["--config"], words) {
+        return None;
+    }
+    let config = value_of("--config", words)?;
+    Some(Asked::Thin(Thinning { folder, config }))
+}
+
 /// What one word asks for.
 fn asked_alone(word: &str) -> Option<Asked<'_>>
     ensures { option_map asked_view result ≡ asked_alone word.now }
@@ -153,6 +175,8 @@ fn asked_of<'a>(verb: &str, name: &'a str, words: &'a [String]) -> Option<Asked<
         asked_with(verb, name)
     } else if verb == "audit" {
         asked_to_audit(name, words)
+    } else if verb == "thin" {
+        asked_to_thin(name, words)
     } else {
         None
     }

@@ -6,6 +6,6 @@ mod moment;
 mod options;
 mod text;
 
-pub use asking::{Asked, Audit, Service, asked_by};
+pub use asking::{Asked, Audit, Service, Thinning, asked_by};
 pub use moment::moment_of;
 pub use text::{HELP, USAGE, VERSION};

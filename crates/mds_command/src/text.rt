@@ -16,6 +16,8 @@ ruffletuff check DIR
     says how many records and bytes a folder's journal has, and how it ends
 ruffletuff audit DIR --config FILE [--until MOMENT] [--operator ID]
     prints a folder's journal as a script for mds_replay
+ruffletuff thin DIR --config FILE
+    replaces a folder's journal by a shorter one that leads to the same city
 ruffletuff stop ADDRESS
     stops the server whose control port is at this address
 ruffletuff --help
@@ -41,8 +43,9 @@ ID       an operator, by its UUID. --drop leaves out what the journal has of
 MOMENT   in milliseconds of the Unix epoch: the requests before the first later
          one are printed
 
-A journal is read while a server writes it as well. Standard output says
-'ready' once the server listens. After a fault standard error says which.
+To check and to audit read while a server writes; to thin needs the folder
+alone. Standard output says 'ready' once the server listens. After a fault
+standard error says which.
 
 Exit status: 0 done
              1 nothing can be listened to at ADDRESS, or no server there stops
@@ -51,7 +54,8 @@ Exit status: 0 done
              4 the folder can't be used, or another program has it
              5 the journal is damaged, or of another version
              6 the configuration doesn't fit the journal
-             7 the journal couldn't be written any more
+             7 the journal, or the thinned one, couldn't be written
+             8 the thinned journal leads to another city, and wasn't taken
 
 Example: ruffletuff serve --config city.json --state city --listen 127.0.0.1:8080
 ";

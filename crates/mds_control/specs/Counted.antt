@@ -5,7 +5,7 @@ use Rattle.mds_control.specs.declared.counters.Call.TheVariants.{Read, Change, P
 use Rattle.mds_control.specs.declared.counters.Outcome.{Outcome}
 use Rattle.mds_control.specs.declared.counters.Outcome.TheVariants.{Done, Refused, Failed}
 use Rattle.mds_control.specs.declared.counters.Figure.{Figure}
-use Rattle.mds_control.specs.declared.counters.Figure.TheVariants.{JournalBytes, Syncs, Pending, Connections, Revision}
+use Rattle.mds_control.specs.declared.counters.Figure.TheVariants.{JournalBytes, Syncs, Pending, Revision}
 
 abbrev pub call_of : List ℕ → List ℕ → Call
 call_of method path =
@@ -35,5 +35,4 @@ abbrev pub place_of : Figure → ℕ
 place_of JournalBytes = 9
 place_of Syncs = 10
 place_of Pending = 11
-place_of Connections = 12
-place_of Revision = 13
+place_of Revision = 12

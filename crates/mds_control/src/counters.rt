@@ -2,7 +2,7 @@
 ghost use Rattle.std.specs.Prelude.{◌≡◌};
 ghost use Rattle.mds_control.specs.Counted.{call_of, outcome_of, place_of, request_place};
 
-use crate::lines::{Label, Line};
+use crate::lines::Line;
 use std::alloc::{AllocError, Global};
 use std::sync::atomic::{AtomicU64, Ordering};
 
@@ -35,11 +35,9 @@ pub enum Figure {
     JournalBytes,
     /// How often the journal was synced.
     Syncs,
-    /// The records that aren't synced yet.
+    /// The replies that are on their way: asked for, and neither told nor given up yet.
     Pending,
-    /// The connections that are open.
-    Connections,
-    /// The revision that is published.
+    /// The publications: those of the journal at the start, and those that were told since.
     Revision,
 }
 
@@ -48,12 +46,11 @@ pub enum Figure {
 pub struct Counters {
     /// In the order of the rows.
     values: Vec<AtomicU64>,
-    /// How many vehicles each operator has.
-    vehicles: Vec<AtomicU64>,
 }
 
 /// What is said of a number.
 struct Row {
+    /// What stands before it: of the first row of a name what is counted, and whether it only grows.
     before: &'static str,
     name: &'static str,
 }
@@ -63,7 +60,9 @@ const BOUNDS: &[u64] = &[5, 10, 25, 100, 250, 1000, u64::MAX];
 
 const ROWS: &[Row] = &[
     Row {
-        before: "# TYPE ruffletuff_requests_total counter\n",
+        before: "\
+# HELP ruffletuff_requests_total requests answered, by kind and class of status\n\
+# TYPE ruffletuff_requests_total counter\n",
         name: "ruffletuff_requests_total{call=\"read\",status=\"2xx\"}",
     },
     Row {
@@ -99,27 +98,33 @@ const ROWS: &[Row] = &[
         name: "ruffletuff_requests_total{call=\"publish\",status=\"5xx\"}",
     },
     Row {
-        before: "# TYPE ruffletuff_journal_bytes gauge\n",
+        before: "\
+# HELP ruffletuff_journal_bytes bytes of the journal\n\
+# TYPE ruffletuff_journal_bytes gauge\n",
         name: "ruffletuff_journal_bytes",
     },
     Row {
-        before: "# TYPE ruffletuff_syncs_total counter\n",
+        before: "\
+# HELP ruffletuff_syncs_total how often the journal was synced\n\
+# TYPE ruffletuff_syncs_total counter\n",
         name: "ruffletuff_syncs_total",
     },
     Row {
-        before: "# TYPE ruffletuff_pending_records gauge\n",
-        name: "ruffletuff_pending_records",
+        before: "\
+# HELP ruffletuff_pending_replies replies on their way: asked for, not yet told\n\
+# TYPE ruffletuff_pending_replies gauge\n",
+        name: "ruffletuff_pending_replies",
     },
     Row {
-        before: "# TYPE ruffletuff_connections gauge\n",
-        name: "ruffletuff_connections",
-    },
-    Row {
-        before: "# TYPE ruffletuff_revision gauge\n",
+        before: "\
+# HELP ruffletuff_revision publications: those in the journal at the start, and those told since\n\
+# TYPE ruffletuff_revision gauge\n",
         name: "ruffletuff_revision",
     },
     Row {
-        before: "# TYPE ruffletuff_answer_milliseconds histogram\n",
+        before: "\
+# HELP ruffletuff_answer_milliseconds milliseconds from a whole request to its answer\n\
+# TYPE ruffletuff_answer_milliseconds histogram\n",
         name: "ruffletuff_answer_milliseconds_bucket{le=\"5\"}",
     },
     Row {
@@ -157,13 +162,11 @@ const ROWS: &[Row] = &[
 ];
 
 /// The row of the first bucket. The sum and the count follow the buckets.
-const FIRST_BUCKET: usize = 14;
+const FIRST_BUCKET: usize = 13;
 
-const SUM: usize = 21;
+const SUM: usize = 20;
 
-const COUNT: usize = 22;
-
-const VEHICLES: &str = "# TYPE ruffletuff_vehicles gauge\n";
+const COUNT: usize = 21;
 
 impl Call {
     /// The kind of a request of this method and path.
@@ -218,8 +221,7 @@ impl Figure {
             Figure::JournalBytes => 9,
             Figure::Syncs => 10,
             Figure::Pending => 11,
-            Figure::Connections => 12,
-            Figure::Revision => 13,
+            Figure::Revision => 12,
         }
     }
 }
@@ -234,15 +236,14 @@ fn zeros(alloc: Global, count: usize) -> Result<Vec<AtomicU64>, AllocError> {
 }
 
 impl Counters {
-    /// Counters of a server of so many operators.
+    /// Counters of a server that has counted nothing.
     ///
     /// # Errors
     ///
     /// Memory ran out.
-    pub fn new(alloc: Global, operators: usize) -> Result<Counters, AllocError> {
+    pub fn new(alloc: Global) -> Result<Counters, AllocError> {
         Ok(Counters {
             values: zeros(alloc, ROWS.len())?,
-            vehicles: zeros(alloc, operators)?,
         })
     }
 
@@ -269,17 +270,17 @@ impl Counters {
         self.bump(figure.place(), by);
     }
 
+    /// So much less of what was added before.
+    pub fn take(&self, figure: Figure, by: u64) {
+        if let Some(held) = self.values.get(figure.place()) {
+            held.fetch_sub(by, Ordering::SeqCst);
+        }
+    }
+
     /// So much of what is counted there is now.
     pub fn set(&self, figure: Figure, value: u64) {
         if let Some(held) = self.values.get(figure.place()) {
             held.store(value, Ordering::SeqCst);
-        }
-    }
-
-    /// The operator at this place has so many vehicles.
-    pub fn set_vehicles(&self, operator: usize, count: u64) {
-        if let Some(held) = self.vehicles.get(operator) {
-            held.store(count, Ordering::SeqCst);
         }
     }
 
@@ -293,15 +294,8 @@ impl Counters {
         for (row, value) in ROWS.iter().zip(&self.values) {
             lines.push(Line {
                 before: row.before,
-                label: Label::City(row.name),
+                name: row.name,
                 value: value.load(Ordering::SeqCst),
-            })?;
-        }
-        for (operator, count) in self.vehicles.iter().enumerate() {
-            lines.push(Line {
-                before: if operator == 0 { VEHICLES } else { "" },
-                label: Label::Operator("ruffletuff_vehicles", operator),
-                value: count.load(Ordering::SeqCst),
             })?;
         }
         Ok(lines)

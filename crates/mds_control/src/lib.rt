@@ -11,7 +11,7 @@ mod serving;
 pub use asked::{Asked, asked_by};
 pub use client::stop;
 pub use counters::{Call, Counters, Figure, Outcome};
-pub use lines::{Label, Line, metrics};
+pub use lines::{Line, metrics};
 pub use pages::{Answer, answer_for};
 pub use serving::{Control, Stop, serve_control};
 

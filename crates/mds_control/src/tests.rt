@@ -48,7 +48,7 @@ fn are_right<R: Net + AllocGlobal>(
         early.starts_with(b"HTTP/1.1 503 ")
             && served.starts_with(b"HTTP/1.1 200 ")
             && served.ends_with(b"\r\n\r\nok\n")
-            && counted.ends_with(b"ruffletuff_vehicles{operator=\"0\"} 7\n")
+            && counted.ends_with(b"\nruffletuff_answer_milliseconds_count 0\n")
             && lost.starts_with(b"HTTP/1.1 404 ")
             && wrong.starts_with(b"HTTP/1.1 405 ")
             && unread.starts_with(b"HTTP/1.1 400 ")
@@ -68,8 +68,7 @@ fn asked<R: Net + AllocGlobal>(rt: &R, address: SocketAddr, control: &Control) -
 fn answers_and_stops(rt: HostRuntime) -> Result<(), Fail> {
     let listener = TcpListener::bind(&rt, "127.0.0.1:0")?;
     let address = listener.local_addr()?;
-    let counters = Counters::new(rt.alloc(), 1)?;
-    counters.set_vehicles(0, 7);
+    let counters = Counters::new(rt.alloc())?;
     let control = Control::new();
     let noted = Noted(AtomicBool::new(false));
     let (right, ()) = join(
@@ -91,11 +90,13 @@ fn has_line(alloc: Global, counters: &Counters, line: &str) -> Result<bool, Fail
 #[test]
 fn counts_in_its_rows(rt: HostRuntime) -> Result<(), Fail> {
     let alloc = rt.alloc();
-    let counters = Counters::new(alloc, 0)?;
+    let counters = Counters::new(alloc)?;
     counters.answered(Call::of("POST", "/publish"), 503, 20);
     counters.answered(Call::of("GET", "/policies"), 200, 2000);
     counters.add(Figure::Syncs, 3);
     counters.set(Figure::Revision, 5);
+    counters.add(Figure::Pending, 2);
+    counters.take(Figure::Pending, 1);
     for line in [
         "ruffletuff_requests_total{call=\"publish\",status=\"5xx\"} 1",
         "ruffletuff_requests_total{call=\"read\",status=\"2xx\"} 1",
@@ -108,6 +109,7 @@ fn counts_in_its_rows(rt: HostRuntime) -> Result<(), Fail> {
         "ruffletuff_answer_milliseconds_count 2",
         "# TYPE ruffletuff_syncs_total counter",
         "ruffletuff_syncs_total 3",
+        "ruffletuff_pending_replies 1",
         "ruffletuff_revision 5",
     ] {
         assert!(rt; has_line(alloc, &counters, line)?, "{line}");

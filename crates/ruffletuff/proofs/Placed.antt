@@ -1,8 +1,6 @@
 -- The room and desks of a server that is started again are those of its configuration.
-use Rattle.std.proofs.Common.{◌≡◌, ℕ, Some, slice_get}
 use Rattle.mds_request.specs.Configuration.{Configuration}
-use Rattle.mds_desk.specs.Desk.{DeskState}
-use Rattle.mds_hall.specs.Turn.{AreDesksOf, IsDeskAt}
+use Rattle.mds_hall.specs.Turn.{AreDesksOf}
 use Rattle.mds_recovery.specs.Laws.{IsServerOf}
 use Rattle.mds_recovery.specs.Recovery.{Server}
 

@@ -7,8 +7,10 @@ use Rattle.mds_recovery.specs.declared.fault.Cause.{Cause}
 use Rattle.mds_recovery.specs.declared.fault.Cause.TheVariants as causes
 use Rattle.mds_recovery.specs.declared.fault.StartFault.{StartFault}
 use Rattle.mds_recovery.specs.declared.fault.StartFault.TheVariants.{Opening, Stopped}
+use Rattle.mds_thinning.specs.declared.fault.ThinFault.{ThinFault}
+use Rattle.mds_thinning.specs.declared.fault.ThinFault.TheVariants as thin
 use Rattle.ruffletuff.specs.declared.ending.Ending.{Ending}
-use Rattle.ruffletuff.specs.declared.ending.Ending.TheVariants.{Usage, Misconfigured, NoMemory, NoListener, NoControl, NotStopped, NotPrinted, Folder, Refused, NotKept}
+use Rattle.ruffletuff.specs.declared.ending.Ending.TheVariants.{Usage, Misconfigured, NoMemory, NoListener, NoControl, NotStopped, NotPrinted, Folder, Refused, NotKept, NotThinned, Differs}
 
 -- an entry that isn't answered again: 503 is want of memory, and any other is one of another configuration
 abbrev pub cause_status : Cause → ℕ
@@ -16,7 +18,7 @@ cause_status causes.NoDesk = 6
 cause_status (causes.Refused status) = if status == 503 then 3 else 6
 
 -- 1 for what can't be listened to or written to, 2 for wrong arguments or a wrong configuration, 3 for want of memory, 4 to 6 for a folder,
--- 7 where the journal couldn't be written
+-- 7 where a journal couldn't be written, 8 where a thinned one leads to another city
 abbrev pub exit_status : Ending → ℕ
 exit_status NoListener = 1
 exit_status NoControl = 1
@@ -28,6 +30,8 @@ exit_status NoMemory = 3
 exit_status (Folder fault) = folder.exit_status fault
 exit_status (Refused fault) = cause_status fault.cause
 exit_status NotKept = 7
+exit_status NotThinned = 7
+exit_status Differs = 8
 
 abbrev pub status_of : Result (Unit {0}) Ending → ℕ
 status_of (Ok done) = 0
@@ -61,8 +65,29 @@ message_of NotPrinted = codes "ruffletuff: standard output can't be written"
 message_of (Folder fault) = folder_message fault
 message_of (Refused fault) = cause_message fault.cause
 message_of NotKept = codes "ruffletuff: the journal couldn't be written any more"
+message_of NotThinned = codes "ruffletuff: the thinned journal couldn't be written"
+message_of Differs = codes "ruffletuff: the thinned journal leads to another city"
 
 -- why a program ends whose server isn't started again
 abbrev pub ending_of : StartFault → Ending
 ending_of (Opening fault) = NoMemory
 ending_of (Stopped fault) = Refused fault
+
+-- why it ends where an entry of a thinned journal isn't answered again
+abbrev pub cause_of_thinned : Cause → Ending
+cause_of_thinned causes.NoDesk = Differs
+cause_of_thinned (causes.Refused status) = if status == 503 then NoMemory else Differs
+
+abbrev pub ending_of_thinned : StartFault → Ending
+ending_of_thinned (Opening fault) = NoMemory
+ending_of_thinned (Stopped fault) = cause_of_thinned fault.cause
+
+-- why it ends where a journal isn't thinned by a configuration that was read before
+abbrev pub ending_of_thinning : ThinFault → Ending
+ending_of_thinning thin.NoMemory = NoMemory
+ending_of_thinning (thin.Configuration fault) = NoMemory
+ending_of_thinning (thin.Folder fault) = Folder fault
+ending_of_thinning (thin.OldRefused fault) = ending_of fault
+ending_of_thinning thin.NotWritten = NotThinned
+ending_of_thinning (thin.NewRefused fault) = ending_of_thinned fault
+ending_of_thinning thin.Differs = Differs

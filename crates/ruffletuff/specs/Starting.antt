@@ -1,6 +1,10 @@
 -- From which log a room and desks are started again.
-use Rattle.std.specs.Prelude.{◌≡◌, ℕ, List, [], ◌∷◌, map, None}
+use Rattle.std.specs.Prelude.{◌≡◌, ℕ, Bool, true, false, List, [], ◌∷◌, map, None}
 use Rattle.mds_request.specs.Configuration.{Configuration}
+use Rattle.mds_request.specs.declared.request.Verb.{Verb}
+use Rattle.mds_request.specs.declared.request.Verb.TheVariants.{Post}
+use Rattle.mds_entries.specs.declared.entry.Asker.{Asker}
+use Rattle.mds_entries.specs.declared.entry.Asker.TheVariants.{Author}
 use Rattle.mds_entries.specs.Entries.{Entry, entry_text}
 use Rattle.mds_entries.specs.Heads.{Share, AreShares, head_text, unfit}
 use Rattle.mds_recovery.specs.Laws.{IsStartedAgain}
@@ -29,3 +33,11 @@ pub record IsStartedFrom (configuration : Configuration) (dropped : List (List �
 -- The log may be of texts that are so.
 abbrev pub IsStartedFromLog : (List (List ℕ) → Type 0) → Configuration → List (List ℕ) → Server → Type 0
 IsStartedFromLog may_be configuration dropped s = (texts : List (List ℕ)) × may_be texts × IsStartedFrom configuration dropped texts s
+
+-- whether one who asks so publishes: to publish is the one POST of the author's
+abbrev pub publishes : Asker → Verb → Bool
+publishes Author Post = true
+publishes asker verb = false
+
+abbrev pub is_publication : Entry → Bool
+is_publication e = publishes e.asker e.verb

@@ -1,12 +1,13 @@
 -- The file, folder or address at which a fault is.
 use Rattle.std.specs.Prelude.{ℕ, List, Option, Some, None}
-use Rattle.mds_command.specs.Asked.{Request, serve, check, audit, stop}
+use Rattle.mds_command.specs.Asked.{Request, serve, check, audit, thin, stop}
 use Rattle.ruffletuff.specs.declared.ending.Ending.{Ending}
-use Rattle.ruffletuff.specs.declared.ending.Ending.TheVariants.{Misconfigured, NoListener, NoControl, NotStopped, Folder, Refused, NotKept}
+use Rattle.ruffletuff.specs.declared.ending.Ending.TheVariants.{Misconfigured, NoListener, NoControl, NotStopped, Folder, Refused, NotKept, NotThinned, Differs}
 
 abbrev pub config_of : Request → Option (List ℕ)
 config_of (serve config state listen control dropped) = Some config
 config_of (audit folder config until operator) = Some config
+config_of (thin folder config) = Some config
 config_of asked = None
 
 abbrev pub listener_of : Request → Option (List ℕ)
@@ -23,6 +24,7 @@ abbrev pub folder_of : Request → Option (List ℕ)
 folder_of (serve config state listen control dropped) = Some state
 folder_of (check folder) = Some folder
 folder_of (audit folder config until operator) = Some folder
+folder_of (thin folder config) = Some folder
 folder_of asked = None
 
 abbrev pub place_in : Request → Ending → Option (List ℕ)
@@ -33,4 +35,6 @@ place_in asked NotStopped = control_of asked
 place_in asked (Folder fault) = folder_of asked
 place_in asked (Refused fault) = folder_of asked
 place_in asked NotKept = folder_of asked
+place_in asked NotThinned = folder_of asked
+place_in asked Differs = folder_of asked
 place_in asked ending = None

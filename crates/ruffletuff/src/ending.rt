@@ -1,11 +1,12 @@
 //! Why the program ends other than as it was asked to.
 ghost use Rattle.std.specs.Prelude.{◌≡◌};
-ghost use Rattle.ruffletuff.specs.Exit.{cause_status, exit_status, cause_message, folder_message, message_of};
+ghost use Rattle.ruffletuff.specs.Exit.{cause_status, exit_status, cause_message, folder_message, message_of, cause_of_thinned, ending_of_thinned};
 
 use mds_diagnosis::Detail;
 use mds_folder::FolderFault;
 use mds_recovery::{Cause, Fault, StartFault};
 use mds_snapshot::OpenFault;
+use mds_thinning::ThinFault;
 use std::alloc::AllocError;
 
 /// Why the program ends.
@@ -31,6 +32,10 @@ pub enum Ending {
     Refused(Fault),
     /// The journal couldn't be written any more.
     NotKept,
+    /// The thinned journal couldn't be written beside the journal, which stays.
+    NotThinned,
+    /// The thinned journal leads to another city than the journal, which stays.
+    Differs,
 }
 
 /// The exit status where an entry isn't answered again.
@@ -79,7 +84,8 @@ impl Ending {
             Ending::NoMemory => 3,
             Ending::Folder(fault) => fault.status(),
             Ending::Refused(fault) => cause_status(fault.cause),
-            Ending::NotKept => 7,
+            Ending::NotKept | Ending::NotThinned => 7,
+            Ending::Differs => 8,
         }
     }
 
@@ -98,6 +104,8 @@ impl Ending {
             Ending::Folder(fault) => folder_message(fault),
             Ending::Refused(fault) => cause_message(fault.cause),
             Ending::NotKept => "ruffletuff: the journal couldn't be written any more",
+            Ending::NotThinned => "ruffletuff: the thinned journal couldn't be written",
+            Ending::Differs => "ruffletuff: the thinned journal leads to another city",
         }
     }
 }
@@ -145,6 +153,45 @@ impl From<StartFault> for Ending {
         match fault {
             StartFault::Opening(_) => Ending::NoMemory,
             StartFault::Stopped(fault) => Ending::Refused(fault),
+        }
+    }
+}
+
+/// Why the program ends where an entry of the thinned journal isn't answered again.
+fn cause_of_thinned(cause: Cause) -> Ending
+    ensures { result ≡ cause_of_thinned cause }
+{
+    match cause {
+        Cause::Refused(503) => Ending::NoMemory,
+        Cause::Refused(_) | Cause::NoDesk => Ending::Differs,
+    }
+}
+
+/// Why the program ends where no server is started from the thinned journal.
+fn ending_of_thinned(fault: StartFault) -> Ending
+    ensures { result ≡ ending_of_thinned fault }
+{
+    match fault {
+        StartFault::Opening(_) => Ending::NoMemory,
+        StartFault::Stopped(fault) => cause_of_thinned(fault.cause),
+    }
+}
+
+impl From<ThinFault> for Ending {
+    ghost use Rattle.std.specs.Prelude.{◌≡◌};
+    ghost use Rattle.ruffletuff.specs.Exit.{ending_of_thinning};
+
+    ghost from_gives = { λ fault e. e ≡ ending_of_thinning fault };
+
+    // A configuration is thinned by that was read once, so that it is want of memory where it isn't read again.
+    fn from(fault: ThinFault) -> Ending {
+        match fault {
+            ThinFault::NoMemory | ThinFault::Configuration(_) => Ending::NoMemory,
+            ThinFault::Folder(fault) => Ending::Folder(fault),
+            ThinFault::OldRefused(fault) => Ending::from(fault),
+            ThinFault::NotWritten => Ending::NotThinned,
+            ThinFault::NewRefused(fault) => ending_of_thinned(fault),
+            ThinFault::Differs => Ending::Differs,
         }
     }
 }

@@ -1,5 +1,5 @@
 //! Serves one city over HTTP and forgets nothing: each accepted change is in a journal before it is told. It also says how a
-//! journal ends, prints one as a script, and stops a server.
+//! journal ends, prints one as a script, thins one, and stops a server.
 #![tactic(auto)]
 
 mod arguments;
@@ -16,6 +16,7 @@ mod progress;
 mod running;
 mod serving;
 mod starting;
+mod thinning;
 mod words;
 
 use running::run;

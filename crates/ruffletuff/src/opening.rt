@@ -12,6 +12,7 @@ use crate::serving::{Stage, kept};
 use crate::starting::{left_out, started};
 use mds_command::Service;
 use mds_commit::{Ballast, Opened, Space};
+use mds_control::Counters;
 use mds_desk::{AuthorRoom, Desk};
 use mds_doors::Queues;
 use mds_folder::{Folder, FolderFault, begun, cut_of, open_folder};
@@ -31,8 +32,8 @@ use std::sync::Wait;
 use std::thread::{Threads, available_parallelism};
 use std::time::Clock;
 
-/// How many bytes a folder's journal has.
-fn journal_length<R: Files<File = File> + AllocGlobal>(rt: &R, folder: &str) -> Option<u64> {
+/// How many bytes a folder's journal has; none, where it can't be seen.
+pub fn journal_length<R: Files<File = File> + AllocGlobal>(rt: &R, folder: &str) -> Option<u64> {
     let path = format!(in rt.alloc(); "{folder}/journal").ok()?;
     let metadata = fs::metadata(rt, path.as_str()).ok()?;
     Some(metadata.len())
@@ -152,6 +153,7 @@ fn resumed<K: Named, L: Log, R: Wait + Eprint + AllocGlobal + Copy>(
     config: Config,
     blank: Blank,
     dropped: &[Id],
+    counters: &Counters,
 ) -> Result<(AuthorRoom<K>, Vec<Desk<K>>), Ending>
     requires book { book_of blank ≡ K.book }
     requires listed { (first : List (List ℕ)) × L.may_be log.old first }
@@ -161,7 +163,7 @@ fn resumed<K: Named, L: Log, R: Wait + Eprint + AllocGlobal + Copy>(
         Ok(texts) => texts,
         Err(fault) => return Err(Ending::Folder(fault)),
     };
-    started::<K, R>(rt, &texts, config, blank, dropped)
+    started::<K, R>(rt, &texts, config, blank, dropped, counters)
 }
 
 /// Starts the server of a log again, as this opening, and serves it.
@@ -192,7 +194,8 @@ where
     requires space { S.aside space ≡ 0 }
 {
     let mut log = log;
-    let (room, desks) = resumed::<K, L, R>(rt, &mut log, config, blank, stage.dropped)?;
+    let counters = stage.board.counters;
+    let (room, desks) = resumed::<K, L, R>(rt, &mut log, config, blank, stage.dropped, counters)?;
     let hall = Hall::<K>::of(rt, rt.alloc(), room, desks)?;
     let Ok(history) = Opened::new(&mut log) else {
         hall.finish(rt);

@@ -10,6 +10,7 @@ use crate::configuration::{configuration_in, configuration_text};
 use crate::controlling::serve_controlled;
 use crate::ending::Ending;
 use crate::opening::serve_city;
+use crate::thinning::thin;
 use crate::words::{tell, tell_usage};
 use mds_command::{Asked, HELP, Service, VERSION, asked_by};
 use mds_control::{Control, Counters, stop};
@@ -94,6 +95,7 @@ where
         Asked::Serve(service) => serve(rt, service),
         Asked::Check(folder) => check(rt, *folder),
         Asked::Audit(extract) => audit(rt, extract),
+        Asked::Thin(thinning) => thin(rt, thinning),
         Asked::Stop(address) => stopped(rt, *address),
     }
 }
@@ -171,7 +173,7 @@ where
     let config = configuration_at(rt, service.config)?;
     let closing = Closing::new(rt.alloc())?;
     let control = Control::new();
-    let counters = Counters::new(rt.alloc(), config.operators().len())?;
+    let counters = Counters::new(rt.alloc())?;
     let board = Board {
         closing: &closing,
         control: &control,

@@ -7,12 +7,16 @@ use crate::ending::Ending;
 use crate::errand::{Errand, beside};
 use mds_city::{City, CityReception};
 use mds_commit::{FlushFault, Flusher, Keeper, Naming, Opened, Space, open};
+use mds_control::Counters;
 use mds_doors::{Closing, Ended, MachineClock, Queues, bound, serve_by};
 use mds_hall::{Hall, Named};
+use mds_meter::Metered;
+use mds_page::Page;
+use mds_page_answers::Paged;
 use mds_parallel::Chunked;
 use mds_records::Log;
 use mds_text::Id;
-use std::alloc::AllocGlobal;
+use std::alloc::{AllocError, AllocGlobal};
 use std::io::{self, Print};
 use std::net::Net;
 use std::random::RandomSource;
@@ -35,8 +39,11 @@ pub struct Stage<'a> {
     pub board: Board<'a>,
 }
 
-/// Who answers: the city, at the machine's moments, with verdicts by several threads.
+/// The city, at the machine's moments, with verdicts by several threads.
 type Reception<K, N, L, S, R> = CityReception<K, N, R, Chunked<R>, MachineClock<R>, L, S>;
+
+/// Who answers: the page, and behind it the city. What the city answers is counted.
+type Answering<'a, K, N, L, S, R> = Paged<Metered<'a, Reception<K, N, L, S, R>, R>>;
 
 /// Writes and syncs the journal until the keeper is stopped. Where it can't be written any more, the server ends.
 #[derive(Drop)]
@@ -65,7 +72,7 @@ impl<N: Naming, L: Log, S: Space, R: Wait + Drop> Errand for Flushing<'_, N, L, 
 struct Serving<'a, K: Named, N: Naming, L: Log, S: Space, R> {
     runtime: &'a mut Runtime,
     listener: TcpListener,
-    reception: Reception<K, N, L, S, R>,
+    answering: Answering<'a, K, N, L, S, R>,
     keeper: &'a Keeper<N, L, S>,
     queues: Queues,
     closing: &'a Closing,
@@ -76,10 +83,10 @@ struct Serving<'a, K: Named, N: Naming, L: Log, S: Space, R> {
 /// # Errors
 ///
 /// The server couldn't be started.
-fn serve_to_the_end<K, N, L, S, R>(
+fn serve_to_the_end<'a, K, N, L, S, R>(
     rt: &R,
-    serving: Serving<'_, K, N, L, S, R>,
-) -> io::Result<Ended<Reception<K, N, L, S, R>>>
+    serving: Serving<'a, K, N, L, S, R>,
+) -> io::Result<Ended<Answering<'a, K, N, L, S, R>>>
 where
     K: Named + Send + Sync,
     N: Naming + Send + Sync,
@@ -90,12 +97,12 @@ where
     let Serving {
         runtime,
         listener,
-        reception,
+        answering,
         keeper,
         queues,
         closing,
     } = serving;
-    let ended = serve_by(rt, runtime, listener, reception, queues, closing);
+    let ended = serve_by(rt, runtime, listener, answering, queues, closing);
     keeper.stop(rt);
     ended
 }
@@ -142,6 +149,37 @@ where
     served(rt, city, &*keeper, flusher, stage)
 }
 
+/// Who answers for a city: the page is made, and what the city answers is counted from now on.
+///
+/// # Errors
+///
+/// Memory ran out.
+fn with_page<'a, K: Named, N: Naming, L: Log, S: Space, R: AllocGlobal + Copy + Drop>(
+    rt: &R,
+    city: City<K, N, L, S>,
+    counters: &'a Counters,
+) -> Result<Answering<'a, K, N, L, S, R>, AllocError> {
+    let alloc = rt.alloc();
+    let page = Page::new(alloc)?;
+    let city = CityReception {
+        rt: *rt,
+        alloc,
+        city,
+        evaluator: Chunked(*rt),
+        moments: MachineClock(*rt),
+    };
+    let answers = Metered {
+        answers: city,
+        counters,
+        clock: *rt,
+    };
+    Ok(Paged {
+        alloc,
+        page,
+        answers,
+    })
+}
+
 /// Listens, says so, serves a city until it is to end, and ends it.
 fn served<K, N, L, S, R>(
     rt: &R,
@@ -167,6 +205,7 @@ where
         + Copy
         + Drop,
 {
+    let answering = with_page(rt, city, stage.board.counters)?;
     let Ok(mut runtime) = Runtime::with_worker_threads(rt, stage.threads.max(1)) else {
         return Err(Ending::NoListener);
     };
@@ -184,13 +223,7 @@ where
     let serving = Serving {
         runtime: &mut runtime,
         listener,
-        reception: CityReception {
-            rt: *rt,
-            alloc: rt.alloc(),
-            city,
-            evaluator: Chunked(*rt),
-            moments: MachineClock(*rt),
-        },
+        answering,
         keeper,
         queues: stage.queues,
         closing: stage.board.closing,
@@ -203,11 +236,13 @@ where
 fn finished<K: Named, N: Naming, L: Log, S: Space, R: Wait + Drop>(
     rt: &R,
     flushed: Result<(), FlushFault>,
-    ended: io::Result<Ended<Reception<K, N, L, S, R>>>,
+    ended: io::Result<Ended<Answering<'_, K, N, L, S, R>>>,
 ) -> Result<(), Ending> {
     let is_served = match ended {
         Ok(Ended { answers, outcome }) => {
-            if let Some(reception) = answers {
+            if let Some(paged) = answers {
+                let counted = paged.answers;
+                let reception = counted.answers;
                 reception.city.finish(rt);
             }
             outcome.is_ok()

@@ -1,19 +1,20 @@
 //! A server's room and desks, from its log.
-ghost use Rattle.std.specs.Prelude.{◌≡◌, map, IfOk, option_to_list};
+ghost use Rattle.std.specs.Prelude.{◌≡◌, map, count_by, IfOk, option_to_list};
 ghost use Rattle.mds_request.specs.Configuration.{configuration};
 ghost use Rattle.mds_snapshot.specs.Opening.{book_of};
 ghost use Rattle.mds_entries.specs.Entries.{entry_of};
 ghost use Rattle.mds_recovery.specs.Laws.{IsStartedAgain};
 ghost use Rattle.mds_recovery.specs.Recovery.{server_of};
-ghost use Rattle.ruffletuff.specs.Starting.{HasHead, IsStartedFrom};
+ghost use Rattle.ruffletuff.specs.Starting.{HasHead, IsStartedFrom, is_publication};
 
 use crate::ending::Ending;
 use crate::progress::Told;
+use mds_control::{Counters, Figure};
 use mds_desk::{AuthorRoom, Desk};
-use mds_entries::Entry;
+use mds_entries::{Asker, Entry};
 use mds_folder::{Damage, FolderFault, entries_in, suits, without};
 use mds_recovery::start_again;
-use mds_request::Config;
+use mds_request::{Config, Verb};
 use mds_snapshot::{Blank, Naming};
 use mds_text::Id;
 use std::alloc::{AllocError, AllocGlobal, Global};
@@ -53,10 +54,27 @@ fn fitting_texts<'a>(
     }
 }
 
+/// Whether an entry is a publication: it is the one request of the author's that has this verb.
+fn is_publication(entry: &Entry<'_>) -> bool
+    ensures { result ≡ is_publication (entry_of entry.now) }
+{
+    matches!((entry.asker, entry.verb), (Asker::Author, Verb::Post))
+}
+
+/// How many publications are among these entries.
+fn publications(entries: &[Entry<'_>]) -> usize
+    ensures { result ≡ count_by (λ entry. is_publication (entry_of entry)) entries.now }
+{
+    entries
+        .iter()
+        .filter(|entry| is_publication(*entry))
+        .count()
+}
+
 /// The author's room and the desks, in the configuration's order, as the server left them that wrote a journal of these texts:
 /// each of its entries is answered again, but for those of the operators that are left out. K names the opening.
 ///
-/// What was told before and what is done from here on are what one server did.
+/// What was told before and what is done from here on are what one server did. The publications among them are counted.
 ///
 /// # Errors
 ///
@@ -68,6 +86,7 @@ pub fn started<K: Naming, R: Wait + Eprint + AllocGlobal + Copy>(
     config: Config,
     blank: Blank,
     dropped: &[Id],
+    counters: &Counters,
 ) -> Result<(AuthorRoom<K>, Vec<Desk<K>>), Ending>
     requires book { book_of blank ≡ K.book }
     ensures { IfOk result (λ r. IsStartedFrom (configuration config) dropped.now (map (λ t. t.items) texts.now) (server_of r.0 r.1.items)) }
@@ -84,7 +103,7 @@ pub fn started<K: Naming, R: Wait + Eprint + AllocGlobal + Copy>(
         Ok(entries) => entries,
         Err(_) => return Err(Ending::NoMemory),
     };
-    answered(rt, config, blank, &entries)
+    answered(rt, config, blank, &entries, counters)
 }
 
 /// The author's room and the desks that answer these entries again.
@@ -97,10 +116,12 @@ fn answered<K: Naming, R: Wait + Eprint + AllocGlobal + Copy>(
     config: Config,
     blank: Blank,
     entries: &[Entry<'_>],
+    counters: &Counters,
 ) -> Result<(AuthorRoom<K>, Vec<Desk<K>>), Ending>
     requires book { book_of blank ≡ K.book }
     ensures { IfOk result (λ r. IsStartedAgain (configuration config) (map entry_of entries.now) (server_of r.0 r.1.items)) }
 {
+    counters.set(Figure::Revision, publications(entries) as u64);
     let mut progress = Told(*rt);
     match start_again::<K, R, Told<R>>(rt, rt.alloc(), config, blank, entries, &mut progress) {
         Ok(started) => Ok(started),

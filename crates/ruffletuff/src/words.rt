@@ -18,6 +18,7 @@ fn config_of<'a>(asked: &Asked<'a>) -> Option<&'a str>
     match asked {
         Asked::Serve(service) => Some(service.config),
         Asked::Audit(audit) => Some(audit.config),
+        Asked::Thin(thinning) => Some(thinning.config),
         _ => None,
     }
 }
@@ -51,6 +52,7 @@ fn folder_of<'a>(asked: &Asked<'a>) -> Option<&'a str>
         Asked::Serve(service) => Some(service.state),
         Asked::Check(folder) => Some(*folder),
         Asked::Audit(audit) => Some(audit.folder),
+        Asked::Thin(thinning) => Some(thinning.folder),
         _ => None,
     }
 }
@@ -63,7 +65,11 @@ fn place_in<'a>(asked: &Asked<'a>, ending: &Ending) -> Option<&'a str>
         Ending::Misconfigured(_) => config_of(asked),
         Ending::NoListener => listener_of(asked),
         Ending::NoControl | Ending::NotStopped => control_of(asked),
-        Ending::Folder(_) | Ending::Refused(_) | Ending::NotKept => folder_of(asked),
+        Ending::Folder(_)
+        | Ending::Refused(_)
+        | Ending::NotKept
+        | Ending::NotThinned
+        | Ending::Differs => folder_of(asked),
         Ending::Usage | Ending::NoMemory | Ending::NotPrinted => None,
     }
 }

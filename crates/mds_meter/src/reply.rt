@@ -1,0 +1,112 @@
+//! A reply that is counted as it leaves.
+ghost use Rattle.std.specs.Prelude.{◌≡◌};
+
+use bytes::Bytes;
+use futures::Future;
+use futures::task::{Context, Poll};
+use http::Response;
+use http_body_util::Full;
+use mds_control::{Call, Counters, Figure};
+use std::alloc::AllocError;
+use std::time::{Clock, Instant};
+
+/// The status of a success.
+const SUCCESS: u16 = 200;
+
+/// How a request is counted: of which kind it is, and since when its reply is on its way. It is one of the pending replies
+/// until it is dropped: the reply was told then, or is given up.
+pub struct Ticket<'a, C> {
+    counters: &'a Counters,
+    clock: C,
+    call: Call,
+    since: Option<Instant>,
+}
+
+impl<'a, C: Clock> Ticket<'a, C> {
+    /// The ticket of a request of this kind, whose reply is on its way from now on.
+    pub fn new(counters: &'a Counters, clock: C, call: Call) -> Ticket<'a, C>
+        ensures { result.call ≡ call }
+    {
+        counters.add(Figure::Pending, 1);
+        let since = Instant::now(&clock).ok();
+        Ticket {
+            counters,
+            clock,
+            call,
+            since,
+        }
+    }
+
+    /// For how many milliseconds the reply has been on its way; 0 where the clock can't be read.
+    fn millis(&self) -> u64 {
+        let Some(since) = self.since else {
+            return 0;
+        };
+        match since.elapsed(&self.clock) {
+            Ok(elapsed) => u64::try_from(elapsed.as_millis()).unwrap_or(u64::MAX),
+            Err(_) => 0,
+        }
+    }
+
+    /// The request was answered with this status.
+    fn count(&self, status: u16) {
+        self.counters.answered(self.call, status, self.millis());
+        if self.call == Call::Publish && status == SUCCESS {
+            self.counters.add(Figure::Revision, 1);
+        }
+    }
+}
+
+impl<C: Drop> Drop for Ticket<'_, C> {
+    fn drop(self) {
+        self.counters.take(Figure::Pending, 1);
+        let Ticket {
+            counters: _counters,
+            clock: _clock,
+            call: _call,
+            since: _since,
+        } = self;
+    }
+}
+
+/// A reply on its way, which is counted as it leaves. It is told as it was made.
+#[derive(Drop)]
+pub struct MeteredReply<'a, F, C> {
+    reply: F,
+    ticket: Ticket<'a, C>,
+}
+
+impl<'a, F: Future, C> MeteredReply<'a, F, C> {
+    /// This reply, counted by that ticket.
+    pub fn new(reply: F, ticket: Ticket<'a, C>) -> MeteredReply<'a, F, C>
+        ensures { result.reply ≡ reply }
+    {
+        MeteredReply { reply, ticket }
+    }
+}
+
+impl<F, C> Future for MeteredReply<'_, F, C>
+where
+    F: Future<Output = Result<Response<Full<Bytes>>, AllocError>>,
+    C: Clock + Drop,
+{
+    type Output = Result<Response<Full<Bytes>>, AllocError>;
+
+    ghost can_poll = { λ s. F.can_poll s.reply };
+
+    ghost needs = { λ s source. F.needs s.reply source };
+
+    // What the reply gives.
+    ghost gives = { λ s told. F.gives s.reply told };
+
+    fn poll(&mut self, cx: &mut Context<'_>) -> Poll<Result<Response<Full<Bytes>>, AllocError>> {
+        match self.reply.poll(cx) {
+            Poll::Pending => Poll::Pending,
+            Poll::Ready(Ok(response)) => {
+                self.ticket.count(response.status().as_u16());
+                Poll::Ready(Ok(response))
+            }
+            Poll::Ready(Err(fault)) => Poll::Ready(Err(fault)),
+        }
+    }
+}

@@ -1,0 +1,102 @@
+//! A folder's journal is thinned.
+ghost use Rattle.std.specs.Prelude.{◌≡◌};
+ghost use Rattle.ruffletuff.specs.Thinning.{may_leave_remains};
+
+use crate::configuration::{configuration_in, configuration_text};
+use crate::ending::Ending;
+use crate::opening::journal_length;
+use mds_command::Thinning;
+use mds_doors::{MachineClock, Moments};
+use mds_folder::FolderFault;
+use mds_text::Moment;
+use mds_thinning::{Counts, ThinFault, thin_folder};
+use std::alloc::AllocGlobal;
+use std::fs::{self, File, Files};
+use std::io::Print;
+use std::mem::drop;
+use std::sync::Wait;
+use std::time::Clock;
+
+/// Whether something may be left of a thinned journal beside the journal. Where another program has the folder, what stands
+/// there may be that one's.
+fn may_leave_remains(fault: &ThinFault) -> bool
+    ensures { result ≡ may_leave_remains fault.now }
+{
+    !matches!(fault, ThinFault::Folder(FolderFault::Locked))
+}
+
+/// Removes what is left of a thinned journal beside the journal, if it can be.
+fn clear<R: Files<File = File> + AllocGlobal>(rt: &R, folder: &str) {
+    if let Ok(path) = format!(in rt.alloc(); "{folder}/journal.thinned") {
+        let _ = fs::remove_file(rt, path.as_str());
+    }
+}
+
+/// How many bytes a folder's journal has.
+///
+/// # Errors
+///
+/// `Folder` where there is none.
+fn bytes_of<R: Files<File = File> + AllocGlobal>(rt: &R, folder: &str) -> Result<u64, Ending> {
+    match journal_length(rt, folder) {
+        Some(length) => Ok(length),
+        None => Err(Ending::Folder(FolderFault::Unusable)),
+    }
+}
+
+/// The moment at which both servers are asked: what is asked doesn't go by it.
+fn moment<R: Clock + Copy>(rt: &R) -> Option<Moment> {
+    MachineClock(*rt).now().or_else(|| Moment::new(0))
+}
+
+/// Thins the journal of a folder, by the text of its configuration. What can't be finished is cleared away.
+///
+/// # Errors
+///
+/// As `Ending::from` says.
+fn thinned<R: Wait + Files<File = File> + Clock + AllocGlobal + Copy>(
+    rt: &R,
+    folder: &str,
+    text: &[u8],
+) -> Result<Counts, Ending> {
+    let Some(at) = moment(rt) else {
+        return Err(Ending::NoMemory);
+    };
+    match thin_folder(rt, rt.alloc(), folder, text, at) {
+        Ok(counts) => Ok(counts),
+        Err(fault) => {
+            if may_leave_remains(&fault) {
+                clear(rt, folder);
+            }
+            Err(Ending::from(fault))
+        }
+    }
+}
+
+/// Thins the journal of a folder that no server has meanwhile, and says how many records and bytes it had before, and has now.
+///
+/// # Errors
+///
+/// `Misconfigured`; `Folder` where there is no journal, another program has the folder, or the journal is damaged; `Refused`
+/// where the configuration doesn't fit it; `NotThinned` where the disk has no room for the thinned one; `Differs`; `NoMemory`.
+/// The journal stays as it was. `NotPrinted` where it is thinned.
+pub fn thin<R: Wait + Files<File = File> + Clock + Print + AllocGlobal + Copy>(
+    rt: &R,
+    asked: &Thinning<'_>,
+) -> Result<(), Ending> {
+    let alloc = rt.alloc();
+    let text = configuration_text(rt, alloc, asked.config)?;
+    drop(configuration_in(alloc, &text)?);
+    let length = bytes_of(rt, asked.folder)?;
+    let counts = thinned(rt, asked.folder, &text)?;
+    let left = bytes_of(rt, asked.folder)?;
+    // The head is a record too.
+    let before = counts.before.saturating_add(1);
+    let after = counts.after.saturating_add(1);
+    match println!(rt;
+        "{before} records, {length} bytes before; {after} records, {left} bytes now"
+    ) {
+        Ok(()) => Ok(()),
+        Err(_) => Err(Ending::NotPrinted),
+    }
+}

@@ -1,0 +1,498 @@
+#!/usr/bin/env python3
+"""Tries `ruffletuff thin`: a city answers as before, its journal is shorter, and whatever goes wrong leaves the journal as it was.
+
+    thinning.py PROGRAM [--replay FILE] [--vehicles NUMBER] [--kills NUMBER]
+
+A city is run: three operators report, remove and report again, while its author publishes, supersedes, withdraws and keeps drafts. Which
+entries stay of its journal is worked out here a second time, from what is said in docs/PROTOCOL.md. A server of the thinned journal is
+compared with one of the journal before, over HTTP in all that is asked for, and by mds_replay at the same moments. Then come configurations,
+folders and journals that are refused, a disk without room, a file that can't grow, and a journal of a day's reports, made by
+tests/records.py, whose thinning is killed at several moments. A full disk is a file system in memory, where one may be mounted; else that
+test is left out, and said so. Prints what differs, and last 'N passed, M failed'; ends with 1 where one failed.
+"""
+
+import argparse
+import contextlib
+import json
+import os
+import re
+import resource
+import shutil
+import signal
+import subprocess
+import sys
+import tempfile
+import time
+import uuid
+
+import records
+from journals import AUTHOR, DAMAGED, GEOMETRY, LOCKED, REPLAY, UNFIT, configuration, operator, report, small_disk
+from kept import City, Tried, ended, line_of, replayed, split
+from wire import Closed, identifier
+
+ALFA, BRAVO, CAROL = "token-of-alfa", "token-of-bravo", "token-of-carol"
+ALFA_ID, BRAVO_ID, CAROL_ID = (identifier(9, it) for it in (0xA1, 0xB1, 0xC1))
+IDS = {ALFA: ALFA_ID, BRAVO: BRAVO_ID, CAROL: CAROL_ID}
+GIVEN = configuration(operator(ALFA_ID, ALFA, 6), operator(BRAVO_ID, BRAVO, 6), operator(CAROL_ID, CAROL, 3), zone="-05:00")
+SQUARE, ISLE, YARD = (identifier(1, it) for it in (1, 2, 3))
+CAP, LESS, STAY, GONE, OWN, NEXT, LOST = (identifier(2, it) for it in range(1, 8))
+TARGETS = (
+    *("/policies", "/geographies", "/fleet/vehicles", "/compliance"),
+    *(f"/policies/{it}" for it in (CAP, LESS, STAY, GONE, OWN, NEXT)),
+    *(f"/geographies/{it}" for it in (SQUARE, ISLE, YARD)),
+    *(f"/compliance/{it}" for it in (CAP, LESS, STAY, GONE, OWN)),
+    *(f"/drafts/policies/{it}" for it in (CAP, NEXT, LOST)),
+    f"/drafts/geographies/{YARD}",
+)
+LINE = re.compile(r"(\d+) records, (\d+) bytes before; (\d+) records, (\d+) bytes now\n")
+
+CLEARED = "journal.thinned"
+NOT_WRITTEN = b"ruffletuff: the thinned journal couldn't be written: "
+UNUSABLE = b"ruffletuff: the folder can't be used: "
+DISK = 12 << 20  # bytes of a small disk
+DAY, MINUTE = 1440, 60_000  # minutes, and milliseconds
+BEGUN = 1_700_000_000_000  # the moment of the first report
+BOUND = 2  # records of each vehicle that stay, at most
+
+
+def geography(name):
+    return "PUT", f"/drafts/geographies/{name}", f'{{"geography_id":"{name}","name":"place","geography_json":{GEOMETRY}}}'
+
+
+def policy(name, kind="count", **members):
+    """A policy of one rule, with these further members."""
+    rule = {"rule_id": identifier(3, 1), "name": "rule", "rule_type": kind, "geographies": [SQUARE], "maximum": 1}
+    rule |= {"rule_units": "minutes"} if kind == "time" else {}
+    found = {"policy_id": name, "name": "policy", "start_date": 1000, "rules": [rule]} | members
+    return "PUT", f"/drafts/policies/{name}", json.dumps(found)
+
+
+def publish(**members):
+    return "POST", "/publish", json.dumps(members)
+
+
+def removal(number):
+    return "DELETE", f"/fleet/vehicles/{identifier(4, number)}", ""
+
+
+def told(number, timestamp, state="available"):
+    return "POST", "/fleet/events", report(number, timestamp, state)
+
+
+def reports():
+    """What operators tell, in their order: repeated reports, states that come back, removals, and one device of two operators."""
+    for step in range(12):
+        for number in (1, 2, 3):
+            yield ALFA, told(number, 2000 + 10 * step, "on_trip" if step // (number + 1) % 2 else "available")
+        yield BRAVO, told(1, 3000 + step // 2, ("available", "on_trip", "elsewhere")[step // 5])
+        if step in (4, 9):
+            yield ALFA, removal(2)
+            yield BRAVO, told(7, 3000 + step)
+        if step == 6:
+            yield BRAVO, removal(7)
+    yield ALFA, told(4, 5000)
+    yield ALFA, removal(4)
+    yield CAROL, ("POST", "/fleet/events", report(9, 6000).replace(identifier(4, 9), f"urn:uuid:{identifier(4, 9).upper()}"))
+    yield CAROL, ("POST", "/fleet/events", report(9, 6001))
+    yield CAROL, ("POST", "/fleet/events", report(9, 6001))
+    yield CAROL, ("POST", "/fleet/events", report(8, 6002))
+
+
+def asked():
+    """What is asked of the city, each with the token of who asks: the author's requests stand among the reports."""
+    author = [
+        (geography(SQUARE), geography(ISLE), policy(CAP), policy(STAY, "time"), publish(geographies=[SQUARE, ISLE], policies=[CAP, STAY])),
+        (policy(GONE), policy(GONE, description="again"), publish(policies=[GONE])),
+        (policy(LESS, prev_policies=[CAP]), policy(OWN, provider_ids=[BRAVO_ID]), publish(policies=[LESS, OWN])),
+        (publish(withdraw=[GONE]),),
+        (policy(NEXT), policy(NEXT, "time"), geography(YARD), policy(LOST), ("DELETE", f"/drafts/policies/{LOST}", "")),
+    ]
+    fleet = list(reports())
+    step = len(fleet) // len(author) + 1
+    for place, part in enumerate(author):
+        yield from ((AUTHOR, it) for it in part)
+        yield from fleet[place * step : (place + 1) * step]
+
+
+def device_of(line):
+    """Whose vehicle a line of an audit is about, its number, and the state that is reported, if one is; None of any other line."""
+    token, method, target, *body = split(line)[1].split(" ", 3)
+    if token == AUTHOR:
+        return None
+    if method == "DELETE":
+        return token, uuid.UUID(target.rpartition("/")[2]), None
+    found = json.loads(body[0])
+    return token, uuid.UUID(found["device_id"]), found["vehicle_state"]
+
+
+def staying(lines):
+    """The lines that stay of a journal: the author's, and of each vehicle since it was last removed its last report, and the one with
+    which its last run of one state began."""
+    kept, runs = set(), {}
+    for place, line in enumerate(lines):
+        found = device_of(line)
+        if found is None:
+            kept.add(place)
+            continue
+        *device, state = found
+        if state is None:
+            runs.pop(tuple(device), None)
+        else:
+            begun = runs.get(tuple(device))
+            runs[tuple(device)] = (begun[0] if begun and begun[2] == state else place, place, state)
+    kept |= {place for begun, last, _ in runs.values() for place in (begun, last)}
+    return [line for place, line in enumerate(lines) if place in kept]
+
+
+def folder_of(city):
+    """The files of a city's folder with their bytes."""
+    found = {}
+    for name in sorted(os.listdir(city.folder)):
+        with open(os.path.join(city.folder, name), "rb") as file:
+            found[name] = file.read()
+    return found
+
+
+def thin(city, file=None, **how):
+    return ended(city.program, "thin", city.folder, "--config", file or city.file, **how)
+
+
+def answers(server, tokens=(AUTHOR, ALFA, BRAVO, CAROL)):
+    """What each is told, without the moment of a question."""
+    found = {}
+    for token in tokens:
+        for target in TARGETS:
+            answer = server.ask("GET", target, token)
+            found[token, target] = answer.status, re.sub(rb'"at":\d+', b'"at":0', answer.body)
+    return found
+
+
+class Run:
+    """A city that was run, and its folder, which is copied for each test."""
+
+    def __init__(self, program, room, replay, vehicles, kills):
+        self.program, self.replay, self.vehicles, self.kills = program, replay, vehicles, kills
+        self.city = City(program, room, GIVEN)
+        with self.city.serve() as server:
+            for token, (method, target, body) in asked():
+                if (answer := server.ask(method, target, token, body.encode())).status != 200:
+                    raise ValueError(f"{method} {target} {body} is answered {answer}")
+            self.answers = answers(server)
+            if (found := server.end()) != (0, b"", b""):
+                raise ValueError(f"the server ends with {found}")
+        self.bytes = self.city.bytes()
+        self.first, self.lines = self.city.audit()
+        self.kept = staying(self.lines)
+
+    @contextlib.contextmanager
+    def copy(self, given=None, room=None, journal=None):
+        """Another folder of the same files, with this configuration or another, and this journal or another."""
+        with tempfile.TemporaryDirectory(prefix="thinning-", dir=room) as place:
+            city = City(self.program, place, given or GIVEN)
+            shutil.copytree(self.city.folder, city.folder)
+            if journal is not None:
+                with open(city.journal, "wb") as file:
+                    file.write(journal)
+            yield city
+
+    def thinned(self):
+        """The bytes of the thinned journal."""
+        with self.copy() as city:
+            if (found := thin(city))[0] or found[2]:
+                raise ValueError(f"thin ends with {found}")
+            return city.bytes()
+
+
+# --- What stays ----------------------------------------------------------------------------------------------------
+
+
+def is_thinned(run):
+    """The entries stay that are worked out here, the line tells the counts, and a second time changes nothing."""
+    with run.copy() as city:
+        status, out, err = thin(city)
+        found = LINE.fullmatch(out.decode())
+        wanted = [len(run.lines) + 1, len(run.bytes), len(run.kept) + 1, len(city.bytes())]
+        if (status, err) != (0, b"") or not found or list(map(int, found.groups())) != wanted:
+            yield f"thin ends with {status, out, err}, and not with {wanted}"
+        if city.audit() != (run.first, run.kept):
+            yield f"other lines stay: {city.audit()[1]}, and not {run.kept}"
+        if not len(run.kept) < len(run.lines) or not len(city.bytes()) < len(run.bytes):
+            yield "it isn't shorter"
+        once = folder_of(city)
+        if records.read(once["journal"]).ending != "whole" or sorted(once) != ["ballast", "journal", "lock"]:
+            yield f"its folder has {sorted(once)}"
+        if (mode := os.stat(city.journal).st_mode & 0o777) != 0o600:
+            yield f"the journal has the mode {mode:o}"
+        again = f"{wanted[2]} records, {wanted[3]} bytes before; {wanted[2]} records, {wanted[3]} bytes now\n".encode()
+        if (found := thin(city)) != (0, again, b"") or folder_of(city) != once:
+            yield f"a second time ends with {found}"
+
+
+def answers_as_before(run):
+    """Each is answered as before, and so are further requests, after a restart too."""
+    further = [
+        (ALFA, told(1, 9000, "on_trip")),
+        (ALFA, told(2, 9001)),
+        (ALFA, told(6, 1)),
+        (BRAVO, told(1, 2999)),
+        (BRAVO, removal(7)),
+        (CAROL, told(9, 6001)),
+        (CAROL, told(10, 6003)),
+        (CAROL, told(11, 6004)),
+        (AUTHOR, publish(policies=[NEXT], geographies=[YARD])),
+        (AUTHOR, publish(policies=[CAP])),
+    ]
+    with run.copy() as before, run.copy() as after:
+        if (found := thin(after))[0]:
+            yield f"thin ends with {found}"
+        heard = []
+        for city in (before, after):
+            with city.serve() as server:
+                if (found := answers(server)) != run.answers:
+                    yield from (f"{it} is answered {found[it]}, and not {run.answers[it]}" for it in found if found[it] != run.answers[it])
+                replies = [server.ask(method, target, token, body.encode()) for token, (method, target, body) in further]
+                heard.append([(it.status, re.sub(rb'"published_date":\d+', b"", it.body)) for it in replies])
+                last = {it: found for it, found in answers(server).items() if not it[1].startswith(("/policies", "/geographies"))}
+                heard[-1].append(last)
+                if (found := server.end()) != (0, b"", b""):
+                    yield f"the server ends with {found}"
+            with city.serve() as server:
+                if {it: found for it, found in answers(server).items() if it in last} != last:
+                    yield "after a restart it answers otherwise"
+        if heard[0] != heard[1]:
+            yield f"further requests are answered {heard[1]}, and not {heard[0]}"
+
+
+def answers_at_the_same_moments(run):
+    """By mds_replay: at the same moments each is answered the same behind either journal, by the beginning of each vehicle's state."""
+    last = max(split(it)[0] for it in run.lines)
+    moments = [0, 3100, 60_000, 65_000, 70_000, last, last + 1]
+    targets = [it for it in TARGETS if not it.startswith("/drafts")]
+    questions = [f"{at} {line_of(token, 'GET', target)}" for at in moments for token in (ALFA, BRAVO, CAROL) for target in targets]
+    before = replayed(run.replay, run.first, run.lines + questions)[len(run.lines) :]
+    after = replayed(run.replay, run.first, run.kept + questions)[len(run.kept) :]
+    yield from (f"{line} is answered {it!r}, and not {old!r}" for line, it, old in zip(questions, after, before, strict=True) if it != old)
+    if len(set(before)) < 20:
+        yield "the answers tell too little"
+
+
+# --- What is refused -----------------------------------------------------------------------------------------------
+
+
+def is_refused(city, status, said, second=b"", file=None, **how):
+    """Thinning is refused by name, and the folder's files are what they were."""
+    before = folder_of(city)
+    found = thin(city, file, **how)
+    if found[:2] != (status, b"") or not found[2].startswith(said) or second not in found[2]:
+        yield f"thin ends with {found}, and not with {status, said, second}"
+    if folder_of(city) != before:
+        yield f"it changes the folder: {sorted(folder_of(city))}"
+
+
+def while_a_server_runs(run):
+    """The folder is the server's as long as it runs."""
+    with run.copy() as city, city.serve() as server:
+        yield from is_refused(city, 4, LOCKED + city.folder.encode() + b"\n")
+        if answers(server) != run.answers:
+            yield "the server tells other things"
+        if (found := server.end()) != (0, b"", b""):
+            yield f"the server ends with {found}"
+
+
+def other_configurations(run):
+    """A configuration that is none or isn't there is refused, and one that doesn't fit; other tokens and a further operator are no matter."""
+    two = [it for it in GIVEN["operators"] if it["id"] != CAROL_ID]
+    low = [it | {"limit": 1} if it["id"] == CAROL_ID else it for it in GIVEN["operators"]]
+    for given, second in (
+        (configuration(*two), f"operator {CAROL_ID} has entries in it and isn't in the configuration\n".encode()),
+        (configuration(*low), b"is answered with status 409\n"),
+    ):
+        with run.copy(given) as city:
+            yield from is_refused(city, 6, UNFIT + city.folder.encode() + b"\n", second)
+    with run.copy(b'{\n"author": "city"\n}\n') as city:
+        yield from is_refused(city, 2, b"ruffletuff: the configuration is wrong: " + city.file.encode())
+        none = os.path.join(city.room, "none")
+        yield from is_refused(city, 2, b"ruffletuff: the configuration is wrong: " + none.encode(), file=none)
+    others = [it | {"token": it["token"] + "-again"} for it in GIVEN["operators"]]
+    with run.copy(configuration(*others, operator(identifier(9, 0xD1), "further"), author="again")) as city:
+        if (found := thin(city))[0] or len(city.audit()[1]) != len(run.kept):
+            yield f"with other tokens it ends with {found}"
+
+
+def no_folder(run):
+    """A folder that isn't there isn't made, and one without a journal gets none."""
+    with tempfile.TemporaryDirectory() as room:
+        city = City(run.program, room, GIVEN)
+        for what in ("no folder", "an empty one"):
+            if (found := thin(city)) != (4, b"", UNUSABLE + city.folder.encode() + b"\n"):
+                yield f"of {what} it ends with {found}"
+            if os.path.exists(city.folder) and os.listdir(city.folder):
+                yield f"of {what} it makes {os.listdir(city.folder)}"
+            os.makedirs(city.folder, exist_ok=True)
+
+
+def damaged_journals(run):
+    """A byte that is another, a text that is no entry and an unknown version are refused; a torn end is left out, as by a server."""
+    texts = records.read(run.bytes).texts
+    place = len(run.bytes) // 2
+    cases = {
+        b"it was synced up to byte ": run.bytes[:place] + bytes([run.bytes[place] ^ 1]) + run.bytes[place + 1 :],
+        b"its first record is no journal's head": records.written(texts[1:]),
+        b"its record 2 is none that this program knows": records.written([*texts[:2], b"\2" + texts[2][1:], *texts[3:]]),
+    }
+    for said, journal in cases.items():
+        with run.copy(journal=journal) as city:
+            yield from is_refused(city, 5, DAMAGED + city.folder.encode() + b"\n", said)
+    with run.copy(journal=run.bytes + run.bytes[:40]) as city:
+        if (found := thin(city))[0] or city.audit()[1] != run.kept:
+            yield f"with a torn end it ends with {found}"
+
+
+def a_file_that_can_not_grow(run):
+    """Where the thinned journal can't be written the journal stays, and nothing is left beside it."""
+    for limit in (1000, 5000, len(run.thinned()) - 1):
+
+        def limited(limit=limit):
+            signal.signal(signal.SIGXFSZ, signal.SIG_IGN)
+            resource.setrlimit(resource.RLIMIT_FSIZE, (limit, limit))
+
+        with run.copy() as city:
+            how = {"preexec_fn": limited, "restore_signals": False}
+            yield from is_refused(city, 7, NOT_WRITTEN + city.folder.encode() + b"\n", **how)
+
+
+def a_full_disk(run):
+    """The same on a disk that has no room for a second journal; once there is room it is thinned."""
+    with tempfile.TemporaryDirectory() as room, small_disk(room, DISK) as disk:
+        if disk is None:
+            print("no disk may be mounted here: a full one isn't tried")
+            return
+        with run.copy(room=disk) as city, open(os.path.join(disk, "filler"), "wb") as filler:
+            os.truncate(os.path.join(city.folder, "ballast"), 0)
+            with contextlib.suppress(OSError):
+                while filler.write(bytes(4096)):
+                    filler.flush()
+            yield from is_refused(city, 7, NOT_WRITTEN + city.folder.encode() + b"\n")
+            os.truncate(filler.name, 0)
+            if (found := thin(city))[0] or city.audit()[1] != run.kept:
+                yield f"once there is room it ends with {found}"
+
+
+def wrong_arguments(run):
+    """Arguments that are none change nothing."""
+    with run.copy() as city:
+        for words in (("--config",), ("--until", "1"), ("--config", city.file, "--until", "1"), ("--config", city.file, "--config", city.file)):
+            found = ended(run.program, "thin", city.folder, *words)
+            if found[:2] != (2, b"") or not found[2].startswith(b"ruffletuff: the arguments are wrong\nusage: "):
+                yield f"{words}: ends with {found}"
+        if ended(run.program, "thin", city.folder)[0] != 2 or city.bytes() != run.bytes:
+            yield "without a configuration it changes something"
+
+
+# --- A day's journal -----------------------------------------------------------------------------------------------
+
+
+def a_days_journal(vehicles):
+    """The journal of so many vehicles that each reported each minute of a day, and how many records it has."""
+    found, sum_ = records.group(0, 0, 0, [records.head([(it, 64) for it in IDS.values()])])
+    first = (geography(SQUARE), policy(CAP), policy(STAY, "time"), publish(geographies=[SQUARE], policies=[CAP, STAY]))
+    groups = [[records.entry(BEGUN - 1, method, None, target.encode(), body.encode()) for method, target, body in first]]
+    for minute in range(DAY):
+        at = BEGUN + minute * MINUTE
+        states = ["on_trip" if minute // (5 + it) % 2 else "available" for it in range(vehicles)]
+        bodies = [report(it, at, state).encode() for it, state in enumerate(states)]
+        groups.append([records.entry(at + 1, "POST", ALFA_ID, b"/fleet/events", it) for it in bodies])
+    parts = [found]
+    position = len(found)
+    for texts in groups:
+        part, sum_ = records.group(sum_, position, position, texts)
+        parts.append(part)
+        position += len(part)
+    return b"".join(parts), 1 + len(first) + DAY * vehicles
+
+
+def killed(city, seconds):
+    """Thins, and kills it after so many seconds: whether it was still at it."""
+    words = [city.program, "thin", city.folder, "--config", city.file]
+    with subprocess.Popen(words, stdout=subprocess.DEVNULL, stderr=subprocess.DEVNULL) as process:
+        try:
+            process.wait(seconds)
+        except subprocess.TimeoutExpired:
+            process.kill()
+            return True
+    return False
+
+
+def a_day(run):
+    """Of a day's reports at most two of each vehicle stay. Killed at any moment, thinning leaves the journal or the thinned one."""
+    given = configuration(*(operator(it, token, 64) for token, it in IDS.items()))
+    journal, count = a_days_journal(run.vehicles)
+    with run.copy(given, journal=journal) as city:
+        begun = time.monotonic()
+        status, out, err = thin(city)
+        took = time.monotonic() - begun
+        found = LINE.fullmatch(out.decode())
+        if (status, err) != (0, b"") or not found or int(found[1]) != count or int(found[3]) > 5 + BOUND * run.vehicles:
+            yield f"a day's journal: thin ends with {status, out, err}"
+        shorter = city.bytes()
+        print(f"{run.vehicles} vehicles each minute of a day, in {took:.1f} s: {out.decode()}", end="")
+        with city.serve() as server:
+            wanted = answers(server, (AUTHOR, ALFA))
+    with run.copy(given, journal=journal) as city, city.serve() as server:
+        if answers(server, (AUTHOR, ALFA)) != wanted:
+            yield "of a day's journal other things are told"
+    ends = []
+    for kill in range(run.kills):
+        with run.copy(given, journal=journal) as city:
+            is_killed = killed(city, took * (kill + 0.5) / run.kills)
+            is_thinned = city.bytes() == shorter
+            ends.append((is_killed, is_thinned))
+            if not is_thinned and city.bytes() != journal or not is_killed and not is_thinned:
+                yield f"kill {kill}: another journal stands there"
+            with city.serve() as server:
+                if answers(server, (AUTHOR, ALFA)) != wanted:
+                    yield f"kill {kill}: other things are told"
+            if thin(city)[0] or city.bytes() != shorter or CLEARED in os.listdir(city.folder):
+                yield f"kill {kill}: then it isn't thinned"
+    print(f"of {run.kills} kills {sum(it[0] for it in ends)} came in time, and {sum(it[1] for it in ends)} found it thinned")
+
+
+CASES = (
+    is_thinned,
+    answers_as_before,
+    answers_at_the_same_moments,
+    while_a_server_runs,
+    other_configurations,
+    no_folder,
+    damaged_journals,
+    a_file_that_can_not_grow,
+    a_full_disk,
+    wrong_arguments,
+    a_day,
+)
+
+
+def main():
+    parser = argparse.ArgumentParser(description=__doc__, formatter_class=argparse.RawDescriptionHelpFormatter)
+    parser.add_argument("program")
+    parser.add_argument("--replay", default=REPLAY, help="the built mds_replay")
+    parser.add_argument("--vehicles", type=int, default=8, help="how many report each minute of a day")
+    parser.add_argument("--kills", type=int, default=12)
+    options = parser.parse_args()
+    tried, begun = Tried(), time.monotonic()
+    with tempfile.TemporaryDirectory(prefix="thinning-") as room:
+        try:
+            places = [os.path.abspath(it) for it in (options.program, options.replay)]
+            run = Run(places[0], room, places[1], options.vehicles, options.kills)
+        except (OSError, ValueError, Closed, subprocess.SubprocessError) as fault:
+            print(repr(fault))
+            tried.failed += 1
+            return tried.told()
+        for case in CASES:
+            tried.one(case.__name__, case(run))
+    print(f"of {len(run.lines)} entries {len(run.kept)} stay; in {time.monotonic() - begun:.0f} s")
+    return tried.told()
+
+
+if __name__ == "__main__":
+    sys.exit(main())
