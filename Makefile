@@ -1,6 +1,6 @@
 # demo     the main job on real input: a policy is published, a vehicle reported, compliance asked for
 # test     all tests, and the programs on scripts, messages, kills and short loads, before any proof: it proves nothing
-# prove    the gate: every proof, the edits that must fail, then scripts, messages, kills, loads and stress on the proved programs
+# prove    the gate: every proof, the edits that must fail, then scripts, messages, kills, journals, loads and stress on what is built
 # edits    further edits that must fail, those of edits/: part of a release, not of the gate (CRATE=mds_text: those of one crate)
 # build    proves mds_replay with all that it stands on, and builds it
 # server   proves ruffletuff with all that it stands on, and builds it
@@ -11,7 +11,7 @@
 # shots    the README's screenshots, by the same Chromium
 # openapi  checks docs/openapi.yaml against the protocol and the scripts (Debian's python3-yaml, python3-jsonschema)
 # bench    times mds_replay on generated input, and a program in plain Rust beside it, in three forms (minutes, once built)
-# bench-journal  times reports to ruffletuff beside mds_serve and SQLite (minutes, once built)
+# bench-journal  times ruffletuff beside mds_serve, SQLite and PostgreSQL, thinning and a large start (minutes, once built)
 # stress   publishes 500 batches at mds_serve while 8 operators ask, and checks each reply against a replay (seconds, once built)
 # dist     packs the built programs: a tar and a Debian package in out/dist (seconds, once built)
 # dist-try  installs that package into a clean Debian root and asks its server (as root, minutes)

@@ -302,7 +302,7 @@ def reported(link, numbers):
 
 
 def a_question_by_threads(server):
-    """What is worth threads is judged by threads that the question starts, and what isn't by none."""
+    """What is worth threads is judged by threads that a first question starts; what isn't, and what was asked before, by none."""
     if len(os.sched_getaffinity(0)) == 1:
         print("a question isn't asked that starts threads: there is one processor")
         return
@@ -323,6 +323,10 @@ def a_question_by_threads(server):
             most = max(most for _, most in asked)
             if (most > at_rest) != wanted:
                 yield f"over {numbers.stop} vehicles the server has {most} threads, and {at_rest} at rest"
+            # The second question behind a new device makes what further ones go by.
+            again = [most_threads(server, link)[1] for _ in range(1 + max(3, 20 // PATIENCE))]
+            if max(again) > at_rest:
+                yield f"over {numbers.stop} vehicles a question that was asked before starts threads"
 
 
 def the_slow_and_the_others(server, patience):

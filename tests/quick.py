@@ -31,6 +31,7 @@ SCRIPT_PARTS = 3
 GROWTH_SECONDS = 20  # for the growths of a crate's tests
 KILLS = "10"
 STRIDE = "29"  # of a journal's bytes, each so many are changed
+CITIES = "2"  # whose questions are asked once and again
 DAY = ("--vehicles", "1", "--kills", "2")  # of a journal that is thinned
 # The crates whose tests for want of memory bear a refused growth in their set-up too.
 SWEPT = ("mds_core_tests", "mds_server_tests", "mds_thinning_tests")
@@ -132,7 +133,7 @@ def parts(room):
         words = ("replays.py", replay, str(part), str(SCRIPT_PARTS))
         call = lambda words=words: script(*words, slow=slow["mds_replay"])
         add(f"scripts, part {part} of {SCRIPT_PARTS}", 2, replayed, call)
-    add("questions again", 0.5, replayed, lambda: script("columns.py", replay, slow=slow["mds_replay"]))
+    add("questions again", 0.5, replayed, lambda: script("columns.py", replay, "1", CITIES, slow=slow["mds_replay"]))
     for name in crates_with_tests():
         program = f"{room}/{name}-tests" if name in SWEPT else None
         needs = add(f"the tests of {name}", 3, [], lambda name=name, program=program: tests_of(name, program))
