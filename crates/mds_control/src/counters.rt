@@ -123,7 +123,7 @@ const ROWS: &[Row] = &[
     },
     Row {
         before: "\
-# HELP ruffletuff_answer_milliseconds milliseconds from a whole request to its answer\n\
+# HELP ruffletuff_answer_milliseconds milliseconds from when a request's turn came to its answer\n\
 # TYPE ruffletuff_answer_milliseconds histogram\n",
         name: "ruffletuff_answer_milliseconds_bucket{le=\"5\"}",
     },
@@ -253,7 +253,7 @@ impl Counters {
         }
     }
 
-    /// A request was answered with this status, so many milliseconds after it came.
+    /// A request was answered with this status, so many milliseconds after its turn came.
     pub fn answered(&self, call: Call, status: u16, millis: u64) {
         self.bump(request_place(call, Outcome::of(status)), 1);
         for (bucket, bound) in BOUNDS.iter().enumerate() {

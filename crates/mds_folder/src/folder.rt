@@ -46,15 +46,16 @@ fn sync_names<R: Files<File = File>>(rt: &R, folder: &str) -> Result<(), FolderF
     }
 }
 
-/// Makes a folder where it isn't there, and waits until its name is on the disk.
+/// Makes a folder where it isn't there, and waits until its name is on the disk: each time, since a start that made it may have
+/// been killed before that. Where the folder above can't be read, nothing is waited for.
 fn make<R: Files<File = File>>(rt: &R, alloc: Global, folder: &str) -> Result<(), FolderFault> {
-    if File::open(rt, folder).is_ok() {
-        return Ok(());
-    }
     if fs::create_dir_all(rt, folder).is_err() {
         return Err(FolderFault::Unusable);
     }
     let above = format!(in alloc; "{folder}/..")?;
+    if File::open(rt, above.as_str()).is_err() {
+        return Ok(());
+    }
     sync_names(rt, above.as_str())
 }
 

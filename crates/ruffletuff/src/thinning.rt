@@ -44,9 +44,13 @@ fn bytes_of<R: Files<File = File> + AllocGlobal>(rt: &R, folder: &str) -> Result
     }
 }
 
-/// The moment at which both servers are asked: what is asked doesn't go by it.
-fn moment<R: Clock + Copy>(rt: &R) -> Option<Moment> {
-    MachineClock(*rt).now().or_else(|| Moment::new(0))
+/// The moment at which both servers are asked: that of the machine's clock, or the first one, since what is asked doesn't go
+/// by it.
+fn moment<R: Clock + Copy>(rt: &R) -> Moment {
+    match MachineClock(*rt).now() {
+        Some(now) => now,
+        None => Moment::new(0).unwrap(),
+    }
 }
 
 /// Thins the journal of a folder, by the text of its configuration. What can't be finished is cleared away.
@@ -59,10 +63,7 @@ fn thinned<R: Wait + Files<File = File> + Clock + AllocGlobal + Copy>(
     folder: &str,
     text: &[u8],
 ) -> Result<Counts, Ending> {
-    let Some(at) = moment(rt) else {
-        return Err(Ending::NoMemory);
-    };
-    match thin_folder(rt, rt.alloc(), folder, text, at) {
+    match thin_folder(rt, rt.alloc(), folder, text, moment(rt)) {
         Ok(counts) => Ok(counts),
         Err(fault) => {
             if may_leave_remains(&fault) {
