@@ -4,3 +4,4 @@ pub mod Found
 pub mod Joined
 pub mod Listed
 pub mod Marked
+pub mod Seals

@@ -3,3 +3,4 @@ pub mod Records
 pub mod Marks
 pub mod Groups
 pub mod Laws
+pub mod Seals

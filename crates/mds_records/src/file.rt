@@ -1,5 +1,5 @@
 //! A medium in a file.
-use crate::medium::{Medium, MediumFault};
+use crate::medium::{Medium, MediumFault, medium_fault};
 use std::alloc::Global;
 use std::fs::OpenFile;
 use std::io::{Read, Seek, SeekFrom, Write};
@@ -32,7 +32,7 @@ impl<F: Read + Write + Seek + OpenFile + Drop> Medium for Stored<F> {
         let mut bytes = Vec::new(alloc);
         match self.file.read_to_end(&mut bytes) {
             Ok(_) => Ok(bytes),
-            Err(_) => Err(MediumFault::Failed),
+            Err(error) => Err(medium_fault(error.kind())),
         }
     }
 

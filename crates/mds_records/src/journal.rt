@@ -11,6 +11,7 @@ use crate::log::{AppendFault, Log, NotSynced, ReadFault};
 use crate::marks::{Ending, ending_of};
 use crate::medium::{Medium, MediumFault};
 use crate::reading::{Record, read};
+use crate::seal::{Seal, Sealed};
 use std::alloc::{AllocError, Global};
 
 /// The furthest position at which a group may begin: 2^62.
@@ -72,7 +73,7 @@ impl From<MediumFault> for ReadFault {
 }
 
 /// The texts of records that are no marks.
-fn plain_texts(alloc: Global, records: &[Record<'_>]) -> Result<Vec<Vec<u8>>, AllocError>
+pub(crate) fn plain_texts(alloc: Global, records: &[Record<'_>]) -> Result<Vec<Vec<u8>>, AllocError>
     ensures { IfOk result (λ texts. map (λ v. v.items) texts.items ≡ listed (map (λ x. x.text.now) records.now)) }
 {
     let mut texts = Vec::new(alloc);
@@ -213,5 +214,15 @@ impl<M: Medium> Log for Journal<M> {
             return Ok(Vec::new(self.alloc));
         }
         Ok(texts.split_off(position as usize)?)
+    }
+}
+
+impl<M: Medium> Sealed for Journal<M> {
+    fn seal(&self) -> Seal {
+        Seal {
+            position: self.position,
+            sum: self.sum,
+            count: self.count,
+        }
     }
 }

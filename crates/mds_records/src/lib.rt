@@ -13,6 +13,7 @@ mod memory;
 mod numbers;
 mod reading;
 mod record;
+mod seal;
 mod sum;
 #[cfg(test)]
 mod tests;
@@ -22,8 +23,9 @@ pub use group::{Group, are_taken, group_of, is_plain};
 pub use journal::{Journal, OpenFault};
 pub use log::{AppendFault, Log, NotSynced, ReadFault};
 pub use marks::{Ending, MARK, ending_of, push_mark};
-pub use medium::{Medium, MediumFault};
+pub use medium::{Medium, MediumFault, medium_fault};
 pub use memory::Memory;
 pub use reading::{Reading, Record, read};
 pub use record::{HEAD, MOST_TEXT, fits, push};
+pub use seal::{Seal, Sealed, texts_between};
 pub use sum::sum_over;

@@ -1,5 +1,8 @@
 //! What keeps a journal's bytes.
+ghost use Rattle.std.specs.Prelude.{◌≡◌, ◌↔◌};
+
 use std::alloc::{AllocError, Global};
+use std::io::ErrorKind;
 
 /// Why a medium gave nothing, or isn't known to have kept what it was given.
 #[derive(Clone, Copy, Debug, PartialEq, Eq)]
@@ -13,6 +16,16 @@ pub enum MediumFault {
 impl From<AllocError> for MediumFault {
     fn from(_: AllocError) -> MediumFault {
         MediumFault::NoMemory
+    }
+}
+
+/// Why a medium in a file gave nothing, by the kind of the file's error: memory ran out, or it failed.
+pub fn medium_fault(kind: ErrorKind) -> MediumFault
+    ensures { (result ≡ MediumFault.NoMemory) ↔ (kind ≡ ErrorKind.OutOfMemory) }
+{
+    match kind {
+        ErrorKind::OutOfMemory => MediumFault::NoMemory,
+        _ => MediumFault::Failed,
     }
 }
 

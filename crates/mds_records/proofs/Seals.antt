@@ -1,0 +1,23 @@
+-- Lists and their seals.
+use Rattle.std.proofs.Common.{◌≡◌, ℕ, ◌+◌, List, ◌++◌, length, sym, ap, ◌∙◌, arith}
+use Rattle.std.proofs.lemmas.List.{length-append}
+use Rattle.std.proofs.lemmas.List.Elements.{filter-append}
+use Rattle.mds_records.specs.Sum.{sums_over}
+use Rattle.mds_records.specs.Records.{extent}
+use Rattle.mds_records.specs.Groups.{is_plain, listed}
+use Rattle.mds_records.specs.Seals.{IsSealed}
+use Rattle.mds_records.specs.declared.seal.Seal.{Seal}
+use Rattle.mds_records.proofs.Written.{extent_joined}
+use Rattle.mds_records.proofs.Joined.{sums_joined}
+
+-- what is read behind a seal ends with the seal behind it
+pub sealed_behind : (from to : Seal) (list texts : List (List ℕ)) → IsSealed from list → to.sum ≡ sums_over from.sum texts
+    → to.position ≡ from.position + extent texts → to.count ≡ from.count + length (listed texts) → IsSealed to (list ++ listed texts)
+sealed_behind from to list texts s summed ends counted =
+    record {
+      texts = s.texts ++ texts;
+      are_listed = filter-append is_plain s.texts texts ∙ ap (λ (l : List (List ℕ)). l ++ listed texts) s.are_listed;
+      summed = summed ∙ ap (λ (n : ℕ). sums_over n texts) s.summed ∙ sym (sums_joined 0 s.texts texts);
+      ends = omega (arith, ends, s.ends, extent_joined s.texts texts);
+      counted = omega (arith, counted, s.counted, length-append list (listed texts));
+    }
