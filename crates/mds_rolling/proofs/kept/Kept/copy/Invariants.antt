@@ -1,0 +1,11 @@
+use Rattle.std.proofs.Common.{◌≡◌, ◌++◌, map, drop}
+use Rattle.mds_rolling.proofs.kept.Kept.copy.Given as goal
+
+-- what is copied so far, and what is to be, are all
+abbrev pub invariant-loop-text : goal.invariant-loop-text
+invariant-loop-text l =
+    record {
+      copied : map (λ v. v.items) l.self.texts.items ++ map (λ v. v.items) (drop l.text-index l.texts) ≡ map (λ v. v.items) l.fn.self.texts.items ++ map (λ v. v.items) l.texts;
+      keeping : l.self.is_keeping ≡ l.fn.self.is_keeping;
+      seal : l.self.seal ≡ l.fn.self.seal;
+    }

@@ -1,0 +1,4 @@
+pub mod Leading
+pub mod Shorter
+pub mod Rolled
+pub mod Pace

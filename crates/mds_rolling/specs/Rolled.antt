@@ -1,0 +1,28 @@
+-- A log whose file may be a shorter one that leads to the same.
+use Rattle.std.specs.Prelude.{◌≡◌, ℕ, Bool, true, false, List, ◌++◌, length}
+use Rattle.mds_records.specs.Seals.{IsSealed}
+use Rattle.mds_records.specs.declared.seal.Seal.{Seal}
+use Rattle.mds_rolling.specs.Leading.{Leads}
+
+-- these are the texts behind what has the seal
+abbrev pub AreBehind : Seal → (since held : List (List ℕ)) → Type 0
+AreBehind seal since held = (part : List (List ℕ)) × (held ≡ part ++ since) × IsSealed seal part
+
+-- All that was appended is this list: its file's log may be of one that leads to where this does, and that is this one itself where no other
+-- took its place; and where the texts behind a seal are kept, they are those of the file.
+pub record IsRolled (same : List (List ℕ) → List (List ℕ) → Type 0) (may_be : List (List ℕ) → Type 0) (is_exchanged is_keeping : Bool) (seal : Seal)
+    (since : List (List ℕ)) (count : ℕ) (list : List (List ℕ)) : Type 0 where
+  pub held : List (List ℕ)
+  pub may : may_be held
+  pub leads : Leads same held list
+  pub counted : count ≡ length list
+  pub own : is_exchanged ≡ false → held ≡ list
+  pub behind : is_keeping ≡ true → AreBehind seal since held
+
+-- The log may be of a list that leads to where one does that has the seal, and both end with the same texts.
+pub record IsCaughtUp (same : List (List ℕ) → List (List ℕ) → Type 0) (may_be : List (List ℕ) → Type 0) (seal : Seal) (since : List (List ℕ)) : Type 0 where
+  pub front : List (List ℕ)
+  pub before : List (List ℕ)
+  pub may : may_be (front ++ since)
+  pub leads : Leads same front before
+  pub sealed : IsSealed seal before

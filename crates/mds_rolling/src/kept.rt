@@ -1,0 +1,86 @@
+//! What was appended behind a seal, kept for a log that is to take the place.
+ghost use Rattle.std.specs.Prelude.{◌≡◌, ◌&&◌, ◌++◌, [], ℕ, List, map, true, false, OnOk};
+ghost use Rattle.mds_records.specs.declared.seal.Seal.{Seal as Known};
+
+use mds_records::Seal;
+use std::alloc::{AllocError, Global};
+
+/// The most bytes of texts that are kept.
+const MOST_KEPT: u64 = 8_388_608;
+
+/// What was appended behind a seal, where it is kept.
+#[derive(Drop)]
+pub(crate) struct Kept {
+    pub(crate) is_keeping: bool,
+    pub(crate) seal: Seal,
+    pub(crate) texts: Vec<Vec<u8>>,
+    bytes: u64,
+}
+
+impl Kept {
+    /// Nothing is kept.
+    pub(crate) fn nothing(alloc: Global) -> Kept
+        ensures { result.is_keeping ≡ false }
+    {
+        Kept {
+            is_keeping: false,
+            seal: Seal::of_nothing(),
+            texts: Vec::new(alloc),
+            bytes: 0,
+        }
+    }
+
+    /// Whether what is appended behind this seal is kept.
+    pub(crate) fn is_behind(&self, seal: Seal) -> bool
+        ensures { result ≡ true → (self.now.is_keeping ≡ true) × (self.now.seal ≡ seal) }
+    {
+        self.is_keeping && self.seal == seal
+    }
+
+    /// Keeps nothing any more.
+    pub(crate) fn forget(&mut self)
+        ensures { self.new.is_keeping ≡ false }
+    {
+        self.is_keeping = false;
+        self.texts.clear();
+        self.bytes = 0;
+    }
+
+    /// Keeps what is appended behind this seal, from now on.
+    pub(crate) fn begin(&mut self, seal: Seal)
+        ensures seal { self.new.seal ≡ seal }
+        ensures nothing { self.new.texts.items ≡ [] }
+    {
+        self.is_keeping = true;
+        self.seal = seal;
+        self.texts.clear();
+        self.bytes = 0;
+    }
+
+    /// Copies texts behind those that are kept.
+    fn copy(&mut self, alloc: Global, texts: &[Vec<u8>]) -> Result<(), AllocError>
+        ensures copied { OnOk result (map (λ v. v.items) self.new.texts.items ≡ map (λ v. v.items) self.old.texts.items ++ map (λ v. v.items) texts.now) }
+        ensures keeping { self.new.is_keeping ≡ self.old.is_keeping }
+        ensures seal { self.new.seal ≡ self.old.seal }
+    {
+        for text in texts {
+            self.texts.push(Vec::from_slice(alloc, text)?)?;
+            self.bytes = self.bytes.saturating_add(text.len() as u64);
+        }
+        Ok(())
+    }
+
+    /// Keeps texts that were appended, where those before are kept. Where they are too many, or memory runs out, nothing is kept
+    /// any more.
+    pub(crate) fn add(&mut self, alloc: Global, texts: &[Vec<u8>])
+        ensures { self.new.is_keeping ≡ true → (self.old.is_keeping ≡ true) × (self.new.seal ≡ self.old.seal)
+            × (map (λ v. v.items) self.new.texts.items ≡ map (λ v. v.items) self.old.texts.items ++ map (λ v. v.items) texts.now) }
+    {
+        if !self.is_keeping {
+            return;
+        }
+        if self.copy(alloc, texts).is_err() || self.bytes > MOST_KEPT {
+            self.forget();
+        }
+    }
+}

@@ -1,0 +1,171 @@
+//! A log whose file is exchanged for a shorter one while it is appended to.
+ghost use Rattle.std.specs.Prelude.{◌≡◌, ◌++◌, ℕ, List, map, true, false, IfOk, OnOk, OnErr, IsErrOf};
+ghost use Rattle.mds_records.specs.Groups.{are_taken};
+ghost use Rattle.mds_rolling.specs.Rolled.{IsRolled, IsCaughtUp};
+
+use crate::beside::Beside;
+use crate::finding::Finding;
+use crate::kept::Kept;
+use crate::shorter::{CatchFault, Shorter};
+use mds_records::{AppendFault, Log, NotSynced, ReadFault, Sealed};
+use std::alloc::Global;
+use std::marker::PhantomData;
+
+/// The most texts that a list has before more are appended: 2^62.
+const MOST_COUNT: u64 = 4_611_686_018_427_387_904;
+
+/// A log whose list is all that was appended, and whose file's log is of that list, or of one that leads to where it does. What
+/// stands beside it has shorter logs, one of which takes the place in [`Log::sync`].
+#[derive(Drop)]
+pub struct Rolling<L: Sealed, P: Finding, B: Beside<L, P>> {
+    alloc: Global,
+    log: L,
+    beside: B,
+    /// How many texts the list has.
+    count: u64,
+    /// What was appended behind a seal.
+    kept: Kept,
+    /// Whether another log took the place.
+    is_exchanged: bool,
+    /// Whether it isn't known which log has the place.
+    is_broken: bool,
+    of: PhantomData<P>,
+}
+
+/// Appends texts to a log, wherever it ends.
+///
+/// # Errors
+///
+/// The log's, and `Unknown` in place of `Conflict`.
+fn append_to<L: Sealed>(log: &mut L, texts: &[Vec<u8>]) -> Result<(), AppendFault>
+    ensures appended { OnOk result ((list : List (List ℕ)) → L.may_be log.old list → L.may_be log.new (list ++ map (λ v. v.items) texts.now)) }
+    ensures unchanged { OnErr result ((list : List (List ℕ)) → L.may_be log.old list → L.may_be log.new list) }
+    ensures conflict { IsErrOf result AppendFault.Conflict → true ≡ false }
+    ensures untaken { IsErrOf result AppendFault.Untaken → are_taken (map (λ v. v.items) texts.now) ≡ false }
+{
+    let count = log.seal().count;
+    match log.append(count, texts) {
+        Ok(_) => Ok(()),
+        Err(AppendFault::Conflict) => Err(AppendFault::Unknown),
+        Err(fault) => Err(fault),
+    }
+}
+
+/// A shorter log with the texts that are kept behind its seal, synced.
+///
+/// # Errors
+///
+/// `NotKept` where they aren't, `NotWritten` or `NoMemory` where they can't be appended or synced.
+fn caught_up<L: Sealed, P: Finding>(shorter: Shorter<L, P>, kept: &Kept) -> Result<L, CatchFault>
+    ensures synced { IfOk result (λ log. L.is_synced log) }
+    ensures kept { OnOk result (kept.now.is_keeping ≡ true) }
+    ensures caught { IfOk result (λ log. IsCaughtUp P.same (L.may_be log) kept.now.seal (map (λ v. v.items) kept.now.texts.items)) }
+{
+    let (mut log, seal) = shorter.into_parts();
+    if !kept.is_behind(seal) {
+        return Err(CatchFault::NotKept);
+    }
+    append_to(&mut log, &kept.texts)?;
+    log.sync()?;
+    Ok(log)
+}
+
+impl<L: Sealed, P: Finding, B: Beside<L, P>> Rolling<L, P, B> {
+    /// A log whose file is exchanged from now on by what stands beside it.
+    pub fn new(alloc: Global, log: L, beside: B) -> Rolling<L, P, B>
+        ensures { (list : List (List ℕ)) → L.may_be log list
+            → IsRolled P.same (L.may_be result.log) result.is_exchanged result.kept.is_keeping result.kept.seal
+            (map (λ v. v.items) result.kept.texts.items) result.count list }
+    {
+        let count = log.seal().count;
+        Rolling {
+            alloc,
+            log,
+            beside,
+            count,
+            kept: Kept::nothing(alloc),
+            is_exchanged: false,
+            is_broken: false,
+            of: PhantomData,
+        }
+    }
+
+    /// Puts a shorter log into the place, where what it lacks is kept; else the log stays.
+    ///
+    /// # Errors
+    ///
+    /// It isn't known which file stands in the place.
+    fn adopt(&mut self, shorter: Shorter<L, P>) -> Result<(), NotSynced>
+        ensures { (list : List (List ℕ))
+            → IsRolled P.same (L.may_be self.old.log) self.old.is_exchanged self.old.kept.is_keeping self.old.kept.seal
+            (map (λ v. v.items) self.old.kept.texts.items) self.old.count list
+            → IsRolled P.same (L.may_be self.new.log) self.new.is_exchanged self.new.kept.is_keeping self.new.kept.seal
+            (map (λ v. v.items) self.new.kept.texts.items) self.new.count list }
+    {
+        let Ok(log) = caught_up(shorter, &self.kept) else {
+            self.kept.forget();
+            self.beside.ended(false, self.log.seal().position);
+            return Ok(());
+        };
+        if self.beside.replace(&log).is_err() {
+            self.is_broken = true;
+            return Err(NotSynced);
+        }
+        self.log = log;
+        self.is_exchanged = true;
+        self.kept.forget();
+        self.beside.ended(true, self.log.seal().position);
+        Ok(())
+    }
+}
+
+impl<L: Sealed, P: Finding, B: Beside<L, P>> Log for Rolling<L, P, B> {
+    ghost may_be = { λ r list. IsRolled P.same (L.may_be r.log) r.is_exchanged r.kept.is_keeping r.kept.seal
+        (map (λ v. v.items) r.kept.texts.items) r.count list };
+
+    ghost is_synced = { λ r. L.is_synced r.log };
+
+    fn append(&mut self, expected: u64, texts: &[Vec<u8>]) -> Result<u64, AppendFault> {
+        if self.is_broken {
+            return Err(AppendFault::Unknown);
+        }
+        if expected != self.count {
+            return Err(AppendFault::Conflict);
+        }
+        if self.count > MOST_COUNT {
+            return Err(AppendFault::Full);
+        }
+        append_to(&mut self.log, texts)?;
+        self.kept.add(self.alloc, texts);
+        self.count += texts.len() as u64;
+        Ok(self.count)
+    }
+
+    fn sync(&mut self) -> Result<u64, NotSynced> {
+        if self.is_broken {
+            return Err(NotSynced);
+        }
+        let count = self.count;
+        if let Some(shorter) = self.beside.ready() {
+            self.adopt(shorter)?;
+        }
+        self.log.sync()?;
+        let seal = self.log.seal();
+        if self.beside.synced(seal) {
+            self.kept.begin(seal);
+        }
+        Ok(count)
+    }
+
+    fn read_from(&mut self, position: u64) -> Result<Vec<Vec<u8>>, ReadFault> {
+        if self.is_broken || self.is_exchanged {
+            return Err(ReadFault::NoAnswer);
+        }
+        self.kept.forget();
+        let texts = self.log.read_from(position)?;
+        if self.log.seal().count != self.count {
+            return Err(ReadFault::Damaged);
+        }
+        Ok(texts)
+    }
+}
