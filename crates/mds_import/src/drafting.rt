@@ -1,0 +1,250 @@
+//! The documents of a file, and what they become.
+ghost use Rattle.std.specs.Prelude.{◌≡◌, IfOk, map, option_map, if◌then◌else◌, None, codes, string_bytes};
+ghost use Rattle.std.specs.List.{filter_map};
+ghost use Rattle.mds_text.specs.Tree.{items_of, members_of};
+ghost use Rattle.mds_text.specs.View.{view, member_view};
+ghost use Rattle.mds_import.specs.Members.{as_id, or_none, id_named};
+ghost use Rattle.mds_import.specs.Documents.{inner, documents, pair, decimal_at, decimal_in, decimal_among, prepared, geography_with, policy_with, outcome, target_of, Outcome};
+
+use crate::member::{as_id, as_list, id_named, list_named, named};
+use mds_text::{DraftKind, Id, Member, Tree, is_quoted, print_tree};
+use std::alloc::{AllocError, Global};
+use std::slice::from_ref;
+
+/// Where a document comes from.
+#[derive(Clone, Copy, Debug, PartialEq, Eq)]
+pub struct Origin {
+    /// The place of its file among the files.
+    pub file: usize,
+    /// Its place among the documents of its file.
+    pub document: usize,
+}
+
+/// A document as a draft that can be sent.
+#[derive(Drop)]
+pub struct Draft {
+    pub origin: Origin,
+    pub kind: DraftKind,
+    pub id: Id,
+    /// The policies that it supersedes.
+    pub predecessors: Vec<Id>,
+    /// The document's text.
+    pub body: Vec<u8>,
+}
+
+/// Why a document isn't sent.
+#[derive(Clone, Copy, Debug, PartialEq, Eq)]
+pub enum Why {
+    /// The member is missing, or of another kind than it has to be.
+    BadField,
+    /// The member has a number that a policy may not have.
+    Decimal,
+}
+
+/// A document that isn't sent.
+#[derive(Clone, Copy)]
+pub struct Refused<'t> {
+    /// The innermost member with the fault.
+    pub member: &'t str,
+    pub why: Why,
+}
+
+/// What a document becomes.
+#[derive(Drop)]
+pub enum Prepared<'t> {
+    Draft(Draft),
+    Refused(Refused<'t>),
+}
+
+/// What stands behind `data`, or the file itself.
+fn inner(file: &Tree) -> &Tree
+    ensures { view result.now ≡ inner (view file.now) }
+{
+    match named(file, "data") {
+        Some(inner) => inner,
+        None => file,
+    }
+}
+
+/// The lists of a file.
+#[derive(Clone, Copy)]
+pub struct Lists<'t> {
+    /// Geographies, or whatever a list without a name has.
+    pub first: &'t [Tree],
+    /// Policies.
+    pub second: &'t [Tree],
+}
+
+/// The entries of a list, none where there is none.
+fn or_none<'t>(entries: Option<&'t [Tree]>) -> &'t [Tree]
+    ensures { map view result.now ≡ or_none (option_map (λ ts. map view ts.now) entries.entry) }
+{
+    match entries {
+        Some(entries) => entries,
+        None => &[],
+    }
+}
+
+/// The documents of a file: those of the lists `geographies` and `policies` of an object, or of what stands behind
+/// `data`; or the entries of a list; or the one document that the file is.
+pub fn documents(file: &Tree) -> Lists<'_>
+    ensures { pair result ≡ documents (view file.now) }
+{
+    let value = inner(file);
+    if let Some(entries) = as_list(value) {
+        return Lists {
+            first: entries,
+            second: &[],
+        };
+    }
+    let geographies = list_named(value, "geographies");
+    let policies = list_named(value, "policies");
+    if geographies.is_some() || policies.is_some() {
+        Lists {
+            first: or_none(geographies),
+            second: or_none(policies),
+        }
+    } else {
+        Lists {
+            first: from_ref(value),
+            second: &[],
+        }
+    }
+}
+
+/// The name of the innermost member in which the first number stands that isn't plain; none, where a value has no such
+/// number. It was read from a text that has some, so that a text that reads as one is taken for one.
+#[cycle(decimal_at)]
+fn decimal_at<'t>(name: &'t str, value: &'t Tree) -> Option<&'t str>
+    ensures { option_map (λ n. n.now) result ≡ decimal_at name.now (view value.now) }
+{
+    match value {
+        Tree::Text(text) if is_quoted(text.as_bytes()) => Some(name),
+        Tree::List(entries) => decimal_in(name, entries),
+        Tree::Object(members) => decimal_among(members),
+        _ => None,
+    }
+}
+
+#[cycle(decimal_at)]
+fn decimal_in<'t>(name: &'t str, entries: &'t [Tree]) -> Option<&'t str>
+    ensures { option_map (λ n. n.now) result ≡ decimal_in name.now (items_of (map view entries.now)) }
+{
+    for entry in entries {
+        if let Some(found) = decimal_at(name, entry) {
+            return Some(found);
+        }
+    }
+    None
+}
+
+#[cycle(decimal_at)]
+fn decimal_among<'t>(members: &'t [Member]) -> Option<&'t str>
+    ensures { option_map (λ n. n.now) result ≡ decimal_among (members_of (map member_view members.now)) }
+{
+    for member in members {
+        if let Some(found) = decimal_at(member.name.as_str(), &member.value) {
+            return Some(found);
+        }
+    }
+    None
+}
+
+/// The identifiers among values, in their order.
+fn ids_in(alloc: Global, values: &[Tree]) -> Result<Vec<Id>, AllocError>
+    ensures { IfOk result (λ v. v.items ≡ filter_map as_id (map view values.now)) }
+{
+    let mut ids = Vec::new(alloc);
+    for value in values {
+        if let Some(id) = as_id(value) {
+            ids.push(id)?;
+        }
+    }
+    Ok(ids)
+}
+
+/// A geography as it is sent.
+fn geography<'t>(alloc: Global, origin: Origin, value: &'t Tree) -> Result<Prepared<'t>, AllocError>
+    ensures { IfOk result (λ p. outcome p ≡ geography_with origin (id_named (codes "geography_id") (view value.now)) (view value.now)) }
+{
+    let Some(id) = id_named(value, "geography_id") else {
+        return Ok(not_sent("geography_id", Why::BadField));
+    };
+    Ok(Prepared::Draft(Draft {
+        origin,
+        kind: DraftKind::Geography,
+        id,
+        predecessors: Vec::new(alloc),
+        body: print_tree(alloc, value)?,
+    }))
+}
+
+/// A document that isn't sent.
+fn not_sent(member: &str, why: Why) -> Prepared<'_>
+    ensures { outcome result ≡ Outcome.refused member.now why }
+{
+    Prepared::Refused(Refused { member, why })
+}
+
+/// A policy as it is sent, from a file that has numbers that aren't plain, or none.
+fn policy<'t>(
+    alloc: Global,
+    origin: Origin,
+    decimals: bool,
+    value: &'t Tree,
+) -> Result<Prepared<'t>, AllocError>
+    ensures { IfOk result (λ p. outcome p ≡ policy_with origin (id_named (codes "policy_id") (view value.now)) (if decimals then decimal_at (codes "document") (view value.now) else None) (view value.now)) }
+{
+    let Some(id) = id_named(value, "policy_id") else {
+        return Ok(not_sent("policy_id", Why::BadField));
+    };
+    let decimal = if decimals {
+        decimal_at("document", value)
+    } else {
+        None
+    };
+    if let Some(member) = decimal {
+        return Ok(not_sent(member, Why::Decimal));
+    }
+    let predecessors = ids_in(alloc, or_none(list_named(value, "prev_policies")))?;
+    Ok(Prepared::Draft(Draft {
+        origin,
+        kind: DraftKind::Policy,
+        id,
+        predecessors,
+        body: print_tree(alloc, value)?,
+    }))
+}
+
+/// What a document of a file becomes that has numbers that aren't plain (`mds_reading::read_counted` counts them), or none:
+/// a draft with the document's text, or the member for which it is refused.
+pub fn prepare<'t>(
+    alloc: Global,
+    origin: Origin,
+    decimals: bool,
+    value: &'t Tree,
+) -> Result<Prepared<'t>, AllocError>
+    ensures { IfOk result (λ p. outcome p ≡ prepared origin decimals (view value.now)) }
+{
+    if named(value, "geography_id").is_some() {
+        geography(alloc, origin, value)
+    } else {
+        policy(alloc, origin, decimals, value)
+    }
+}
+
+/// The path under which a draft is kept.
+pub fn target_of(alloc: Global, draft: &Draft) -> Result<String, AllocError>
+    ensures { IfOk result (λ target. string_bytes target ≡ target_of draft.now.kind draft.now.id) }
+{
+    let mut target = String::from_str(
+        alloc,
+        match draft.kind {
+            DraftKind::Policy => "/drafts/policies/",
+            DraftKind::Geography => "/drafts/geographies/",
+        },
+    )?;
+    let id = draft.id.print(alloc)?;
+    target.push_str(id.as_str())?;
+    Ok(target)
+}

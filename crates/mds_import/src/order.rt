@@ -1,0 +1,77 @@
+//! In which order drafts are sent.
+ghost use Rattle.std.specs.Prelude.{◌≡◌, ◌<◌, not, length, IfOk, IfSome, bytes_eq, position, slice_get, Some};
+ghost use Rattle.std.specs.List.{list_any, remove};
+ghost use Rattle.mds_import.specs.Order.{waits_by, waits_for, waits, next_place, IsInTurn};
+
+use crate::drafting::Draft;
+use mds_text::{DraftKind, Id};
+use std::alloc::{AllocError, Global};
+
+/// Whether this identifier is among these.
+fn is_among(id: Id, ids: &[Id]) -> bool
+    ensures { result ≡ list_any (bytes_eq id) ids.now }
+{
+    ids.iter().any(|other| id == *other)
+}
+
+/// Whether a draft goes behind another: a policy behind each geography, and behind the policies that it supersedes.
+fn waits_for(draft: &Draft, other: &Draft) -> bool
+    ensures { result ≡ waits_for draft.now other.now }
+{
+    match (draft.kind, other.kind) {
+        (DraftKind::Geography, _) => false,
+        (DraftKind::Policy, DraftKind::Geography) => true,
+        (DraftKind::Policy, DraftKind::Policy) => is_among(other.id, &draft.predecessors),
+    }
+}
+
+/// Whether a draft goes behind one of these.
+fn waits(left: &[Draft], draft: &Draft) -> bool
+    ensures { result ≡ waits left.now draft.now }
+{
+    left.iter().any(|other| waits_for(draft, other))
+}
+
+/// The place of the first draft that waits for none of these.
+fn first_ready(left: &[Draft]) -> Option<usize>
+    ensures value { result ≡ position (λ draft. not (waits left.now draft)) left.now }
+    ensures within { IfSome result (λ place. place < length left.now) }
+{
+    left.iter().position(|draft| !waits(left, draft))
+}
+
+/// The place of the first draft that waits for none of these, or of the first where each waits.
+fn next_place(left: &[Draft]) -> usize
+    requires { 0 < length left.now }
+    ensures value { result ≡ next_place left.now }
+    ensures within { result < length left.now }
+{
+    match first_ready(left) {
+        Some(place) => place,
+        None => 0,
+    }
+}
+
+/// Takes out the next of these drafts.
+fn take_next(left: &mut Vec<Draft>) -> Draft
+    requires { 0 < length left.old.items }
+    ensures taken { slice_get left.old.items (next_place left.old.items) ≡ Some result }
+    ensures rest { left.new.items ≡ remove left.old.items (next_place left.old.items) }
+{
+    let place = next_place(left);
+    left.remove(place)
+}
+
+/// The drafts in the order in which they are sent: geographies at first, and each policy behind those that it supersedes,
+/// unless they supersede one another.
+pub fn ordered(alloc: Global, drafts: Vec<Draft>) -> Result<Vec<Draft>, AllocError>
+    ensures { IfOk result (λ v. IsInTurn drafts.items v.items) }
+{
+    let mut left = drafts;
+    let mut ordered = Vec::new(alloc);
+    'turns: while !left.is_empty() {
+        let draft = take_next(&mut left);
+        ordered.push(draft)?;
+    }
+    Ok(ordered)
+}
