@@ -1,3 +1,4 @@
+mod Choosing
 pub mod Fronts
 pub mod Words
 pub mod Held

@@ -1,5 +1,5 @@
 -- What no crash takes away.
-use Rattle.std.specs.Prelude.{◌≡◌, ℕ, List, [], ◌∷◌, ◌++◌}
+use Rattle.std.specs.Prelude.{◌≡◌, ℕ, Bool, List, [], ◌∷◌, ◌++◌, if◌then◌else◌}
 use mathlib.Core.List.{IsPrefix}
 use Rattle.mds_commit.specs.History.{AreSynced}
 
@@ -15,3 +15,13 @@ module _ {L : Type 0} (may_be : L → List (List ℕ) → Type 0) (is_synced : L
 -- the texts end with this one
 abbrev pub IsLast : List ℕ → List (List ℕ) → Type 0
 IsLast text texts = (before : List (List ℕ)) × (texts ≡ before ++ text ∷ [])
+
+-- the texts end with these, in their order and with nothing between
+abbrev pub AreLast : List (List ℕ) → List (List ℕ) → Type 0
+AreLast last texts = (before : List (List ℕ)) × (texts ≡ before ++ last)
+
+-- those of a list whose flags are set; there is none behind the last flag
+abbrev pub chosen : {A : Type 0} → List Bool → List A → List A
+chosen [] items = []
+chosen (flag ∷ flags) [] = []
+chosen (flag ∷ flags) (item ∷ items) = if flag then item ∷ chosen flags items else chosen flags items

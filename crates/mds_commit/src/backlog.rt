@@ -1,14 +1,15 @@
 //! What lies under the lock: the texts that wait for the flusher, and the room that is set aside for them.
-ghost use Rattle.std.specs.Prelude.{◌≡◌, ◌+◌, ◌≤◌, ◌<◌, ◌++◌, ◌∷◌, [], length, map, true, IfOk, IfSome, IfNone, OnOk, OnErr, OnSome, vec_len, vec_capacity};
+ghost use Rattle.std.specs.Prelude.{◌≡◌, ◌+◌, ◌≤◌, ◌<◌, ◌++◌, ◌∷◌, [], length, map, true, IfOk, IfSome, IfNone, OnOk, OnErr, OnSome, if◌then◌else◌, get_or, drop, false, vec_len, vec_capacity};
 ghost use mathlib.Core.List.{IsPrefix};
 ghost use Rattle.mds_records.specs.Groups.{is_taken};
+ghost use Rattle.mds_commit.specs.Durable.{chosen};
 ghost use Rattle.mds_commit.specs.declared.deciding.TheConstants.{MOST_TEXTS};
 ghost use Rattle.mds_commit.specs.declared.backlog.TheConstants.{BESIDE};
 ghost use Rattle.mds_commit.specs.declared.room.TheConstants.{STEP};
 
-use crate::deciding::{MOST_TEXTS, Round, may_wait, next_round};
+use crate::deciding::{MOST_TEXTS, Round, may_all_wait, may_wait, next_round};
 use crate::history::{Ledger, Naming, Stamp};
-use crate::room::Room;
+use crate::room::{Room, STEP};
 use crate::space::{NoRoom, Space};
 use mds_records::{Log, fits, is_plain};
 use std::alloc::{AllocError, Global};
@@ -43,6 +44,11 @@ impl From<NoRoom> for ReserveFault {
 pub struct Place {
     pub text: Vec<u8>,
     pub ghost taken: { is_taken text.items ≡ true },
+}
+
+/// Texts, and the places that are held for their records. They are appended or given back together, and can't be let go.
+pub struct Places {
+    pub texts: Vec<Vec<u8>>,
 }
 
 /// The texts that wait. Contracts see what the flusher has taken, and all that was appended.
@@ -133,6 +139,13 @@ impl<K: Naming, L: Log> Queue<K, L> {
         self.texts.len()
     }
 
+    /// The stamp of all that was appended.
+    fn all(&self) -> Stamp<K, L>
+        ensures { result ≡ self.now.appended }
+    {
+        self.appended.again()
+    }
+
     /// Puts a text behind all that was appended, and gives the stamp of them. None where there is no place, or where
     /// another added to the history, which doesn't happen under the lock.
     fn push(&mut self, ledger: &Ledger<K, L>, text: Vec<u8>) -> Option<Stamp<K, L>>
@@ -169,6 +182,38 @@ impl<K: Naming, L: Log> Queue<K, L> {
         mem::swap(&mut self.texts, group);
         self.taken = self.appended.again();
         Some(self.appended.again())
+    }
+}
+
+/// What the records of texts take in the log.
+///
+/// # Errors
+///
+/// A log doesn't take one of them, or all of them take more than is set aside at once.
+fn bytes_of_all(texts: &[Vec<u8>]) -> Result<u64, ReserveFault>
+    ensures { IfOk result (λ bytes. bytes ≤ STEP) }
+{
+    let mut bytes = 0;
+    for text in texts {
+        if !fits(text) || !is_plain(text) {
+            return Err(ReserveFault::Untaken);
+        }
+        bytes += text.len() as u64 + BESIDE;
+        if bytes > STEP {
+            return Err(ReserveFault::Crowded);
+        }
+    }
+    Ok(bytes)
+}
+
+/// The first flag, which isn't set where there is none, and the flags behind it.
+fn first_flag(flags: &[bool]) -> (bool, &[bool])
+    ensures first { result.0 ≡ get_or flags.now 0 false }
+    ensures rest { result.1.now ≡ drop 1 flags.now }
+{
+    match flags.split_first() {
+        Some((first, rest)) => (*first, rest),
+        None => (false, flags),
     }
 }
 
@@ -252,6 +297,79 @@ impl<K: Naming, L: Log, S: Space> Backlog<K, L, S> {
         self.held -= 1;
         self.waiting += bytes;
         Some(stamp)
+    }
+
+    /// Holds a place for each of the texts.
+    ///
+    /// # Errors
+    ///
+    /// See [`ReserveFault`]. Nothing is held then, and nothing has changed for others.
+    pub(crate) fn hold_all(&mut self, texts: Vec<Vec<u8>>) -> Result<Places, ReserveFault>
+        ensures places { IfOk result (λ places. places.texts ≡ texts) }
+        ensures held { OnOk result (self.new.held ≡ self.old.held + vec_len texts) }
+        ensures room { OnErr result ((self.new.held ≡ self.old.held) × (self.new.room.used ≡ self.old.room.used)) }
+        ensures queue { self.new.queue ≡ self.old.queue }
+        ensures waiting { self.new.waiting ≡ self.old.waiting }
+    {
+        if self.is_stopping {
+            return Err(ReserveFault::Stopping);
+        }
+        let bytes = bytes_of_all(&texts)?;
+        let waiting = self.queue.len();
+        if waiting > MOST_TEXTS
+            || !may_all_wait(waiting + self.held, self.room.used, texts.len(), bytes)
+        {
+            return Err(ReserveFault::Crowded);
+        }
+        self.room.take(bytes)?;
+        self.held += texts.len();
+        Ok(Places { texts })
+    }
+
+    /// Appends a text that a place is held for, where it is kept, and else gives the place back. Says whether it did.
+    fn settle_one(&mut self, ledger: &Ledger<K, L>, text: Vec<u8>, is_kept: bool) -> bool
+        ensures appended { result ≡ true
+            → self.new.queue.appended ≡ self.old.queue.appended ++ (if is_kept then text.items ∷ [] else []) }
+        ensures taken { self.new.queue.taken ≡ self.old.queue.taken }
+    {
+        // A place was held for it, so a log takes it.
+        let Ok(place) = Place::new(text) else {
+            return false;
+        };
+        if is_kept {
+            self.append(ledger, place).is_some()
+        } else {
+            self.release(place);
+            true
+        }
+    }
+
+    /// Appends those of the texts that are kept, in their order, gives the places of the others back, and gives the stamp
+    /// of all that was appended then. None where it can't, which doesn't happen where the places were held here.
+    pub(crate) fn settle(
+        &mut self,
+        ledger: &Ledger<K, L>,
+        places: Places,
+        kept: &[bool],
+    ) -> Option<Stamp<K, L>>
+        ensures appended { IfSome result (λ stamp. stamp ≡ self.old.queue.appended ++ chosen kept.now (map (λ v. v.items) places.texts.items)) }
+        ensures stamp { IfSome result (λ stamp. self.new.queue.appended ≡ stamp) }
+        ensures taken { self.new.queue.taken ≡ self.old.queue.taken }
+    {
+        let Places { texts } = places;
+        let mut is_settled = true;
+        let mut rest = kept;
+        for text in texts {
+            let (is_kept, others) = first_flag(rest);
+            rest = others;
+            let settles = self.settle_one(ledger, text, is_kept);
+            is_settled = is_settled & settles;
+        }
+        if is_settled {
+            Some(self.queue.all())
+        } else {
+            None
+        }
     }
 
     /// What the flusher does next.

@@ -67,3 +67,13 @@ pub fn may_wait(texts: usize, bytes: u64, more: u64) -> bool
 {
     texts < MOST_TEXTS && bytes <= MOST_BYTES && more <= MOST_BYTES - bytes
 }
+
+/// Whether so many further texts, of so many bytes in the log in all, may wait, beside so many texts of so many bytes.
+pub fn may_all_wait(texts: usize, bytes: u64, more_texts: usize, more: u64) -> bool
+    ensures { IsTrue result ↔ ((texts + more_texts ≤ MOST_TEXTS) × (bytes + more ≤ MOST_BYTES)) }
+{
+    more_texts <= MOST_TEXTS
+        && texts <= MOST_TEXTS - more_texts
+        && bytes <= MOST_BYTES
+        && more <= MOST_BYTES - bytes
+}

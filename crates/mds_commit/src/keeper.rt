@@ -1,11 +1,11 @@
 //! What all desks and the room share: where they append, and what says whether a reply may leave.
 ghost use Rattle.std.specs.Prelude.{◌≡◌, ◌++◌, ◌≤◌, [], map, ℕ, List, IfOk, IfNone, IfSome, OnOk, OnErr, vec_capacity};
 ghost use mathlib.Core.List.{IsPrefix};
-ghost use Rattle.mds_commit.specs.Durable.{AreDurable, IsLast};
+ghost use Rattle.mds_commit.specs.Durable.{AreDurable, AreLast, IsLast, chosen};
 ghost use Rattle.mds_commit.specs.declared.deciding.TheConstants.{MOST_TEXTS};
 ghost use Rattle.mds_commit.specs.declared.deciding.Telling.TheVariants as tellings;
 
-use crate::backlog::{Backlog, Place, ReserveFault};
+use crate::backlog::{Backlog, Place, Places, ReserveFault};
 use crate::deciding::{Round, Telling, may_tell};
 use crate::flusher::{FlushFault, Flusher};
 use crate::history::{Ledger, Naming, Opened, Stamp};
@@ -109,6 +109,54 @@ impl<K: Naming, L: Log, S: Space> Keeper<K, L, S> {
     {
         let appended = self.backlog.lock(rt).append(&self.ledger, place);
         match appended {
+            Some(stamp) => {
+                self.more.notify_one();
+                Ok(stamp)
+            }
+            None => {
+                self.fail(rt);
+                Err(NotTold::Failed)
+            }
+        }
+    }
+
+    /// Holds a place for each of these texts, before the requests are carried out whose records they are. The places are
+    /// given to [`Keeper::settle`], or to [`Keeper::release_all`] where none of the requests is carried out.
+    ///
+    /// # Errors
+    ///
+    /// There aren't as many places: see [`ReserveFault`]. Nothing has changed.
+    pub fn reserve_all<R: Wait>(&self, rt: &R, texts: Vec<Vec<u8>>) -> Result<Places, ReserveFault>
+        ensures { IfOk result (λ places. places.texts ≡ texts) }
+    {
+        if self.has_failed.load(Ordering::SeqCst) {
+            return Err(ReserveFault::Failed);
+        }
+        self.backlog.lock(rt).hold_all(texts)
+    }
+
+    /// Gives all of these places back.
+    pub fn release_all<R: Wait>(&self, rt: &R, places: Places) {
+        let _nothing = self.backlog.lock(rt).settle(&self.ledger, places, &[]);
+        self.more.notify_one();
+    }
+
+    /// Appends the records of those requests that are kept, by a flag for each, in their order and with nothing between,
+    /// and gives the places of the others back. Gives the stamp of all that was appended by then. It waits for no sync.
+    ///
+    /// # Errors
+    ///
+    /// The keeper failed; this doesn't happen where the places were held here.
+    pub fn settle<R: Wait>(
+        &self,
+        rt: &R,
+        places: Places,
+        kept: &[bool],
+    ) -> Result<Stamp<K, L>, NotTold>
+        ensures { IfOk result (λ stamp. AreLast (chosen kept.now (map (λ v. v.items) places.texts.items)) stamp) }
+    {
+        let settled = self.backlog.lock(rt).settle(&self.ledger, places, kept);
+        match settled {
             Some(stamp) => {
                 self.more.notify_one();
                 Ok(stamp)

@@ -12,9 +12,11 @@ mod room;
 mod settling;
 mod space;
 
-pub use backlog::{Place, ReserveFault};
+pub use backlog::{Place, Places, ReserveFault};
 pub use ballast::Ballast;
-pub use deciding::{MOST_BYTES, MOST_TEXTS, Round, Telling, may_tell, may_wait, next_round};
+pub use deciding::{
+    MOST_BYTES, MOST_TEXTS, Round, Telling, may_all_wait, may_tell, may_wait, next_round,
+};
 pub use flusher::{FlushFault, Flusher};
 pub use history::{Ledger, Naming, Opened, Stamp, Synced};
 pub use keeper::{Keeper, NotTold, open};
