@@ -5,7 +5,8 @@
 
 Every reference resolves, and every component is referred to. The routes, who may ask, and the statuses and codes are those of the
 protocol (docs/PROTOCOL.md, or the files that are named). Every example fits its schema, and examples of replies and of bodies stand
-in the scripts of tests/replays. There each reply fits the schema of its route and status, and so does each body that was taken.
+in the scripts of tests/replays, but for those of paths beside the routes, which no script asks. There each reply fits the schema of
+its route and status, and so does each body that was taken.
 Prints what was checked in numbers, and each fault; ends with 1 where there is one. Needs Debian's python3-yaml and python3-jsonschema.
 """
 
@@ -31,7 +32,9 @@ SCRIPTS = f"{HERE}/replays"
 LAST_MOMENT = 4102444799999
 METHODS = ("get", "put", "post", "delete")
 EVERYWHERE = {"400", "401", "413", "503"}
-JSON = "application/json"
+# Where ruffletuff answers what is no route of the protocol.
+BESIDE = "/app/"
+TABLES = ("| Method and path | Who |", "| Method and path beside the routes | Who |")
 
 
 class Description:
@@ -71,8 +74,9 @@ class Description:
             yield rest, self.root[rest]["responses"]
 
     def media(self, node):
-        """What a response or a body holds."""
-        return self.plain(node)["content"][JSON]
+        """What a response or a body holds, which is of one type."""
+        [media] = self.plain(node)["content"].values()
+        return media
 
     def faults(self, schema, value):
         """Why a value doesn't fit a schema, in short."""
@@ -155,15 +159,16 @@ def operations(description):
 
 
 def protocol_routes(text):
-    """Method, path and who may ask, from the table of routes."""
+    """Method, path and who may ask, from the table of routes, and from that of what stands beside them."""
     routes, paths = {}, []
-    table = text.partition("| Method and path | Who |")[2].partition("\n\n")[0]
-    for row in table.split("\n")[2:]:
-        first, who = row.split("|")[1:3]
-        paths = re.findall(r"`(/[^`]*)`", first) or paths
-        for method in re.findall(r"\b[A-Z]{3,}\b", first):
-            for path in paths:
-                routes[method, path] = sorted(it.strip() for it in who.split(","))
+    for head in TABLES:
+        table = text.partition(head)[2].partition("\n\n")[0]
+        for row in table.split("\n")[2:]:
+            first, who = row.split("|")[1:3]
+            paths = re.findall(r"`(/[^`]*)`", first) or paths
+            for method in re.findall(r"\b[A-Z]{3,}\b", first):
+                for path in paths:
+                    routes[method, path] = sorted(it.strip() for it in who.split(","))
     return routes
 
 
@@ -294,7 +299,7 @@ def examples(description, seen):
                 real = [it for (_, given), all_ in seen.replies.items() if given == status for it in all_]
                 own = seen.replies.get((route, status), []) if "$ref" not in response else real
                 never = status != "200" and example["value"].get("error") not in refused
-                if not never and example["value"] not in own:
+                if not never and f" {BESIDE}" not in route and example["value"] not in own:
                     yield f"{route}: the example {name} of {status} is no reply of a script"
     for path, method, operation in description.operations():
         media = description.media(operation["requestBody"]) if "requestBody" in operation else {}
@@ -302,7 +307,7 @@ def examples(description, seen):
             count += 1
             for fault in description.faults(media["schema"], example["value"]):
                 yield f"{method} {path}: the example {name}: {fault}"
-            if example["value"] not in seen.bodies.get(f"{method} {path}", []):
+            if not path.startswith(BESIDE) and example["value"] not in seen.bodies.get(f"{method} {path}", []):
                 yield f"{method} {path}: the example {name} is no body of a script that was taken"
     return f"{count} examples"
 

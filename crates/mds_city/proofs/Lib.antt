@@ -1,5 +1,9 @@
+mod Accepted
 mod Among
 pub mod Cities
+mod Cutting
 mod Getting
+mod Reports
 mod Responses
+mod Told
 mod Turns

@@ -1,18 +1,24 @@
 -- What the answers of a city are good for.
-use Rattle.std.specs.Prelude.{◌≡◌, ◌⊎◌, ℕ, true, List, Option}
+use Rattle.std.specs.Prelude.{◌≡◌, ◌⊎◌, ℕ, true, List, [], Option, None, IsSome}
+use Rattle.std.specs.List.{AllByRecursion}
 use Rattle.http.specs.declared.request.Parts.{Parts}
 use Rattle.http.specs.declared.response.Response.{Response}
 use Rattle.http_body_util.specs.declared.full.Full.{Full}
 use Rattle.mds_commit.specs.Durable.{AreDurable}
+use Rattle.mds_hall.specs.Asked.{target_of}
 use Rattle.mds_hall.specs.Respond.{Responds, TurnGives}
 use Rattle.mds_hall.specs.Response.{Says}
+use Rattle.mds_hall.specs.Turn.{DeskRuns}
 use Rattle.mds_hall.specs.declared.early.Arrived.{Arrived}
+use Rattle.mds_request.specs.Call.{path_of, rows_at, segments_of}
 use Rattle.mds_request.specs.Configuration.{Configuration, actor_of}
-use Rattle.mds_request.specs.Request.{Request}
+use Rattle.mds_request.specs.Request.{Request, verb_of}
 use Rattle.mds_request.specs.Reply.{Reply}
 use Rattle.mds_restarts.specs.Kept.{is_kept}
+use Rattle.mds_city.specs.App.{app_at, app_of}
 use Rattle.mds_city.specs.Away.{SaysNoRoom}
 use Rattle.mds_city.specs.City.{Answers, IsCarriedOut}
+use Rattle.mds_city.specs.Many.{AreCarriedOutBy, SaysAll, exchanges}
 use Rattle.mds_city.specs.Records.{HasRecord}
 
 module _ {L : Type 0} (may_be : L → List (List ℕ) → Type 0) (is_synced : L → Type 0) where
@@ -29,9 +35,23 @@ module _ {L : Type 0} (may_be : L → List (List ℕ) → Type 0) (is_synced : L
       → (reply : Reply) × TurnGives configuration (actor_of configuration request.token) request reply × Says response reply
       × (is_kept configuration (record { request = request; reply = reply }) ≡ true → HasDurableRecord configuration request)
 
--- Where the log has room, a city responds as a hall does.
+  -- Many reports that were taken, told by a response: it says the replies of a run of turns of the operator's desk. Of each that a journal
+  -- keeps a synced log has the record.
+  abbrev pub ManyAreKept : Type 0
+  ManyAreKept =
+      (configuration : Configuration) (place : ℕ) (requests : List Request) (response : Response (Full (List ℕ))) (stamp : List (List ℕ))
+      → AreCarriedOutBy configuration place requests stamp response → AreDurable may_be is_synced stamp
+      → (replies : List Reply) × DeskRuns configuration place requests replies × SaysAll response replies
+      × AllByRecursion (λ e. is_kept configuration e ≡ true → HasDurableRecord configuration e.request) (exchanges requests replies)
+
+-- Where the log has room, a city responds to a call of the protocol as a hall does.
 abbrev pub RespondsAsAHall : Type 0
 RespondsAsAHall =
     (configuration : Configuration) (parts : Parts) (arrived : Arrived) (at : Option ℕ) (stamp : List (List ℕ)) (response : Response (Full (List ℕ)))
+    → app_at (verb_of parts.method) (path_of (target_of parts.uri)) ≡ None
     → Answers configuration parts arrived at stamp response
     → SaysNoRoom response ⊎ Responds configuration parts arrived at response
+
+-- No route has the path of a call beside the protocol's.
+abbrev pub AppAndProtocolAreApart : Type 0
+AppAndProtocolAreApart = (request : Request) → IsSome (app_of request) → rows_at (segments_of request.target) ≡ []

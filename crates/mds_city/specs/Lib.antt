@@ -1,4 +1,6 @@
 pub mod Away
+pub mod App
 pub mod Records
+pub mod Many
 pub mod City
 pub mod Laws

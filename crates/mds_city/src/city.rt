@@ -31,8 +31,8 @@ use std::sync::{Arc, Wait};
 /// A hall whose accepted changes are kept: each has a record in the keeper's log. End it by `finish`.
 #[derive(Drop)]
 pub struct City<K: Named, N: Naming, L: Log, S: Space> {
-    hall: Hall<K>,
-    keeper: Arc<Keeper<N, L, S>>,
+    pub(crate) hall: Hall<K>,
+    pub(crate) keeper: Arc<Keeper<N, L, S>>,
     /// The stamp of nothing.
     nothing: Stamp<N, L>,
 }
@@ -79,7 +79,7 @@ impl<K: Named, N: Naming, L: Log, S: Space> City<K, N, L, S> {
     }
 
     /// A response that waits until all of a stamp is synced.
-    fn waiting(
+    pub(crate) fn waiting(
         &self,
         stamp: Stamp<N, L>,
         response: Response<Full<Bytes>>,

@@ -1,5 +1,5 @@
 //! Laws of what a city answers. The functions do nothing: their contracts are the laws.
-ghost use Rattle.mds_city.specs.Laws.{RecordedAreKept, RespondsAsAHall};
+ghost use Rattle.mds_city.specs.Laws.{AppAndProtocolAreApart, ManyAreKept, RecordedAreKept, RespondsAsAHall};
 
 use mds_records::Log;
 
@@ -8,7 +8,17 @@ pub fn recorded_are_kept<L: Log>()
     ensures { RecordedAreKept L.may_be L.is_synced }
 {}
 
-/// Where the log has room, a city responds as a hall does.
+/// Of each of many reports that were told and that a journal keeps, a synced log has the record.
+pub fn many_are_kept<L: Log>()
+    ensures { ManyAreKept L.may_be L.is_synced }
+{}
+
+/// No call beside the protocol's stands at a path of the protocol: the table of calls has no row for its path.
+pub fn app_and_protocol_are_apart()
+    ensures { AppAndProtocolAreApart }
+{}
+
+/// Where the log has room, a city responds to a call of the protocol as a hall does.
 pub fn responds_as_a_hall()
     ensures { RespondsAsAHall }
 {}

@@ -2,15 +2,20 @@
 //! synced.
 #![tactic(auto)]
 
+mod app;
 mod away;
 mod city;
 pub mod laws;
 mod leaving;
+mod lines;
+mod many;
 mod reception;
 mod recording;
 mod records;
 mod responding;
+mod telling;
 
+pub use app::{AppCall, app_call};
 pub use away::no_room;
 pub use city::City;
 pub use leaving::Leaving;

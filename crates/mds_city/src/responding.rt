@@ -3,9 +3,11 @@ ghost use Rattle.std.specs.Prelude.{◌<◌, length, IfOk};
 ghost use Rattle.mds_request.specs.Configuration.{configuration};
 ghost use Rattle.mds_request.specs.declared.config.Actor.TheVariants.{Author, Operator};
 ghost use Rattle.mds_hall.specs.Heard.{request_heard};
-ghost use Rattle.mds_city.specs.City.{CityResponds, IsAnsweredBy, Waits};
+ghost use Rattle.mds_city.specs.City.{CityResponds, IsAnsweredBy, IsToldBy, Waits};
 
+use crate::app::{AppCall, app_call};
 use crate::city::City;
+use crate::many::many_reports;
 use bytes::Bytes;
 use http::Response;
 use http::request::Parts;
@@ -51,13 +53,51 @@ pub fn respond<
         Err(code) => return city.refused(alloc, code),
     };
     match city.asker(token(&parts.headers)) {
-        Actor::Author => of_the_author(rt, alloc, heard, city),
-        Actor::Operator(place) => of_an_operator(rt, alloc, place, heard, city, evaluator),
+        Actor::Author => to_the_author(rt, alloc, heard, city),
+        Actor::Operator(place) => to_an_operator(rt, alloc, place, heard, city, evaluator),
         Actor::Nobody => city.refused(alloc, Code::Token),
     }
 }
 
-/// Answers a request of the author.
+/// Answers a request of the author: a call of the protocol, or one beside it.
+fn to_the_author<K: Named, N: Naming, R: Wait + Copy + Drop, L: Log, S: Space>(
+    rt: &R,
+    alloc: Global,
+    heard: Heard<'_>,
+    city: &City<K, N, L, S>,
+) -> Result<Settling<Response<Full<Bytes>>, N, L, S>, NotTold>
+    ensures { IfOk result (λ s. Waits (IsToldBy (configuration city.now.hall.config.value) Author
+        (request_heard heard.entry) s.stamp) s.reply) }
+{
+    match app_call(&heard.request()) {
+        None => of_the_author(rt, alloc, heard, city),
+        Some(Ok(AppCall::Events)) => city.refused(alloc, Code::Role),
+        Some(Err(code)) => city.refused(alloc, code),
+    }
+}
+
+/// Answers a request of the operator at this place: a call of the protocol, or one beside it.
+fn to_an_operator<K: Named, N: Naming, R: Wait, E: Evaluator<Catalogue>, L: Log, S: Space>(
+    rt: &R,
+    alloc: Global,
+    place: usize,
+    heard: Heard<'_>,
+    city: &City<K, N, L, S>,
+    evaluator: &E,
+) -> Result<Settling<Response<Full<Bytes>>, N, L, S>, NotTold>
+    requires judge { E.may_judge }
+    requires place { place < length (configuration city.now.hall.config.value).operators }
+    ensures { IfOk result (λ s. Waits (IsToldBy (configuration city.now.hall.config.value) (Operator place)
+        (request_heard heard.entry) s.stamp) s.reply) }
+{
+    match app_call(&heard.request()) {
+        None => of_an_operator(rt, alloc, place, heard, city, evaluator),
+        Some(Ok(AppCall::Events)) => many_reports(rt, alloc, place, &heard, city, evaluator),
+        Some(Err(code)) => city.refused(alloc, code),
+    }
+}
+
+/// Answers a call of the protocol by the author.
 fn of_the_author<K: Named, N: Naming, R: Wait + Copy + Drop, L: Log, S: Space>(
     rt: &R,
     alloc: Global,
@@ -76,7 +116,7 @@ fn of_the_author<K: Named, N: Naming, R: Wait + Copy + Drop, L: Log, S: Space>(
     }
 }
 
-/// Answers a request of the operator at this place.
+/// Answers a call of the protocol by the operator at this place.
 fn of_an_operator<K: Named, N: Naming, R: Wait, E: Evaluator<Catalogue>, L: Log, S: Space>(
     rt: &R,
     alloc: Global,

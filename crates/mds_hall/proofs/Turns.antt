@@ -7,7 +7,7 @@ use Rattle.mds_request.specs.Configuration.{Configuration}
 use Rattle.mds_request.specs.Request.{Request}
 use Rattle.mds_request.specs.Reply.{Reply}
 use Rattle.mds_desk.specs.Desk.{DeskState, IsSameDesk}
-use Rattle.mds_hall.specs.Turn.{Answers, DeskReplies, IsDeskAt, IsTold, SaysOne, TakesToldTurn}
+use Rattle.mds_hall.specs.Turn.{Answers, DeskReplies, DeskRuns, IsDeskAt, IsTold, SaysOne, TakesToldRun, TakesToldTurn}
 
 -- what a desk is told leaves it the same desk
 same_told : (d : DeskState) (note : Option (List Publication)) (told : DeskState) → IsTold d note told → IsSameDesk d told
@@ -15,7 +15,7 @@ same_told d None told is = record { configuration = ap (λ s. s.configuration) i
 same_told d (Some list) told learns = learns.same
 
 -- what holds of each response holds of a result that has one
-of_ok : {R E : Type 0} {P Q : R → Type 0} (result : Result R E) → ((r : R) → P r → Q r) → IfOk result P → IfOk result Q
+pub of_ok : {R E : Type 0} {P Q : R → Type 0} (result : Result R E) → ((r : R) → P r → Q r) → IfOk result P → IfOk result Q
 of_ok (Ok r) imply p = imply r p
 of_ok (Err e) imply p = tt
 
@@ -45,3 +45,17 @@ desk_replies configuration place d note request reply next its takes =
       is_its = record { configured = same.configuration ∙ its.configured; placed = same.place ∙ its.placed };
       turn = takes.turn;
     }
+
+-- a run of turns of the desk of the operator at this place gives its replies
+pub desk_runs : {E : Type 0} {V : Type 0} (items : V → List Reply) (configuration : Configuration) (place : ℕ) (d : DeskState) (note : Option (List Publication))
+    (requests : List Request) (result : Result V E) (next : DeskState) → IsDeskAt configuration place d
+    → IfOk result (λ replies. TakesToldRun d note requests (items replies) next) → IfOk result (λ replies. DeskRuns configuration place requests (items replies))
+desk_runs items configuration place d note requests result next its takes =
+    of_ok result (λ replies run.
+    let same = same_told d note run.told run.learns in
+    record {
+      before = run.told;
+      after = next;
+      is_its = record { configured = same.configuration ∙ its.configured; placed = same.place ∙ its.placed };
+      run = run.run;
+    }) takes

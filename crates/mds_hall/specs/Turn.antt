@@ -6,7 +6,7 @@ use Rattle.mds_catalog.specs.Publication.{Publication}
 use Rattle.mds_request.specs.Configuration.{Configuration}
 use Rattle.mds_request.specs.Request.{Request}
 use Rattle.mds_request.specs.Reply.{Reply}
-use Rattle.mds_desk.specs.Desk.{DeskState, Learns, TakesTurn}
+use Rattle.mds_desk.specs.Desk.{DeskState, Learns, TakesRun, TakesTurn}
 use Rattle.mds_desk.specs.Room.{RoomState, TakesRoomTurn}
 use Rattle.mds_hall.specs.Response.{Says}
 
@@ -30,6 +30,12 @@ pub record TakesToldTurn (d : DeskState) (note : Option (List Publication)) (req
   pub learns : IsTold d note told
   pub turn : TakesTurn told request reply next
 
+-- The same for many requests, each of which has a turn.
+pub record TakesToldRun (d : DeskState) (note : Option (List Publication)) (requests : List Request) (replies : List Reply) (next : DeskState) : Type 0 where
+  pub told : DeskState
+  pub learns : IsTold d note told
+  pub run : TakesRun told requests replies next
+
 -- it is the desk of the operator at this place of this configuration
 pub record IsDeskAt (configuration : Configuration) (place : ℕ) (d : DeskState) : Type 0 where
   pub configured : d.configuration ≡ configuration
@@ -46,6 +52,14 @@ pub record DeskReplies (configuration : Configuration) (place : ℕ) (request : 
   pub after : DeskState
   pub is_its : IsDeskAt configuration place before
   pub turn : TakesTurn before request reply after
+
+-- A turn for each of these requests, in their order and with nothing between, of the desk of the operator at this place of
+-- this configuration gives the replies.
+pub record DeskRuns (configuration : Configuration) (place : ℕ) (requests : List Request) (replies : List Reply) : Type 0 where
+  pub before : DeskState
+  pub after : DeskState
+  pub is_its : IsDeskAt configuration place before
+  pub run : TakesRun before requests replies after
 
 -- One turn of the author's room of this configuration, on this request, gives the reply, and a note where it publishes.
 pub record RoomReplies (configuration : Configuration) (request : Request) (reply : Reply) : Type 0 where

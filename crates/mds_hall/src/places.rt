@@ -1,22 +1,24 @@
 //! What lies behind the locks of a hall: of one opening and one configuration, which K names.
-ghost use Rattle.std.specs.Prelude.{◌≡◌, ◌⊎◌, IfOk, IfSome, IsSome, option_copied};
+ghost use Rattle.std.specs.Prelude.{◌≡◌, ◌⊎◌, IfOk, IfSome, IsSome, OnErr, map, option_copied};
 ghost use Rattle.std.specs.Mem.{manually_drop_value};
 ghost use Rattle.std.specs.Sync.Mutex.{mutex_guard_value};
 ghost use Rattle.mds_desk.specs.Desk.{state_of};
+ghost use Rattle.mds_request.specs.Request.{request_of};
 ghost use Rattle.mds_request.specs.Reply.{refused};
 ghost use Rattle.mds_request.specs.declared.code.Code.TheVariants.{NoMemory};
 ghost use Rattle.mds_desk.specs.Room.{room_of, TakesRoomTurn};
 ghost use Rattle.mds_hall.specs.Heard.{request_heard};
-ghost use Rattle.mds_hall.specs.Turn.{Answers, DeskReplies, IsDeskAt, RoomReplies, SaysOne, TakesToldTurn};
+ghost use Rattle.mds_hall.specs.Turn.{Answers, DeskReplies, DeskRuns, IsDeskAt, IsTold, RoomReplies, SaysOne, TakesToldRun, TakesToldTurn};
 
 use crate::early::Heard;
 use crate::named::Named;
-use crate::turn::{told_turn, turn};
+use crate::turn::{told_run, told_turn, turn};
 use bytes::Bytes;
 use http::Response;
 use http_body_util::Full;
 use mds_catalog::Catalogue;
 use mds_desk::{AuthorRoom, Desk, Gate, Leave};
+use mds_request::Request;
 use mds_shelf::Answer;
 use mds_snapshot::Note;
 use mds_verdict::Evaluator;
@@ -54,6 +56,29 @@ impl<K: Named> HallDesk<K> {
     {
         let request = heard.request();
         told_turn(&request, &mut self.desk, note, gate, evaluator)
+    }
+
+    /// Answers many requests: the desk learns the note, where there is one, and takes a turn for each, in their order.
+    /// Gives their replies in that order. Vehicles are judged by the evaluator.
+    ///
+    /// # Errors
+    ///
+    /// There was no memory for the list of replies: no request was answered, and no vehicle has changed.
+    pub fn answered_all<G: Gate, E: Evaluator<Catalogue>>(
+        &mut self,
+        requests: &[Request<'_>],
+        note: Option<&Note<K>>,
+        gate: &mut G,
+        evaluator: &E,
+    ) -> Result<Vec<Answer>, AllocError>
+        requires { E.may_judge }
+        ensures run { IfOk result (λ replies. TakesToldRun (state_of self.old.desk) (option_copied note.entry) (map request_of requests.now)
+            replies.items (state_of self.new.desk)) }
+        ensures replies { IfOk result (λ replies. DeskRuns K.configuration self.old.place (map request_of requests.now) replies.items) }
+        ensures unasked { OnErr result (IsTold (state_of self.old.desk) (option_copied note.entry) (state_of self.new.desk)) }
+        ensures place { self.new.place ≡ self.old.place }
+    {
+        told_run(requests, &mut self.desk, note, gate, evaluator)
     }
 
     /// Answers a request: the desk learns the note, where there is one, and takes one turn, whose reply the

@@ -1,9 +1,9 @@
 //! A request at an operator's desk.
-ghost use Rattle.std.specs.Prelude.{option_copied};
+ghost use Rattle.std.specs.Prelude.{IfOk, OnErr, map, option_copied};
 ghost use Rattle.mds_request.specs.Request.{request_of};
 ghost use Rattle.mds_desk.specs.Desk.{state_of, IsSameDesk};
 ghost use Rattle.mds_hall.specs.Asked.{request_in};
-ghost use Rattle.mds_hall.specs.Turn.{Answers, IsTold, TakesToldTurn};
+ghost use Rattle.mds_hall.specs.Turn.{Answers, IsTold, TakesToldRun, TakesToldTurn};
 
 use crate::asked::request;
 use crate::responding::response;
@@ -46,7 +46,29 @@ pub(crate) fn told_turn<K: Naming, G: Gate, E: Evaluator<Catalogue>>(
     desk.answer(request, gate, evaluator)
 }
 
-/// The same, where the response says the reply.
+/// Takes a turn of a desk for each request, in their order: the desk learns the note, where there is one, before. It
+/// stays the desk of the same operator. Vehicles are judged by the evaluator.
+///
+/// # Errors
+///
+/// There was no memory for the list of replies: no request was answered.
+pub(crate) fn told_run<K: Naming, G: Gate, E: Evaluator<Catalogue>>(
+    requests: &[Request<'_>],
+    desk: &mut Desk<K>,
+    note: Option<&Note<K>>,
+    gate: &mut G,
+    evaluator: &E,
+) -> Result<Vec<Answer>, AllocError>
+    requires { E.may_judge }
+    ensures run { IfOk result (λ replies. TakesToldRun (state_of desk.old) (option_copied note.entry) (map request_of requests.now) replies.items (state_of desk.new)) }
+    ensures unasked { OnErr result (IsTold (state_of desk.old) (option_copied note.entry) (state_of desk.new)) }
+    ensures same { IsSameDesk (state_of desk.old) (state_of desk.new) }
+{
+    tell(desk, note);
+    desk.run(requests, gate, evaluator)
+}
+
+/// The same as `told_turn`, where the response says the reply.
 ///
 /// # Errors
 ///

@@ -204,3 +204,72 @@ fn bounded<K: Naming, L: Log, R: Wait + Abort + AllocGlobal>(
     assert!(rt; refused(rt, &keeper, third) == Some(ReserveFault::Stopping));
     Ok(())
 }
+
+#[test]
+fn many_places_are_settled_together(rt: HostRuntime) -> Result<(), Fail> {
+    journal_settled(&rt)
+}
+
+fn journal_settled<R: Wait + Abort + AllocGlobal>(rt: &R) -> Result<(), Fail> {
+    let Ok(mut log) = Journal::open(rt.alloc(), medium(rt.alloc(), 3)) else {
+        return Err("a journal".into());
+    };
+    let Ok(opened) = Opened::new(&mut log) else {
+        return Err("a history".into());
+    };
+    settled::<Brand, Journal<Memory>, R>(rt, opened, log)
+}
+
+/// Two texts of three bytes.
+fn two_texts(rt: &impl AllocGlobal) -> Result<Vec<Vec<u8>>, Fail> {
+    let mut texts = Vec::new(rt.alloc());
+    for _ in 0..2 {
+        texts.push(text(rt, b"one")?)?;
+    }
+    Ok(texts)
+}
+
+/// There is room for two records of three bytes, which take 118.
+fn settled<K: Naming, L: Log, R: Wait + Abort + AllocGlobal>(
+    rt: &R,
+    opened: Opened<L>,
+    log: L,
+) -> Result<(), Fail>
+    requires book { opened.seen.book ≡ K.book }
+    requires listed { (first : List (List ℕ)) × L.may_be log first }
+{
+    let space = Counted {
+        left: 118,
+        aside: 0,
+    };
+    let (keeper, _flusher, _nothing) = open::<K, L, Counted>(rt.alloc(), opened, log, space)?;
+    let mut three = two_texts(rt)?;
+    three.push(text(rt, b"one")?)?;
+    assert!(rt; refused_together(rt, &keeper, three) == Some(ReserveFault::NoRoom));
+    assert!(rt; refused_together(rt, &keeper, two_texts(rt)?) == None);
+    let (texts, one) = (two_texts(rt)?, text(rt, b"one")?);
+    let Ok(places) = keeper.reserve_all(rt, texts) else {
+        return Err("places".into());
+    };
+    let none = refused(rt, &keeper, one);
+    let stamp = keeper.settle(rt, places, &[false, true]);
+    assert!(rt; none == Some(ReserveFault::NoRoom));
+    assert!(rt; stamp.ok().map(|stamp| stamp.len()) == Some(1));
+    assert!(rt; refused(rt, &keeper, text(rt, b"one")?) == None);
+    Ok(())
+}
+
+/// Why there are no places for texts. Places are given back.
+fn refused_together<K: Naming, L: Log, R: Wait>(
+    rt: &R,
+    keeper: &Keeper<K, L, Counted>,
+    texts: Vec<Vec<u8>>,
+) -> Option<ReserveFault> {
+    match keeper.reserve_all(rt, texts) {
+        Ok(places) => {
+            keeper.release_all(rt, places);
+            None
+        }
+        Err(fault) => Some(fault),
+    }
+}

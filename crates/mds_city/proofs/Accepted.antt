@@ -1,0 +1,89 @@
+-- The records of many requests.
+use Rattle.std.proofs.Common.{◌≡◌, ◌==◌, ℕ, ◌+◌, ◌<◌, Bool, true, false, cond, List, [], ◌∷◌, ◌++◌, length, map, take, get_or, refl, sym, ap, subst, ◌∙◌, add-one, append_assoc}
+use Rattle.std.proofs.Math.Seq.{take-suc}
+use Rattle.std.proofs.lemmas.List.{map-append}
+use Rattle.std.specs.List.{AllByRecursion}
+use Rattle.mds_commit.specs.Durable.{chosen}
+use Rattle.mds_machine.specs.Step.{Exchange}
+use Rattle.mds_request.specs.Call.{call_of}
+use Rattle.mds_request.specs.Configuration.{Configuration}
+use Rattle.mds_request.specs.Request.{Request}
+use Rattle.mds_request.specs.Reply.{Reply}
+use Rattle.mds_restarts.specs.Kept.{is_kept, may_change, requests_in}
+use Rattle.mds_city.specs.Many.{AreRecordsOf, accepted, exchanges}
+use Rattle.mds_city.specs.Records.{HasRecord, IsRecordOf}
+use Rattle.mds_city.proofs.Turns.{second_true}
+
+-- one more request has a record
+pub one_more_record : (configuration : Configuration) (requests : List Request) (texts : List (List ℕ)) (request : Request) (text : List ℕ)
+    → AreRecordsOf configuration requests texts → IsRecordOf configuration request text
+    → AreRecordsOf configuration (requests ++ request ∷ []) (texts ++ text ∷ [])
+one_more_record configuration [] [] request text are is = (is, tt)
+one_more_record configuration [] (other ∷ texts) request text are is = absurd are
+one_more_record configuration (first ∷ requests) [] request text are is = absurd are
+one_more_record configuration (first ∷ requests) (other ∷ texts) request text are is =
+    (are.0, one_more_record configuration requests texts request text are.1 is)
+
+taken_more : {A : Type 0} (items : List A) (i : ℕ) (item : A) → i < length items → item ≡ get_or items i item → take (i + 1) items ≡ take i items ++ item ∷ []
+taken_more items i item within here =
+    ap (λ n. take n items) (add-one i) ∙ take-suc items i item within ∙ ap (λ a. take i items ++ a ∷ []) (sym here)
+
+-- the same in a loop over requests that are lent
+pub records_more : {A V : Type 0} (request : A → Request) (text : V → List ℕ) (configuration : Configuration) (lent : List A) (i : ℕ) (item : A) (texts all : List V) (it : V)
+    → i < length lent → item ≡ get_or lent i item → all ≡ texts ++ it ∷ []
+    → AreRecordsOf configuration (map request (take i lent)) (map text texts) → IsRecordOf configuration (request item) (text it)
+    → AreRecordsOf configuration (map request (take (i + 1) lent)) (map text all)
+records_more request text configuration lent i item texts all it within here more are is =
+    let asked : map request (take (i + 1) lent) ≡ map request (take i lent) ++ request item ∷ [] =
+    ap (map request) (taken_more lent i item within here) ∙ map-append request (take i lent) (item ∷ []) in
+    let told : map text all ≡ map text texts ++ text it ∷ [] = ap (map text) more ∙ map-append text texts (it ∷ []) in
+    subst (λ (rs : List Request). AreRecordsOf configuration rs (map text all)) (sym asked)
+    (subst (λ (ts : List (List ℕ)). AreRecordsOf configuration (map request (take i lent) ++ request item ∷ []) ts) (sym told)
+    (one_more_record configuration (map request (take i lent)) (map text texts) (request item) (text it) are is))
+
+by_flag : (configuration : Configuration) (e : Exchange) (history : List Exchange) (text : List ℕ) (texts : List (List ℕ)) (b : Bool)
+    → IsRecordOf configuration e.request text → AreRecordsOf configuration (requests_in history) texts
+    → AreRecordsOf configuration (requests_in (cond b (e ∷ history) history)) (cond b (text ∷ texts) texts)
+by_flag configuration e history text texts true is are = (is, are)
+by_flag configuration e history text texts false is are = are
+
+-- the records of the requests that were accepted are those that are chosen
+pub chosen_are_theirs : (configuration : Configuration) (requests : List Request) (replies : List Reply) (texts : List (List ℕ))
+    → AreRecordsOf configuration requests texts
+    → AreRecordsOf configuration (requests_in (accepted (exchanges requests replies))) (chosen (map (λ reply. reply.status == 200) replies) texts)
+chosen_are_theirs configuration [] [] [] are = tt
+chosen_are_theirs configuration [] (reply ∷ replies) [] are = tt
+chosen_are_theirs configuration [] replies (text ∷ texts) are = absurd are
+chosen_are_theirs configuration (request ∷ requests) replies [] are = absurd are
+chosen_are_theirs configuration (request ∷ requests) [] (text ∷ texts) are = tt
+chosen_are_theirs configuration (request ∷ requests) (reply ∷ replies) (text ∷ texts) are =
+    by_flag configuration (record { request = request; reply = reply }) (accepted (exchanges requests replies)) text
+    (chosen (map (λ r. r.status == 200) replies) texts) (reply.status == 200) are.0
+    (chosen_are_theirs configuration requests replies texts are.1)
+
+-- each exchange that a journal keeps has its record among these texts
+abbrev pub Recorded : Configuration → List (List ℕ) → Exchange → Type 0
+Recorded configuration texts e = is_kept configuration e ≡ true → HasRecord configuration e.request texts
+
+next_recorded : (configuration : Configuration) (e : Exchange) (history : List Exchange) (before records : List (List ℕ)) (b : Bool) → (e.reply.status == 200) ≡ b
+    → ((earlier texts : List (List ℕ)) → AreRecordsOf configuration (requests_in (accepted history)) texts
+    → AllByRecursion (Recorded configuration (earlier ++ texts)) history)
+    → AreRecordsOf configuration (requests_in (cond b (e ∷ accepted history) (accepted history))) records
+    → AllByRecursion (Recorded configuration (before ++ records)) (e ∷ history)
+next_recorded configuration e history before [] true is others are = absurd are
+next_recorded configuration e history before (text ∷ texts) true is others are = (
+  (λ kept. (text, are.0, (before, texts, refl))),
+  subst (λ (all : List (List ℕ)). AllByRecursion (Recorded configuration all) history) (append_assoc before (text ∷ []) texts)
+      (others (before ++ text ∷ []) texts are.1),
+)
+next_recorded configuration e history before records false is others are = (
+  (λ kept. absurd (cc (second_true (may_change (call_of configuration e.request)) (e.reply.status == 200) kept, is))),
+  others before records are,
+)
+
+pub all_recorded : (configuration : Configuration) (history : List Exchange) (before records : List (List ℕ))
+    → AreRecordsOf configuration (requests_in (accepted history)) records → AllByRecursion (Recorded configuration (before ++ records)) history
+all_recorded configuration [] before records are = tt
+all_recorded configuration (e ∷ history) before records are =
+    next_recorded configuration e history before records (e.reply.status == 200) refl
+    (λ earlier texts. all_recorded configuration history earlier texts) are

@@ -1,0 +1,79 @@
+//! The response that tells what many reports were answered.
+ghost use Rattle.std.specs.Prelude.{◌≡◌, ◌++◌, IfOk, OnOk};
+ghost use Rattle.std.specs.List.{flat_map};
+ghost use Rattle.mds_lines.specs.Answering.{status_text};
+ghost use Rattle.mds_city.specs.Many.{SaysAll, told_line};
+
+use bytes::Bytes;
+use http::header::CONTENT_TYPE;
+use http::{HeaderValue, Response, StatusCode};
+use http_body_util::Full;
+use mds_shelf::Answer;
+use std::alloc::{AllocError, Global};
+
+/// How many bytes of a line stand beside the body of its answer.
+const BESIDE: usize = 23;
+
+/// The three digits of a status (RFC 9112, section 4).
+fn digits(status: u16) -> [u8; 3]
+    ensures { result ≡ status_text status }
+{
+    [
+        b'0' + (status / 100 % 10) as u8,
+        b'0' + (status / 10 % 10) as u8,
+        b'0' + (status % 10) as u8,
+    ]
+}
+
+/// Adds the line that tells an answer.
+fn push_line(text: &mut Vec<u8>, answer: &Answer) -> Result<(), AllocError>
+    ensures { OnOk result (text.new.items ≡ text.old.items ++ told_line answer.now) }
+{
+    let status = digits(answer.status());
+    text.extend_from_slice(b"{\"body\":")?;
+    text.extend_from_slice(answer.body())?;
+    text.extend_from_slice(b",\"status\":")?;
+    text.extend_from_slice(&status)?;
+    text.extend_from_slice(b"}\n")
+}
+
+/// How many bytes the lines take.
+fn size_of_lines(answers: &[Answer]) -> usize {
+    let mut size: usize = 0;
+    for answer in answers {
+        size = size.saturating_add(answer.body().len() + BESIDE);
+    }
+    size
+}
+
+/// The lines that tell the answers, in their order.
+fn lines_of(alloc: Global, answers: &[Answer]) -> Result<Vec<u8>, AllocError>
+    ensures { IfOk result (λ text. text.items ≡ flat_map told_line answers.now) }
+{
+    let mut text = Vec::with_capacity(alloc, size_of_lines(answers))?;
+    for answer in answers {
+        push_line(&mut text, answer)?;
+    }
+    Ok(text)
+}
+
+/// The response with a line for each answer.
+///
+/// # Errors
+///
+/// Memory ran out.
+pub(crate) fn response_of_all(
+    alloc: Global,
+    answers: &[Answer],
+) -> Result<Response<Full<Bytes>>, AllocError>
+    ensures { IfOk result (λ response. SaysAll response answers.now) }
+{
+    let body = Bytes::from_vec(lines_of(alloc, answers)?)?;
+    let mut response = Response::new(alloc, Full::new(body));
+    *response.status_mut() = StatusCode::OK;
+    let lines = HeaderValue::from_static("application/x-ndjson");
+    match response.headers_mut().insert(CONTENT_TYPE, lines) {
+        Ok(_) => Ok(response),
+        Err(_) => Err(AllocError),
+    }
+}

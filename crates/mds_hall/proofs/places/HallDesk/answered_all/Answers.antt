@@ -1,0 +1,11 @@
+use Rattle.std.specs.Prelude.{map, option_copied}
+use Rattle.mds_request.specs.Request.{request_of}
+use Rattle.mds_desk.specs.Desk.{state_of}
+use Rattle.mds_hall.proofs.Turns.{desk_runs}
+use Rattle.mds_hall.proofs.places.HallDesk.answered_all.Goals as goal
+
+pub returns-clause-replies : goal.returns-clause-replies
+returns-clause-replies g c =
+    let d = c.args.self.now in
+    desk_runs (λ replies. replies.items) g.K.Named.configuration d.place (state_of d.desk) (option_copied c.args.note) (map request_of c.args.requests.now)
+    c.told_run.result (state_of c.told_run.new.desk) (record { configured = d.configured; placed = d.placed }) c.told_run.ensures.run

@@ -1,0 +1,7 @@
+use Rattle.mds_desk.specs.Desk.{state_of}
+use Rattle.mds_hall.proofs.Turns.{of_ok}
+use Rattle.mds_hall.proofs.turn.told_run.Goals as goal
+
+pub returns-clause-run : goal.returns-clause-run
+returns-clause-run g c =
+    of_ok c.run.result (λ replies run. record { told = state_of c.tell.new.desk; learns = c.tell.ensures; run = run }) c.run.ensures.run

@@ -1,0 +1,5 @@
+use Rattle.mds_keeping_tests.proofs.commits.journal_settled.Given as goal
+
+-- the book of what was just opened
+abbrev pub ghosts-settled : goal.ghosts-settled
+ghosts-settled g a = record { book = a.opened.seen.book }
