@@ -33,6 +33,7 @@ NEW_DEVICES = 20_000
 MANY_DEVICES = 100_000
 SMALL_FLEET = 2_000
 PUTS, POLICY_PUTS, LISTS = 100, 10_000, 50
+FEW_AREAS, MANY_AREAS = 10, 110
 
 
 class Run:
@@ -140,6 +141,15 @@ def document_scripts(random):
     }
 
 
+def area_scripts(random):
+    """Geographies of the most positions, each put and published before the next."""
+    ring = generate.outline(random, EDGES[-1], generate.CENTRE, 0.8)
+    lines = []
+    for n in range(MANY_AREAS):
+        lines += [generate.put_geography(n, generate.geography(n, ring)), generate.publish([n])]
+    return {"areas": lines[: 2 * FEW_AREAS], "areas and more": lines}
+
+
 def scripts_for(who, scripts):
     """Which scripts a program runs. The plain one isn't asked what would take it minutes, and the one that keeps memberships questions
     alone."""
@@ -147,7 +157,7 @@ def scripts_for(who, scripts):
         only = name.partition(", ")[2]
         if only and only != who:
             continue
-        if who == "scan" and (name.startswith(("large", "second")) or name == f"first {EDGES[-1]}"):
+        if who == "scan" and (name.startswith(("large", "areas", "second")) or name == f"first {EDGES[-1]}"):
             continue
         asked = name.startswith(("first", "second")) or f"first {name}" in scripts
         if who == "keeping" and not (only or asked or name == "fleet"):
@@ -288,15 +298,22 @@ def tell(runs):
     table.row(label, "geography again", "geography", PUTS, 1e3, "ms", (1.2, 0.6))
     table.row("putting a policy of 2 KB", "policy again", "policy", POLICY_PUTS, 1e6, "us", (0.74, 0.3))
     table.row("GET of 100 policies and of 100 geographies", "lists", "published", LISTS, 1e3, "ms", (3, 1.5))
-    ours, good = (memory(runs, who) for who in ("ours", "good"))
-    _, must, aim, kept = told(ours, (400, 200))
-    line(["memory of a vehicle, bytes", "%.0f" % ours, "%.0f" % good, figure(ours / good), must, aim, kept] + [""] * 4)
+    tell_memory(runs, "memory of a vehicle, bytes", ("fleet", "cities"), FLEET, (400, 200))
+    label = "memory of a published geography of %d positions, MB" % generate.MOST_POSITIONS
+    tell_memory(runs, label, ("areas and more", "areas"), (MANY_AREAS - FEW_AREAS) * 1_000_000, (1.1, 0.8))
 
 
-def memory(runs, who):
-    """The bytes of a vehicle: the difference of the peaks of runs with the fleet and without it."""
-    more, less = (statistics.median(runs[who, name].memory) for name in ("fleet", "cities"))
-    return (more - less) * 1024 / FLEET
+def tell_memory(runs, label, names, count, bounds):
+    """A line of what one of so many takes: the difference of the peaks of a run with them and of one without."""
+    ours, good = (memory(runs, who, names) / count for who in ("ours", "good"))
+    _, must, aim, kept = told(ours, bounds)
+    line([label, figure(ours), figure(good), figure(ours / good), must, aim, kept] + [""] * 4)
+
+
+def memory(runs, who, names):
+    """The bytes that the longer of two runs takes over the shorter, by their peaks."""
+    more, less = (statistics.median(runs[who, name].memory) for name in names)
+    return (more - less) * 1024
 
 
 def main():
@@ -309,7 +326,7 @@ def main():
     random = generate.Xorshift(generate.SEED)
     scripts = question_scripts(random) | policies_scripts(random, "policies", POLICIES, POLICY_RULES, RULES, PART_FLEET)
     scripts |= policies_scripts(random, "small city", SMALL_POLICIES, SMALL_RULES, SMALL_PLACES, SMALL_CITY)
-    scripts |= report_scripts(random) | document_scripts(random)
+    scripts |= report_scripts(random) | document_scripts(random) | area_scripts(random)
     with tempfile.TemporaryDirectory() as folder:
         runs = build_runs(folder, os.path.abspath(options.program), scripts)
         for number in range(options.rounds):

@@ -10,7 +10,7 @@ use mds_text::{Moment, print_tree};
 use std::alloc::{AllocError, Global};
 use std::sync::Arc;
 
-/// The text of each of these policies, published at this moment.
+/// The text of each of these policies, published at this moment. It takes no more room than its bytes.
 #[tactic(auto, unfolding(crate::specs::Texts::policy_text))]
 pub(crate) fn print_policies(
     alloc: Global,
@@ -23,12 +23,14 @@ pub(crate) fn print_policies(
     let mut texts = Vec::with_capacity(alloc, policies.len())?;
     for policy in policies {
         let served = policy.served(alloc, Some(moment))?;
-        texts.push(print_tree(alloc, &served)?)?;
+        let mut text = print_tree(alloc, &served)?;
+        text.shrink_to_fit();
+        texts.push(text)?;
     }
     Ok(texts)
 }
 
-/// The text of each of these geographies, published at this moment.
+/// The text of each of these geographies, published at this moment. It takes no more room than its bytes.
 #[tactic(auto, unfolding(crate::specs::Texts::geography_text))]
 pub(crate) fn print_geographies(
     alloc: Global,
@@ -41,7 +43,9 @@ pub(crate) fn print_geographies(
     let mut texts = Vec::with_capacity(alloc, geographies.len())?;
     for geography in geographies {
         let served = geography.served(alloc, Some(moment))?;
-        texts.push(print_tree(alloc, &served)?)?;
+        let mut text = print_tree(alloc, &served)?;
+        text.shrink_to_fit();
+        texts.push(text)?;
     }
     Ok(texts)
 }

@@ -13,3 +13,4 @@ pub mod Signs
 pub mod Told
 pub mod Wide
 pub mod Idle
+pub mod Starts

@@ -1,13 +1,14 @@
 -- The edges of an area by strips of latitude, and how the edges of one strip tell what the area holds.
-use Rattle.std.specs.Prelude.{ℕ, ◌+◌, ◌-◌, ◌*◌, ◌/◌, ◌^◌, ◌<◌, ◌≤◌, ◌≡◌, length, get_or, Bool, not, cond, ◌&&◌, ◌||◌, nat_eq, nat_le, if◌then◌else◌, List, [], ◌∷◌, ◌++◌, map, ℤ, pos, neg_ℤ, ◌+ℤ◌, int_le, unsigned_abs}
+use Rattle.std.specs.Prelude.{ℕ, ◌+◌, ◌-◌, ◌*◌, ◌/◌, ◌^◌, ◌<◌, ◌≤◌, ◌≡◌, length, get_or, slice_get, Option, Some, None, Bool, not, cond, ◌&&◌, ◌||◌, nat_eq, nat_le, if◌then◌else◌, List, [], ◌∷◌, ◌++◌, map, ℤ, pos, neg_ℤ, ◌+ℤ◌, int_le, unsigned_abs}
 use Rattle.std.specs.Int.{abs_diff}
-use Rattle.std.specs.List.{filter, sum_by}
+use Rattle.std.specs.List.{filter, filter_map, sum_by}
 use Rattle.mds_geometry.specs.Bounds.{AreBounded}
 use Rattle.mds_geometry.specs.declared.bounds.Bounds.{Bounds}
 use Rattle.mds_geometry.specs.Inside.{edges, is_on, is_crossed}
 use Rattle.mds_geometry.specs.declared.position.Position.{Position}
 use Rattle.mds_geometry.specs.declared.strip.Edge.{Edge}
 use Rattle.mds_geometry.specs.declared.scale.Scale.{Scale}
+use Rattle.mds_geometry.specs.declared.start.Start.{Start}
 
 -- an edge of the polygon at this place
 abbrev pub edge_of : ℕ → Position × Position → Edge
@@ -17,6 +18,28 @@ edge_of polygon e = record { from = e.0; to = e.1; polygon = polygon }
 abbrev pub edges_from : ℕ → List (List (List Position)) → List Edge
 edges_from place [] = []
 edges_from place (rings ∷ polygons) = map (edge_of place) (edges rings) ++ edges_from (place + 1) polygons
+
+-- the positions of a ring of some polygons, by the polygon's place and by the ring's place in it; none where there is none
+abbrev pub ring_at : List (List (List Position)) → ℕ → ℕ → List Position
+ring_at polygons polygon ring = get_or (get_or polygons polygon []) ring []
+
+-- the edge of a polygon from one position to another, where there are both
+abbrev pub edge_between : ℕ → Option Position → Option Position → Option Edge
+edge_between polygon None to = None
+edge_between polygon (Some from) None = None
+edge_between polygon (Some from) (Some to) = Some (edge_of polygon (from, to))
+
+-- the edge that starts at a position of a ring, if the ring has a next one
+abbrev pub edge_at : List Position → Start → Option Edge
+edge_at ring start = edge_between start.polygon (slice_get ring start.position) (slice_get ring (start.position + 1))
+
+-- the edge of some polygons that starts there
+abbrev pub edge_in : List (List (List Position)) → Start → Option Edge
+edge_in polygons start = edge_at (ring_at polygons start.polygon start.ring) start
+
+-- the edges of some polygons that start there, in this order
+abbrev pub edges_at : List (List (List Position)) → List Start → List Edge
+edges_at polygons starts = filter_map (edge_in polygons) starts
 
 -- the row of a latitude: its units north of the least latitude that there is
 abbrev pub row_of : ℤ → ℕ
@@ -47,10 +70,10 @@ any_holds at polygon odd (e ∷ es) =
     then (is_on e.from e.to at || any_holds at polygon (cond (is_crossed e.from e.to at) (not odd) odd) es)
     else (odd || (is_on e.from e.to at || any_holds at e.polygon (is_crossed e.from e.to at) es))
 
--- each strip has the edges that reach it, in their order
-pub record AreFiled (scale : Scale) (edges : List Edge) (strips : List (List Edge)) : Type 0 where
+-- each strip has where those of some polygons' edges start that reach it, in their order
+pub record AreFiled (polygons : List (List (List Position))) (scale : Scale) (edges : List Edge) (strips : List (List Start)) : Type 0 where
   pub whole : length strips ≡ scale.last + 1
-  pub filed : (s : ℕ) → s < length strips → get_or strips s [] ≡ filter (reaches scale s) edges
+  pub filed : (s : ℕ) → s < length strips → edges_at polygons (get_or strips s []) ≡ filter (reaches scale s) edges
 
 -- how far an edge reaches from south to north, in rows
 abbrev pub reach : Edge → ℕ
@@ -65,7 +88,7 @@ abbrev pub span : Scale → Edge → ℕ
 span scale e = abs_diff (strip_of scale e.from.lat) (strip_of scale e.to.lat) + 1
 
 -- the polygons lie within the bounds, and their edges are in the strips, in which they have few places
-pub record IsIndexed (polygons : List (List (List Position))) (bounds : Bounds) (scale : Scale) (strips : List (List Edge)) : Type 0 where
+pub record IsIndexed (polygons : List (List (List Position))) (bounds : Bounds) (scale : Scale) (strips : List (List Start)) : Type 0 where
   pub bounded : AreBounded bounds polygons
-  pub filed : AreFiled scale (edges_from 0 polygons) strips
+  pub filed : AreFiled polygons scale (edges_from 0 polygons) strips
   pub few : sum_by (span scale) (edges_from 0 polygons) ≤ 4 * length (edges_from 0 polygons)

@@ -9,6 +9,7 @@ use crate::gather::gather;
 use crate::grid::Grid;
 use crate::polygon::Polygon;
 use crate::position::Position;
+use crate::start::starts_of;
 use crate::striped::Striped;
 use std::alloc::{AllocError, Global};
 use std::marker::Model;
@@ -56,7 +57,8 @@ impl Area {
         let edges = gather(alloc, &polygons)?;
         let bounds = bounds_of(&polygons);
         let extents = Extents::of(&edges, &bounds);
-        let striped = Striped::new(alloc, polygons, bounds, &edges, &extents)?;
+        let starts = starts_of(alloc, &polygons, edges.len())?;
+        let striped = Striped::new(alloc, polygons, bounds, &edges, &starts, &extents)?;
         let grid = Grid::new(alloc, &striped, &edges, &extents)?;
         Ok(Area { striped, grid })
     }

@@ -20,6 +20,7 @@ mod position;
 mod ring;
 mod scale;
 mod sight;
+mod start;
 mod strip;
 mod striped;
 mod strips;

@@ -1,9 +1,11 @@
 //! The edges that one strip of latitude meets.
 ghost use Rattle.std.specs.Prelude.{◌≡◌, [], ◌∷◌, ◌++◌, false, IfOk, OnOk};
-ghost use Rattle.mds_geometry.specs.Strips.{any_holds};
+ghost use Rattle.mds_geometry.specs.Strips.{any_holds, edges_at, ring_at};
 
 use crate::edge::{is_crossed, is_on};
+use crate::polygon::Polygon;
 use crate::position::Position;
+use crate::start::{Start, positions_at};
 use std::alloc::{AllocError, Global};
 use std::marker::Model;
 
@@ -18,19 +20,20 @@ pub(crate) struct Edge {
     pub(crate) polygon: usize,
 }
 
-/// The edges that a strip meets, those of one polygon beside each other. Contracts see their list.
+/// The edges that a strip meets, those of one polygon beside each other. Contracts see the list of where
+/// they start.
 #[derive(Drop)]
 pub(crate) struct Strip {
-    edges: Vec<Edge>,
+    starts: Vec<Start>,
 }
 
 impl Model for Strip {
     ghost use Rattle.std.specs.Prelude.{List};
-    ghost use Rattle.mds_geometry.specs.declared.strip.Edge.{Edge};
+    ghost use Rattle.mds_geometry.specs.declared.start.Start.{Start};
 
-    ghost Value = { List Edge };
+    ghost Value = { List Start };
 
-    ghost view = { λ s. s.edges.items };
+    ghost view = { λ s. s.starts.items };
 }
 
 impl Strip {
@@ -43,7 +46,7 @@ impl Strip {
         ensures { IfOk result (λ strip. strip ≡ []) }
     {
         Ok(Strip {
-            edges: Vec::with_capacity(alloc, room)?,
+            starts: Vec::with_capacity(alloc, room)?,
         })
     }
 
@@ -53,40 +56,64 @@ impl Strip {
     ///
     /// Memory ran out.
     #[inline(always)]
-    pub(crate) fn push(&mut self, edge: &Edge) -> Result<(), AllocError>
-        ensures { OnOk result (self.new ≡ self.old ++ edge.now ∷ []) }
+    pub(crate) fn push(&mut self, start: Start) -> Result<(), AllocError>
+        ensures { OnOk result (self.new ≡ self.old ++ start ∷ []) }
     {
-        self.edges.reserve(1)?;
-        self.edges.push_reserved(*edge);
+        self.starts.reserve(1)?;
+        self.starts.push_reserved(start);
         Ok(())
     }
 
-    /// Whether a polygon of which the strip has all edges that matter holds a position.
-    pub(crate) fn holds(&self, at: &Position) -> bool
-        ensures { result ≡ any_holds at.now 0 false self.now }
+    /// Whether one of the polygons, of which the strip has all edges that matter, holds a position.
+    pub(crate) fn holds(&self, polygons: &[Polygon], at: &Position) -> bool
+        ensures { result ≡ any_holds at.now 0 false (edges_at polygons.now self.now) }
     {
-        any_polygon_holds(&self.edges, at)
+        any_polygon_holds(polygons, &self.starts, at)
     }
 }
 
-/// Whether a polygon among these edges holds a position.
-fn any_polygon_holds(edges: &[Edge], at: &Position) -> bool
-    ensures { result ≡ any_holds at.now 0 false edges.now }
+/// The positions of the ring of `start`, where these are those of the ring of `before`.
+#[inline(always)]
+fn positions_of<'a>(
+    polygons: &'a [Polygon],
+    start: &Start,
+    before: &Start,
+    positions: &'a [Position],
+) -> &'a [Position]
+    requires { positions.now ≡ ring_at polygons.now before.now.polygon before.now.ring }
+    ensures { result.now ≡ ring_at polygons.now start.now.polygon start.now.ring }
 {
+    if start.polygon == before.polygon && start.ring == before.ring {
+        positions
+    } else {
+        positions_at(polygons, start.polygon, start.ring)
+    }
+}
+
+/// Whether a polygon among those of these edges holds a position.
+fn any_polygon_holds(polygons: &[Polygon], starts: &[Start], at: &Position) -> bool
+    ensures { result ≡ any_holds at.now 0 false (edges_at polygons.now starts.now) }
+{
+    let mut before = Start::first();
+    let mut positions = positions_at(polygons, before.polygon, before.ring);
     let mut polygon = 0;
     let mut odd = false;
-    for edge in edges {
-        if edge.polygon != polygon {
-            if odd {
+    for start in starts {
+        positions = positions_of(polygons, start, &before, positions);
+        before = *start;
+        if let Some(edge) = start.edge(positions) {
+            if edge.polygon != polygon {
+                if odd {
+                    return true;
+                }
+                polygon = edge.polygon;
+            }
+            if is_on(&edge.from, &edge.to, at) {
                 return true;
             }
-            polygon = edge.polygon;
-        }
-        if is_on(&edge.from, &edge.to, at) {
-            return true;
-        }
-        if is_crossed(&edge.from, &edge.to, at) {
-            odd = !odd;
+            if is_crossed(&edge.from, &edge.to, at) {
+                odd = !odd;
+            }
         }
     }
     odd

@@ -3,7 +3,7 @@ ghost use Rattle.std.specs.Prelude.{◌≡◌, false, IfOk, IsTrue};
 ghost use Rattle.mds_geometry.specs.Area.{area_holds};
 ghost use Rattle.mds_geometry.specs.Bounds.{AreBounded};
 ghost use Rattle.mds_geometry.specs.Grid.{AreClosed};
-ghost use Rattle.mds_geometry.specs.Strips.{AreMeasured, edges_from};
+ghost use Rattle.mds_geometry.specs.Strips.{AreMeasured, edges_at, edges_from};
 
 use crate::bounds::Bounds;
 use crate::extent::Extents;
@@ -11,12 +11,13 @@ use crate::fit::scale_of;
 use crate::polygon::Polygon;
 use crate::position::Position;
 use crate::scale::Scale;
+use crate::start::Start;
 use crate::strip::{Edge, Strip};
 use crate::strips::strips_of;
 use std::alloc::{AllocError, Global};
 use std::marker::Model;
 
-/// Several polygons with their bounds, and with their edges by strips of latitude. Contracts see the
+/// Several polygons with their bounds, and with where their edges start by strips of latitude. Contracts see the
 /// list of the polygons, each the list of its rings.
 #[derive(Drop)]
 pub(crate) struct Striped {
@@ -39,7 +40,7 @@ impl Model for Striped {
 }
 
 impl Striped {
-    /// The polygons, of which these are the bounds, the edges and their extents. An edge has at most four
+    /// The polygons, of which these are the bounds, the edges, their starts and their extents. An edge has at most four
     /// places in the strips, on the average.
     ///
     /// # Errors
@@ -50,16 +51,18 @@ impl Striped {
         polygons: Vec<Polygon>,
         bounds: Bounds,
         edges: &[Edge],
+        starts: &[Start],
         extents: &Extents,
     ) -> Result<Striped, AllocError>
         requires bounded { AreBounded bounds polygons.items }
         requires edges { edges.now ≡ edges_from 0 polygons.items }
+        requires starts { edges_at polygons.items starts.now ≡ edges_from 0 polygons.items }
         requires measured { AreMeasured edges.now extents.now.rows.reach }
         ensures value { IfOk result (λ striped. striped ≡ polygons.items) }
         ensures linear { IfOk result (λ striped. AreClosed striped) }
     {
         let scale = scale_of(extents, edges);
-        let strips = strips_of(alloc, &scale, edges)?;
+        let strips = strips_of(alloc, &scale, &polygons, edges, starts)?;
         Ok(Striped {
             polygons,
             bounds,
@@ -93,6 +96,6 @@ impl Striped {
             return false;
         }
         let strip = self.scale.strip_of(position.lat);
-        self.strips[strip].holds(&position)
+        self.strips[strip].holds(self.polygons(), &position)
     }
 }

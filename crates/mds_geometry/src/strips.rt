@@ -1,17 +1,17 @@
 //! Strips of latitude, and the edges that they meet.
-ghost use Rattle.std.specs.Prelude.{◌≡◌, ◌+◌, ◌++◌, ◌<◌, ◌≤◌, ℕ, length, get_or, OnOk, IfOk, [], ◌∷◌, if◌then◌else◌, nat_le, ◌&&◌};
+ghost use Rattle.std.specs.Prelude.{◌≡◌, ◌+◌, ◌++◌, ◌<◌, ◌≤◌, ℕ, length, get_or, OnOk, IfOk, [], ◌∷◌, if◌then◌else◌, nat_le, ◌&&◌, false};
+ghost use Rattle.std.specs.Option.{option_map_or};
 ghost use Rattle.mds_geometry.specs.Strips as strips;
 
+use crate::polygon::Polygon;
 use crate::scale::Scale;
+use crate::start::Start;
 use crate::strip::{Edge, Strip};
 use mds_text::Units7;
 use std::alloc::{AllocError, Global};
 
 /// The units between the least latitude that there is and the equator.
 const SOUTH: i64 = 1_800_000_000;
-
-/// How much room a strip has at first, as a multiple of the edges for each strip.
-const ROOM: usize = 2;
 
 /// The units from the least latitude that there is.
 #[inline(always)]
@@ -45,7 +45,7 @@ impl Scale {
     }
 }
 
-/// Puts an edge into each strip from one to another, both included, after the edges there.
+/// Puts where an edge starts into each strip from one to another, both included, after the edges there.
 ///
 /// # Errors
 ///
@@ -54,57 +54,107 @@ fn file_between(
     all: &mut [Strip],
     south: usize,
     north: usize,
-    edge: &Edge,
+    start: Start,
 ) -> Result<(), AllocError>
     requires ordered { south ≤ north }
     requires within { north < length all.old }
     ensures { OnOk result ((s : ℕ) → s < length all.old →
-        get_or all.new s [] ≡ get_or all.old s [] ++ (if nat_le south s && nat_le s north then edge.now ∷ [] else [])) }
+        get_or all.new s [] ≡ get_or all.old s [] ++ (if nat_le south s && nat_le s north then start ∷ [] else [])) }
 {
     for place in south..north + 1 {
         let strip = &mut all[place];
-        strip.push(edge)?;
+        strip.push(start)?;
     }
     Ok(())
 }
 
-/// Puts an edge into each strip that it reaches, after the edges there.
+/// Puts where an edge starts into each strip that it reaches, after the edges there.
 ///
 /// # Errors
 ///
 /// Memory ran out.
 #[inline(always)]
-fn file_edge(all: &mut [Strip], scale: &Scale, edge: &Edge) -> Result<(), AllocError>
+fn file_edge(all: &mut [Strip], scale: &Scale, edge: &Edge, start: Start) -> Result<(), AllocError>
     requires { length all.old ≡ scale.now.last + 1 }
     ensures { OnOk result ((s : ℕ) → s < length all.old →
-        get_or all.new s [] ≡ get_or all.old s [] ++ (if strips.reaches scale.now s edge.now then edge.now ∷ [] else [])) }
+        get_or all.new s [] ≡ get_or all.old s [] ++ (if strips.reaches scale.now s edge.now then start ∷ [] else [])) }
 {
     let from = scale.strip_of(edge.from.lat);
     let to = scale.strip_of(edge.to.lat);
     if from == to {
         let strip = &mut all[from];
-        return strip.push(edge);
+        return strip.push(start);
     }
-    file_between(all, from.min(to), from.max(to), edge)
+    file_between(all, from.min(to), from.max(to), start)
 }
 
-/// So many strips that meet no edge, each with room for some.
+/// Counts an edge more in each strip from one to another, both included.
+fn count_between(counts: &mut [usize], south: usize, north: usize)
+    requires { north < length counts.old }
+{
+    for place in south..north + 1 {
+        counts[place] = counts[place].saturating_add(1);
+    }
+}
+
+/// How many edges reach each strip of this scale.
 ///
 /// # Errors
 ///
 /// Memory ran out.
-fn empty_strips(alloc: Global, count: usize, room: usize) -> Result<Vec<Strip>, AllocError>
-    ensures count { IfOk result (λ all. length all.items ≡ count) }
+fn count_edges(alloc: Global, scale: &Scale, edges: &[Edge]) -> Result<Vec<usize>, AllocError>
+    ensures { IfOk result (λ counts. length counts.items ≡ scale.now.last + 1) }
+{
+    let mut counts: Vec<usize> = vec![in alloc; 0; scale.last as usize + 1]?;
+    for edge in edges {
+        let from = scale.strip_of(edge.from.lat);
+        let to = scale.strip_of(edge.to.lat);
+        count_between(&mut counts, from.min(to), from.max(to));
+    }
+    Ok(counts)
+}
+
+/// Strips that meet no edge, each with room for so many.
+///
+/// # Errors
+///
+/// Memory ran out.
+fn empty_strips(alloc: Global, rooms: &[usize]) -> Result<Vec<Strip>, AllocError>
+    ensures count { IfOk result (λ all. length all.items ≡ length rooms.now) }
     ensures empty { IfOk result (λ all. (s : ℕ) → get_or all.items s [] ≡ []) }
 {
-    let mut all = Vec::with_capacity(alloc, count)?;
-    for _ in 0..count {
-        all.push(Strip::with_room(alloc, room)?)?;
+    let mut all = Vec::with_capacity(alloc, rooms.len())?;
+    for room in rooms {
+        all.push(Strip::with_room(alloc, *room)?)?;
     }
     Ok(all)
 }
 
-/// The strips of this scale, each with the edges that reach it.
+/// Puts where an edge starts into each strip that it reaches, after the edges there; nothing where no edge
+/// starts.
+///
+/// # Errors
+///
+/// Memory ran out.
+#[inline(always)]
+fn file_start(
+    all: &mut [Strip],
+    scale: &Scale,
+    edge: Option<Edge>,
+    start: Start,
+) -> Result<(), AllocError>
+    requires { length all.old ≡ scale.now.last + 1 }
+    ensures { OnOk result ((s : ℕ) → s < length all.old →
+        get_or all.new s [] ≡ get_or all.old s [] ++ (if option_map_or (strips.reaches scale.now s) edge false then start ∷ [] else [])) }
+{
+    match edge {
+        Some(edge) => file_edge(all, scale, &edge, start),
+        None => Ok(()),
+    }
+}
+
+/// The strips of this scale, each with where those of these edges start that reach it. The edges are those
+/// of the polygons that start there.
 ///
 /// # Errors
 ///
@@ -112,18 +162,18 @@ fn empty_strips(alloc: Global, count: usize, room: usize) -> Result<Vec<Strip>, 
 pub(crate) fn strips_of(
     alloc: Global,
     scale: &Scale,
+    polygons: &[Polygon],
     edges: &[Edge],
+    starts: &[Start],
 ) -> Result<Vec<Strip>, AllocError>
-    ensures { IfOk result (λ all. strips.AreFiled scale.now edges.now all.items) }
+    requires { strips.edges_at polygons.now starts.now ≡ edges.now }
+    ensures { IfOk result (λ all. strips.AreFiled polygons.now scale.now edges.now all.items) }
 {
-    let count = scale.last as usize + 1;
-    let mut all = empty_strips(
-        alloc,
-        count,
-        edges.len().div_ceil(count).saturating_mul(ROOM),
-    )?;
-    for edge in edges {
-        file_edge(&mut all, scale, edge)?;
+    let rooms = count_edges(alloc, scale, edges)?;
+    let mut all = empty_strips(alloc, &rooms)?;
+    for start in starts {
+        let edge = start.edge_in(polygons);
+        file_start(&mut all, scale, edge, *start)?;
     }
     Ok(all)
 }

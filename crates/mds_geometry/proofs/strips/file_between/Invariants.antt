@@ -7,5 +7,5 @@ invariant-loop-place l = record {
   whole : length l.all ≡ length l.fn.all;
   begun : l.south ≤ l.place;
   ended : l.place ≤ l.north + 1;
-  filed : (s : ℕ) → s < length l.fn.all → get_or l.all s [] ≡ get_or l.fn.all s [] ++ cond (nat_le l.south s && nat_lt s l.place) (l.edge ∷ []) [];
+  filed : (s : ℕ) → s < length l.fn.all → get_or l.all s [] ≡ get_or l.fn.all s [] ++ cond (nat_le l.south s && nat_lt s l.place) (l.start ∷ []) [];
 }

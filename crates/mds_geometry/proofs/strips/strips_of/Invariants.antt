@@ -1,6 +1,6 @@
 use Rattle.std.proofs.Common.{take}
-use Rattle.mds_geometry.specs.Strips.{AreFiled}
+use Rattle.mds_geometry.specs.Strips.{AreFiled, edges_at}
 use Rattle.mds_geometry.proofs.strips.strips_of.Given as goal
 
-abbrev pub invariant-loop-edge : goal.invariant-loop-edge
-invariant-loop-edge l = AreFiled l.scale (take l.edge-index l.edges) l.all.items
+abbrev pub invariant-loop-start : goal.invariant-loop-start
+invariant-loop-start l = AreFiled l.polygons l.scale (edges_at l.polygons (take l.start-index l.starts)) l.all.items

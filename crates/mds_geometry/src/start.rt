@@ -1,0 +1,152 @@
+//! Where the edges of an area start.
+ghost use Rattle.std.specs.Prelude.{◌≡◌, ◌++◌, [], get_or, map, OnOk, IfOk};
+ghost use Rattle.mds_geometry.specs.Inside.{edges_of_ring, edges};
+ghost use Rattle.mds_geometry.specs.Strips.{edge_at, edge_in, edge_of, edges_at, edges_from, ring_at};
+
+use crate::polygon::Polygon;
+use crate::position::Position;
+use crate::ring::Ring;
+use crate::strip::Edge;
+use std::alloc::{AllocError, Global};
+
+/// Where an edge of an area starts: it ends at the next position of its ring.
+#[derive(Clone, Copy)]
+pub(crate) struct Start {
+    /// The polygon's place among the others.
+    pub(crate) polygon: u32,
+    /// The ring's place in the polygon.
+    pub(crate) ring: u32,
+    /// The position's place in the ring.
+    pub(crate) position: u32,
+}
+
+impl Start {
+    /// The first position of the first ring of the first polygon.
+    pub(crate) fn first() -> Start {
+        Start {
+            polygon: 0,
+            ring: 0,
+            position: 0,
+        }
+    }
+
+    /// The edge that starts there, of a ring that has these positions.
+    #[inline(always)]
+    pub(crate) fn edge(&self, ring: &[Position]) -> Option<Edge>
+        ensures { result ≡ edge_at ring.now self.now }
+    {
+        let place = self.position as usize;
+        if place + 1 < ring.len() {
+            Some(Edge {
+                from: ring[place],
+                to: ring[place + 1],
+                polygon: self.polygon as usize,
+            })
+        } else {
+            None
+        }
+    }
+
+    /// The edge of these polygons that starts there.
+    #[inline(always)]
+    pub(crate) fn edge_in(&self, polygons: &[Polygon]) -> Option<Edge>
+        ensures { result ≡ edge_in polygons.now self.now }
+    {
+        self.edge(positions_at(polygons, self.polygon, self.ring))
+    }
+}
+
+/// The positions of the ring at this place of the polygon at this place; none where there is none.
+pub(crate) fn positions_at(polygons: &[Polygon], polygon: u32, ring: u32) -> &[Position]
+    ensures { result.now ≡ ring_at polygons.now polygon ring }
+{
+    if (polygon as usize) < polygons.len() {
+        positions_in(polygons[polygon as usize].rings(), ring)
+    } else {
+        &[]
+    }
+}
+
+/// The positions of the ring at this place; none where there is none.
+fn positions_in(rings: &[Ring], ring: u32) -> &[Position]
+    ensures { result.now ≡ get_or rings.now ring [] }
+{
+    if (ring as usize) < rings.len() {
+        rings[ring as usize].positions()
+    } else {
+        &[]
+    }
+}
+
+/// A place in a list, as it is kept.
+///
+/// # Errors
+///
+/// It isn't less than 2^32, for which there is no memory.
+fn kept(place: usize) -> Result<u32, AllocError>
+    ensures { IfOk result (λ p. p ≡ place) }
+{
+    match u32::try_from(place) {
+        Ok(place) => Ok(place),
+        Err(_) => Err(AllocError),
+    }
+}
+
+/// Puts where the edges of a ring start after others.
+fn push_ring(
+    all: &mut Vec<Start>,
+    polygons: &[Polygon],
+    polygon: u32,
+    ring: u32,
+) -> Result<(), AllocError>
+    ensures { OnOk result (edges_at polygons.now all.new.items
+        ≡ edges_at polygons.now all.old.items ++ map (edge_of polygon) (edges_of_ring (ring_at polygons.now polygon ring))) }
+{
+    let positions = positions_at(polygons, polygon, ring);
+    for place in 0..positions.len().saturating_sub(1) {
+        let position = kept(place)?;
+        all.push(Start {
+            polygon,
+            ring,
+            position,
+        })?;
+    }
+    Ok(())
+}
+
+/// Puts where the edges of the polygon at this place start after others.
+fn push_polygon(
+    all: &mut Vec<Start>,
+    polygons: &[Polygon],
+    place: usize,
+    polygon: &Polygon,
+) -> Result<(), AllocError>
+    requires { polygon.now ≡ get_or polygons.now place [] }
+    ensures { OnOk result (edges_at polygons.now all.new.items
+        ≡ edges_at polygons.now all.old.items ++ map (edge_of place) (edges polygon.now)) }
+{
+    let number = kept(place)?;
+    for ring in 0..polygon.rings().len() {
+        push_ring(all, polygons, number, kept(ring)?)?;
+    }
+    Ok(())
+}
+
+/// Where the edges of the polygons start, in their order. There are so many at most.
+///
+/// # Errors
+///
+/// Memory ran out, or there are 2^32 polygons, rings of a polygon, or positions of a ring.
+pub(crate) fn starts_of(
+    alloc: Global,
+    polygons: &[Polygon],
+    most: usize,
+) -> Result<Vec<Start>, AllocError>
+    ensures { IfOk result (λ all. edges_at polygons.now all.items ≡ edges_from 0 polygons.now) }
+{
+    let mut all = Vec::with_capacity(alloc, most)?;
+    for (place, polygon) in polygons.iter().enumerate() {
+        push_polygon(&mut all, polygons, place, polygon)?;
+    }
+    Ok(all)
+}
