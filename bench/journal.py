@@ -7,7 +7,8 @@ Reports over HTTP by wrk, on 32 and on 256 connections, by turns of both servers
 write-ahead log, synchronous FULL, one row a commit, of as many bytes as a report's record), and of PostgreSQL by 32 clients
 (postgres.py); the 99th percentile of a short list, idle and while 32 connections report; the bytes of the journal for a report; and how
 long a start takes with 200,000 vehicles, thinned. The folder is on the disk that is timed; without one a temporary one is taken. Each
-figure is the median of the rounds, with the least and the greatest. It needs Debian's wrk; gcc with libsqlite3-dev for SQLite, and as root
+figure is the median of the rounds, with the least and the greatest. Beside single reports stand bodies of many, over as many connections,
+by one operator and by all in turn. It needs Debian's wrk; gcc with libsqlite3-dev for SQLite, and as root
 Debian's postgresql, which else are left out.
 """
 
@@ -38,7 +39,8 @@ PROGRAM, WITHOUT = (os.path.join(HERE, "..", "crates", it, "out", it) for it in 
 CONNECTIONS = (32, 256)
 ROUNDS, SECONDS = 3, 5
 REPORTING, READING = generate.token(1), generate.token(0)
-EVENTS, LIST = "/fleet/events", "/policies"
+EVENTS, LIST, MANY = "/fleet/events", "/policies", "/app/fleet/events"
+IN_A_BODY = 2000
 ROW = 250  # bytes, as of a report's record
 
 
@@ -51,6 +53,34 @@ def commits(folder, seconds, size):
     with tempfile.TemporaryDirectory(dir=folder) as room:
         ran = subprocess.run([program, os.path.join(room, "rows"), str(seconds), str(size)], capture_output=True, text=True, check=True)
     return [float(it) for it in re.findall(r"[\d.]+", ran.stdout)]
+
+
+# Bodies of many reports, a line each; every report is later than the one before of its vehicle. With OPERATORS tokens, by them in turn.
+BODIES = """
+local threads, turn, tokens = 0, 0, {}
+local first = %d + 10000000 * tonumber(os.getenv("LOAD"))
+function setup(thread)
+    thread:set("number", threads)
+    threads = threads + 1
+end
+function init()
+    for token in string.gmatch("%s", "%%S+") do
+        table.insert(tokens, token)
+    end
+end
+function request()
+    local lines, reports = {}, %d
+    for report = 1, reports do
+        lines[report] = string.format(
+            '{"device_id":"00000000-0000-4000-8000-0004%%08x","vehicle_type":"scooter","propulsion_types":["electric"],'
+            .. '"vehicle_state":"available","event_types":["trip_end"],"timestamp":%%d,"location":{"lat":39.8,"lng":-86.1}}',
+            number * 20000 + (turn * reports + report) %% 20000, first + turn)
+    end
+    turn = turn + 1
+    local headers = { ["authorization"] = "Bearer " .. tokens[turn %% #tokens + 1] }
+    return wrk.format("POST", "/app/fleet/events", headers, table.concat(lines, "\\n"))
+end
+"""
 
 
 class Rounds:
@@ -73,11 +103,12 @@ class Rounds:
         line([label, spread(self.found[name], scale, unit), ratio, must, aim])
 
 
-def loads(city, without, folder, script, rounds, seconds):
-    """Reports to both servers, a short list idle and beside reports, and rows of SQLite."""
+def loads(city, without, folder, scripts, rounds, seconds):
+    """Reports to both servers, bodies of many to one, a short list idle and beside reports, and rows of SQLite."""
     random = generate.Xorshift(generate.SEED)
+    script, bodies = scripts
     lines = districts(random) + policies(random, SMALL)
-    with city.serve() as keeping, Server(without, (generate.config() + "\n").encode()) as plain:
+    with city.serve("--thin-at", "0") as keeping, Server(without, (generate.config() + "\n").encode()) as plain:
         for server in (keeping, plain):
             with server.link() as link:
                 for it in lines:
@@ -90,6 +121,9 @@ def loads(city, without, folder, script, rounds, seconds):
                 rounds.add(f"{name} {connections} worst", load.worst)
                 if server is keeping:
                     rounds.add(f"bytes {connections}", (len(city.bytes()) - before) / max(1, load.rate * seconds))
+        for name, bodies_script in bodies.items():
+            load = Load(keeping.process.pid, keeping.port, MANY, CONNECTIONS[0], seconds, REPORTING, bodies_script)
+            rounds.add(name, load.rate * IN_A_BODY)
         rounds.add("idle", Load(keeping.process.pid, keeping.port, LIST, 32, seconds, READING).worst)
         rounds.add("busy", beside_reports(keeping, script, seconds))
     if found := commits(folder, seconds, ROW):
@@ -114,7 +148,7 @@ def beside_reports(server, script, seconds):
 
 def large_start(city, rounds, count):
     """The seconds of a start with the largest fleet, thinned, `count` times, and the bytes of its journal for a vehicle."""
-    with city.serve() as server, server.link() as link:
+    with city.serve("--thin-at", "0") as server, server.link() as link:
         send_many(link, generate.fleet(generate.Xorshift(generate.SEED), generate.MOST_VEHICLES))
         server.end()
     begun = time.perf_counter()
@@ -142,6 +176,9 @@ def tell(rounds, count):
         rounds.tell(f"99th percentile of a report, {connections} connections", f"{kept} worst", 1e3, " ms", f"plain {connections} worst")
         name = f"bytes of the journal for a report, {connections} connections"
         rounds.tell(name, f"bytes {connections}", against="bytes of a row", must="400", aim="250")
+    for who, name in (("one operator", "many of one"), ("%d operators" % generate.OPERATORS, "many of all")):
+        label = f"reports a second, %d in a body, 32 connections, by {who}, against single ones" % IN_A_BODY
+        rounds.tell(label, name, against="kept 32", must="5")
     rounds.tell("commits of SQLite a second, one writer", "commits")
     rounds.tell("commits of PostgreSQL a second, 32 clients", "inserts")
     rounds.tell("bytes of SQLite's files for a row of 250 bytes", "bytes of a row")
@@ -150,6 +187,14 @@ def tell(rounds, count):
     rounds.tell("a start with 200,000 vehicles, thinned", "start", 1, " s", must="2 s", aim="0.7 s")
     rounds.tell("bytes of the journal for a vehicle, thinned", "bytes of a vehicle", must="800", aim="500")
     rounds.tell("thinning it", "thinning", 1, " s")
+
+
+def written(folder, name, text):
+    """A script of wrk's in the folder."""
+    path = os.path.join(folder, f"{name}.lua")
+    with open(path, "w", encoding="ascii") as script:
+        script.write(text)
+    return path
 
 
 def main():
@@ -165,12 +210,15 @@ def main():
     program, without, rounds = os.path.abspath(options.program), os.path.abspath(options.without), Rounds()
     given = generate.config().encode()
     with tempfile.TemporaryDirectory(dir=options.folder) as folder:
-        script = os.path.join(folder, "reports.lua")
-        with open(script, "w", encoding="ascii") as text:
-            text.write(REPORTS % generate.START)
+        everyone = " ".join(generate.token(it) for it in range(generate.OPERATORS))
+        script = written(folder, "reports", REPORTS % generate.START)
+        bodies = {
+            "many of one": written(folder, "one", BODIES % (generate.START, REPORTING, IN_A_BODY)),
+            "many of all": written(folder, "all", BODIES % (generate.START, everyone, IN_A_BODY)),
+        }
         for number in range(options.rounds):
             with tempfile.TemporaryDirectory(dir=folder) as room:
-                loads(City(program, room, given), without, folder, script, rounds, options.seconds)
+                loads(City(program, room, given), without, folder, (script, bodies), rounds, options.seconds)
             print("load of the machine after round %d: %.2f" % (number + 1, os.getloadavg()[0]), file=sys.stderr)
         with tempfile.TemporaryDirectory(dir=folder) as room, contextlib.suppress(OSError):
             large_start(City(program, room, given), rounds, options.rounds)

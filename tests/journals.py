@@ -540,6 +540,43 @@ def pending_replies(server):
         yield f"once all are told or given up it counts {found} on their way"
 
 
+def what_there_is(small):
+    """The control port tells how many vehicles each operator has, after a restart too, and how many connections are open."""
+
+    def vehicles(server):
+        found = counted(server)
+        return tuple(found[f'vehicles{{operator="{it}"}}'] for it in (ALFA_ID, BRAVO_ID))
+
+    lines = "\n".join(report(it, 3000) for it in (6, 7, 8))
+    asked = [
+        (BRAVO, "POST", "/fleet/events", report(5, 3000), 200, (2, 1)),
+        (BRAVO, "POST", "/app/fleet/events", lines, 200, (2, 3)),
+        (ALFA, "POST", "/fleet/events", report(2, 3000), 200, (3, 3)),
+        (ALFA, "POST", "/fleet/events", report(4, 3000), 409, (3, 3)),
+        (ALFA, "DELETE", f"/fleet/vehicles/{identifier(4, 1)}", "", 200, (2, 3)),
+        (ALFA, "GET", "/fleet/vehicles", "", 200, (2, 3)),
+    ]
+    with small.copy() as city:
+        with city.serve() as server:
+            if (found := vehicles(server)) != (2, 0):
+                yield f"at first it tells {found} vehicles"
+            for token, method, target, body, status, wanted in asked:
+                answer = server.ask(method, target, token, body.encode())
+                if answer.status != status or (found := vehicles(server)) != wanted:
+                    yield f"{method} {target} is answered {answer}, and it tells {found} vehicles"
+            for wanted in (0, 2, 0):
+                with contextlib.ExitStack() as links:
+                    for _ in range(wanted):
+                        links.enter_context(Link(server.port))
+                    if (found := until(server, "connections", lambda value, wanted=wanted: value == wanted)) != wanted:
+                        yield f"of {wanted} connections it tells {found}"
+            if server.end() != (0, b"", b""):
+                yield f"it ends with {server.ended}"
+        with city.serve() as again:
+            if (found := vehicles(again)) != (2, 3):
+                yield f"after a restart it tells {found} vehicles"
+
+
 def copied_while_it_runs(small):
     """A folder that is copied while the server writes is a front of what was answered."""
     with small.copy() as city, city.serve() as server:
@@ -782,6 +819,7 @@ CASES = (
     stopped_under_load,
     the_control_port,
     what_is_counted,
+    what_there_is,
     copied_while_it_runs,
     parts_of_an_audit,
     told_what_is_wrong,

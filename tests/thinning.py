@@ -7,7 +7,8 @@ A city is run: three operators report, remove and report again, while its author
 entries stay of its journal is worked out here a second time, from what is said in docs/PROTOCOL.md. A server of the thinned journal is
 compared with one of the journal before, over HTTP in all that is asked for, and by mds_replay at the same moments. Then come configurations,
 folders and journals that are refused, a disk without room, a file that can't grow, and a journal of a day's reports, made by
-tests/records.py, whose thinning is killed at several moments. A full disk is a file system in memory, where one may be mounted; else that
+tests/records.py, whose thinning is killed at several moments. Then the journal is thinned while its city is served, under load, with
+kills, on a disk that fills up, and where it can't be. A full disk is a file system in memory, where one may be mounted; else that
 test is left out, and said so. Prints what differs, and last 'N passed, M failed'; ends with 1 where one failed.
 """
 
@@ -15,6 +16,7 @@ import argparse
 import contextlib
 import json
 import os
+import random
 import re
 import resource
 import shutil
@@ -22,13 +24,14 @@ import signal
 import subprocess
 import sys
 import tempfile
+import threading
 import time
 import uuid
 
 import records
 from journals import AUTHOR, DAMAGED, GEOMETRY, LOCKED, REPLAY, UNFIT, configuration, operator, report, small_disk
 from kept import City, Tried, ended, line_of, replayed, split
-from wire import Closed, identifier
+from wire import PATIENCE, Closed, Link, identifier, request
 
 ALFA, BRAVO, CAROL = "token-of-alfa", "token-of-bravo", "token-of-carol"
 ALFA_ID, BRAVO_ID, CAROL_ID = (identifier(9, it) for it in (0xA1, 0xB1, 0xC1))
@@ -387,6 +390,9 @@ def wrong_arguments(run):
                 yield f"{words}: ends with {found}"
         if ended(run.program, "thin", city.folder)[0] != 2 or city.bytes() != run.bytes:
             yield "without a configuration it changes something"
+        for words in (("--thin-at",), ("--thin-at", "x"), ("--thin-at", "-1"), ("--thin-at", "1" * 14), ("--thin-at", "1", "--thin-at", "2")):
+            if (found := city.refused(*words))[:2] != (2, b"") or not found[2].startswith(b"ruffletuff: the arguments are wrong\nusage: "):
+                yield f"to serve with {words} ends with {found}"
 
 
 # --- A day's journal -----------------------------------------------------------------------------------------------
@@ -457,6 +463,218 @@ def a_day(run):
     print(f"of {run.kills} kills {sum(it[0] for it in ends)} came in time, and {sum(it[1] for it in ends)} found it thinned")
 
 
+# --- While the city is served --------------------------------------------------------------------------------------
+
+THINNED = b"ruffletuff: the journal is thinned\n"
+NOT_THINNED = b"ruffletuff: the journal isn't thinned: "
+LOADED = configuration(*(operator(it, token, 64) for token, it in IDS.items()))
+SMALL = 20_000  # bytes of growth behind which the journal is thinned
+DUE, LEFT = 80_000, 16_384  # the same on a disk that fills up, and what is left of it: less than the shorter journal takes
+
+
+class Reporter:
+    """An operator that reports its vehicles over one connection, one report behind the other."""
+
+    def __init__(self, token, first, vehicles=4):
+        self.token, self.first, self.vehicles = token, first, vehicles
+        self.count, self.sent, self.told = 0, {}, {}
+
+    def report_all(self, port, is_over):
+        """Reports until it is over or the connection is closed. The last timestamps are in `sent`, those answered with 200 in `told`."""
+        with contextlib.suppress(OSError, Closed), Link(port) as link:
+            while not is_over():
+                self.count += 1
+                number = self.first + self.count % self.vehicles
+                self.sent[number] = 10_000 + self.count
+                body = report(number, self.sent[number], "on_trip" if self.count // 9 % 2 else "available")
+                link.send(request("POST", "/fleet/events", self.token, body.encode()))
+                if link.answer().status != 200:
+                    return
+                self.told[number] = self.sent[number]
+
+    def faults(self, server):
+        """What of its vehicles isn't as it was told, or as it was sent last."""
+        rows = json.loads(server.ask("GET", "/fleet/vehicles", self.token).body)["vehicles"]
+        found = {row["device_id"]: row["timestamp"] for row in rows}
+        for number, told in self.told.items():
+            last = found.get(identifier(4, number))
+            if last is None or not told <= last <= self.sent[number]:
+                yield f"{self.token}'s vehicle {number} was last told at {told}, and is there with {last}"
+
+
+def author_drafts(server, is_over):
+    """The author drafts one policy after another, and publishes some: what it was answered with 200, in order."""
+    answered = []
+    with contextlib.suppress(OSError, Closed), Link(server.port) as link:
+        for number in range(100, 100_000):
+            if is_over():
+                break
+            name = identifier(2, number)
+            for method, target, body in (policy(name, "time" if number % 3 else "count"), publish(policies=[name])):
+                link.send(request(method, target, AUTHOR, body.encode()))
+                if link.answer().status == 200:
+                    answered.append((method, target))
+            time.sleep(0.1 * PATIENCE)
+    return answered
+
+
+@contextlib.contextmanager
+def loaded(server, reporters):
+    """The city under load: reporters, each in a thread, and the author. What the author was answered is there once it is over."""
+    over, answered = threading.Event(), []
+    threads = [threading.Thread(target=it.report_all, args=(server.port, over.is_set)) for it in reporters]
+    threads.append(threading.Thread(target=lambda: answered.extend(author_drafts(server, over.is_set))))
+    for it in threads:
+        it.start()
+    try:
+        yield answered
+    finally:
+        over.set()
+        for it in threads:
+            it.join()
+
+
+def reporters():
+    return [Reporter(ALFA, 10), Reporter(ALFA, 20), Reporter(BRAVO, 10), Reporter(CAROL, 10)]
+
+
+def city_of(program, room):
+    """A city with a square, whose author has published it."""
+    city = City(program, room, LOADED)
+    with city.serve("--thin-at", "0") as server:
+        for method, target, body in (geography(SQUARE), publish(geographies=[SQUARE])):
+            server.ask(method, target, AUTHOR, body.encode())
+        server.end()
+    return city
+
+
+def told_alike(city, wanted, tokens=(AUTHOR, ALFA, BRAVO, CAROL)):
+    """A server that is started again tells what was told before."""
+    with city.serve("--thin-at", "0") as server:
+        found = answers(server, tokens)
+        yield from (f"{it} is answered {found[it]} after a restart, and not {wanted[it]}" for it in wanted if found[it] != wanted[it])
+        if (ended_ := server.end()) != (0, b"", b""):
+            yield f"the server ends with {ended_}"
+
+
+def is_thinned_while_served(run):
+    """Under load the journal is thinned again and again, and stays short; nothing that was told is lost, and each answer stays."""
+    with tempfile.TemporaryDirectory(prefix="thinning-") as room:
+        city, asking = city_of(run.program, room), reporters()
+        most = 0
+        with city.serve("--thin-at", str(SMALL)) as server:
+            begun = time.monotonic()
+            with loaded(server, asking):
+                while time.monotonic() - begun < 4 * PATIENCE:
+                    time.sleep(0.1)
+                    most = max(most, os.path.getsize(city.journal))
+            for it in asking:
+                yield from it.faults(server)
+            wanted = answers(server)
+            counted = server.asked("GET", "/metrics")[1].decode()
+            if f"\nruffletuff_journal_bytes {os.path.getsize(city.journal)}\n" not in counted:
+                yield f"its journal has {os.path.getsize(city.journal)} bytes, and it tells {counted}"
+            status, out, said = server.end()
+        times = said.count(THINNED)
+        print(f"thinned {times} times under {sum(it.count for it in asking)} reports; the journal had {most} bytes at the most")
+        if (status, out) != (0, b"") or said != times * THINNED or times < 2:
+            yield f"it ends with {status, out, said}"
+        if CLEARED in os.listdir(city.folder):
+            yield "something is left beside the journal"
+        yield from told_alike(city, wanted)
+        first, lines = city.audit()
+        refused = [it for it in replayed(run.replay, first, lines) if not it.startswith("200 ")]
+        if refused:
+            yield f"a replay of the audit is answered {refused[:3]}"
+
+
+def killed_while_thinned(run):
+    """Killed at a random moment while the journal is thinned, nothing that was told is lost, and nothing is left beside the journal."""
+    choice, kills, done = random.Random(7), max(2, run.kills // 2), 0
+    with tempfile.TemporaryDirectory(prefix="thinning-") as room:
+        city, asking = city_of(run.program, room), reporters()
+        for kill in range(kills):
+            with city.serve("--thin-at", str(SMALL)) as server:
+                with loaded(server, asking):
+                    time.sleep((0.3 + choice.random()) * PATIENCE)
+                    server.process.kill()
+                _, out, said = server.stop()
+            done += said.count(THINNED)
+            if out or not THINNED.startswith(said.replace(THINNED, b"")):
+                yield f"kill {kill}: it says {out, said}"
+            with city.serve("--thin-at", "0") as server:
+                for it in asking:
+                    yield from (f"kill {kill}: {fault}" for fault in it.faults(server))
+                if CLEARED in os.listdir(city.folder):
+                    yield f"kill {kill}: something is left beside the journal"
+                status, out, said = server.end()
+                if (status, out) != (0, b"") or b"isn't thinned" in said:
+                    yield f"kill {kill}: then it ends with {status, out, said}"
+    print(f"thinned {done} times before {kills} kills")
+    if not done:
+        yield "it was never thinned"
+
+
+def cannot_be_thinned_while_served(run):
+    """Where the shorter journal can't be written, or the configuration doesn't fit, that is said; the city is served on all the same."""
+    with tempfile.TemporaryDirectory(prefix="thinning-") as room:
+        city, asking = city_of(run.program, room), [Reporter(ALFA, 10)]
+        os.makedirs(os.path.join(city.folder, CLEARED, "full"))
+        with city.serve("--thin-at", str(SMALL)) as server:
+            with loaded(server, asking):
+                until = time.monotonic() + 60 * PATIENCE
+                while asking[0].count < 500 and time.monotonic() < until:
+                    time.sleep(0.1)
+            yield from asking[0].faults(server)
+            wanted = answers(server)
+            status, out, said = server.end()
+        if (status, out) != (0, b"") or not said or said.replace(NOT_THINNED + b"the thinned journal can't be written\n", b""):
+            yield f"it ends with {status, out, said}"
+        yield from told_alike(city, wanted)
+
+
+def a_disk_that_fills_up_while_served(run):
+    """On a disk without room for a second journal the city is served on, and once there is room its journal is thinned."""
+    with tempfile.TemporaryDirectory() as room, small_disk(room, DISK) as disk:
+        if disk is None:
+            print("no disk may be mounted here: one that fills up while a city is served isn't tried")
+            return
+        city, asking = city_of(run.program, disk), Reporter(ALFA, 0, 60)
+        filler = os.path.join(disk, "filler")
+
+        def reported(is_over):
+            """Reports until it is over, and waits then: what is thinned meanwhile has the disk for itself."""
+            asking.report_all(server.port, is_over)
+            if not is_over():
+                raise ValueError(f"a report is answered otherwise, behind {asking.count}")
+            time.sleep(0.3 * PATIENCE)
+
+        def is_beyond(bytes_):
+            return lambda: os.path.getsize(city.journal) > bytes_
+
+        with city.serve("--thin-at", str(DUE)) as server:
+            reported(is_beyond(DUE // 2))
+            with contextlib.suppress(OSError), open(filler, "wb", buffering=0) as file:
+                while file.write(bytes(4096)):
+                    pass
+            os.truncate(filler, os.path.getsize(filler) - LEFT)
+            reported(is_beyond(DUE))
+            reached = asking.count + 20
+            reported(lambda: asking.count >= reached)
+            os.truncate(filler, 0)
+            reported(is_beyond(3 * DUE))
+            # What was reported last is brought to the shorter one, which takes the place behind one more report.
+            for _ in range(4):
+                reached = asking.count + 1
+                reported(lambda: asking.count >= reached)
+            yield from asking.faults(server)
+            wanted = answers(server)
+            status, out, said = server.end()
+        if (status, out) != (0, b"") or NOT_THINNED not in said or THINNED not in said:
+            yield f"it ends with {status, out, said}"
+        yield from told_alike(city, wanted)
+
+
 CASES = (
     is_thinned,
     answers_as_before,
@@ -469,6 +687,10 @@ CASES = (
     a_full_disk,
     wrong_arguments,
     a_day,
+    is_thinned_while_served,
+    killed_while_thinned,
+    cannot_be_thinned_while_served,
+    a_disk_that_fills_up_while_served,
 )
 
 

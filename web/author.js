@@ -10,6 +10,7 @@ import { operatorIds, operatorName, rememberWithdrawal, state } from "./state.js
 const policyForm = $("policyform"), placeForm = $("placeform");
 const P = policyForm.elements, G = placeForm.elements;
 const KINDS = { policies: "policy", geographies: "place" };
+const LISTED = { policy: "policies", geography: "geographies" }; // the server's list of drafts names the kinds so
 
 // The document that the open form begins with.
 let base = null;
@@ -34,11 +35,9 @@ async function send(method, target, body) {
 
 // --- Drafts -------------------------------------------------------------------------------------------------------------
 
-const idOf = (kind, document) => (kind === "policies" ? document.policy_id : document.geography_id);
-
-/** The drafts that a server without a list of them holds: those that this browser remembers and that are still there. */
-async function rememberedDrafts() {
-  const got = await Promise.all(memory.get("drafts").map(async ([kind, id]) => {
+/** The drafts of these kinds and identifiers that are still there. */
+async function draftsOf(list) {
+  const got = await Promise.all(list.map(async ([kind, id]) => {
     try {
       return { kind, id, document: (await ask("GET", `drafts/${kind}/${id}`)).draft };
     } catch (fault) {
@@ -46,7 +45,12 @@ async function rememberedDrafts() {
       return null;
     }
   }));
-  const drafts = got.filter(Boolean);
+  return got.filter(Boolean);
+}
+
+/** The drafts that a server without a list of them holds: those that this browser remembers. */
+async function rememberedDrafts() {
+  const drafts = await draftsOf(memory.get("drafts"));
   memory.set("drafts", drafts.map(({ kind, id }) => [kind, id]));
   return drafts;
 }
@@ -60,10 +64,9 @@ function asPlace(document) {
 export async function readDrafts() {
   const told = await askIfThere("app/drafts");
   state.areDraftsTold = told !== null;
-  const listed = () => Object.keys(KINDS).flatMap((kind) =>
-    told[kind].map((document) => ({ kind, id: idOf(kind, document), document })));
+  const listed = () => draftsOf(told.drafts.map(({ kind, id }) => [LISTED[kind], id]));
   const named = (one, other) => String(one.document.name).localeCompare(String(other.document.name));
-  const drafts = (told ? listed() : await rememberedDrafts()).sort(named);
+  const drafts = (await (told ? listed() : rememberedDrafts())).sort(named);
   const left = new Set(state.drafts.filter((it) => !it.isChosen).map((it) => it.id));
   state.drafts = drafts.map((it) => ({ ...it, isChosen: !left.has(it.id) }));
   state.draftPlaces = drafts.filter((it) => it.kind === "geographies").map((it) => asPlace(it.document));

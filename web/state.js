@@ -62,7 +62,7 @@ export function rememberWithdrawal(id, at) {
 /** Takes the server's list of withdrawals, or what this browser remembers where there is none. */
 export function takeWithdrawals(told) {
   state.areWithdrawalsTold = told !== null;
-  const list = told ? told.withdrawals.map((it) => [digitsOf(it.policy_id), it.withdrawn_date]) : memory.get("withdrawn");
+  const list = told ? told.withdrawals.map((it) => [digitsOf(it.policy_id), it.withdrawn]) : memory.get("withdrawn");
   state.withdrawals = new Map();
   for (const [id, at] of list) if (!(state.withdrawals.get(id) <= at)) state.withdrawals.set(id, at);
 }

@@ -105,15 +105,13 @@ class App:
             return 200, json.dumps(self.whoami(token)).encode()
         if target == "/app/withdrawals":
             shown = [it["policy_id"] for it in json.loads(told)["policies"]]
-            list_ = [{"policy_id": it, "withdrawn_date": self.withdrawn[digits(it)]} for it in shown if digits(it) in self.withdrawn]
+            list_ = [{"policy_id": it, "withdrawn": self.withdrawn[digits(it)]} for it in shown if digits(it) in self.withdrawn]
             return 200, json.dumps({"withdrawals": list_}).encode()
         if target == "/app/drafts" and token == self.configuration["author"]:
-            asked = [(kind, backend.ask("GET", f"/drafts/{kind}/{it}", authorization, None)) for kind, it in sorted(self.drafts)]
-            found = {"policies": [], "geographies": []}
-            for kind, (status, draft) in asked:
-                if status == 200:
-                    found[kind].append(json.loads(draft)["draft"])
-            return 200, json.dumps(found).encode()
+            asked = [(kind, it, backend.ask("GET", f"/drafts/{kind}/{it}", authorization, None)) for kind, it in sorted(self.drafts)]
+            names = {"policies": "policy", "geographies": "geography"}
+            found = [{"id": it, "kind": names[kind]} for kind, it, (status, _) in asked if status == 200]
+            return 200, json.dumps({"drafts": found}).encode()
         return (403, b'{"error":"role"}') if target == "/app/drafts" else (404, b'{"error":"no_route"}')
 
 

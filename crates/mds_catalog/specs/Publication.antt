@@ -1,7 +1,7 @@
 -- Publications: batches of documents, each published whole at one moment, and which policies are in
 -- force (MDS 2.0 Policy: publication, immutability, superseding by `prev_policies`). That a publication may
 -- also withdraw policies is this server's own.
-use Rattle.std.specs.Prelude.{ℕ, ◌+◌, List, [], ◌∷◌, ◌++◌, map, length, find, filter, Bool, true, not, ◌&&◌, ◌||◌, ◌==◌, nat_le, nat_lt, if◌then◌else◌, Option, Some, None, is_some, is_none, bytes_eq}
+use Rattle.std.specs.Prelude.{◌≡◌, ℕ, ◌+◌, List, [], ◌∷◌, ◌++◌, map, length, find, filter, Bool, true, not, ◌&&◌, ◌||◌, ◌==◌, false, nat_le, nat_lt, if◌then◌else◌, Option, Some, None, is_some, is_none, bytes_eq}
 use Rattle.std.specs.List.{flat_map, list_any}
 use Rattle.std.specs.Option.{option_or, option_map_or}
 use Rattle.std.specs.declared.sync.Arc.{Arc}
@@ -91,6 +91,10 @@ is_superseded publications t id = list_any (supersedes t id) (published_policies
 -- a publication withdraws a policy of this identifier, from its own moment on
 abbrev pub is_withdrawn : List Publication → ℕ → List ℕ → Bool
 is_withdrawn publications t id = list_any (λ p. nat_le p.moment t && is_among p.withdrawn id) publications
+
+-- a policy of this identifier is withdrawn from this moment on, or at none
+abbrev pub IsWithdrawnFrom : List Publication → List ℕ → Option ℕ → Type 0
+IsWithdrawnFrom publications id from = (t : ℕ) → is_withdrawn publications t id ≡ option_map_or (λ moment. nat_le moment t) from false
 
 -- whether a published policy is in force for an operator at a moment
 abbrev pub is_in_force : List Publication → List ℕ → ℕ → Published Policy → Bool

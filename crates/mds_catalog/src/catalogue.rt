@@ -48,7 +48,7 @@ impl Catalogue {
     ghost use Rattle.std.specs.Prelude.{◌≡◌, ◌++◌, ◌∷◌, [], length, IfOk, OnOk, OnErr, option_map, IsTrue, find, map, not, ◌||◌};
     ghost use Rattle.std.specs.List.{flat_map};
     ghost use Rattle.mds_policy.specs.Policy.{rule_document};
-    ghost use Rattle.mds_catalog.specs.Publication.{find_policy, find_geography, is_policy_published, is_geography_published, policy_ids, geography_ids, first_published, is_geography_there, missing_geography, missing_predecessor, first_unpublished, fits, is_lawful, extended, publication_of, is_in_force, is_superseded, is_withdrawn, policies_for, published_geographies, in_force};
+    ghost use Rattle.mds_catalog.specs.Publication.{find_policy, find_geography, is_policy_published, is_geography_published, policy_ids, geography_ids, first_published, is_geography_there, missing_geography, missing_predecessor, first_unpublished, fits, is_lawful, extended, publication_of, is_in_force, is_superseded, is_withdrawn, IsWithdrawnFrom, policies_for, published_geographies, in_force};
     ghost use Rattle.mds_catalog.specs.Catalogue.{publications_of, lent_policy, lent_geography, served_policy, served_geography};
 
     /// An empty catalogue with room for all publications.
@@ -86,6 +86,17 @@ impl Catalogue {
         is_running(policy, at)
             && is_meant_for(document, operator)
             && !self.is_over(at, document.id())
+    }
+
+    /// From which moment on the policy of this identifier is withdrawn, where a publication withdraws it: the
+    /// least moment of such a one.
+    pub fn withdrawn_from(&self, id: Id) -> Option<Moment>
+        ensures { IsWithdrawnFrom (publications_of self.now) id result }
+    {
+        match entry_of(&self.entries, id) {
+            Some(entry) => entry.withdrawn,
+            None => None,
+        }
     }
 
     /// Whether the policy of this identifier is superseded or withdrawn at a moment.

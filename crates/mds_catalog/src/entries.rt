@@ -17,7 +17,7 @@ pub(crate) struct Entry {
     /// Where the policy stands.
     pub(crate) spot: Spot,
     superseded: Option<Moment>,
-    withdrawn: Option<Moment>,
+    pub(crate) withdrawn: Option<Moment>,
 }
 
 /// The lesser of a moment and one that may be known.

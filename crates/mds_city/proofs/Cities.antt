@@ -8,6 +8,7 @@ use Rattle.std.proofs.Crossing.{crosses, send, sync}
 use Rattle.mds_snapshot.specs.declared.history.Naming.{Ghosts as Openings}
 use Rattle.mds_hall.specs.declared.named.Named.{Ghosts as Names}
 use Rattle.mds_hall.proofs.Halls.{hall_send, hall_sync}
+use Rattle.mds_app.proofs.badges.Badges.TheSendSync as badges
 use Rattle.mds_records.specs.declared.log.Log.{Ghosts as Logs}
 use Rattle.mds_commit.specs.declared.history.Naming.{Ghosts as Books}
 use Rattle.mds_commit.specs.declared.space.Space.{Ghosts as Spaces}
@@ -21,13 +22,13 @@ module _ (K N L S : RattleType) (k : Names K.Denot) (o : Openings K.Denot) (n : 
   city_send space =
       let ks = keeper.the_send N L S n l s space in
       let ky = keeper.the_sync N L S n l s space in
-      declared_send (City.the_type K N L S k o n l s) (hall_send K k o, (search (sendable, crosses) depth 20, (stamp.the_send N L n l, tt)))
+      declared_send (City.the_type K N L S k o n l s) (hall_send K k o, (badges.the_send, (search (sendable, crosses) depth 20, (stamp.the_send N L n l, tt))))
 
   pub city_sync : IsSend S → IsSync (City.the_row K N L S k o n l s)
   city_sync space =
       let ks = keeper.the_send N L S n l s space in
       let ky = keeper.the_sync N L S n l s space in
-      declared_sync (City.the_type K N L S k o n l s) (hall_sync K k o, (search (sendable, crosses) depth 20, (stamp.the_sync N L n l, tt)))
+      declared_sync (City.the_type K N L S k o n l s) (hall_sync K k o, (badges.the_sync, (search (sendable, crosses) depth 20, (stamp.the_sync N L n l, tt))))
 
 module _ (K N R E M L S : RattleType) (k : Names K.Denot) (o : Openings K.Denot) (n : Books N.Denot) (l : Logs L.Denot) (s : Spaces S.Denot) where
   pub reception_send : IsSend R → IsSend E → IsSend M → IsSend S → IsSend (CityReception.the_row K N R E M L S k o n l s)

@@ -9,7 +9,7 @@ use Rattle.mds_request.specs.Configuration.{Configuration, Operator}
 use Rattle.mds_request.specs.Request.{Request}
 use Rattle.mds_request.specs.Reply.{Reply}
 use Rattle.mds_hall.specs.Turn.{DeskRuns}
-use Rattle.mds_city.specs.City.{Waits}
+use Rattle.mds_city.specs.Unstored.{Waits}
 use Rattle.mds_city.specs.Many.{AreRecordsOf, IsRecordedRun, IsUnasked, ManyAreAnswered, SaysAll, reports_of}
 use Rattle.mds_city.proofs.Accepted.{chosen_are_theirs}
 use Rattle.mds_city.proofs.Responses.{ok_more, waits_more}
@@ -57,10 +57,12 @@ module _ {V E : Type 0} (reply : V → Option (Response (Full (List ℕ)))) (sta
       let here = subst (λ (ts : List (List ℕ)). IsRecordedRun configuration place requests replies ts) (sym is) run in (
         says.0,
         says.1,
+        says.2,
+        says.3,
         inr (record {
           replies = replies;
           run = subst (λ (rs : List Request). IsRecordedRun configuration place rs replies (stamp s)) are here;
-          says = says.2;
+          says = says.4;
         }),
       )
   told_run (Err e) requests replies texts are run says is = tt

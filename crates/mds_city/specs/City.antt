@@ -1,15 +1,16 @@
 -- What an HTTP request is answered, and what its reply shows.
-use Rattle.std.specs.Prelude.{◌≡◌, ◌⊎◌, ℕ, true, List, Option, Some, IfSome, MatchOption, Result, Ok, Err}
+use Rattle.std.specs.Prelude.{◌≡◌, ◌⊎◌, ℕ, true, List, Option, IfSome, MatchOption, Result, Ok, Err}
 use Rattle.http.specs.declared.request.Parts.{Parts}
 use Rattle.http.specs.declared.response.Response.{Response}
 use Rattle.http_body_util.specs.declared.full.Full.{Full}
+use Rattle.mds_app.specs.Badges.{Badges}
+use Rattle.mds_request.specs.declared.code.Code.TheVariants.{Role}
 use Rattle.mds_request.specs.Configuration.{Configuration, actor_of}
 use Rattle.mds_request.specs.Request.{Request}
 use Rattle.mds_request.specs.Reply.{Reply, refused}
 use Rattle.mds_request.specs.declared.code.Code.{Code}
-use Rattle.mds_request.specs.declared.code.Code.TheVariants.{Role}
 use Rattle.mds_request.specs.declared.config.Actor.{Actor}
-use Rattle.mds_request.specs.declared.config.Actor.TheVariants.{Operator}
+use Rattle.mds_request.specs.declared.config.Actor.TheVariants.{Author, Operator, Nobody}
 use Rattle.mds_restarts.specs.Kept.{is_kept}
 use Rattle.mds_hall.specs.Asked.{request_in}
 use Rattle.mds_hall.specs.declared.early.Arrived.{Arrived}
@@ -21,8 +22,10 @@ use Rattle.mds_city.specs.App.{app_of}
 use Rattle.mds_city.specs.Away.{SaysNoRoom}
 use Rattle.mds_city.specs.Many.{ManyAreAnswered}
 use Rattle.mds_city.specs.Records.{HasRecord}
+use Rattle.mds_city.specs.Told.{SaysTold, TellsAuthor, TellsOperator}
+use Rattle.mds_city.specs.Unstored.{Waits}
 use Rattle.mds_city.specs.declared.app.AppCall.{AppCall}
-use Rattle.mds_city.specs.declared.app.AppCall.TheVariants.{Events}
+use Rattle.mds_city.specs.declared.app.AppCall.TheVariants.{Events, Told}
 
 -- One turn of who asks gives the reply. Where a journal keeps that exchange, its record is among these texts.
 pub record IsRecordedTurn (configuration : Configuration) (actor : Actor) (request : Request) (reply : Reply) (stamp : List (List ℕ)) : Type 0 where
@@ -39,36 +42,36 @@ pub record IsCarriedOutBy (configuration : Configuration) (actor : Actor) (reque
 abbrev pub IsAnsweredBy : Configuration → Actor → Request → List (List ℕ) → Response (Full (List ℕ)) → Type 0
 IsAnsweredBy configuration actor request stamp response = SaysNoRoom response ⊎ IsCarriedOutBy configuration actor request stamp response
 
--- What is told of a call beside the protocol's: the reports of an operator are answered; the author has none; or the path hasn't
--- the method.
-abbrev pub IsTold : Configuration → Actor → Request → Result AppCall Code → List (List ℕ) → Response (Full (List ℕ)) → Type 0
-IsTold configuration actor request (Err code) stamp response = Says response (refused code)
-IsTold configuration (Operator place) request (Ok Events) stamp response = ManyAreAnswered configuration place request stamp response
-IsTold configuration actor request (Ok Events) stamp response = Says response (refused Role)
+-- What is told of a call beside the protocol's: that the path hasn't the method; what the reports of an operator are answered; or
+-- what whoever asks is told, of which nothing is kept.
+abbrev pub IsTold : Configuration → Badges → Actor → Request → Result AppCall Code → List (List ℕ) → Response (Full (List ℕ)) → Type 0
+IsTold configuration badges actor request (Err code) stamp response = Says response (refused code)
+IsTold configuration badges (Operator place) request (Ok Events) stamp response = ManyAreAnswered configuration place request stamp response
+IsTold configuration badges Author request (Ok Events) stamp response = Says response (refused Role)
+IsTold configuration badges (Operator place) request (Ok (Told question)) stamp response = SaysTold (TellsOperator configuration badges place question) response
+IsTold configuration badges Author request (Ok (Told question)) stamp response = SaysTold (TellsAuthor configuration badges question) response
+IsTold configuration badges Nobody request (Ok call) stamp response = ⊥
 
 -- the path says which of the two it is
-abbrev pub IsToldBy : Configuration → Actor → Request → List (List ℕ) → Response (Full (List ℕ)) → Type 0
-IsToldBy configuration actor request stamp response =
-    MatchOption (app_of request) (IsAnsweredBy configuration actor request stamp response) (λ call. IsTold configuration actor request call stamp response)
+abbrev pub IsToldBy : Configuration → Badges → Actor → Request → List (List ℕ) → Response (Full (List ℕ)) → Type 0
+IsToldBy configuration badges actor request stamp response =
+    MatchOption (app_of request) (IsAnsweredBy configuration actor request stamp response) (λ call. IsTold configuration badges actor request call stamp response)
 
 -- who asks is the one whose access token the request carries
 abbrev pub IsCarriedOut : Configuration → Request → List (List ℕ) → Response (Full (List ℕ)) → Type 0
 IsCarriedOut configuration request stamp response = IsCarriedOutBy configuration (actor_of configuration request.token) request stamp response
 
-abbrev pub IsAnswered : Configuration → Request → List (List ℕ) → Response (Full (List ℕ)) → Type 0
-IsAnswered configuration request stamp response = IsToldBy configuration (actor_of configuration request.token) request stamp response
-
--- the reply that waits is this response
-abbrev pub Waits : (Response (Full (List ℕ)) → Type 0) → Option (Response (Full (List ℕ))) → Type 0
-Waits Kind reply = (response : Response (Full (List ℕ))) × (reply ≡ Some response) × Kind response
+abbrev pub IsAnswered : Configuration → Badges → Request → List (List ℕ) → Response (Full (List ℕ)) → Type 0
+IsAnswered configuration badges request stamp response = IsToldBy configuration badges (actor_of configuration request.token) request stamp response
 
 -- The first early refusal that applies is said. Where none does, the request that the head and the body are at this moment is
 -- answered: a call of the protocol, or one beside it. The reply waits until all these texts are synced.
-abbrev pub Answers : Configuration → Parts → Arrived → Option ℕ → List (List ℕ) → Response (Full (List ℕ)) → Type 0
-Answers configuration parts arrived at stamp response =
+abbrev pub Answers : Configuration → Badges → Parts → Arrived → Option ℕ → List (List ℕ) → Response (Full (List ℕ)) → Type 0
+Answers configuration badges parts arrived at stamp response =
     MatchOption (early configuration parts arrived at)
-    (IfSome at (λ moment. IsAnswered configuration (request_in parts (body_in arrived) moment) stamp response))
+    (IfSome at (λ moment. IsAnswered configuration badges (request_in parts (body_in arrived) moment) stamp response))
     (λ code. Says response (refused code))
 
-abbrev pub CityResponds : Configuration → Parts → Arrived → Option ℕ → Option (Response (Full (List ℕ))) → List (List ℕ) → Type 0
-CityResponds configuration parts arrived at reply stamp = Waits (Answers configuration parts arrived at stamp) reply
+-- No cache may keep the response.
+abbrev pub CityResponds : Configuration → Badges → Parts → Arrived → Option ℕ → Option (Response (Full (List ℕ))) → List (List ℕ) → Type 0
+CityResponds configuration badges parts arrived at reply stamp = Waits (Answers configuration badges parts arrived at stamp) reply

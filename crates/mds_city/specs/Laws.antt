@@ -1,6 +1,6 @@
 -- What the answers of a city are good for.
-use Rattle.std.specs.Prelude.{◌≡◌, ◌⊎◌, ℕ, true, List, [], Option, None, IsSome}
-use Rattle.std.specs.List.{AllByRecursion}
+use Rattle.std.specs.Prelude.{◌≡◌, ◌⊎◌, ℕ, true, false, List, [], filter, Option, None, Some, IsSome, slice_get}
+use Rattle.std.specs.List.{AllByRecursion, filter_map}
 use Rattle.http.specs.declared.request.Parts.{Parts}
 use Rattle.http.specs.declared.response.Response.{Response}
 use Rattle.http_body_util.specs.declared.full.Full.{Full}
@@ -15,11 +15,16 @@ use Rattle.mds_request.specs.Configuration.{Configuration, actor_of}
 use Rattle.mds_request.specs.Request.{Request, verb_of}
 use Rattle.mds_request.specs.Reply.{Reply}
 use Rattle.mds_restarts.specs.Kept.{is_kept}
+use Rattle.mds_app.specs.Badges.{Badges}
+use Rattle.mds_app.specs.Withdrawals.{withdrawal_of, withdrawals}
+use Rattle.mds_catalog.specs.Publication.{Publication, is_meant_for, published_policies}
 use Rattle.mds_city.specs.App.{app_at, app_of}
 use Rattle.mds_city.specs.Away.{SaysNoRoom}
 use Rattle.mds_city.specs.City.{Answers, IsCarriedOut}
 use Rattle.mds_city.specs.Many.{AreCarriedOutBy, SaysAll, exchanges}
 use Rattle.mds_city.specs.Records.{HasRecord}
+use Rattle.mds_city.specs.Told.{operator_told}
+use Rattle.mds_city.specs.declared.app.Question.{Question}
 
 module _ {L : Type 0} (may_be : L → List (List ℕ) → Type 0) (is_synced : L → Type 0) where
   -- a synced log may be of a list that has the request's record
@@ -47,11 +52,33 @@ module _ {L : Type 0} (may_be : L → List (List ℕ) → Type 0) (is_synced : L
 -- Where the log has room, a city responds to a call of the protocol as a hall does.
 abbrev pub RespondsAsAHall : Type 0
 RespondsAsAHall =
-    (configuration : Configuration) (parts : Parts) (arrived : Arrived) (at : Option ℕ) (stamp : List (List ℕ)) (response : Response (Full (List ℕ)))
+    (configuration : Configuration) (badges : Badges) (parts : Parts) (arrived : Arrived) (at : Option ℕ) (stamp : List (List ℕ)) (response : Response (Full (List ℕ)))
     → app_at (verb_of parts.method) (path_of (target_of parts.uri)) ≡ None
-    → Answers configuration parts arrived at stamp response
+    → Answers configuration badges parts arrived at stamp response
     → SaysNoRoom response ⊎ Responds configuration parts arrived at response
 
 -- No route has the path of a call beside the protocol's.
 abbrev pub AppAndProtocolAreApart : Type 0
 AppAndProtocolAreApart = (request : Request) → IsSome (app_of request) → rows_at (segments_of request.target) ≡ []
+
+-- No journal keeps a call beside the protocol's: of many reports it keeps each by itself, as a request of the protocol.
+abbrev pub AppCallsAreNotKept : Type 0
+AppCallsAreNotKept =
+    (configuration : Configuration) (request : Request) (reply : Reply)
+    → IsSome (app_of request) → is_kept configuration (record { request = request; reply = reply }) ≡ false
+
+-- What an operator is told depends on the publications and its own place alone: whoever the other operators are and however they are
+-- called, and whatever drafts are held, it is told the same.
+abbrev pub OperatorsAreToldTheirOwn : Type 0
+OperatorsAreToldTheirOwn =
+    (one other : Configuration) (named renamed : Badges) (place : ℕ) (publications : List Publication) (question : Question)
+    → slice_get one.operators place ≡ slice_get other.operators place
+    → slice_get named.operators place ≡ slice_get renamed.operators place → named.zone ≡ renamed.zone
+    → operator_told one named place publications question ≡ operator_told other renamed place publications question
+
+-- What an operator is told of withdrawals is of policies that its own answers show: each of those that are meant for it and are withdrawn.
+abbrev pub WithdrawalsAreOfOwnPolicies : Type 0
+WithdrawalsAreOfOwnPolicies =
+    (publications : List Publication) (operator : List ℕ)
+    → withdrawals publications (Some operator)
+    ≡ filter_map (withdrawal_of publications) (filter (λ p. is_meant_for operator p.document) (published_policies publications))

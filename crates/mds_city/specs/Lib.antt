@@ -2,5 +2,7 @@ pub mod Away
 pub mod App
 pub mod Records
 pub mod Many
+pub mod Told
+pub mod Unstored
 pub mod City
 pub mod Laws

@@ -1,16 +1,29 @@
 //! The calls that stand beside the protocol's.
-ghost use Rattle.std.specs.Prelude.{◌≡◌, ◌<◌, IfSome, bytes_eq, length, position};
-ghost use Rattle.mds_request.specs.Call.{is_query_mark, path_of};
+ghost use Rattle.std.specs.Prelude.{◌≡◌, ◌<◌, IfSome, length, position};
+ghost use Rattle.mds_request.specs.Call.{is_query_mark, is_verb, path_of};
 ghost use Rattle.mds_request.specs.Request.{request_of};
-ghost use Rattle.mds_city.specs.App.{app_at, app_of, events_by, events_path};
+ghost use Rattle.mds_city.specs.App.{app_at, app_of, by_verb, call_at, verb_for};
 
 use mds_request::{Code, Request, Verb};
+
+/// What people ask, beside the protocol.
+#[derive(Clone, Copy, Debug, PartialEq, Eq)]
+pub enum Question {
+    /// Who asks.
+    Whoami,
+    /// Which policies are withdrawn.
+    Withdrawals,
+    /// Which drafts are held.
+    Drafts,
+}
 
 /// A call that stands beside the protocol's, at a path that no route has.
 #[derive(Clone, Copy, Debug, PartialEq, Eq)]
 pub enum AppCall {
     /// Many reports of an operator in one body, one a line.
     Events,
+    /// What is told, and changes nothing.
+    Told(Question),
 }
 
 /// Where the first question mark stands.
@@ -31,31 +44,55 @@ fn path_of(target: &[u8]) -> &[u8]
     }
 }
 
-/// Many reports, where they are sent by POST.
-fn events_by(verb: Verb) -> Result<AppCall, Code>
-    ensures { result ≡ events_by verb }
+/// The call at this path. None where the path is the protocol's.
+fn call_at(path: &[u8]) -> Option<AppCall>
+    ensures { result ≡ call_at path.now }
 {
-    match verb {
-        Verb::Post => Ok(AppCall::Events),
-        _ => Err(Code::Method),
+    if path == b"/app/fleet/events".as_slice() {
+        Some(AppCall::Events)
+    } else if path == b"/app/whoami".as_slice() {
+        Some(AppCall::Told(Question::Whoami))
+    } else if path == b"/app/withdrawals".as_slice() {
+        Some(AppCall::Told(Question::Withdrawals))
+    } else if path == b"/app/drafts".as_slice() {
+        Some(AppCall::Told(Question::Drafts))
+    } else {
+        None
     }
 }
 
-/// Whether it is the path to which many reports are sent.
-fn is_events(path: &[u8]) -> bool
-    ensures { result ≡ bytes_eq path.now events_path }
+/// Whether a call is asked for by this method: many reports by POST, all else by GET.
+fn has_verb(call: AppCall, verb: Verb) -> bool
+    ensures { result ≡ is_verb (verb_for call) verb }
 {
-    path == b"/app/fleet/events".as_slice()
+    match call {
+        AppCall::Events => matches!(verb, Verb::Post),
+        AppCall::Told(_) => matches!(verb, Verb::Get),
+    }
+}
+
+/// The call, where it is asked for by its method.
+///
+/// # Errors
+///
+/// `Method`.
+fn by_verb(verb: Verb, call: AppCall) -> Result<AppCall, Code>
+    ensures { result ≡ by_verb verb call }
+{
+    if has_verb(call, verb) {
+        Ok(call)
+    } else {
+        Err(Code::Method)
+    }
 }
 
 /// The call by this method at this path. None where the path is the protocol's.
 fn app_at(verb: Verb, path: &[u8]) -> Option<Result<AppCall, Code>>
     ensures { result ≡ app_at verb path.now }
 {
-    if is_events(path) {
-        Some(events_by(verb))
-    } else {
-        None
+    match call_at(path) {
+        Some(call) => Some(by_verb(verb, call)),
+        None => None,
     }
 }
 

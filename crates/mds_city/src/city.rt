@@ -1,5 +1,5 @@
 //! A hall whose accepted changes are kept.
-ghost use Rattle.std.specs.Prelude.{◌≡◌, ◌<◌, length, Some, IfOk, IfSome};
+ghost use Rattle.std.specs.Prelude.{◌≡◌, ◌<◌, length, IfOk, IfSome};
 ghost use Rattle.mds_request.specs.Configuration.{configuration, actor_of};
 ghost use Rattle.mds_request.specs.Reply.{refused};
 ghost use Rattle.mds_request.specs.declared.config.Actor.TheVariants.{Author, Operator};
@@ -7,15 +7,18 @@ ghost use Rattle.mds_hall.specs.Asker.{IsWithin};
 ghost use Rattle.mds_hall.specs.Heard.{request_heard};
 ghost use Rattle.mds_hall.specs.Response.{Says};
 ghost use Rattle.mds_city.specs.Away.{SaysNoRoom};
-ghost use Rattle.mds_city.specs.City.{IsRecordedTurn, Waits};
+ghost use Rattle.mds_city.specs.City.{IsRecordedTurn};
 ghost use Rattle.mds_city.specs.Records.{IsReserved, IsTitled};
+ghost use Rattle.mds_city.specs.Unstored.{Waits};
 
 use crate::away::no_room;
 use crate::recording::{Recording, Titled};
 use crate::records::{Reserved, give_back, reserve, settled};
+use crate::unstored::unstored;
 use bytes::Bytes;
 use http::Response;
 use http_body_util::Full;
+use mds_app::Badges;
 use mds_catalog::Catalogue;
 use mds_commit::{Keeper, Naming, NotTold, Settling, Space, Stamp};
 use mds_desk::OpenGate;
@@ -28,10 +31,12 @@ use std::alloc::Global;
 use std::marker::Brand;
 use std::sync::{Arc, Wait};
 
-/// A hall whose accepted changes are kept: each has a record in the keeper's log. End it by `finish`.
+/// A hall whose accepted changes are kept: each has a record in the keeper's log. Its operators are known to people by their
+/// badges. End it by `finish`.
 #[derive(Drop)]
 pub struct City<K: Named, N: Naming, L: Log, S: Space> {
     pub(crate) hall: Hall<K>,
+    pub(crate) badges: Badges,
     pub(crate) keeper: Arc<Keeper<N, L, S>>,
     /// The stamp of nothing.
     nothing: Stamp<N, L>,
@@ -45,16 +50,19 @@ pub(crate) struct Answered<N: Naming, L: Log> {
 }
 
 impl<K: Named, N: Naming, L: Log, S: Space> City<K, N, L, S> {
-    /// A hall with what keeps its changes, and the stamp of nothing.
+    /// A hall with the badges of its configuration's text, what keeps its changes, and the stamp of nothing.
     pub fn new(
         hall: Hall<K>,
+        badges: Badges,
         keeper: Arc<Keeper<N, L, S>>,
         nothing: Stamp<N, L>,
     ) -> City<K, N, L, S>
-        ensures { configuration result.hall.config.value ≡ configuration hall.config.value }
+        ensures configured { configuration result.hall.config.value ≡ configuration hall.config.value }
+        ensures badged { result.badges ≡ badges }
     {
         City {
             hall,
+            badges,
             keeper,
             nothing,
         }
@@ -72,23 +80,30 @@ impl<K: Named, N: Naming, L: Log, S: Space> City<K, N, L, S> {
     pub fn finish<R: Wait>(self, rt: &R) {
         let Self {
             hall,
+            badges: _badges,
             keeper: _keeper,
             nothing: _nothing,
         } = self;
         hall.finish(rt);
     }
 
-    /// A response that waits until all of a stamp is synced.
+    /// The stamp of all that was appended by now.
+    pub(crate) fn stamp(&self) -> Stamp<N, L> {
+        self.keeper.stamp(&self.nothing)
+    }
+
+    /// A response that waits until all of a stamp is synced, and that no cache may keep.
     pub(crate) fn waiting(
         &self,
         stamp: Stamp<N, L>,
         response: Response<Full<Bytes>>,
     ) -> Result<Settling<Response<Full<Bytes>>, N, L, S>, NotTold>
-        ensures reply { IfOk result (λ s. s.reply ≡ Some response) }
+        ensures reply { IfOk result (λ s. Waits (λ plain. plain ≡ response) s.reply) }
         ensures stamp { IfOk result (λ s. s.stamp ≡ stamp) }
     {
         let keeper = Arc::try_clone(&self.keeper)?;
-        Ok(Settling::new(keeper, stamp, response))
+        let marked = unstored(response)?;
+        Ok(Settling::new(keeper, stamp, marked))
     }
 
     /// The response that says an answer, once all that it shows is synced.
@@ -121,7 +136,7 @@ impl<K: Named, N: Naming, L: Log, S: Space> City<K, N, L, S> {
     ) -> Result<Settling<Response<Full<Bytes>>, N, L, S>, NotTold>
         ensures { IfOk result (λ s. Waits (λ response. Says response (refused code)) s.reply) }
     {
-        let stamp = self.keeper.stamp(&self.nothing);
+        let stamp = self.stamp();
         let answer = Answer::from(code);
         self.told(alloc, Answered { answer, stamp })
     }
@@ -137,7 +152,7 @@ impl<K: Named, N: Naming, L: Log, S: Space> City<K, N, L, S> {
     ) -> Result<Settling<Response<Full<Bytes>>, N, L, S>, NotTold>
         ensures { IfOk result (λ s. Waits SaysNoRoom s.reply) }
     {
-        let stamp = self.keeper.stamp(&self.nothing);
+        let stamp = self.stamp();
         let response = no_room(alloc)?;
         self.waiting(stamp, response)
     }

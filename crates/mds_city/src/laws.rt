@@ -1,5 +1,5 @@
 //! Laws of what a city answers. The functions do nothing: their contracts are the laws.
-ghost use Rattle.mds_city.specs.Laws.{AppAndProtocolAreApart, ManyAreKept, RecordedAreKept, RespondsAsAHall};
+ghost use Rattle.mds_city.specs.Laws.{AppAndProtocolAreApart, AppCallsAreNotKept, ManyAreKept, OperatorsAreToldTheirOwn, RecordedAreKept, RespondsAsAHall, WithdrawalsAreOfOwnPolicies};
 
 use mds_records::Log;
 
@@ -16,6 +16,21 @@ pub fn many_are_kept<L: Log>()
 /// No call beside the protocol's stands at a path of the protocol: the table of calls has no row for its path.
 pub fn app_and_protocol_are_apart()
     ensures { AppAndProtocolAreApart }
+{}
+
+/// No journal keeps a call beside the protocol's.
+pub fn app_calls_are_not_kept()
+    ensures { AppCallsAreNotKept }
+{}
+
+/// What an operator is told beside the protocol depends on the publications and its own place alone.
+pub fn operators_are_told_their_own()
+    ensures { OperatorsAreToldTheirOwn }
+{}
+
+/// What an operator is told of withdrawals is of the policies that are meant for it.
+pub fn withdrawals_are_of_own_policies()
+    ensures { WithdrawalsAreOfOwnPolicies }
 {}
 
 /// Where the log has room, a city responds to a call of the protocol as a hall does.

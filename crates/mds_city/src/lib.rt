@@ -9,13 +9,15 @@ pub mod laws;
 mod leaving;
 mod lines;
 mod many;
+mod people;
 mod reception;
 mod recording;
 mod records;
 mod responding;
 mod telling;
+mod unstored;
 
-pub use app::{AppCall, app_call};
+pub use app::{AppCall, Question, app_call};
 pub use away::no_room;
 pub use city::City;
 pub use leaving::Leaving;

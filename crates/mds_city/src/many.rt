@@ -3,8 +3,8 @@ ghost use Rattle.std.specs.Prelude.{◌≡◌, ◌==◌, ◌≤◌, ◌<◌, IfO
 ghost use Rattle.mds_request.specs.Configuration.{configuration};
 ghost use Rattle.mds_request.specs.Request.{request_of};
 ghost use Rattle.mds_hall.specs.Heard.{request_heard};
-ghost use Rattle.mds_city.specs.City.{Waits};
 ghost use Rattle.mds_city.specs.Many.{AreRecordsOf, IsUnasked, ManyAreAnswered, IsRecordedRun, SaysAll, reports_of};
+ghost use Rattle.mds_city.specs.Unstored.{Waits};
 
 use crate::city::City;
 use crate::lines::{Unasked, reports};

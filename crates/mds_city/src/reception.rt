@@ -4,6 +4,7 @@ ghost use Rattle.mds_request.specs.Configuration.{configuration, actor_of};
 ghost use Rattle.mds_hall.specs.Asked.{token_of};
 ghost use Rattle.mds_limits.specs.Asker.{asker_of};
 ghost use Rattle.mds_doors.specs.Arrived.{arrived_of};
+ghost use Rattle.mds_app.specs.Badges.{badges_view};
 ghost use Rattle.mds_city.specs.City.{CityResponds};
 
 use crate::city::City;
@@ -53,7 +54,7 @@ impl<
     fn answer(&self, parts: &Parts, taken: Taken) -> Leaving<N, L, S>
         requires { E.may_judge }
         ensures { IfSome result.told (λ s. (at : Option ℕ)
-            × CityResponds (configuration self.now.city.hall.config.value) parts.now
+            × CityResponds (configuration self.now.city.hall.config.value) (badges_view self.now.city.badges) parts.now
             (arrived_of taken.arrival taken.body) at s.reply s.stamp) }
     {
         let at = self.moments.now();

@@ -3,11 +3,14 @@ ghost use Rattle.std.specs.Prelude.{◌<◌, length, IfOk};
 ghost use Rattle.mds_request.specs.Configuration.{configuration};
 ghost use Rattle.mds_request.specs.declared.config.Actor.TheVariants.{Author, Operator};
 ghost use Rattle.mds_hall.specs.Heard.{request_heard};
-ghost use Rattle.mds_city.specs.City.{CityResponds, IsAnsweredBy, IsToldBy, Waits};
+ghost use Rattle.mds_app.specs.Badges.{badges_view};
+ghost use Rattle.mds_city.specs.City.{CityResponds, IsAnsweredBy, IsToldBy};
+ghost use Rattle.mds_city.specs.Unstored.{Waits};
 
 use crate::app::{AppCall, app_call};
 use crate::city::City;
 use crate::many::many_reports;
+use crate::people::{tell_an_operator, tell_the_author};
 use bytes::Bytes;
 use http::Response;
 use http::request::Parts;
@@ -46,7 +49,7 @@ pub fn respond<
     evaluator: &E,
 ) -> Result<Settling<Response<Full<Bytes>>, N, L, S>, NotTold>
     requires { E.may_judge }
-    ensures { IfOk result (λ s. CityResponds (configuration city.now.hall.config.value) parts.now arrived at s.reply s.stamp) }
+    ensures { IfOk result (λ s. CityResponds (configuration city.now.hall.config.value) (badges_view city.now.badges) parts.now arrived at s.reply s.stamp) }
 {
     let heard = match hear(parts, arrived, at) {
         Ok(heard) => heard,
@@ -66,12 +69,13 @@ fn to_the_author<K: Named, N: Naming, R: Wait + Copy + Drop, L: Log, S: Space>(
     heard: Heard<'_>,
     city: &City<K, N, L, S>,
 ) -> Result<Settling<Response<Full<Bytes>>, N, L, S>, NotTold>
-    ensures { IfOk result (λ s. Waits (IsToldBy (configuration city.now.hall.config.value) Author
+    ensures { IfOk result (λ s. Waits (IsToldBy (configuration city.now.hall.config.value) (badges_view city.now.badges) Author
         (request_heard heard.entry) s.stamp) s.reply) }
 {
     match app_call(&heard.request()) {
         None => of_the_author(rt, alloc, heard, city),
         Some(Ok(AppCall::Events)) => city.refused(alloc, Code::Role),
+        Some(Ok(AppCall::Told(question))) => tell_the_author(rt, alloc, question, city),
         Some(Err(code)) => city.refused(alloc, code),
     }
 }
@@ -87,12 +91,13 @@ fn to_an_operator<K: Named, N: Naming, R: Wait, E: Evaluator<Catalogue>, L: Log,
 ) -> Result<Settling<Response<Full<Bytes>>, N, L, S>, NotTold>
     requires judge { E.may_judge }
     requires place { place < length (configuration city.now.hall.config.value).operators }
-    ensures { IfOk result (λ s. Waits (IsToldBy (configuration city.now.hall.config.value) (Operator place)
+    ensures { IfOk result (λ s. Waits (IsToldBy (configuration city.now.hall.config.value) (badges_view city.now.badges) (Operator place)
         (request_heard heard.entry) s.stamp) s.reply) }
 {
     match app_call(&heard.request()) {
         None => of_an_operator(rt, alloc, place, heard, city, evaluator),
         Some(Ok(AppCall::Events)) => many_reports(rt, alloc, place, &heard, city, evaluator),
+        Some(Ok(AppCall::Told(question))) => tell_an_operator(rt, alloc, place, question, city),
         Some(Err(code)) => city.refused(alloc, code),
     }
 }

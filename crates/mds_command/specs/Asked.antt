@@ -1,19 +1,22 @@
 -- What the words behind the program's name ask for.
-use Rattle.std.specs.Prelude.{ℕ, List, [], ◌∷◌, bytes_eq, codes, option_map, if◌then◌else◌, Option, Some, None}
+use Rattle.std.specs.Prelude.{ℕ, List, [], ◌∷◌, bytes_eq, codes, option_map, unwrap_or, if◌then◌else◌, Option, Some, None}
 use Rattle.uuid.specs.Text.{parsed}
-use Rattle.mds_command.specs.Options.{value_of, are_options, moment_in}
+use Rattle.mds_command.specs.Options.{value_of, are_options, moment_in, count_in}
+use Rattle.mds_command.specs.Errands.{Job, errand_of, errand_view}
+use Rattle.mds_command.specs.declared.asking.TheConstants.{THIN_AT}
 use Rattle.mds_command.specs.declared.asking.Asked.{Asked}
-use Rattle.mds_command.specs.declared.asking.Asked.TheVariants.{Help, Version, Serve, Check, Audit, Thin, Stop}
+use Rattle.mds_command.specs.declared.asking.Asked.TheVariants.{Help, Version, Serve, Check, Audit, Thin, Stop, Errand}
 
 -- what the program is asked to do
 pub data Request : Type 0 where
   help : Request
   version : Request
-  serve : (config state listen : List ℕ) → (control dropped : Option (List ℕ)) → Request
+  serve : (config state listen : List ℕ) → (control dropped : Option (List ℕ)) → (thin_at : ℕ) → Request
   check : (folder : List ℕ) → Request
   audit : (folder config : List ℕ) → (until : Option ℕ) → (operator : Option (List ℕ)) → Request
   thin : (folder config : List ℕ) → Request
   stop : (address : List ℕ) → Request
+  errand : Job → Request
 
 -- what a value that may be left out reads as: nothing without it, none where it isn't read
 abbrev pub read_if : {A : Type 0} → (List ℕ → Option A) → Option (List ℕ) → Option (Option A)
@@ -21,18 +24,19 @@ read_if read None = Some None
 read_if read (Some word) = option_map Some (read word)
 
 abbrev pub serving_options : List (List ℕ)
-serving_options = codes "--config" ∷ codes "--state" ∷ codes "--listen" ∷ codes "--control" ∷ codes "--drop" ∷ []
+serving_options = codes "--config" ∷ codes "--state" ∷ codes "--listen" ∷ codes "--control" ∷ codes "--drop" ∷ codes "--thin-at" ∷ []
 
--- to serve, where these three are given
-abbrev pub serve_with : Option (List ℕ) → Option (List ℕ) → Option (List ℕ) → Option (List ℕ) → Option (Option (List ℕ)) → Option Request
-serve_with (Some config) (Some state) (Some listen) control (Some dropped) = Some (serve config state listen control dropped)
-serve_with config state listen control dropped = None
+-- to serve, where these three are given; the journal is thinned by its default where it isn't said when
+abbrev pub serve_with : (config state listen control : Option (List ℕ)) → (dropped : Option (Option (List ℕ))) → (thin_at : Option (Option ℕ)) → Option Request
+serve_with (Some config) (Some state) (Some listen) control (Some dropped) (Some thin_at) =
+    Some (serve config state listen control dropped (unwrap_or thin_at THIN_AT))
+serve_with config state listen control dropped thin_at = None
 
 abbrev pub asked_to_serve : List (List ℕ) → Option Request
 asked_to_serve words =
     if are_options serving_options words
     then serve_with (value_of (codes "--config") words) (value_of (codes "--state") words) (value_of (codes "--listen") words)
-    (value_of (codes "--control") words) (read_if parsed (value_of (codes "--drop") words))
+    (value_of (codes "--control") words) (read_if parsed (value_of (codes "--drop") words)) (read_if count_in (value_of (codes "--thin-at") words))
     else None
 
 abbrev pub auditing_options : List (List ℕ)
@@ -71,12 +75,16 @@ asked_with verb name =
     if bytes_eq verb (codes "check") then Some (check name)
     else (if bytes_eq verb (codes "stop") then Some (stop name) else None)
 
--- what a word asks for, with a folder or an address, and options: `audit` and `thin` alone have any
+-- what is done between files and another server
+abbrev pub asked_errand : List ℕ → List ℕ → List (List ℕ) → Option Request
+asked_errand verb name words = option_map errand (errand_of verb name words)
+
+-- what a word asks for, with another and options, which `check` and `stop` haven't
 abbrev pub asked_of : List ℕ → List ℕ → List (List ℕ) → Option Request
 asked_of verb name [] = asked_with verb name
 asked_of verb name (word ∷ words) =
     if bytes_eq verb (codes "audit") then asked_to_audit name (word ∷ words)
-    else (if bytes_eq verb (codes "thin") then asked_to_thin name (word ∷ words) else None)
+    else (if bytes_eq verb (codes "thin") then asked_to_thin name (word ∷ words) else asked_errand verb name (word ∷ words))
 
 -- what the words behind the program's name ask for
 abbrev pub asked_by : List (List ℕ) → Option Request
@@ -87,8 +95,9 @@ asked_by (verb ∷ word ∷ words) = if bytes_eq verb (codes "serve") then asked
 abbrev pub asked_view : Asked → Request
 asked_view Help = help
 asked_view Version = version
-asked_view (Serve s) = serve s.config.now s.state.now s.listen.now (option_map (λ word. word.now) s.control) s.dropped
+asked_view (Serve s) = serve s.config.now s.state.now s.listen.now (option_map (λ word. word.now) s.control) s.dropped s.thin_at
 asked_view (Check folder) = check folder.now
 asked_view (Audit a) = audit a.folder.now a.config.now a.until a.operator
 asked_view (Thin t) = thin t.folder.now t.config.now
 asked_view (Stop address) = stop address.now
+asked_view (Errand e) = errand (errand_view e)

@@ -30,5 +30,12 @@ decimal digits = fold (λ n digit. 10 * n + (digit - 48)) 0 digits
 abbrev pub is_moment : List ℕ → Bool
 is_moment word = nat_le 1 (length word) && nat_le (length word) 13 && are_digits word && nat_le (decimal word) last_moment
 
+-- 1 to 13 digits
+abbrev pub is_count : List ℕ → Bool
+is_count word = nat_le 1 (length word) && nat_le (length word) 13 && are_digits word
+
+abbrev pub count_in : List ℕ → Option ℕ
+count_in word = if is_count word then Some (decimal word) else None
+
 abbrev pub moment_in : List ℕ → Option ℕ
 moment_in word = if is_moment word then Some (decimal word) else None

@@ -1,12 +1,16 @@
 //! What the program is asked to do.
 ghost use Rattle.std.specs.Prelude.{◌≡◌, ◌∷◌, map, string_bytes, option_map};
 ghost use Rattle.uuid.specs.Text.{parsed};
-ghost use Rattle.mds_command.specs.Options.{moment_in};
-ghost use Rattle.mds_command.specs.Asked.{read_if, asked_to_serve, asked_to_audit, asked_to_thin, asked_alone, asked_with, asked_of, asked_by, asked_view};
+ghost use Rattle.mds_command.specs.Options.{moment_in, count_in};
+ghost use Rattle.mds_command.specs.Asked.{read_if, asked_to_serve, asked_to_audit, asked_to_thin, asked_alone, asked_with, asked_of, asked_errand, asked_by, asked_view};
 
-use crate::moment::moment_of;
+use crate::errands::{Errand, errand_of};
+use crate::moment::{count_of, moment_of};
 use crate::options::{are_options, value_of};
 use mds_text::{Id, Moment};
+
+/// By how many bytes a journal has to have grown before it is thinned, where it isn't said: 64 MiB.
+pub const THIN_AT: u64 = 67_108_864;
 
 /// Where a city is kept and served.
 #[derive(Clone, Copy)]
@@ -21,6 +25,8 @@ pub struct Service<'a> {
     pub control: Option<&'a str>,
     /// The operator whose entries are left out.
     pub dropped: Option<Id>,
+    /// By how many bytes the journal has to have grown before it is thinned; 0, it never is.
+    pub thin_at: u64,
 }
 
 /// What of a journal is printed.
@@ -62,6 +68,8 @@ pub enum Asked<'a> {
     Thin(Thinning<'a>),
     /// To stop the server whose control port is at this address.
     Stop(&'a str),
+    /// What is done between files and another server.
+    Errand(Errand<'a>),
 }
 
 /// The identifier that a value is, if it is given; `None` where it is none.
@@ -90,11 +98,31 @@ fn moment_if(word: Option<&str>) -> Option<Option<Moment>>
     }
 }
 
+/// The count that a value is, if it is given; `None` where it is none.
+fn count_if(word: Option<&str>) -> Option<Option<u64>>
+    ensures { result ≡ read_if count_in (option_map (λ word. word.now) word.entry) }
+{
+    match word {
+        None => Some(None),
+        Some(word) => match count_of(word) {
+            Some(count) => Some(Some(count)),
+            None => None,
+        },
+    }
+}
+
 /// Where to serve, by options in any order.
 fn asked_to_serve(words: &[String]) -> Option<Asked<'_>>
     ensures { option_map asked_view result ≡ asked_to_serve (map string_bytes words.now) }
 {
-    let names = &["--config", "--state", "--listen", "--control", "--drop"];
+    let names = &[
+        "--config",
+        "--state",
+        "--listen",
+        "--control",
+        "--drop",
+        "--thin-at",
+    ];
     if !are_options(names, words) {
         return None;
     }
@@ -103,12 +131,14 @@ fn asked_to_serve(words: &[String]) -> Option<Asked<'_>>
     let listen = value_of("--listen", words)?;
     let control = value_of("--control", words);
     let dropped = id_if(value_of("--drop", words))?;
+    let thin_at = count_if(value_of("--thin-at", words))?.unwrap_or(THIN_AT);
     Some(Asked::Serve(Service {
         config,
         state,
         listen,
         control,
         dropped,
+        thin_at,
     }))
 }
 
@@ -178,7 +208,17 @@ fn asked_of<'a>(verb: &str, name: &'a str, words: &'a [String]) -> Option<Asked<
     } else if verb == "thin" {
         asked_to_thin(name, words)
     } else {
-        None
+        asked_errand(verb, name, words)
+    }
+}
+
+/// What is done between files and another server.
+fn asked_errand<'a>(verb: &str, name: &'a str, words: &'a [String]) -> Option<Asked<'a>>
+    ensures { option_map asked_view result ≡ asked_errand verb.now name.now (map string_bytes words.now) }
+{
+    match errand_of(verb, name, words) {
+        Some(errand) => Some(Asked::Errand(errand)),
+        None => None,
     }
 }
 

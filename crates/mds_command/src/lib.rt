@@ -2,10 +2,12 @@
 #![tactic(auto)]
 
 mod asking;
+mod errands;
 mod moment;
 mod options;
 mod text;
 
 pub use asking::{Asked, Audit, Service, Thinning, asked_by};
+pub use errands::{Destination, Errand, Import};
 pub use moment::moment_of;
 pub use text::{HELP, USAGE, VERSION};

@@ -1,10 +1,10 @@
-//! A moment that a word names.
+//! A moment or a count that a word names.
 ghost use Rattle.std.specs.Prelude.{◌≡◌, ◌≤◌, ◌<◌, ◌^◌, length, Some, None, if◌then◌else◌, IfSome};
-ghost use Rattle.mds_command.specs.Options.{are_digits, decimal, moment_in};
+ghost use Rattle.mds_command.specs.Options.{are_digits, decimal, moment_in, count_in};
 
 use mds_text::Moment;
 
-/// The most digits of a moment.
+/// The most digits of a moment or a count.
 const MOST_DIGITS: usize = 13;
 
 /// The moment that a text of 1 to 13 decimal digits names, in milliseconds of the Unix epoch; `None` for any other text,
@@ -17,6 +17,17 @@ pub fn moment_of(text: &str) -> Option<Moment>
         return None;
     }
     Moment::new(number_of(digits)? as i64)
+}
+
+/// The count that a text of 1 to 13 decimal digits names; `None` for any other text.
+pub(crate) fn count_of(text: &str) -> Option<u64>
+    ensures { result ≡ count_in text.now }
+{
+    let digits = text.as_bytes();
+    if digits.is_empty() || digits.len() > MOST_DIGITS {
+        return None;
+    }
+    number_of(digits)
 }
 
 /// The number that decimal digits stand for; `None` where another byte is among them.

@@ -10,7 +10,7 @@ pub const USAGE: &str =
 /// What `--help` answers.
 pub const HELP: &str = "\
 ruffletuff serve --config FILE --state DIR --listen ADDRESS
-                 [--control ADDRESS] [--drop ID]
+                 [--control ADDRESS] [--drop ID] [--thin-at BYTES]
     serves one city over HTTP
 ruffletuff check DIR
     says how many records and bytes a folder's journal has, and how it ends
@@ -20,6 +20,8 @@ ruffletuff thin DIR --config FILE
     replaces a folder's journal by a shorter one that leads to the same city
 ruffletuff stop ADDRESS
     stops the server whose control port is at this address
+ruffletuff import policies FILE.. --to ADDRESS --token TOKEN [--dry-run]
+    sends documents of MDS 2.0, or GeoJSON with names, to a server as drafts
 ruffletuff --help
     says this
 ruffletuff --version
@@ -42,6 +44,8 @@ ID       an operator, by its UUID. --drop leaves out what the journal has of
          prints its requests and the author's alone
 MOMENT   in milliseconds of the Unix epoch: the requests before the first later
          one are printed
+BYTES    by how many the journal grows before it is thinned while the city is
+         served: 67108864 where it isn't said, 0 for never
 
 To check and to audit read while a server writes; to thin needs the folder
 alone. Standard output says 'ready' once the server listens. After a fault
@@ -56,6 +60,8 @@ Exit status: 0 done
              6 the configuration doesn't fit the journal
              7 the journal, or the thinned one, couldn't be written
              8 the thinned journal leads to another city, and wasn't taken
+             9 something that was read isn't sent, or was refused
+            10 the server takes nothing by this access token
 
 Example: ruffletuff serve --config city.json --state city --listen 127.0.0.1:8080
 ";

@@ -6,6 +6,7 @@ use crate::sits::Sits;
 use futures::Future;
 use futures::task::{Context, Poll};
 use std::alloc::{AllocError, Global};
+use std::sync::atomic::AtomicU64;
 use std::sync::{Arc, Wait};
 use tokio::sync::{Notify, OwnedNotified};
 use tokio::time::Sleep;
@@ -13,10 +14,11 @@ use tokio::time::Sleep;
 /// How long a connection may stay once its server ends, in seconds.
 const CLOSING_SECONDS: u64 = 10;
 
-/// Ends a server, from any thread.
+/// Ends a server, from any thread, and tells how many connections it has.
 #[derive(Drop)]
 pub struct Closing {
     bell: Arc<Notify>,
+    connections: Arc<AtomicU64>,
 }
 
 /// Ends once the server is to end. The register of its house is closed then, and each connection has been told.
@@ -42,7 +44,17 @@ impl Closing {
     pub fn new(alloc: Global) -> Result<Closing, AllocError> {
         Ok(Closing {
             bell: Arc::new(alloc, Notify::new(alloc)?)?,
+            connections: Arc::new(alloc, AtomicU64::new(0))?,
         })
+    }
+
+    /// A share of the number that tells how many connections are open: 0 until the server is served.
+    ///
+    /// # Errors
+    ///
+    /// There are too many shares.
+    pub fn connections(&self) -> Result<Arc<AtomicU64>, AllocError> {
+        Arc::try_clone(&self.connections)
     }
 
     /// The server accepts nothing more, connections that wait for a head are ended, and what has begun is answered, within 10
@@ -51,15 +63,17 @@ impl Closing {
         self.bell.notify_one();
     }
 
-    /// What closes this house, once the server is to end.
+    /// What closes this house, once the server is to end. Its connections are counted from now on.
     ///
     /// # Errors
     ///
     /// There are too many shares.
-    pub fn closed<A: Drop, C: Drop>(
+    pub fn closed<A: Drop, C: Wait + Drop>(
         &self,
         house: Arc<House<A, C>>,
     ) -> Result<Closed<A, C>, AllocError> {
+        let connections = self.connections()?;
+        house.register.lock(&house.clock).count_at(connections);
         Ok(Closed {
             rung: Notify::notified_owned(Arc::try_clone(&self.bell)?),
             house,

@@ -7,7 +7,7 @@ use slab::Slab;
 use std::alloc::{AllocError, Global};
 use std::collections::BTreeMap;
 use std::sync::Arc;
-use std::sync::atomic::AtomicU64;
+use std::sync::atomic::{AtomicU64, Ordering};
 use tokio::sync::{Notify, OwnedNotified};
 
 /// What all that have a part in a connection know of it.
@@ -61,6 +61,8 @@ pub struct Register {
     all: usize,
     /// The bytes that wait of all.
     bytes: usize,
+    /// Where it is told how many connections are open, for who counts them.
+    open: Option<Arc<AtomicU64>>,
     /// The server ends: nobody gets in any more.
     is_closed: bool,
 }
@@ -121,6 +123,7 @@ impl Register {
             loads: vec![in alloc; none; askers]?,
             all: 0,
             bytes: 0,
+            open: None,
             is_closed: false,
         })
     }
@@ -130,6 +133,22 @@ impl Register {
         ensures { self.new ≡ record self.old { is_closed = true } }
     {
         self.is_closed = true;
+    }
+
+    /// From now on this number tells how many connections are open: those that have a seat, and those that were told to leave
+    /// and haven't ended.
+    pub fn count_at(&mut self, open: Arc<AtomicU64>)
+        ensures { self.new.is_closed ≡ self.old.is_closed }
+    {
+        self.open = Some(open);
+        self.tell_open();
+    }
+
+    /// Tells how many connections are open, where they are counted.
+    fn tell_open(&self) {
+        if let Some(open) = &self.open {
+            open.store(self.sitters.len() as u64, Ordering::SeqCst);
+        }
     }
 
     /// Tells each connection that the server ends. One that waits for a head leaves at once, another once its reply is taken.
@@ -162,6 +181,7 @@ impl Register {
         match self.sitters.insert(sitter) {
             Ok(key) => {
                 self.rest(key);
+                self.tell_open();
                 Some(key)
             }
             Err(_) => {
@@ -243,6 +263,7 @@ impl Register {
         {
             self.uncount(sitter.asker);
         }
+        self.tell_open();
     }
 
     /// The connection isn't idle any more.

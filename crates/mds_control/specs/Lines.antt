@@ -5,3 +5,7 @@ use Rattle.mds_control.specs.declared.lines.Line.{Line}
 -- what stands before the line, and the line
 abbrev pub line_text : Line → List ℕ
 line_text line = line.before.now ++ line.name.now ++ codes " " ++ decimal line.value ++ codes "\n"
+
+-- the name of an operator's vehicles: its identifier is the label's value, which needs no escape since it is a UUID
+abbrev pub vehicles_of : List ℕ → List ℕ
+vehicles_of operator = codes "ruffletuff_vehicles{operator=\"" ++ operator ++ codes "\"}"

@@ -2,8 +2,10 @@
 ghost use Rattle.std.specs.Prelude.{◌≡◌};
 ghost use Rattle.mds_control.specs.Counted.{call_of, outcome_of, place_of, request_place};
 
+use crate::fleets::Fleet;
 use crate::lines::Line;
 use std::alloc::{AllocError, Global};
+use std::sync::Arc;
 use std::sync::atomic::{AtomicU64, Ordering};
 
 /// The kinds of requests.
@@ -46,6 +48,10 @@ pub enum Figure {
 pub struct Counters {
     /// In the order of the rows.
     values: Vec<AtomicU64>,
+    /// How many connections are open.
+    connections: Arc<AtomicU64>,
+    /// In the configuration's order.
+    fleets: Vec<Fleet>,
 }
 
 /// What is said of a number.
@@ -54,6 +60,15 @@ struct Row {
     before: &'static str,
     name: &'static str,
 }
+
+/// What is said of the open connections, and of each operator's vehicles.
+const CONNECTIONS: &str = "\
+# HELP ruffletuff_connections connections that are open\n\
+# TYPE ruffletuff_connections gauge\n";
+
+const VEHICLES: &str = "\
+# HELP ruffletuff_vehicles vehicles of each operator\n\
+# TYPE ruffletuff_vehicles gauge\n";
 
 /// How many milliseconds are no more than what each bucket counts. The last counts all.
 const BOUNDS: &[u64] = &[5, 10, 25, 100, 250, 1000, u64::MAX];
@@ -236,15 +251,29 @@ fn zeros(alloc: Global, count: usize) -> Result<Vec<AtomicU64>, AllocError> {
 }
 
 impl Counters {
-    /// Counters of a server that has counted nothing.
+    /// Counters of a server that has counted nothing. Its open connections and its operators' vehicles are counted elsewhere, in
+    /// numbers that are read here.
     ///
     /// # Errors
     ///
     /// Memory ran out.
-    pub fn new(alloc: Global) -> Result<Counters, AllocError> {
+    pub fn new(
+        alloc: Global,
+        connections: Arc<AtomicU64>,
+        fleets: Vec<Fleet>,
+    ) -> Result<Counters, AllocError> {
         Ok(Counters {
             values: zeros(alloc, ROWS.len())?,
+            connections,
+            fleets,
         })
+    }
+
+    /// The fleets, in the configuration's order.
+    pub fn fleets(&self) -> &[Fleet]
+        ensures { result.now ≡ self.now.fleets.items }
+    {
+        &self.fleets
     }
 
     fn bump(&self, place: usize, by: u64) {
@@ -289,8 +318,20 @@ impl Counters {
     /// # Errors
     ///
     /// Memory ran out.
-    pub fn lines(&self, alloc: Global) -> Result<Vec<Line>, AllocError> {
+    pub fn lines(&self, alloc: Global) -> Result<Vec<Line<'_>>, AllocError> {
         let mut lines = Vec::new(alloc);
+        lines.push(Line {
+            before: CONNECTIONS,
+            name: "ruffletuff_connections",
+            value: self.connections.load(Ordering::SeqCst),
+        })?;
+        for (place, fleet) in self.fleets.iter().enumerate() {
+            lines.push(Line {
+                before: if place == 0 { VEHICLES } else { "" },
+                name: fleet.name(),
+                value: fleet.count(),
+            })?;
+        }
         for (row, value) in ROWS.iter().zip(&self.values) {
             lines.push(Line {
                 before: row.before,

@@ -7,16 +7,16 @@ use std::fmt;
 
 /// One line: what is counted, and how much of it there is.
 #[derive(Clone, Copy)]
-pub struct Line {
+pub struct Line<'a> {
     /// What stands before the line: nothing, or lines that say what is counted, each with its end.
     pub before: &'static str,
     /// What is counted, with its labels.
-    pub name: &'static str,
+    pub name: &'a str,
     /// How much.
     pub value: u64,
 }
 
-impl fmt::Display for Line {
+impl fmt::Display for Line<'_> {
     ghost use Rattle.std.specs.Prelude.{Some};
     ghost use Rattle.mds_control.specs.Lines.{line_text};
 
@@ -32,7 +32,7 @@ impl fmt::Display for Line {
 /// # Errors
 ///
 /// Memory ran out.
-pub fn metrics(alloc: Global, lines: &[Line]) -> Result<String, AllocError>
+pub fn metrics(alloc: Global, lines: &[Line<'_>]) -> Result<String, AllocError>
     ensures { IfOk result (λ text. string_bytes text ≡ flat_map line_text lines.now) }
 {
     let mut text = String::new(alloc);

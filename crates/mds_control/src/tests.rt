@@ -1,11 +1,13 @@
 //! What the control port says over loopback.
 use crate::counters::{Call, Counters, Figure};
+use crate::fleets::Fleet;
 use crate::serving::{Control, Stop, serve_control};
 use crate::{metrics, stop};
-use std::alloc::{AllocGlobal, Global};
+use std::alloc::{AllocError, AllocGlobal, Global};
 use std::io::{self, Read, Write};
 use std::net::{Net, SocketAddr, TcpListener, TcpStream};
-use std::sync::atomic::{AtomicBool, Ordering};
+use std::sync::Arc;
+use std::sync::atomic::{AtomicBool, AtomicU64, Ordering};
 use std::test::Fail;
 use std::thread::join;
 
@@ -17,6 +19,12 @@ impl Stop for Noted {
     fn stop(&self) {
         self.0.store(true, Ordering::SeqCst);
     }
+}
+
+/// Counters of a server without connections and operators.
+fn nothing_counted(alloc: Global) -> Result<Counters, AllocError> {
+    let connections = Arc::new(alloc, AtomicU64::new(0))?;
+    Counters::new(alloc, connections, Vec::new(alloc))
 }
 
 /// The reply to one head.
@@ -68,7 +76,7 @@ fn asked<R: Net + AllocGlobal>(rt: &R, address: SocketAddr, control: &Control) -
 fn answers_and_stops(rt: HostRuntime) -> Result<(), Fail> {
     let listener = TcpListener::bind(&rt, "127.0.0.1:0")?;
     let address = listener.local_addr()?;
-    let counters = Counters::new(rt.alloc())?;
+    let counters = nothing_counted(rt.alloc())?;
     let control = Control::new();
     let noted = Noted(AtomicBool::new(false));
     let (right, ()) = join(
@@ -90,7 +98,7 @@ fn has_line(alloc: Global, counters: &Counters, line: &str) -> Result<bool, Fail
 #[test]
 fn counts_in_its_rows(rt: HostRuntime) -> Result<(), Fail> {
     let alloc = rt.alloc();
-    let counters = Counters::new(alloc)?;
+    let counters = nothing_counted(alloc)?;
     counters.answered(Call::of("POST", "/publish"), 503, 20);
     counters.answered(Call::of("GET", "/policies"), 200, 2000);
     counters.add(Figure::Syncs, 3);
@@ -111,6 +119,30 @@ fn counts_in_its_rows(rt: HostRuntime) -> Result<(), Fail> {
         "ruffletuff_syncs_total 3",
         "ruffletuff_pending_replies 1",
         "ruffletuff_revision 5",
+    ] {
+        assert!(rt; has_line(alloc, &counters, line)?, "{line}");
+    }
+    Ok(())
+}
+
+#[test]
+fn tells_connections_and_vehicles(rt: HostRuntime) -> Result<(), Fail> {
+    let alloc = rt.alloc();
+    let mut fleets = Vec::new(alloc);
+    fleets.push(Fleet::new(alloc, "3b0f6c9e-1d7a-4d2b-8f35-7a9d0a4c1101")?)?;
+    fleets.push(Fleet::new(alloc, "5d8e1f70-62c4-4e9b-b0a6-2f1c9e3d2201")?)?;
+    let connections = Arc::new(alloc, AtomicU64::new(0))?;
+    let counters = Counters::new(alloc, Arc::try_clone(&connections)?, fleets)?;
+    connections.store(3, Ordering::SeqCst);
+    for (fleet, count) in counters.fleets().iter().zip([7, 250_000]) {
+        fleet.vehicles()?.store(count, Ordering::SeqCst);
+    }
+    for line in [
+        "# TYPE ruffletuff_connections gauge",
+        "ruffletuff_connections 3",
+        "# TYPE ruffletuff_vehicles gauge",
+        "ruffletuff_vehicles{operator=\"3b0f6c9e-1d7a-4d2b-8f35-7a9d0a4c1101\"} 7",
+        "ruffletuff_vehicles{operator=\"5d8e1f70-62c4-4e9b-b0a6-2f1c9e3d2201\"} 250000",
     ] {
         assert!(rt; has_line(alloc, &counters, line)?, "{line}");
     }

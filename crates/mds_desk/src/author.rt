@@ -4,6 +4,7 @@ ghost use Rattle.std.specs.Prelude.{◌≡◌, ◌⊎◌};
 use crate::desk::Desk;
 use crate::leave::{Always, Leave};
 use crate::operator::refusal_of_another;
+use crate::telling::AuthorTelling;
 use mds_drafts::Drafts;
 use mds_request::{Actor, AuthorCall, Call, Code, Config, Request, Routes, read_call};
 use mds_shelf::{Answer, Ready, SharedShelf, ready_for_author};
@@ -166,6 +167,17 @@ impl<K: Naming> AuthorRoom<K> {
                 }
             }
         }
+    }
+
+    /// Tells what a telling has to tell of the drafts and of what is published. Nothing changes.
+    ///
+    /// # Errors
+    ///
+    /// Memory ran out.
+    pub fn tell<T: AuthorTelling>(&self, telling: &T) -> Result<T::Told, AllocError>
+        ensures { IfOk result (T.tells telling.now (room_of self.now).drafts (room_of self.now).publications) }
+    {
+        telling.tell(self.alloc, &self.drafts, self.publisher.catalogue())
     }
 
     /// A share of the configuration.

@@ -1,20 +1,23 @@
 //! An operator's own place.
-ghost use Rattle.std.specs.Prelude.{◌≡◌, Some, option_map, slice_get};
+ghost use Rattle.std.specs.Prelude.{◌≡◌, ◌⊎◌, IfErr, IfOk, Some, option_map, slice_get};
+ghost use Rattle.std.specs.FinMap.{len};
 ghost use Rattle.mds_fleet.specs.Fleet.{Fits};
 ghost use Rattle.mds_request.specs.Configuration.{configuration};
+ghost use Rattle.mds_request.specs.declared.code.Code.TheVariants.{NoMemory, NoSnapshot};
 ghost use Rattle.mds_world.specs.Lasting.{fits_prop, lasting_in};
 
 use crate::gate::Gate;
 use crate::operator::answered;
 use crate::seat::Seat;
+use crate::telling::Telling;
 use core::mem::replace_with;
 use mds_catalog::Catalogue;
 use mds_fleet::Book;
 use mds_request::{Code, Request};
 use mds_shelf::Answer;
-use mds_snapshot::{Naming, Note, Pane};
+use mds_snapshot::{Look, Naming, Note, Pane};
 use mds_verdict::Evaluator;
-use std::alloc::AllocError;
+use std::alloc::{AllocError, Global};
 
 /// An operator's own place: its book, and its pane on what is published. It is answered here without
 /// waiting for a lock: what is published lies ready on a shelf that all desks share, and a shelf that is
@@ -30,8 +33,23 @@ pub struct Desk<K: Naming> {
     ghost fits: { Fits (lasting_in pane) book } by { fits_prop (lasting_in pane) book },
 }
 
+/// What a telling tells of a front of what is published.
+///
+/// # Errors
+///
+/// `NoMemory` where memory ran out.
+fn told<K: Naming, T: Telling>(alloc: Global, look: &Look<K>, telling: &T) -> Result<T::Told, Code>
+    ensures told { IfOk result (T.tells telling.now look.now) }
+    ensures refused { IfErr result (λ code. code ≡ NoMemory) }
+{
+    match telling.tell(alloc, look.catalogue()) {
+        Ok(told) => Ok(told),
+        Err(_) => Err(Code::NoMemory),
+    }
+}
+
 impl<K: Naming> Desk<K> {
-    ghost use Rattle.std.specs.Prelude.{[], map, IfOk, OnErr};
+    ghost use Rattle.std.specs.Prelude.{[], map, OnErr};
     ghost use Rattle.mds_request.specs.Request.{request_of};
     ghost use Rattle.mds_desk.specs.Desk.{state_of, new_desk, TakesTurn, TakesRun, Learns};
 
@@ -106,6 +124,48 @@ impl<K: Naming> Desk<K> {
         ensures { Learns (state_of self.old) note.now (state_of self.new) }
     {
         self.pane.learn(note);
+    }
+
+    /// How many vehicles the operator has. Takes no memory.
+    pub fn vehicles(&self) -> usize
+        ensures { result ≡ len (state_of self.now).rows }
+    {
+        self.book.len()
+    }
+
+    /// Tells what a telling has to tell, from one look at what is published: publications that begin with all that this
+    /// desk has seen or learnt, which it knows from then on. The vehicles stay.
+    ///
+    /// # Errors
+    ///
+    /// `NoSnapshot` where nothing is shown, and the desk is as it was; `NoMemory` where memory ran out.
+    pub fn tell<T: Telling>(&mut self, telling: &T) -> Result<T::Told, Code>
+        ensures learnt { Learns (state_of self.old) (state_of self.new).known (state_of self.new) }
+        ensures told { IfOk result (T.tells telling.now (state_of self.new).known) }
+        ensures refused { IfErr result (λ code. (code ≡ NoMemory) ⊎ ((code ≡ NoSnapshot) × (state_of self.new ≡ state_of self.old))) }
+    {
+        replace_with(self, telling, |desk, telling| desk.telling(telling))
+    }
+
+    fn telling<T: Telling>(self, telling: &T) -> (Desk<K>, Result<T::Told, Code>)
+        ensures learnt { Learns (state_of self) (state_of result.0).known (state_of result.0) }
+        ensures told { IfOk result.1 (T.tells telling.now (state_of result.0).known) }
+        ensures refused { IfErr result.1 (λ code. (code ≡ NoMemory) ⊎ ((code ≡ NoSnapshot) × (state_of result.0 ≡ state_of self))) }
+    {
+        let Self { seat, book, pane } = self;
+        match pane.look() {
+            Ok(look) => {
+                let told = told(seat.alloc, &look, telling);
+                let pane = look.leave();
+                let desk = Desk { seat, book, pane };
+                (desk, told)
+            }
+            Err(none) => {
+                let pane = none.pane;
+                let desk = Desk { seat, book, pane };
+                (desk, Err(Code::NoSnapshot))
+            }
+        }
     }
 
     fn answering<G: Gate, E: Evaluator<Catalogue>>(

@@ -10,9 +10,11 @@ pub mod laws;
 mod leave;
 mod operator;
 mod seat;
+mod telling;
 
 pub use author::AuthorRoom;
 pub use desk::Desk;
 pub use furnishing::furnish;
 pub use gate::{Gate, OpenGate};
 pub use leave::{Always, Leave};
+pub use telling::{AuthorTelling, Telling};

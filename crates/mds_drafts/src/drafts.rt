@@ -67,6 +67,13 @@ impl Drafts {
         }
     }
 
+    /// All drafts, in no order that says anything. Takes no memory.
+    pub fn all(&self) -> &[Draft]
+        ensures { drafts_in result.now ≡ drafts_of self.now }
+    {
+        &self.items
+    }
+
     /// The draft of this kind and identifier.
     pub fn get(&self, kind: DraftKind, id: Id) -> Option<&Draft>
         ensures { option_map (λ d. document_of d.now) result ≡ draft_at (drafts_of self.now) kind id }

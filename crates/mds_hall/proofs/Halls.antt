@@ -17,7 +17,7 @@ module _ (K : RattleType) (n : Names K.Denot) (g : Ghosts K.Denot) where
   desk_crosses : IsSend (HallDesk.the_row K n g)
   desk_crosses =
       let d = desk_send K g in
-      declared_send (HallDesk.the_type K n g) (search (sendable, crosses) depth 20, (search (sendable, crosses) depth 20, tt))
+      declared_send (HallDesk.the_type K n g) (search (sendable, crosses) depth 20, (search (sendable, crosses) depth 20, (search (sendable, crosses) depth 20, tt)))
 
   room_crosses : IsSend (HallRoom.the_row K n g)
   room_crosses =

@@ -7,6 +7,7 @@ use Rattle.mds_request.specs.Configuration.{Configuration}
 use Rattle.mds_request.specs.Request.{Request}
 use Rattle.mds_request.specs.Reply.{Reply}
 use Rattle.mds_desk.specs.Desk.{DeskState, IsSameDesk}
+use Rattle.mds_hall.specs.Told.{DeskTells, Looks}
 use Rattle.mds_hall.specs.Turn.{Answers, DeskReplies, DeskRuns, IsDeskAt, IsTold, SaysOne, TakesToldRun, TakesToldTurn}
 
 -- what a desk is told leaves it the same desk
@@ -59,3 +60,18 @@ desk_runs items configuration place d note requests result next its takes =
       is_its = record { configured = same.configuration ∙ its.configured; placed = same.place ∙ its.placed };
       run = run.run;
     }) takes
+
+-- what is told at the front of a look of the desk of the operator at this place
+pub desk_tells : {T E : Type 0} (configuration : Configuration) (place : ℕ) (d : DeskState) (note : Option (List Publication)) (next : DeskState)
+    (tells : List Publication → T → Type 0) (result : Result T E) → IsDeskAt configuration place d → Looks d note next
+    → IfOk result (tells next.known) → IfOk result (DeskTells configuration place tells)
+desk_tells configuration place d note next tells result its looks all =
+    let same = same_told d note looks.told looks.learns in
+    of_ok result (λ told is.
+    record {
+      before = looks.told;
+      after = next;
+      is_its = record { configured = same.configuration ∙ its.configured; placed = same.place ∙ its.placed };
+      learnt = looks.learnt;
+      tells = is;
+    }) all

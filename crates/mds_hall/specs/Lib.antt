@@ -4,4 +4,5 @@ pub mod Early
 pub mod Heard
 pub mod Respond
 pub mod Response
+pub mod Told
 pub mod Turn

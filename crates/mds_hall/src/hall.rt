@@ -18,6 +18,7 @@ use mds_request::{Actor, Config};
 use mds_shelf::Answer;
 use mds_snapshot::{Blank, Note, OpenFault};
 use std::alloc::{AllocError, Global};
+use std::sync::atomic::AtomicU64;
 use std::sync::{Arc, Mutex, MutexGuard, Wait};
 
 /// The author's room and a desk for each operator, each behind a lock of its own, and the latest note of
@@ -138,6 +139,14 @@ impl<K: Named> Hall<K> {
         ensures { IfSome result (λ guard. (mutex_guard_value guard).place ≡ place) }
     {
         self.desk(place).taken(rt)
+    }
+
+    /// From now on this number tells how many vehicles the operator at this place has: it is set at once, and then behind each
+    /// turn of its desk, so that it is read without a lock. Nothing is told of a place that no operator has.
+    pub fn count_at<R: Wait>(&self, rt: &R, place: usize, vehicles: Arc<AtomicU64>) {
+        if let Some(desk) = self.desks.get(place) {
+            desk.count_at(rt, vehicles);
+        }
     }
 
     /// The author's room, once its lock is had.

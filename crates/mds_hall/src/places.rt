@@ -1,30 +1,32 @@
 //! What lies behind the locks of a hall: of one opening and one configuration, which K names.
-ghost use Rattle.std.specs.Prelude.{◌≡◌, ◌⊎◌, IfOk, IfSome, IsSome, OnErr, map, option_copied};
+ghost use Rattle.std.specs.Prelude.{◌≡◌, ◌⊎◌, IfErr, IfOk, IfSome, IsSome, OnErr, map, option_copied};
 ghost use Rattle.std.specs.Mem.{manually_drop_value};
 ghost use Rattle.std.specs.Sync.Mutex.{mutex_guard_value};
 ghost use Rattle.mds_desk.specs.Desk.{state_of};
 ghost use Rattle.mds_request.specs.Request.{request_of};
 ghost use Rattle.mds_request.specs.Reply.{refused};
-ghost use Rattle.mds_request.specs.declared.code.Code.TheVariants.{NoMemory};
+ghost use Rattle.mds_request.specs.declared.code.Code.TheVariants.{NoMemory, NoSnapshot};
 ghost use Rattle.mds_desk.specs.Room.{room_of, TakesRoomTurn};
 ghost use Rattle.mds_hall.specs.Heard.{request_heard};
+ghost use Rattle.mds_hall.specs.Told.{DeskTells, Looks, RoomTells};
 ghost use Rattle.mds_hall.specs.Turn.{Answers, DeskReplies, DeskRuns, IsDeskAt, IsTold, RoomReplies, SaysOne, TakesToldRun, TakesToldTurn};
 
 use crate::early::Heard;
 use crate::named::Named;
-use crate::turn::{told_run, told_turn, turn};
+use crate::turn::{told_look, told_run, told_turn, turn};
 use bytes::Bytes;
 use http::Response;
 use http_body_util::Full;
 use mds_catalog::Catalogue;
-use mds_desk::{AuthorRoom, Desk, Gate, Leave};
-use mds_request::Request;
+use mds_desk::{AuthorRoom, AuthorTelling, Desk, Gate, Leave, Telling};
+use mds_request::{Code, Request};
 use mds_shelf::Answer;
 use mds_snapshot::Note;
 use mds_verdict::Evaluator;
 use std::alloc::{AllocError, Global};
 use std::mem::ManuallyDrop;
-use std::sync::{Mutex, MutexGuard, Wait};
+use std::sync::atomic::{AtomicU64, Ordering};
+use std::sync::{Arc, Mutex, MutexGuard, Wait};
 use std::thread::yield_now;
 
 /// How often the lock of a desk is tried, and another thread let run, before a thread sleeps for it.
@@ -35,11 +37,45 @@ const TRIES: usize = 32;
 pub struct HallDesk<K: Named> {
     place: usize,
     desk: Desk<K>,
+    /// Where it is told how many vehicles there are, for who counts them.
+    vehicles: Option<Arc<AtomicU64>>,
     ghost configured: { (state_of desk).configuration ≡ K.configuration },
     ghost placed: { (state_of desk).place ≡ place },
 }
 
+/// Tells how many vehicles a desk's operator has, where they are counted.
+fn tell_count<K: Named>(desk: &Desk<K>, vehicles: &Option<Arc<AtomicU64>>) {
+    if let Some(vehicles) = vehicles {
+        vehicles.store(desk.vehicles() as u64, Ordering::SeqCst);
+    }
+}
+
 impl<K: Named> HallDesk<K> {
+    /// From now on this number tells how many vehicles there are: it is set here, and behind each turn.
+    pub(crate) fn count_at(&mut self, vehicles: Arc<AtomicU64>)
+        ensures desk { self.new.desk ≡ self.old.desk }
+        ensures place { self.new.place ≡ self.old.place }
+    {
+        self.vehicles = Some(vehicles);
+        tell_count(&self.desk, &self.vehicles);
+    }
+
+    /// Tells what a telling has to tell of what is published: the desk learns the note, where there is one, and looks. Its
+    /// vehicles stay.
+    ///
+    /// # Errors
+    ///
+    /// `NoSnapshot` where nothing is shown, `NoMemory` where memory ran out.
+    pub fn told<T: Telling>(&mut self, note: Option<&Note<K>>, telling: &T) -> Result<T::Told, Code>
+        ensures looks { Looks (state_of self.old.desk) (option_copied note.entry) (state_of self.new.desk) }
+        ensures told { IfOk result (T.tells telling.now (state_of self.new.desk).known) }
+        ensures tells { IfOk result (DeskTells K.configuration self.old.place (T.tells telling.now)) }
+        ensures refused { IfErr result (λ code. (code ≡ NoMemory) ⊎ (code ≡ NoSnapshot)) }
+        ensures place { self.new.place ≡ self.old.place }
+    {
+        told_look(&mut self.desk, note, telling)
+    }
+
     /// Answers a request: the desk learns the note, where there is one, and takes one turn, whose reply it gives.
     /// Vehicles are judged by the evaluator.
     pub fn answered<G: Gate, E: Evaluator<Catalogue>>(
@@ -55,7 +91,9 @@ impl<K: Named> HallDesk<K> {
         ensures place { self.new.place ≡ self.old.place }
     {
         let request = heard.request();
-        told_turn(&request, &mut self.desk, note, gate, evaluator)
+        let reply = told_turn(&request, &mut self.desk, note, gate, evaluator);
+        tell_count(&self.desk, &self.vehicles);
+        reply
     }
 
     /// Answers many requests: the desk learns the note, where there is one, and takes a turn for each, in their order.
@@ -78,7 +116,9 @@ impl<K: Named> HallDesk<K> {
         ensures unasked { OnErr result (IsTold (state_of self.old.desk) (option_copied note.entry) (state_of self.new.desk)) }
         ensures place { self.new.place ≡ self.old.place }
     {
-        told_run(requests, &mut self.desk, note, gate, evaluator)
+        let replies = told_run(requests, &mut self.desk, note, gate, evaluator);
+        tell_count(&self.desk, &self.vehicles);
+        replies
     }
 
     /// Answers a request: the desk learns the note, where there is one, and takes one turn, whose reply the
@@ -101,7 +141,9 @@ impl<K: Named> HallDesk<K> {
         ensures told { IfOk result (SaysOne (DeskReplies K.configuration self.old.place (request_heard heard.entry))) }
     {
         let request = heard.request();
-        turn(alloc, &request, &mut self.desk, note, gate, evaluator)
+        let response = turn(alloc, &request, &mut self.desk, note, gate, evaluator);
+        tell_count(&self.desk, &self.vehicles);
+        response
     }
 }
 
@@ -120,8 +162,17 @@ impl<K: Named> DeskLock<K> {
     {
         DeskLock {
             place,
-            desk: Mutex::new(HallDesk { place, desk }),
+            desk: Mutex::new(HallDesk {
+                place,
+                desk,
+                vehicles: None,
+            }),
         }
+    }
+
+    /// From now on this number tells how many vehicles the desk's operator has.
+    pub(crate) fn count_at<R: Wait>(&self, rt: &R, vehicles: Arc<AtomicU64>) {
+        self.locked(rt).count_at(vehicles);
     }
 
     /// What is behind the lock. Most answers take less time than it takes to put a thread to sleep and to
@@ -192,6 +243,19 @@ impl<K: Named> HallRoom<K> {
     {
         let request = heard.request();
         self.room.answer_with(rt, &request, leave)
+    }
+
+    /// Tells what a telling has to tell of the drafts and of what is published. Nothing changes.
+    ///
+    /// # Errors
+    ///
+    /// Memory ran out.
+    pub fn told<T: AuthorTelling>(&self, telling: &T) -> Result<T::Told, AllocError>
+        ensures told { IfOk result (T.tells telling.now (room_of (manually_drop_value self.now.room)).drafts
+            (room_of (manually_drop_value self.now.room)).publications) }
+        ensures tells { IfOk result (RoomTells K.configuration (T.tells telling.now)) }
+    {
+        self.room.tell(telling)
     }
 
     /// Ends the room.

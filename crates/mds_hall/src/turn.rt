@@ -1,8 +1,10 @@
 //! A request at an operator's desk.
-ghost use Rattle.std.specs.Prelude.{IfOk, OnErr, map, option_copied};
+ghost use Rattle.std.specs.Prelude.{◌≡◌, ◌⊎◌, IfErr, IfOk, OnErr, map, option_copied};
 ghost use Rattle.mds_request.specs.Request.{request_of};
+ghost use Rattle.mds_request.specs.declared.code.Code.TheVariants.{NoMemory, NoSnapshot};
 ghost use Rattle.mds_desk.specs.Desk.{state_of, IsSameDesk};
 ghost use Rattle.mds_hall.specs.Asked.{request_in};
+ghost use Rattle.mds_hall.specs.Told.{Looks};
 ghost use Rattle.mds_hall.specs.Turn.{Answers, IsTold, TakesToldRun, TakesToldTurn};
 
 use crate::asked::request;
@@ -12,8 +14,8 @@ use http::Response;
 use http::request::Parts;
 use http_body_util::Full;
 use mds_catalog::Catalogue;
-use mds_desk::{Desk, Gate};
-use mds_request::Request;
+use mds_desk::{Desk, Gate, Telling};
+use mds_request::{Code, Request};
 use mds_shelf::Answer;
 use mds_snapshot::{Naming, Note};
 use mds_text::Moment;
@@ -27,6 +29,27 @@ fn tell<K: Naming>(desk: &mut Desk<K>, note: Option<&Note<K>>)
     if let Some(note) = note {
         desk.learn(note);
     }
+}
+
+/// Tells what a telling has to tell of what is published: the desk learns the note, where there is one, and looks. It stays
+/// the desk of the same operator, with its vehicles.
+///
+/// # Errors
+///
+/// `NoSnapshot` where nothing is shown, `NoMemory` where memory ran out.
+pub(crate) fn told_look<K: Naming, T: Telling>(
+    desk: &mut Desk<K>,
+    note: Option<&Note<K>>,
+    telling: &T,
+) -> Result<T::Told, Code>
+    ensures looks { Looks (state_of desk.old) (option_copied note.entry) (state_of desk.new) }
+    ensures told { IfOk result (T.tells telling.now (state_of desk.new).known) }
+    ensures refused { IfErr result (λ code. (code ≡ NoMemory) ⊎ (code ≡ NoSnapshot)) }
+    ensures same { IsSameDesk (state_of desk.old) (state_of desk.new) }
+{
+    tell(desk, note);
+    let told = desk.tell(telling);
+    told
 }
 
 /// Takes one turn of a desk, which stays the desk of the same operator: the desk learns the note, where there is

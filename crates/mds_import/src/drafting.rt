@@ -3,10 +3,11 @@ ghost use Rattle.std.specs.Prelude.{◌≡◌, IfOk, map, option_map, if◌then�
 ghost use Rattle.std.specs.List.{filter_map};
 ghost use Rattle.mds_text.specs.Tree.{items_of, members_of};
 ghost use Rattle.mds_text.specs.View.{view, member_view};
-ghost use Rattle.mds_import.specs.Members.{as_id, or_none, id_named};
-ghost use Rattle.mds_import.specs.Documents.{inner, documents, pair, decimal_at, decimal_in, decimal_among, prepared, geography_with, policy_with, outcome, target_of, Outcome};
+ghost use Rattle.mds_import.specs.Members.{as_id, as_list, or_none, id_named};
+ghost use Rattle.mds_import.specs.Documents.{inner, is_of_type, features, listed, documents, read_with, read_view, fraction_of, decimal_at, decimal_in, decimal_among, prepared, geography_with, policy_with, outcome, target_of, Outcome};
 
-use crate::member::{as_id, as_list, id_named, list_named, named};
+use crate::bounds::fraction_of;
+use crate::member::{as_id, as_list, id_named, list_named, named, text_named};
 use mds_text::{DraftKind, Id, Member, Tree, is_quoted, print_tree};
 use std::alloc::{AllocError, Global};
 use std::slice::from_ref;
@@ -69,6 +70,8 @@ fn inner(file: &Tree) -> &Tree
 /// The lists of a file.
 #[derive(Clone, Copy)]
 pub struct Lists<'t> {
+    /// Features of GeoJSON: then there is nothing else.
+    pub features: &'t [Tree],
     /// Geographies, or whatever a list without a name has.
     pub first: &'t [Tree],
     /// Policies.
@@ -76,7 +79,7 @@ pub struct Lists<'t> {
 }
 
 /// The entries of a list, none where there is none.
-fn or_none<'t>(entries: Option<&'t [Tree]>) -> &'t [Tree]
+pub(crate) fn or_none<'t>(entries: Option<&'t [Tree]>) -> &'t [Tree]
     ensures { map view result.now ≡ or_none (option_map (λ ts. map view ts.now) entries.entry) }
 {
     match entries {
@@ -85,14 +88,36 @@ fn or_none<'t>(entries: Option<&'t [Tree]>) -> &'t [Tree]
     }
 }
 
-/// The documents of a file: those of the lists `geographies` and `policies` of an object, or of what stands behind
-/// `data`; or the entries of a list; or the one document that the file is.
-pub fn documents(file: &Tree) -> Lists<'_>
-    ensures { pair result ≡ documents (view file.now) }
+/// Whether a GeoJSON object is of this type (RFC 7946, section 1.4).
+fn is_of_type(value: &Tree, name: &str) -> bool
+    ensures { result ≡ is_of_type name.now (view value.now) }
 {
-    let value = inner(file);
+    match text_named(value, "type") {
+        Some(written) => written == name,
+        None => false,
+    }
+}
+
+/// The features of a value: those of a FeatureCollection, or the one that it is; `None` for any other value.
+fn features(value: &Tree) -> Option<&[Tree]>
+    ensures { option_map (λ ts. map view ts.now) result ≡ features (view value.now) }
+{
+    if is_of_type(value, "FeatureCollection") {
+        Some(or_none(list_named(value, "features")))
+    } else if is_of_type(value, "Feature") {
+        Some(from_ref(value))
+    } else {
+        None
+    }
+}
+
+/// The documents of a value that is no GeoJSON: at first geographies.
+fn listed(value: &Tree) -> Lists<'_>
+    ensures { read_view result ≡ read_with None (listed (as_list (view value.now)) (view value.now)) }
+{
     if let Some(entries) = as_list(value) {
         return Lists {
+            features: &[],
             first: entries,
             second: &[],
         };
@@ -101,21 +126,40 @@ pub fn documents(file: &Tree) -> Lists<'_>
     let policies = list_named(value, "policies");
     if geographies.is_some() || policies.is_some() {
         Lists {
+            features: &[],
             first: or_none(geographies),
             second: or_none(policies),
         }
     } else {
         Lists {
+            features: &[],
             first: from_ref(value),
             second: &[],
         }
     }
 }
 
-/// The name of the innermost member in which the first number stands that isn't plain; none, where a value has no such
-/// number. It was read from a text that has some, so that a text that reads as one is taken for one.
+/// What is read of a file: the features of GeoJSON, which may stand behind `data`, or else its documents: those of the lists
+/// `geographies` and `policies` of an object, or of what stands behind `data`; or the entries of a list; or the one document
+/// that the file is.
+pub fn documents(file: &Tree) -> Lists<'_>
+    ensures { read_view result ≡ documents (view file.now) }
+{
+    let value = inner(file);
+    match features(value) {
+        Some(features) => Lists {
+            features,
+            first: &[],
+            second: &[],
+        },
+        None => listed(value),
+    }
+}
+
+/// The name of the innermost member in which the first number stands that isn't plain, and that goes as a text; none, where a
+/// value has no such number. It was read from a text that has some, so that a text that reads as one is taken for one.
 #[cycle(decimal_at)]
-fn decimal_at<'t>(name: &'t str, value: &'t Tree) -> Option<&'t str>
+pub fn decimal_at<'t>(name: &'t str, value: &'t Tree) -> Option<&'t str>
     ensures { option_map (λ n. n.now) result ≡ decimal_at name.now (view value.now) }
 {
     match value {
@@ -180,7 +224,7 @@ fn geography<'t>(alloc: Global, origin: Origin, value: &'t Tree) -> Result<Prepa
 }
 
 /// A document that isn't sent.
-fn not_sent(member: &str, why: Why) -> Prepared<'_>
+pub(crate) fn not_sent(member: &str, why: Why) -> Prepared<'_>
     ensures { outcome result ≡ Outcome.refused member.now why }
 {
     Prepared::Refused(Refused { member, why })
@@ -193,17 +237,13 @@ fn policy<'t>(
     decimals: bool,
     value: &'t Tree,
 ) -> Result<Prepared<'t>, AllocError>
-    ensures { IfOk result (λ p. outcome p ≡ policy_with origin (id_named (codes "policy_id") (view value.now)) (if decimals then decimal_at (codes "document") (view value.now) else None) (view value.now)) }
+    ensures { IfOk result (λ p. outcome p ≡ policy_with origin (id_named (codes "policy_id") (view value.now)) (if decimals then fraction_of (view value.now) else None) (view value.now)) }
 {
     let Some(id) = id_named(value, "policy_id") else {
         return Ok(not_sent("policy_id", Why::BadField));
     };
-    let decimal = if decimals {
-        decimal_at("document", value)
-    } else {
-        None
-    };
-    if let Some(member) = decimal {
+    let fraction = if decimals { fraction_of(value) } else { None };
+    if let Some(member) = fraction {
         return Ok(not_sent(member, Why::Decimal));
     }
     let predecessors = ids_in(alloc, or_none(list_named(value, "prev_policies")))?;
@@ -217,7 +257,8 @@ fn policy<'t>(
 }
 
 /// What a document of a file becomes that has numbers that aren't plain (`mds_reading::read_counted` counts them), or none:
-/// a draft with the document's text, or the member for which it is refused.
+/// a draft with the document's text, or the member for which it is refused. Such a number goes as the text of its characters,
+/// but for a bound of a rule that is judged, for which a policy is refused.
 pub fn prepare<'t>(
     alloc: Global,
     origin: Origin,

@@ -20,7 +20,7 @@ fn find_member<'t>(members: &'t [Member], name: &str) -> Option<&'t Tree>
 }
 
 /// The member of this name; `None` where it is absent or null, and where the value is no object.
-pub(crate) fn named<'t>(value: &'t Tree, name: &str) -> Option<&'t Tree>
+pub fn named<'t>(value: &'t Tree, name: &str) -> Option<&'t Tree>
     ensures { option_map (λ t. view t.now) result ≡ named name.now (view value.now) }
 {
     let Tree::Object(members) = value else {
@@ -63,7 +63,7 @@ pub(crate) fn as_list(value: &Tree) -> Option<&[Tree]>
 }
 
 /// The member of this name, where it is a text.
-pub(crate) fn text_named<'t>(value: &'t Tree, name: &str) -> Option<&'t str>
+pub fn text_named<'t>(value: &'t Tree, name: &str) -> Option<&'t str>
     ensures { option_map (λ s. s.now) result ≡ text_named name.now (view value.now) }
 {
     match named(value, name) {
@@ -73,7 +73,7 @@ pub(crate) fn text_named<'t>(value: &'t Tree, name: &str) -> Option<&'t str>
 }
 
 /// The member of this name, where it is an identifier.
-pub(crate) fn id_named(value: &Tree, name: &str) -> Option<Id>
+pub fn id_named(value: &Tree, name: &str) -> Option<Id>
     ensures { result ≡ id_named name.now (view value.now) }
 {
     match named(value, name) {
@@ -83,7 +83,7 @@ pub(crate) fn id_named(value: &Tree, name: &str) -> Option<Id>
 }
 
 /// The entries of the member of this name, where it is a list.
-pub(crate) fn list_named<'t>(value: &'t Tree, name: &str) -> Option<&'t [Tree]>
+pub fn list_named<'t>(value: &'t Tree, name: &str) -> Option<&'t [Tree]>
     ensures { option_map (λ ts. map view ts.now) result ≡ list_named name.now (view value.now) }
 {
     match named(value, name) {

@@ -52,7 +52,8 @@ fn puts_successors_last(rt: HostRuntime) -> Result<(), Fail> {
 #[test]
 fn refuses_a_fraction(rt: HostRuntime) -> Result<(), Fail> {
     let alloc = rt.alloc();
-    let text = br#"{"policy_id":"5d8e1f70-62c4-4e9b-b0a6-2f1c9e3d2201","rules":[{"maximum":7.5}]}"#;
+    let text =
+        br#"{"policy_id":"5d8e1f70-62c4-4e9b-b0a6-2f1c9e3d2201","rules":[{"rule_type":"count","maximum":7.5}]}"#;
     let (tree, decimals) = read_counted(alloc, text)?;
     let origin = Origin {
         file: 0,

@@ -14,7 +14,7 @@ enum Stage<L: Sealed, P: Finding> {
     Quiet,
     /// One is to be made, or brought up to another seal: the log says where it is synced next.
     Wanted,
-    /// The log is synced up to this seal, and keeps what is appended behind it.
+    /// The log is synced up to this seal, and keeps what is appended behind it where one is brought up.
     Sealed(Seal),
     /// One is being made, or tried in the log's place.
     Busy,
@@ -27,6 +27,8 @@ enum Stage<L: Sealed, P: Finding> {
 struct Seen<L: Sealed, P: Finding> {
     stage: Stage<L, P>,
     pace: Pace,
+    /// Whether the last one that was offered took the place.
+    is_exchanged: bool,
     /// Whether no further one is made.
     is_closed: bool,
 }
@@ -45,6 +47,7 @@ impl<L: Sealed, P: Finding> Meeting<L, P> {
             seen: Mutex::new(Seen {
                 stage: Stage::Quiet,
                 pace,
+                is_exchanged: false,
                 is_closed: false,
             }),
             changed: Condvar::new(),
@@ -87,26 +90,44 @@ impl<L: Sealed, P: Finding> Meeting<L, P> {
         }
     }
 
+    /// Waits until the shorter log that was offered took the place or came to nothing, and says whether it took it. One that
+    /// isn't tried yet is withdrawn once no further one is made, which is told as none: it never takes the place then.
+    pub fn settled<R: Wait>(&self, rt: &R) -> Option<bool> {
+        let mut seen = self.changed.wait_while(rt, self.seen.lock(rt), |seen| {
+            match seen.stage {
+                Stage::Busy => true,
+                Stage::Ready(_) => !seen.is_closed,
+                _ => false,
+            }
+        });
+        if matches!(seen.stage, Stage::Ready(_)) {
+            seen.stage = Stage::Quiet;
+            return None;
+        }
+        Some(seen.is_exchanged)
+    }
+
     /// A shorter log took the place, or it came to nothing; the log has so many bytes.
     pub fn end<R: Wait>(&self, rt: &R, is_exchanged: bool, bytes: u64) {
         let mut seen = self.seen.lock(rt);
         seen.stage = Stage::Quiet;
+        seen.is_exchanged = is_exchanged;
         seen.pace.tried(is_exchanged, bytes);
+        self.changed.notify_all();
     }
 
-    /// The log is synced up to this seal. True where that is waited for.
+    /// The log is synced up to this seal. True where what is appended behind it is to be kept: where a shorter log is waited
+    /// for that is to be brought up to it.
     pub fn seal<R: Wait>(&self, rt: &R, seal: Seal) -> bool {
         let mut seen = self.seen.lock(rt);
-        let is_wanted = match seen.stage {
-            Stage::Quiet => seen.pace.is_due(seal.position),
-            Stage::Wanted => true,
-            _ => false,
-        };
-        if is_wanted && !seen.is_closed {
-            seen.stage = Stage::Sealed(seal);
-            self.changed.notify_all();
+        let is_brought_up = matches!(seen.stage, Stage::Wanted);
+        let is_due = matches!(seen.stage, Stage::Quiet) && seen.pace.is_due(seal.position);
+        if seen.is_closed || !(is_brought_up || is_due) {
+            return false;
         }
-        is_wanted
+        seen.stage = Stage::Sealed(seal);
+        self.changed.notify_all();
+        is_brought_up
     }
 
     /// No further one is made.

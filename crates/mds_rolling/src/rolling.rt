@@ -90,31 +90,58 @@ impl<L: Sealed, P: Finding, B: Beside<L, P>> Rolling<L, P, B> {
         }
     }
 
-    /// Puts a shorter log into the place, where what it lacks is kept; else the log stays.
+    /// Puts a shorter log into the place, where what it lacks is kept; else the log stays. Says whether it has the place.
     ///
     /// # Errors
     ///
     /// It isn't known which file stands in the place.
-    fn adopt(&mut self, shorter: Shorter<L, P>) -> Result<(), NotSynced>
-        ensures { (list : List (List ℕ))
+    fn adopt(&mut self, shorter: Shorter<L, P>) -> Result<bool, NotSynced>
+        ensures rolled { (list : List (List ℕ))
             → IsRolled P.same (L.may_be self.old.log) self.old.is_exchanged self.old.kept.is_keeping self.old.kept.seal
             (map (λ v. v.items) self.old.kept.texts.items) self.old.count list
             → IsRolled P.same (L.may_be self.new.log) self.new.is_exchanged self.new.kept.is_keeping self.new.kept.seal
             (map (λ v. v.items) self.new.kept.texts.items) self.new.count list }
+        ensures synced { IfOk result (λ is_taken. is_taken ≡ true → L.is_synced self.new.log) }
+        ensures count { self.new.count ≡ self.old.count }
     {
         let Ok(log) = caught_up(shorter, &self.kept) else {
             self.kept.forget();
             self.beside.ended(false, self.log.seal().position);
-            return Ok(());
+            return Ok(false);
         };
         if self.beside.replace(&log).is_err() {
             self.is_broken = true;
+            self.beside.ended(false, self.log.seal().position);
             return Err(NotSynced);
         }
         self.log = log;
         self.is_exchanged = true;
         self.kept.forget();
         self.beside.ended(true, self.log.seal().position);
+        Ok(true)
+    }
+
+    /// Puts a shorter log that is ready into the place, which is synced then; where none is, or what it lacks isn't kept, the
+    /// log is synced.
+    ///
+    /// # Errors
+    ///
+    /// It isn't known whether the log is synced, or which file stands in the place.
+    fn settle(&mut self) -> Result<(), NotSynced>
+        ensures rolled { (list : List (List ℕ))
+            → IsRolled P.same (L.may_be self.old.log) self.old.is_exchanged self.old.kept.is_keeping self.old.kept.seal
+            (map (λ v. v.items) self.old.kept.texts.items) self.old.count list
+            → IsRolled P.same (L.may_be self.new.log) self.new.is_exchanged self.new.kept.is_keeping self.new.kept.seal
+            (map (λ v. v.items) self.new.kept.texts.items) self.new.count list }
+        ensures synced { OnOk result (L.is_synced self.new.log) }
+        ensures count { self.new.count ≡ self.old.count }
+    {
+        if let Some(shorter) = self.beside.ready() {
+            if self.adopt(shorter)? {
+                return Ok(());
+            }
+        }
+        self.log.sync()?;
         Ok(())
     }
 }
@@ -146,10 +173,7 @@ impl<L: Sealed, P: Finding, B: Beside<L, P>> Log for Rolling<L, P, B> {
             return Err(NotSynced);
         }
         let count = self.count;
-        if let Some(shorter) = self.beside.ready() {
-            self.adopt(shorter)?;
-        }
-        self.log.sync()?;
+        self.settle()?;
         let seal = self.log.seal();
         if self.beside.synced(seal) {
             self.kept.begin(seal);

@@ -71,6 +71,7 @@ impl<L: Sealed, P: Finding> Shorter<L, P> {
     /// A log that was found to lead to where a list of this seal does.
     pub fn new(log: L, seal: Seal) -> Shorter<L, P>
         requires { (front : List (List ℕ)) × (before : List (List ℕ)) × L.may_be log front × P.same front before × IsSealed seal before }
+        ensures { result ≡ numbers_of seal }
     {
         Shorter {
             log,

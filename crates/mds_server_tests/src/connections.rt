@@ -8,6 +8,7 @@ use mds_connections::{Admittance, Register, Seat, busy, finished};
 use mds_limits::{Arrival, Asker, MOST_OF_ASKER, MOST_STRANGERS, MOST_WAITING};
 use std::alloc::{AllocError, AllocGlobal, Global};
 use std::sync::Arc;
+use std::sync::atomic::{AtomicU64, Ordering};
 use std::test::Fail;
 
 /// A stranger's connection enters.
@@ -114,5 +115,22 @@ fn a_last_reply_says_so(rt: HostRuntime) -> Result<(), Fail> {
     let whole = Response::new(alloc, Full::new(Bytes::new()));
     let whole = finished(whole, Arrival::Whole)?;
     assert!(rt; whole.headers().get(CONNECTION).is_none());
+    Ok(())
+}
+
+/// A number tells how many connections are open, from when it is given on.
+#[test]
+fn tells_how_many_are_open(rt: HostRuntime) -> Result<(), Fail> {
+    let alloc = rt.alloc();
+    let mut register = Register::new(alloc, 3)?;
+    let first = entered(&mut register, alloc)?.ok_or("no seat")?;
+    let open = Arc::new(alloc, AtomicU64::new(7))?;
+    register.count_at(Arc::try_clone(&open)?);
+    assert!(rt; open.load(Ordering::SeqCst) == 1);
+    entered(&mut register, alloc)?.ok_or("no second seat")?;
+    assert!(rt; open.load(Ordering::SeqCst) == 2);
+    register.leave(first);
+    register.leave(first);
+    assert!(rt; open.load(Ordering::SeqCst) == 1);
     Ok(())
 }

@@ -6,3 +6,4 @@ pub mod Laws
 pub mod Questions
 pub mod Replies
 pub mod Thinning
+pub mod Alike

@@ -1,6 +1,7 @@
 //! The journal of a city's folder, thinned.
 
 use crate::fault::ThinFault;
+use crate::front::emptied;
 use crate::place::{Place, thin_at};
 use crate::thinning::{Counts, Old};
 use mds_folder::{Folder, FolderFault, open_folder};
@@ -14,12 +15,14 @@ use std::sync::Wait;
 /// Who may read and write a file of the folder: its owner alone.
 const MODE: u32 = 0o600;
 
-/// A city's folder, whose journal is to be replaced. Who makes it has the folder's lock.
+/// A city's folder, whose journal is to be replaced by who has its lock.
 #[derive(Drop)]
 struct Locked<'a, 'b, R: Files<File = File>> {
     rt: &'a R,
     alloc: Global,
     folder: &'b str,
+    /// Is locked as long as it is open.
+    lock: File,
 }
 
 /// A file beside the journal, cut to nothing.
@@ -66,13 +69,8 @@ impl<R: Files<File = File>> Place<Journal<Stored<File>>> for Locked<'_, '_, R> {
 
     fn beside(&mut self) -> Result<Journal<Stored<File>>, FolderFault> {
         let file = beside(self.rt, self.alloc, self.folder)?;
-        let mut log = match Journal::open(self.alloc, Stored::new(file)) {
-            Ok(log) => log,
-            Err(fault) => return Err(FolderFault::from(fault)),
-        };
-        match log.read_from(0) {
-            Ok(texts) if texts.is_empty() => Ok(log),
-            Ok(_) => Err(FolderFault::Unusable),
+        match Journal::open(self.alloc, Stored::new(file)) {
+            Ok(log) => emptied(log),
             Err(fault) => Err(FolderFault::from(fault)),
         }
     }
@@ -121,10 +119,11 @@ pub fn thin_folder<R: Wait + Files<File = File>>(
         texts: &texts,
         at,
     };
-    let mut place = Locked { rt, alloc, folder };
-    let counts = thin_at::<Locked<'_, '_, R>, Journal<Stored<File>>, R>(
-        rt, alloc, &mut place, &old,
-    );
-    drop(lock);
-    counts
+    let mut place = Locked {
+        rt,
+        alloc,
+        folder,
+        lock,
+    };
+    thin_at::<Locked<'_, '_, R>, Journal<Stored<File>>, R>(rt, alloc, &mut place, &old)
 }

@@ -5,6 +5,7 @@ mod choosing;
 mod comparing;
 mod fault;
 mod folder;
+mod front;
 mod kind;
 pub mod laws;
 mod place;
@@ -16,6 +17,7 @@ mod writing;
 
 pub use fault::ThinFault;
 pub use folder::thin_folder;
+pub use front::{Found, Front, emptied, thin_front};
 pub use place::{Place, thin_at};
 pub use thinned::thinned_entries;
 pub use thinning::{Counts, Old, thin};

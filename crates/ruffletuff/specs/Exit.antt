@@ -33,8 +33,8 @@ exit_status NotKept = 7
 exit_status NotThinned = 7
 exit_status Differs = 8
 
-abbrev pub status_of : Result (Unit {0}) Ending → ℕ
-status_of (Ok done) = 0
+abbrev pub status_of : Result ℕ Ending → ℕ
+status_of (Ok status) = status
 status_of (Err ending) = exit_status ending
 
 abbrev pub out_of_memory : List ℕ

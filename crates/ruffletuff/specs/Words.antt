@@ -5,23 +5,23 @@ use Rattle.ruffletuff.specs.declared.ending.Ending.{Ending}
 use Rattle.ruffletuff.specs.declared.ending.Ending.TheVariants.{Misconfigured, NoListener, NoControl, NotStopped, Folder, Refused, NotKept, NotThinned, Differs}
 
 abbrev pub config_of : Request → Option (List ℕ)
-config_of (serve config state listen control dropped) = Some config
+config_of (serve config state listen control dropped thin_at) = Some config
 config_of (audit folder config until operator) = Some config
 config_of (thin folder config) = Some config
 config_of asked = None
 
 abbrev pub listener_of : Request → Option (List ℕ)
-listener_of (serve config state listen control dropped) = Some listen
+listener_of (serve config state listen control dropped thin_at) = Some listen
 listener_of asked = None
 
 -- the address of the control port, to serve it or to stop its server
 abbrev pub control_of : Request → Option (List ℕ)
-control_of (serve config state listen control dropped) = control
+control_of (serve config state listen control dropped thin_at) = control
 control_of (stop address) = Some address
 control_of asked = None
 
 abbrev pub folder_of : Request → Option (List ℕ)
-folder_of (serve config state listen control dropped) = Some state
+folder_of (serve config state listen control dropped thin_at) = Some state
 folder_of (check folder) = Some folder
 folder_of (audit folder config until operator) = Some folder
 folder_of (thin folder config) = Some folder

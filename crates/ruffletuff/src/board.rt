@@ -2,6 +2,7 @@
 
 use mds_control::{Control, Counters};
 use mds_doors::Closing;
+use std::sync::Arc;
 
 /// What a server shows to who controls it, and what ends it.
 #[derive(Clone, Copy)]
@@ -12,4 +13,8 @@ pub struct Board<'a> {
     pub control: &'a Control,
     /// What the server counts.
     pub counters: &'a Counters,
+    /// The same, for who keeps a share of it.
+    pub shared: &'a Arc<Counters>,
+    /// The text of its configuration.
+    pub configuration: &'a [u8],
 }

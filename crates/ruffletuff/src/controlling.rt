@@ -3,11 +3,11 @@
 use crate::board::Board;
 use crate::ending::Ending;
 use crate::errand::{Errand, beside};
-use crate::opening::serve_city;
+use crate::folders::Folders;
+use crate::opening::{Given, serve_city};
 use mds_command::Service;
 use mds_control::{Stop, serve_control};
 use mds_doors::Closing;
-use mds_request::Config;
 use std::alloc::AllocGlobal;
 use std::fs::{File, Files};
 use std::io::{Eprint, Print};
@@ -59,7 +59,7 @@ impl<R: Clock + AllocGlobal + Drop> Errand for Controlling<'_, R> {
 #[derive(Drop)]
 struct Controlled<'a> {
     service: &'a Service<'a>,
-    config: Config,
+    given: Given<'a>,
     board: Board<'a>,
     /// The control port's.
     address: SocketAddr,
@@ -79,6 +79,7 @@ where
         + AllocGlobal
         + Net
         + Files<File = File>
+        + Folders
         + Print
         + Eprint
         + Sync
@@ -88,11 +89,11 @@ where
 {
     let Controlled {
         service,
-        config,
+        given,
         board,
         address,
     } = controlled;
-    let served = serve_city(rt, service, config, board);
+    let served = serve_city(rt, service, given, board);
     board.control.end(rt, address);
     served
 }
@@ -106,7 +107,7 @@ pub fn serve_controlled<R>(
     rt: &R,
     service: &Service<'_>,
     address: &str,
-    config: Config,
+    given: Given<'_>,
     board: Board<'_>,
 ) -> Result<(), Ending>
 where
@@ -117,6 +118,7 @@ where
         + AllocGlobal
         + Net<Listener = TcpListener, Stream = TcpStream>
         + Files<File = File>
+        + Folders
         + Print
         + Eprint
         + Sync
@@ -137,7 +139,7 @@ where
     };
     let controlled = Controlled {
         service,
-        config,
+        given,
         board,
         address,
     };

@@ -8,14 +8,17 @@ mod board;
 mod checking;
 mod configuration;
 mod controlling;
+mod counting;
 mod ending;
 mod errand;
-mod metered;
+mod folders;
 mod opening;
 mod progress;
 mod running;
 mod serving;
+mod standing;
 mod starting;
+mod thinner;
 mod thinning;
 mod words;
 

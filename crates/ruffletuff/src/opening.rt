@@ -7,28 +7,34 @@ ghost use Rattle.ruffletuff.specs.Starting.{IsStartedFromLog};
 
 use crate::board::Board;
 use crate::ending::Ending;
-use crate::metered::Metered;
+use crate::errand::beside;
+use crate::folders::Folders;
 use crate::serving::{Stage, kept};
+use crate::standing::{Filed, Standing, Table};
 use crate::starting::{left_out, started};
+use crate::thinner::Thinner;
+use crate::thinning::clear;
 use mds_command::Service;
 use mds_commit::{Ballast, Opened, Space};
-use mds_control::Counters;
+use mds_control::{Counters, Figure};
 use mds_desk::{AuthorRoom, Desk};
 use mds_doors::Queues;
 use mds_folder::{Folder, FolderFault, begun, cut_of, open_folder};
 use mds_hall::{Hall, Named};
-use mds_records::{Journal, Log, Stored};
+use mds_records::{Journal, Log, Sealed, Stored};
 use mds_request::Config;
+use mds_rolling::{Beside, Meeting, Pace, Rolling};
 use mds_snapshot::{Blank, prepare};
 use mds_start::workers;
 use mds_text::Id;
+use mds_thinning::Found;
 use std::alloc::{AllocGlobal, Global};
 use std::fs::{self, File, Files};
 use std::io::{Eprint, Print};
 use std::marker::Brand;
 use std::net::Net;
 use std::random::RandomSource;
-use std::sync::Wait;
+use std::sync::{Arc, Wait};
 use std::thread::{Threads, available_parallelism};
 use std::time::Clock;
 
@@ -39,18 +45,21 @@ pub fn journal_length<R: Files<File = File> + AllocGlobal>(rt: &R, folder: &str)
     Some(metadata.len())
 }
 
-/// Says how many bytes were cut of a journal of this length before.
-fn say_cut<R: Files<File = File> + AllocGlobal + Eprint>(
+/// Counts the bytes of a folder's journal, and says how many were cut of what it had before.
+fn count_bytes<R: Files<File = File> + AllocGlobal + Eprint>(
     rt: &R,
     folder: &str,
     before: Option<u64>,
+    counters: &Counters,
 ) {
-    if let (Some(before), Some(after)) = (before, journal_length(rt, folder)) {
-        if let Some(cut) = cut_of(before, after) {
-            let _ = eprintln!(rt;
-                "ruffletuff: {cut} bytes that weren't synced are cut off the journal"
-            );
-        }
+    let (Some(before), Some(after)) = (before, journal_length(rt, folder)) else {
+        return;
+    };
+    counters.set(Figure::JournalBytes, after);
+    if let Some(cut) = cut_of(before, after) {
+        let _ = eprintln!(rt;
+            "ruffletuff: {cut} bytes that weren't synced are cut off the journal"
+        );
     }
 }
 
@@ -60,17 +69,171 @@ fn threads_for<R: Threads>(rt: &R, config: &Config) -> usize {
     workers(processors, config)
 }
 
-/// Opens the city of a service's folder, which it locks, and serves it until it is to end.
+/// A configuration, and its text.
+#[derive(Drop)]
+pub struct Given<'a> {
+    pub config: Config,
+    pub text: &'a [u8],
+}
+
+/// A city that is to be served, with the files of its folder.
+#[derive(Drop)]
+struct Opening<'a> {
+    /// The city's folder.
+    state: &'a str,
+    /// Where to listen.
+    listen: &'a str,
+    /// The operator whose entries are left out.
+    dropped: Option<Id>,
+    config: Config,
+    board: Board<'a>,
+    /// Where the flusher and who thins the journal meet.
+    meeting: &'a Arc<Table>,
+    journal: File,
+    ballast: File,
+}
+
+impl Opening<'_> {
+    /// What stands beside the journal.
+    ///
+    /// # Errors
+    ///
+    /// As `Standing::new`.
+    fn standing<R: Folders + AllocGlobal + Copy + Drop>(
+        &self,
+        rt: &R,
+    ) -> Result<Standing<R>, Ending> {
+        let meeting = Arc::try_clone(self.meeting)?;
+        let counters = Arc::try_clone(self.board.shared)?;
+        Standing::new(*rt, rt.alloc(), self.state, meeting, counters)
+    }
+}
+
+/// Opens the city of a service's folder, which it locks, and serves it until it is to end. Its journal is thinned meanwhile, in
+/// a thread of its own, each time that it has grown enough.
 ///
 /// # Errors
 ///
 /// The first fault, in the order in which things are opened: the folder, its journal, its ballast, what a server starts
 /// from, the listener; then what ended the server.
-pub fn serve_city<R>(
+pub fn serve_city<'a, R>(
     rt: &R,
-    service: &Service<'_>,
-    config: Config,
-    board: Board<'_>,
+    service: &'a Service<'a>,
+    given: Given<'a>,
+    board: Board<'a>,
+) -> Result<(), Ending>
+where
+    R: Wait
+        + Threads
+        + Clock
+        + RandomSource
+        + AllocGlobal
+        + Net
+        + Files<File = File>
+        + Folders
+        + Print
+        + Eprint
+        + Sync
+        + Send
+        + Copy
+        + Drop,
+{
+    let Given { config, text } = given;
+    let Folder {
+        lock: _lock,
+        journal,
+        ballast,
+    } = open_folder(rt, rt.alloc(), service.state)?;
+    clear(rt, service.state);
+    let Ok(meeting) = Arc::new(rt.alloc(), Meeting::new(Pace::new(service.thin_at))) else {
+        return Err(Ending::NoMemory);
+    };
+    let thinner = Thinner {
+        rt: *rt,
+        folder: service.state,
+        config: text,
+        meeting: &*meeting,
+    };
+    let opening = Opening {
+        state: service.state,
+        listen: service.listen,
+        dropped: service.dropped,
+        config,
+        board,
+        meeting: &meeting,
+        journal,
+        ballast,
+    };
+    let ((), served) = beside(rt, thinner, move || serve_and_close(rt, opening));
+    served
+}
+
+/// Serves a city whose folder is open, and ends the thinning of its journal behind it.
+///
+/// # Errors
+///
+/// As `serve_city`.
+fn serve_and_close<R>(rt: &R, opening: Opening<'_>) -> Result<(), Ending>
+where
+    R: Wait
+        + Threads
+        + Clock
+        + RandomSource
+        + AllocGlobal
+        + Net
+        + Files<File = File>
+        + Folders
+        + Print
+        + Eprint
+        + Sync
+        + Send
+        + Copy
+        + Drop,
+{
+    let meeting = opening.meeting;
+    let served = open_and_serve(rt, opening);
+    meeting.close(rt);
+    served
+}
+
+/// Opens the journal of a city whose folder is open, and serves the city until it is to end.
+///
+/// # Errors
+///
+/// As `serve_city`.
+fn open_and_serve<R>(rt: &R, opening: Opening<'_>) -> Result<(), Ending>
+where
+    R: Wait
+        + Threads
+        + Clock
+        + RandomSource
+        + AllocGlobal
+        + Net
+        + Files<File = File>
+        + Folders
+        + Print
+        + Eprint
+        + Sync
+        + Send
+        + Copy
+        + Drop,
+{
+    match opening.standing(rt) {
+        Ok(standing) => serve_beside(rt, opening, standing),
+        Err(ending) => Err(ending),
+    }
+}
+
+/// Opens the journal of a city whose folder is open, and serves the city until it is to end; what stands beside the journal has
+/// its file exchanged.
+///
+/// # Errors
+///
+/// As `serve_city`.
+fn serve_beside<B: Beside<Filed, Found> + Send, R>(
+    rt: &R,
+    opening: Opening<'_>,
+    beside: B,
 ) -> Result<(), Ending>
 where
     R: Wait
@@ -88,29 +251,63 @@ where
         + Drop,
 {
     let alloc = rt.alloc();
-    let Folder {
-        lock: _lock,
+    let Opening {
+        state,
+        listen,
+        dropped,
+        config,
+        board,
+        meeting: _,
         journal,
         ballast,
-    } = open_folder(rt, alloc, service.state)?;
-    let before = journal_length(rt, service.state);
-    let log = match Journal::open(alloc, Metered::new(Stored::new(journal), board.counters)) {
+    } = opening;
+    let before = journal_length(rt, state);
+    let log = match Journal::open(alloc, Stored::new(journal)) {
         Ok(log) => log,
         Err(fault) => return Err(Ending::Folder(FolderFault::from(fault))),
     };
-    say_cut(rt, service.state, before);
+    count_bytes(rt, state, before, board.counters);
     let Ok(space) = Ballast::new(ballast) else {
         return Err(Ending::Folder(FolderFault::Unusable));
     };
-    let dropped = left_out(alloc, service.dropped)?;
+    let dropped = left_out(alloc, dropped)?;
     let stage = Stage {
-        listen: service.listen,
+        listen,
         dropped: &dropped,
         queues: Queues::new(alloc, &config)?,
         threads: threads_for(rt, &config),
         board,
     };
-    prepared(rt, log, space, config, stage)
+    rolling(rt, log, beside, space, config, stage)
+}
+
+/// Starts the server of a log again whose file is exchanged from now on by what stands beside it, and serves it.
+fn rolling<L: Sealed + Send, B: Beside<L, Found> + Send, S: Space + Send, R>(
+    rt: &R,
+    log: L,
+    beside: B,
+    space: S,
+    config: Config,
+    stage: Stage<'_>,
+) -> Result<(), Ending>
+where
+    R: Wait
+        + Threads
+        + Clock
+        + RandomSource
+        + AllocGlobal
+        + Net
+        + Print
+        + Eprint
+        + Sync
+        + Send
+        + Copy
+        + Drop,
+    requires listed { (first : List (List ℕ)) × L.may_be log first }
+    requires space { S.aside space ≡ 0 }
+{
+    let log = Rolling::new(rt.alloc(), log, beside);
+    prepared::<Rolling<L, Found, B>, S, R>(rt, log, space, config, stage)
 }
 
 /// Starts the server of a log again and serves it.

@@ -8,30 +8,32 @@ use crate::board::Board;
 use crate::checking::check;
 use crate::configuration::{configuration_in, configuration_text};
 use crate::controlling::serve_controlled;
+use crate::counting::counters_of;
 use crate::ending::Ending;
-use crate::opening::serve_city;
+use crate::folders::Folders;
+use crate::opening::{Given, serve_city};
 use crate::thinning::thin;
 use crate::words::{tell, tell_usage};
 use mds_command::{Asked, HELP, Service, VERSION, asked_by};
-use mds_control::{Control, Counters, stop};
+use mds_control::{Control, stop};
 use mds_doors::Closing;
-use mds_request::Config;
+use mds_errands::run_errand;
 use std::alloc::AllocGlobal;
 use std::env::Env;
 use std::fs::{File, Files};
 use std::io::{Eprint, Print};
 use std::net::{Net, TcpListener, TcpStream};
 use std::random::RandomSource;
-use std::sync::Wait;
+use std::sync::{Arc, Wait};
 use std::thread::Threads;
 use std::time::Clock;
 
 /// The exit status of what was done.
-fn status_of(done: Result<(), Ending>) -> u8
+fn status_of(done: Result<u8, Ending>) -> u8
     ensures { result ≡ status_of done }
 {
     match done {
-        Ok(()) => 0,
+        Ok(status) => status,
         Err(ending) => ending.status(),
     }
 }
@@ -46,6 +48,7 @@ where
         + RandomSource
         + AllocGlobal
         + Files<File = File>
+        + Folders
         + Print
         + Eprint
         + Env
@@ -72,8 +75,8 @@ where
     status_of(done)
 }
 
-/// Does what is asked for.
-fn done<R>(rt: &R, asked: &Asked<'_>) -> Result<(), Ending>
+/// Does what is asked for, and gives the exit status that comes of it.
+fn done<R>(rt: &R, asked: &Asked<'_>) -> Result<u8, Ending>
 where
     R: Wait
         + Threads
@@ -82,6 +85,7 @@ where
         + AllocGlobal
         + Net<Listener = TcpListener, Stream = TcpStream>
         + Files<File = File>
+        + Folders
         + Print
         + Eprint
         + Sync
@@ -89,7 +93,7 @@ where
         + Copy
         + Drop,
 {
-    match asked {
+    let done = match asked {
         Asked::Help => printed(rt, HELP),
         Asked::Version => said_version(rt),
         Asked::Serve(service) => serve(rt, service),
@@ -97,6 +101,11 @@ where
         Asked::Audit(extract) => audit(rt, extract),
         Asked::Thin(thinning) => thin(rt, thinning),
         Asked::Stop(address) => stopped(rt, *address),
+        Asked::Errand(errand) => return Ok(run_errand(rt, errand)),
+    };
+    match done {
+        Ok(()) => Ok(0),
+        Err(ending) => Err(ending),
     }
 }
 
@@ -136,19 +145,6 @@ fn stopped<R: Net>(rt: &R, address: &str) -> Result<(), Ending> {
     }
 }
 
-/// The configuration of a file.
-///
-/// # Errors
-///
-/// `Misconfigured` with what is wrong, `NoMemory`.
-fn configuration_at<R: Files<File = File> + AllocGlobal>(
-    rt: &R,
-    path: &str,
-) -> Result<Config, Ending> {
-    let text = configuration_text(rt, rt.alloc(), path)?;
-    configuration_in(rt.alloc(), &text)
-}
-
 /// Serves a city until it is to end, with a control port where one is asked for.
 ///
 /// # Errors
@@ -163,6 +159,7 @@ where
         + AllocGlobal
         + Net<Listener = TcpListener, Stream = TcpStream>
         + Files<File = File>
+        + Folders
         + Print
         + Eprint
         + Sync
@@ -170,17 +167,27 @@ where
         + Copy
         + Drop,
 {
-    let config = configuration_at(rt, service.config)?;
+    let text = configuration_text(rt, rt.alloc(), service.config)?;
+    let config = configuration_in(rt.alloc(), &text)?;
     let closing = Closing::new(rt.alloc())?;
     let control = Control::new();
-    let counters = Counters::new(rt.alloc())?;
+    let counters = counters_of(rt.alloc(), &closing, &config)?;
+    let Ok(shared) = Arc::new(rt.alloc(), counters) else {
+        return Err(Ending::NoMemory);
+    };
     let board = Board {
         closing: &closing,
         control: &control,
-        counters: &counters,
+        counters: &*shared,
+        shared: &shared,
+        configuration: &text,
+    };
+    let given = Given {
+        config,
+        text: &text,
     };
     match service.control {
-        None => serve_city(rt, service, config, board),
-        Some(address) => serve_controlled(rt, service, address, config, board),
+        None => serve_city(rt, service, given, board),
+        Some(address) => serve_controlled(rt, service, address, given, board),
     }
 }

@@ -3,6 +3,8 @@ ghost use Rattle.std.specs.Prelude.{◌≡◌, ℕ, List};
 ghost use Rattle.ruffletuff.specs.Ends.{outcome_of};
 
 use crate::board::Board;
+use crate::configuration::badges_in;
+use crate::counting::count_vehicles;
 use crate::ending::Ending;
 use crate::errand::{Errand, beside};
 use mds_city::{City, CityReception};
@@ -141,11 +143,13 @@ where
     requires space { S.aside space ≡ 0 }
 {
     let alloc = rt.alloc();
+    count_vehicles(rt, &hall, stage.board.counters)?;
     let (keeper, flusher, nothing) = open::<N, L, S>(alloc, history, log, space)?;
     let Ok(keeper) = Arc::new(alloc, keeper) else {
         return Err(Ending::NoMemory);
     };
-    let city = City::new(hall, Arc::try_clone(&keeper)?, nothing);
+    let badges = badges_in(alloc, stage.board.configuration)?;
+    let city = City::new(hall, badges, Arc::try_clone(&keeper)?, nothing);
     served(rt, city, &*keeper, flusher, stage)
 }
 

@@ -26,7 +26,7 @@ fn may_leave_remains(fault: &ThinFault) -> bool
 }
 
 /// Removes what is left of a thinned journal beside the journal, if it can be.
-fn clear<R: Files<File = File> + AllocGlobal>(rt: &R, folder: &str) {
+pub fn clear<R: Files<File = File> + AllocGlobal>(rt: &R, folder: &str) {
     if let Ok(path) = format!(in rt.alloc(); "{folder}/journal.thinned") {
         let _ = fs::remove_file(rt, path.as_str());
     }
@@ -46,7 +46,7 @@ fn bytes_of<R: Files<File = File> + AllocGlobal>(rt: &R, folder: &str) -> Result
 
 /// The moment at which both servers are asked: that of the machine's clock, or the first one, since what is asked doesn't go
 /// by it.
-fn moment<R: Clock + Copy>(rt: &R) -> Moment {
+pub fn moment<R: Clock + Copy>(rt: &R) -> Moment {
     match MachineClock(*rt).now() {
         Some(now) => now,
         None => Moment::new(0).unwrap(),

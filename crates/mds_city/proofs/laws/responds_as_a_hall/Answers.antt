@@ -5,5 +5,5 @@ use Rattle.mds_city.proofs.Responses.{as_a_hall}
 use Rattle.mds_city.proofs.laws.responds_as_a_hall.Goals as goal
 
 pub returns : goal.returns
-returns c configuration parts arrived at stamp response plain answers =
-    as_a_hall configuration (early configuration parts arrived at) at (request_in parts (body_in arrived)) stamp response (λ moment. plain) answers
+returns c configuration badges parts arrived at stamp response plain answers =
+    as_a_hall configuration badges (early configuration parts arrived at) at (request_in parts (body_in arrived)) stamp response (λ moment. plain) answers

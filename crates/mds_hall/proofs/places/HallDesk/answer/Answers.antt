@@ -7,5 +7,5 @@ use Rattle.mds_hall.proofs.places.HallDesk.answer.Goals as goal
 pub returns-clause-told : goal.returns-clause-told
 returns-clause-told g c =
     let d = c.args.self.now in
-    desk_says g.K.Named.configuration d.place (state_of d.desk) (option_copied c.args.note) (request_heard c.args.heard) c.turn.result (state_of c.turn.new.desk)
-    (record { configured = d.configured; placed = d.placed }) (rw c.request-request.ensures at c.turn.ensures.turn)
+    desk_says g.K.Named.configuration d.place (state_of d.desk) (option_copied c.args.note) (request_heard c.args.heard) c.turn-response.result (state_of c.turn-response.new.desk)
+    (record { configured = d.configured; placed = d.placed }) (rw c.request-request.ensures at c.turn-response.ensures.turn)

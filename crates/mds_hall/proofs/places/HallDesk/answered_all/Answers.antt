@@ -8,4 +8,4 @@ pub returns-clause-replies : goal.returns-clause-replies
 returns-clause-replies g c =
     let d = c.args.self.now in
     desk_runs (λ replies. replies.items) g.K.Named.configuration d.place (state_of d.desk) (option_copied c.args.note) (map request_of c.args.requests.now)
-    c.told_run.result (state_of c.told_run.new.desk) (record { configured = d.configured; placed = d.placed }) c.told_run.ensures.run
+    c.told_run-replies.result (state_of c.told_run-replies.new.desk) (record { configured = d.configured; placed = d.placed }) c.told_run-replies.ensures.run

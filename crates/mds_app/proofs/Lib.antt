@@ -1,0 +1,4 @@
+mod OneLine
+mod Ordered
+mod Moments
+mod Badged

@@ -1,0 +1,10 @@
+use Rattle.std.proofs.Common.{◌≡◌, map, drop}
+use Rattle.mds_text.specs.Fields.{each}
+use Rattle.mds_reading.specs.Node.{node_view}
+use Rattle.mds_text.proofs.Lists.{with_front}
+use Rattle.mds_app.specs.Badges.{badge_of, badge_view}
+use Rattle.mds_app.proofs.badges.badges_in.Given as goal
+
+-- what was read and what is left are the whole list
+abbrev pub invariant-loop-entry : goal.invariant-loop-entry
+invariant-loop-entry l = with_front (map badge_view l.badges.items) (each badge_of (map node_view (drop l.entry-index l.entries))) ≡ each badge_of (map node_view l.entries)

@@ -1,0 +1,8 @@
+use Rattle.std.proofs.Common.{ap, ◌∙◌}
+use Rattle.std.specs.List.{slice_get}
+use Rattle.mds_app.specs.Whoami.{told_operator}
+use Rattle.mds_app.proofs.laws.who_goes_by_own_badge.Goals as goal
+
+pub returns : goal.returns
+returns c one other place alike zone =
+    ap (λ z. told_operator z (slice_get one.operators place)) zone ∙ ap (told_operator other.zone) alike

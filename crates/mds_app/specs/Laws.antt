@@ -1,0 +1,29 @@
+-- What the definitions are good for.
+use Rattle.std.specs.Prelude.{◌≡◌, ℕ, List, map, slice_get, Result, Ok}
+use Rattle.mds_catalog.specs.Publication.{Publication, IsWithdrawnFrom}
+use Rattle.mds_request.specs.Configuration.{Configuration, ids, read_configuration}
+use Rattle.mds_request.specs.declared.config.Actor.TheVariants.{Operator}
+use Rattle.mds_app.specs.Badges.{Badges, read_badges}
+use Rattle.mds_app.specs.Whoami.{who_reply}
+use Rattle.mds_app.specs.Withdrawals.{withdrawn_from}
+
+-- A policy is withdrawn at a moment exactly where that isn't before the moment that is told of it.
+abbrev pub WithdrawnFromIsRight : Type 0
+WithdrawnFromIsRight = (publications : List Publication) (id : List ℕ) → IsWithdrawnFrom publications id (withdrawn_from publications id)
+
+-- these are the badges of the configuration's operators, in its order
+pub record IsBadged (text : List ℕ) (configuration : Configuration) : Type 0 where
+  pub badges : Badges
+  pub are_its : read_badges text ≡ Ok badges
+  pub each : map (λ b. b.id) badges.operators ≡ ids configuration.operators
+
+-- Each configuration's text has badges.
+abbrev pub ConfigurationsAreBadged : Type 0
+ConfigurationsAreBadged =
+    (text : List ℕ) (configuration : Configuration) → read_configuration text ≡ Ok configuration → IsBadged text configuration
+
+-- Who an operator is told to be depends on its own badge and the zone alone, whatever the other operators are called.
+abbrev pub WhoGoesByOwnBadge : Type 0
+WhoGoesByOwnBadge =
+    (one other : Badges) (place : ℕ) → slice_get one.operators place ≡ slice_get other.operators place → one.zone ≡ other.zone
+    → who_reply one (Operator place) ≡ who_reply other (Operator place)

@@ -1,0 +1,5 @@
+pub mod Badges
+pub mod Whoami
+pub mod Withdrawals
+pub mod Listed
+pub mod Laws

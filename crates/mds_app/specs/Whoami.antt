@@ -1,0 +1,47 @@
+-- Who asks, as it is told. The members of each object are in the byte order of their names.
+use Rattle.std.specs.Prelude.{ℕ, List, [], ◌∷◌, ◌++◌, map, codes, Option, Some, None, slice_get}
+use Rattle.std.specs.Option.{option_map_or}
+use Rattle.mds_text.specs.Tree.{Json, text, object, members_of}
+use Rattle.mds_verdict.specs.Verdict.{printed_id}
+use Rattle.mds_request.specs.Reply.{Reply, refused}
+use Rattle.mds_request.specs.declared.code.Code.TheVariants.{Token}
+use Rattle.mds_request.specs.declared.config.Actor.{Actor}
+use Rattle.mds_request.specs.declared.config.Actor.TheVariants.{Author, Operator, Nobody}
+use Rattle.mds_machine.specs.Answer.{told}
+use Rattle.mds_machine.specs.Bodies.{list_json}
+use Rattle.mds_app.specs.Badges.{Badge, Badges}
+
+-- a name, where there is one
+abbrev pub name_members : Option (List ℕ) → List (List ℕ × Json)
+name_members None = []
+name_members (Some name) = (codes "name", text name) ∷ []
+
+-- an operator's identifier and its name
+abbrev pub badge_members : Badge → List (List ℕ × Json)
+badge_members badge = (codes "id", printed_id badge.id) ∷ name_members badge.name
+
+abbrev pub badge_json : Badge → Json
+badge_json badge = object (members_of (badge_members badge))
+
+-- what one is, and the zone in which rules are open
+abbrev pub role_members : List ℕ → List ℕ → List (List ℕ × Json)
+role_members role zone = (codes "role", text role) ∷ (codes "zone", text zone) ∷ []
+
+-- an operator is told of itself
+abbrev pub operator_json : List ℕ → Badge → Json
+operator_json zone badge = object (members_of (badge_members badge ++ role_members (codes "operator") zone))
+
+-- the author is told of all operators
+abbrev pub author_json : Badges → Json
+author_json badges =
+    object (members_of ((codes "operators", list_json (map badge_json badges.operators)) ∷ role_members (codes "author") badges.zone))
+
+-- what the operator with this badge is told, or whoever has none
+abbrev pub told_operator : List ℕ → Option Badge → Reply
+told_operator zone badge = option_map_or (λ b. told (operator_json zone b)) badge (refused Token)
+
+-- Who one is. It depends on the configuration's text and on who asks, and on nothing else.
+abbrev pub who_reply : Badges → Actor → Reply
+who_reply badges Author = told (author_json badges)
+who_reply badges (Operator place) = told_operator badges.zone (slice_get badges.operators place)
+who_reply badges Nobody = refused Token

@@ -1,0 +1,108 @@
+//! Who asks.
+ghost use Rattle.std.specs.Prelude.{◌≡◌, ◌++◌, IfOk, OnOk, map, option_map, string_bytes};
+ghost use Rattle.mds_text.specs.View.{view, member_view};
+ghost use Rattle.mds_app.specs.Badges.{badge_view, badges_view};
+ghost use Rattle.mds_app.specs.Whoami.{author_json, badge_json, badge_members, name_members, operator_json, role_members, told_operator, who_reply};
+
+use crate::badges::{Badge, Badges};
+use crate::bodies::told;
+use mds_request::{Actor, Code, Reply};
+use mds_text::{Member, Tree, add_member, id_tree, list_tree, object_tree, text_tree};
+use std::alloc::{AllocError, Global};
+
+/// Adds a name, where there is one.
+fn add_name(
+    alloc: Global,
+    members: &mut Vec<Member>,
+    name: &Option<String>,
+) -> Result<(), AllocError>
+    ensures { OnOk result (map member_view members.new.items ≡ map member_view members.old.items
+        ++ name_members (option_map string_bytes name.now)) }
+{
+    match name {
+        Some(name) => add_member(members, "name", text_tree(alloc, name.as_str())?),
+        None => Ok(()),
+    }
+}
+
+/// An operator's identifier and its name.
+fn badge_members(alloc: Global, badge: &Badge) -> Result<Vec<Member>, AllocError>
+    ensures { IfOk result (λ v. map member_view v.items ≡ badge_members (badge_view badge.now)) }
+{
+    let mut members = Vec::new(alloc);
+    add_member(&mut members, "id", id_tree(alloc, &badge.id)?)?;
+    add_name(alloc, &mut members, &badge.name)?;
+    Ok(members)
+}
+
+/// Adds what one is, and the zone.
+fn add_role(
+    alloc: Global,
+    members: &mut Vec<Member>,
+    role: &str,
+    zone: &str,
+) -> Result<(), AllocError>
+    ensures { OnOk result (map member_view members.new.items ≡ map member_view members.old.items ++ role_members role.now zone.now) }
+{
+    add_member(members, "role", text_tree(alloc, role)?)?;
+    add_member(members, "zone", text_tree(alloc, zone)?)
+}
+
+/// Each operator's badge.
+fn badge_trees(alloc: Global, badges: &[Badge]) -> Result<Vec<Tree>, AllocError>
+    ensures { IfOk result (λ v. map view v.items ≡ map badge_json (map badge_view badges.now)) }
+{
+    let mut trees = Vec::with_capacity(alloc, badges.len())?;
+    for badge in badges {
+        trees.push(object_tree(badge_members(alloc, badge)?))?;
+    }
+    Ok(trees)
+}
+
+/// The author, with all operators.
+fn author_tree(alloc: Global, badges: &Badges) -> Result<Tree, AllocError>
+    ensures { IfOk result (λ t. view t ≡ author_json (badges_view badges.now)) }
+{
+    let trees = badge_trees(alloc, &badges.operators)?;
+    let mut members = Vec::new(alloc);
+    add_member(&mut members, "operators", list_tree(trees))?;
+    add_role(alloc, &mut members, "author", badges.zone.as_str())?;
+    Ok(object_tree(members))
+}
+
+/// An operator, as it is told of itself.
+fn operator_tree(alloc: Global, zone: &str, badge: &Badge) -> Result<Tree, AllocError>
+    ensures { IfOk result (λ t. view t ≡ operator_json zone.now (badge_view badge.now)) }
+{
+    let mut members = badge_members(alloc, badge)?;
+    add_role(alloc, &mut members, "operator", zone)?;
+    Ok(object_tree(members))
+}
+
+/// What the operator with this badge is told.
+fn told_operator(alloc: Global, zone: &str, badge: Option<&Badge>) -> Result<Reply, AllocError>
+    ensures { IfOk result (λ r. r ≡ told_operator zone.now (option_map (λ b. badge_view b.now) badge.entry)) }
+{
+    match badge {
+        Some(badge) => told(alloc, &operator_tree(alloc, zone, badge)?),
+        None => Ok(Reply::from(Code::Token)),
+    }
+}
+
+/// Who asks: the author, with the operators' identifiers and names, or an operator, with its own; both with the zone. An
+/// operator that the badges don't have, and nobody, are told `token`.
+///
+/// # Errors
+///
+/// Memory ran out.
+pub fn whoami(alloc: Global, badges: &Badges, asker: Actor) -> Result<Reply, AllocError>
+    ensures { IfOk result (λ r. r ≡ who_reply (badges_view badges.now) asker) }
+{
+    match asker {
+        Actor::Author => told(alloc, &author_tree(alloc, badges)?),
+        Actor::Operator(place) => {
+            told_operator(alloc, badges.zone.as_str(), badges.operators.get(place))
+        }
+        Actor::Nobody => Ok(Reply::from(Code::Token)),
+    }
+}

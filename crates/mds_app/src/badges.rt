@@ -1,0 +1,96 @@
+//! What a configuration's text says for people.
+ghost use Rattle.std.specs.Prelude.{◌≡◌, IfSome, map, option_and_then, option_map, string_bytes};
+ghost use Rattle.mds_text.specs.Fault.{Gives, text_cause};
+ghost use Rattle.mds_text.specs.Fields.{each};
+ghost use Rattle.mds_reading.specs.Node.{node_view};
+ghost use Rattle.mds_app.specs.Badges.{as_name, badge_of, badge_view, badges_of, badges_view, name_at, read_badges};
+
+use mds_reading::{
+    Node, Source, document_of, member_at, object_of, required_id, required_list, required_text,
+};
+use mds_text::{Field, Id, TextFault};
+use std::alloc::{AllocError, Global};
+
+/// The most bytes of an operator's name.
+pub const MOST_NAME: usize = 256;
+
+/// An operator as people know it.
+#[derive(Drop)]
+pub struct Badge {
+    pub id: Id,
+    /// The name that it goes by, where the configuration gives one: at most `MOST_NAME` bytes.
+    pub name: Option<String>,
+}
+
+/// The operators as people know them, in the configuration's order, and the zone as it is written.
+#[derive(Drop)]
+pub struct Badges {
+    pub(crate) operators: Vec<Badge>,
+    pub(crate) zone: String,
+}
+
+impl Badges {
+    /// The badges of a configuration's text: of each operator its `id` and its `name`, and the `zone`. A name is a text of at
+    /// most 256 bytes; any other value of that member is read past. The text of each `mds_request::Config` has badges.
+    ///
+    /// # Errors
+    ///
+    /// The text is no JSON object with such operators and a zone; `NoMemory`.
+    pub fn read(alloc: Global, text: &[u8]) -> Result<Badges, TextFault>
+        ensures { Gives text_cause badges_view result (read_badges text.now) }
+    {
+        let mut source = Source::new(alloc);
+        let tree = source.read(alloc, text)?;
+        badges_of(alloc, &tree)
+    }
+}
+
+fn badges_of(alloc: Global, tree: &Node<'_>) -> Result<Badges, TextFault>
+    ensures { Gives text_cause badges_view result (badges_of (node_view tree.now)) }
+{
+    let document = document_of(tree)?;
+    let list = required_list(alloc, document, Field::Operators)?;
+    let operators = badges_in(alloc, list.as_slice())?;
+    let zone = String::from_str(alloc, required_text(document, Field::Zone)?)?;
+    Ok(Badges { operators, zone })
+}
+
+/// Each operator's badge in its order, up to the first fault.
+fn badges_in(alloc: Global, entries: &[Node<'_>]) -> Result<Vec<Badge>, TextFault>
+    ensures { Gives text_cause (λ v. map badge_view v.items) result (each badge_of (map node_view entries.now)) }
+{
+    let mut badges = Vec::with_capacity(alloc, entries.len())?;
+    for entry in entries {
+        badges.push(badge_of(alloc, entry)?)?;
+    }
+    Ok(badges)
+}
+
+fn badge_of(alloc: Global, value: &Node<'_>) -> Result<Badge, TextFault>
+    ensures { Gives text_cause badge_view result (badge_of (node_view value.now)) }
+{
+    let entry = object_of(value, Field::Operators)?;
+    let id = required_id(entry, Field::Id)?;
+    let name = name_at(alloc, entry)?;
+    Ok(Badge { id, name })
+}
+
+/// The name of an operator, where it has one.
+fn name_at(alloc: Global, entry: &Node<'_>) -> Result<Option<String>, TextFault>
+    ensures { Gives text_cause (option_map string_bytes) result (name_at (node_view entry.now)) }
+{
+    match name_in(member_at(entry, Field::Name)?) {
+        Some(name) => Ok(Some(String::from_str(alloc, name)?)),
+        None => Ok(None),
+    }
+}
+
+/// The name that a value is, if it is one.
+fn name_in<'a>(value: Option<&Node<'a>>) -> Option<&'a str>
+    ensures { option_map (λ s. s.now) result ≡ option_and_then as_name (option_map (λ t. node_view t.now) value.entry) }
+{
+    match value {
+        Some(Node::Text(text)) if text.len() <= MOST_NAME => Some(text),
+        _ => None,
+    }
+}

@@ -1,0 +1,14 @@
+//! What people are told beside the protocol's calls: who they are, which policies are withdrawn, and which drafts are held.
+#![tactic(auto)]
+
+mod asker;
+mod badges;
+mod bodies;
+pub mod laws;
+mod listed;
+mod withdrawn;
+
+pub use asker::whoami;
+pub use badges::{Badge, Badges, MOST_NAME};
+pub use listed::listed_drafts;
+pub use withdrawn::withdrawals;

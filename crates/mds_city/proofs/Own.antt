@@ -1,0 +1,65 @@
+-- What an operator is told beside the protocol's calls, by its own place.
+use Rattle.std.proofs.Common.{◌≡◌, ◌⊎◌, ℕ, List, Option, Some, None, option_map, Result, Ok, Err, IfOk, IfErr, inl, inr, refl, sym, ap, subst, ◌∙◌}
+use Rattle.std.specs.List.{slice_get}
+use Rattle.mds_app.specs.Badges.{Badge, Badges}
+use Rattle.mds_app.specs.Whoami.{told_operator}
+use Rattle.mds_app.specs.Withdrawals.{withdrawals_reply}
+use Rattle.mds_catalog.specs.Publication.{Publication}
+use Rattle.mds_drafts.specs.Drafts.{Drafts as Held}
+use Rattle.mds_request.specs.Configuration.{Configuration, Operator as Named}
+use Rattle.mds_request.specs.Reply.{Reply, refused}
+use Rattle.mds_request.specs.declared.code.Code.{Code}
+use Rattle.mds_request.specs.declared.code.Code.TheVariants.{NoMemory, NoSnapshot}
+use Rattle.mds_hall.specs.Told.{DeskTells, RoomTells}
+use Rattle.mds_hall.specs.Turn.{IsDeskAt}
+use Rattle.mds_city.specs.Told.{IsToldReply, operator_told, own_withdrawals}
+use Rattle.mds_city.specs.declared.app.Question.{Question}
+use Rattle.mds_city.specs.declared.app.Question.TheVariants.{Whoami, Withdrawals, Drafts}
+
+pub told_own : (one other : Configuration) (named renamed : Badges) (place : ℕ) (publications : List Publication) (question : Question)
+    → slice_get one.operators place ≡ slice_get other.operators place → slice_get named.operators place ≡ slice_get renamed.operators place → named.zone ≡ renamed.zone
+    → operator_told one named place publications question ≡ operator_told other renamed place publications question
+told_own one other named renamed place publications Whoami same alike zone =
+    ap (λ z. told_operator z (slice_get named.operators place)) zone ∙ ap (told_operator renamed.zone) alike
+told_own one other named renamed place publications Withdrawals same alike zone = ap (own_withdrawals publications) same
+told_own one other named renamed place publications Drafts same alike zone = refl
+
+-- an operator's withdrawals, by its identifier
+pub own_is : (publications : List Publication) (operator : Option Named) (id : List ℕ) → option_map (λ o. o.id) operator ≡ Some id
+    → withdrawals_reply publications (Some id) ≡ own_withdrawals publications operator
+own_is publications None id is = absurd cc
+own_is publications (Some operator) id is = ap (λ o. withdrawals_reply publications o) (sym is)
+
+-- what is told of a front, by another name for it and for the place
+pub desk_tells : {T : Type 0} (one other : Configuration) (place there : ℕ) (tells also : List Publication → T → Type 0) (told : T)
+    → one ≡ other → place ≡ there → ((publications : List Publication) → tells publications told → also publications told)
+    → DeskTells one place tells told → DeskTells other there also told
+desk_tells one other place there tells also told same here imply it =
+    record {
+      before = it.before;
+      after = it.after;
+      is_its = record { configured = it.is_its.configured ∙ same; placed = it.is_its.placed ∙ here };
+      learnt = it.learnt;
+      tells = imply it.after.known it.tells;
+    }
+
+pub room_tells : {T : Type 0} (one other : Configuration) (tells : Held → List Publication → T → Type 0) (told : T) → one ≡ other
+    → RoomTells one tells told → RoomTells other tells told
+room_tells one other tells told same it = record { room = it.room; is_its = it.is_its ∙ same; tells = it.tells }
+
+-- an answer that tells this, or that memory ran out
+pub by_memory : {E : Type 0} (Kind : Reply → Type 0) (told : Result Reply E) (answer : Reply) → IfOk told (λ reply. answer ≡ reply) → IfErr told (λ _. answer ≡ refused NoMemory)
+    → IfOk told Kind → IsToldReply Kind answer
+by_memory Kind (Ok reply) answer is none kind = inl (subst Kind (sym is) kind)
+by_memory Kind (Err e) answer is none kind = inr (inl none)
+
+-- or that nothing is shown
+pub by_refusal : (Kind : Reply → Type 0) (told : Result Reply Code) (answer : Reply) → IfOk told (λ reply. answer ≡ reply) → IfErr told (λ code. answer ≡ refused code)
+    → IfErr told (λ code. (code ≡ NoMemory) ⊎ (code ≡ NoSnapshot)) → IfOk told Kind → IsToldReply Kind answer
+by_refusal Kind (Ok reply) answer is none why kind = inl (subst Kind (sym is) kind)
+by_refusal Kind (Err code) answer is none (inl memory) kind = inr (inl (none ∙ ap refused memory))
+by_refusal Kind (Err code) answer is none (inr shown) kind = inr (inr (none ∙ ap refused shown))
+
+pub ok_kind : {E : Type 0} (Kind Other : Reply → Type 0) (told : Result Reply E) → ((reply : Reply) → Kind reply → Other reply) → IfOk told Kind → IfOk told Other
+ok_kind Kind Other (Ok reply) imply kind = imply reply kind
+ok_kind Kind Other (Err e) imply kind = tt

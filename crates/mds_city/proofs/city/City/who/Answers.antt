@@ -1,0 +1,13 @@
+use Rattle.std.proofs.Common.{◌≡◌}
+use Rattle.mds_app.specs.Badges.{badges_view}
+use Rattle.mds_app.specs.Whoami.{who_reply}
+use Rattle.mds_city.proofs.Own.{by_memory}
+use Rattle.mds_city.proofs.Responses.{waits_told}
+use Rattle.mds_city.proofs.city.City.who.Goals as goal
+
+pub returns : goal.returns
+returns g c =
+    let badges = badges_view c.args.self.now.badges in
+    waits_told (λ reply. reply ≡ who_reply badges c.args.asker) (λ s. s.reply) c.told.result c.or_no_memory-answer.result c.told.ensures.says
+    (by_memory (λ reply. reply ≡ who_reply badges c.args.asker) c.whoami.result c.or_no_memory-answer.result c.or_no_memory-answer.ensures.told c.or_no_memory-answer.ensures.refused
+    c.whoami.ensures)

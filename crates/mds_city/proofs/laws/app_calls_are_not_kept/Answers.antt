@@ -1,0 +1,5 @@
+use Rattle.mds_city.proofs.Apart.{unkept}
+use Rattle.mds_city.proofs.laws.app_calls_are_not_kept.Goals as goal
+
+pub returns : goal.returns
+returns c configuration request reply some = unkept configuration request reply.status some

@@ -1,0 +1,64 @@
+-- What people are told beside the protocol's calls: by the configuration's text, the publications and the drafts.
+use Rattle.std.specs.Prelude.{◌≡◌, ◌⊎◌, ℕ, List, Option, Some, None, slice_get}
+use Rattle.http.specs.declared.response.Response.{Response}
+use Rattle.http_body_util.specs.declared.full.Full.{Full}
+use Rattle.mds_app.specs.Badges.{Badges}
+use Rattle.mds_app.specs.Listed.{drafts_reply}
+use Rattle.mds_app.specs.Whoami.{who_reply}
+use Rattle.mds_app.specs.Withdrawals.{withdrawals_reply}
+use Rattle.mds_catalog.specs.Publication.{Publication}
+use Rattle.mds_drafts.specs.Drafts.{Drafts as Held}
+use Rattle.mds_request.specs.Configuration.{Configuration, Operator as Named}
+use Rattle.mds_request.specs.Reply.{Reply, refused}
+use Rattle.mds_request.specs.declared.code.Code.TheVariants.{NoMemory, NoSnapshot, Role, Token}
+use Rattle.mds_request.specs.declared.config.Actor.TheVariants.{Author, Operator}
+use Rattle.mds_hall.specs.Told.{DeskTells, RoomTells}
+use Rattle.mds_hall.specs.Turn.{SaysOne}
+use Rattle.mds_city.specs.declared.app.Question.{Question}
+use Rattle.mds_city.specs.declared.app.Question.TheVariants.{Whoami, Withdrawals, Drafts}
+use Rattle.mds_city.specs.declared.people.OfRoom.{OfRoom}
+use Rattle.mds_city.specs.declared.people.OfRoom.TheVariants as room
+
+-- which of an operator's policies are withdrawn
+abbrev pub own_withdrawals : List Publication → Option Named → Reply
+own_withdrawals publications None = refused Token
+own_withdrawals publications (Some operator) = withdrawals_reply publications (Some operator.id)
+
+-- What the operator at this place is told: who it is by its own badge, which of its own policies are withdrawn, and no drafts.
+-- It depends on its own badge, on the zone, on its identifier and on the publications, and on nothing else.
+abbrev pub operator_told : Configuration → Badges → ℕ → List Publication → Question → Reply
+operator_told configuration badges place publications Whoami = who_reply badges (Operator place)
+operator_told configuration badges place publications Withdrawals = own_withdrawals publications (slice_get configuration.operators place)
+operator_told configuration badges place publications Drafts = refused Role
+
+-- what the author is told: who it is, with all badges, all that is withdrawn, and all drafts
+abbrev pub author_told : Badges → Held → List Publication → Question → Reply
+author_told badges drafts publications Whoami = who_reply badges Author
+author_told badges drafts publications Withdrawals = withdrawals_reply publications None
+author_told badges drafts publications Drafts = drafts_reply drafts
+
+-- the reply is what the operator at this place is told: of a front that its desk knows afterwards, where it asks what is withdrawn
+abbrev pub TellsOperator : Configuration → Badges → ℕ → Question → Reply → Type 0
+TellsOperator configuration badges place Withdrawals reply =
+    DeskTells configuration place (λ publications told. told ≡ operator_told configuration badges place publications Withdrawals) reply
+TellsOperator configuration badges place question reply =
+    (publications : List Publication) → reply ≡ operator_told configuration badges place publications question
+
+-- the reply is what the author is told: of the drafts and the publications of the author's room, where it asks about these
+abbrev pub TellsAuthor : Configuration → Badges → Question → Reply → Type 0
+TellsAuthor configuration badges Whoami reply = (drafts : Held) (publications : List Publication) → reply ≡ author_told badges drafts publications Whoami
+TellsAuthor configuration badges question reply =
+    RoomTells configuration (λ drafts publications told. told ≡ author_told badges drafts publications question) reply
+
+-- what is told of an author's room
+abbrev pub room_told : OfRoom → Held → List Publication → Reply
+room_told room.Withdrawals drafts publications = withdrawals_reply publications None
+room_told room.Drafts drafts publications = drafts_reply drafts
+
+-- such a reply, or that there was no memory for it, or that nothing is shown
+abbrev pub IsToldReply : (Reply → Type 0) → Reply → Type 0
+IsToldReply Kind reply = Kind reply ⊎ ((reply ≡ refused NoMemory) ⊎ (reply ≡ refused NoSnapshot))
+
+-- the response says it
+abbrev pub SaysTold : (Reply → Type 0) → Response (Full (List ℕ)) → Type 0
+SaysTold Kind response = SaysOne (IsToldReply Kind) response

@@ -1,0 +1,243 @@
+//! What people are told beside the protocol's calls. It is read under the lock of the desk or of the room, and nothing is kept
+//! of it.
+ghost use Rattle.std.specs.Prelude.{◌≡◌, ◌<◌, IfErr, IfOk, Some, length, option_map, slice_get};
+ghost use Rattle.mds_app.specs.Badges.{badges_view};
+ghost use Rattle.mds_app.specs.Whoami.{who_reply};
+ghost use Rattle.mds_request.specs.Configuration.{configuration};
+ghost use Rattle.mds_request.specs.Reply.{refused};
+ghost use Rattle.mds_request.specs.declared.code.Code.TheVariants.{NoMemory};
+ghost use Rattle.mds_hall.specs.Told.{RoomTells};
+ghost use Rattle.mds_city.specs.Told.{IsToldReply, SaysTold, TellsAuthor, TellsOperator, room_told};
+ghost use Rattle.mds_city.specs.Unstored.{Waits};
+ghost use Rattle.mds_city.specs.declared.app.Question.TheVariants.{Withdrawals};
+
+use crate::app::Question;
+use crate::city::{Answered, City};
+use bytes::Bytes;
+use http::Response;
+use http_body_util::Full;
+use mds_app::{listed_drafts, whoami, withdrawals};
+use mds_catalog::Catalogue;
+use mds_commit::{Naming, NotTold, Settling, Space};
+use mds_desk::{AuthorTelling, Telling};
+use mds_drafts::Drafts;
+use mds_hall::Named;
+use mds_records::Log;
+use mds_request::{Actor, Code, Config, Reply};
+use mds_shelf::Answer;
+use mds_text::Id;
+use std::alloc::{AllocError, Global};
+use std::sync::Wait;
+
+/// Which of an operator's policies are withdrawn.
+#[derive(Clone, Copy)]
+pub(crate) struct WithdrawnFor {
+    operator: Id,
+}
+
+impl Telling for WithdrawnFor {
+    ghost use Rattle.std.specs.Prelude.{◌≡◌, Some};
+    ghost use Rattle.mds_app.specs.Withdrawals.{withdrawals_reply};
+
+    type Told = Reply;
+
+    ghost tells = { λ telling publications reply. reply ≡ withdrawals_reply publications (Some telling.operator) };
+
+    fn tell(&self, alloc: Global, catalogue: &Catalogue) -> Result<Reply, AllocError> {
+        withdrawals(alloc, catalogue, Some(self.operator))
+    }
+}
+
+/// What the author asks of its room.
+#[derive(Clone, Copy)]
+pub(crate) enum OfRoom {
+    /// Which policies are withdrawn.
+    Withdrawals,
+    /// Which drafts are held.
+    Drafts,
+}
+
+impl AuthorTelling for OfRoom {
+    ghost use Rattle.std.specs.Prelude.{◌≡◌};
+    ghost use Rattle.mds_city.specs.Told.{room_told};
+
+    type Told = Reply;
+
+    ghost tells = { λ asked drafts publications reply. reply ≡ room_told asked drafts publications };
+
+    fn tell(
+        &self,
+        alloc: Global,
+        drafts: &Drafts,
+        catalogue: &Catalogue,
+    ) -> Result<Reply, AllocError> {
+        match self {
+            OfRoom::Withdrawals => withdrawals(alloc, catalogue, None),
+            OfRoom::Drafts => listed_drafts(alloc, drafts),
+        }
+    }
+}
+
+/// The answer that tells this, or that memory ran out.
+fn or_no_memory(told: Result<Reply, AllocError>) -> Answer
+    ensures told { IfOk told (λ reply. result ≡ reply) }
+    ensures refused { IfErr told (λ _. result ≡ refused NoMemory) }
+{
+    match told {
+        Ok(reply) => Answer::from(reply),
+        Err(_) => Answer::from(Code::NoMemory),
+    }
+}
+
+/// The answer that tells this, or the refusal in its place.
+fn or_refused(told: Result<Reply, Code>) -> Answer
+    ensures told { IfOk told (λ reply. result ≡ reply) }
+    ensures refused { IfErr told (λ code. result ≡ refused code) }
+{
+    match told {
+        Ok(reply) => Answer::from(reply),
+        Err(code) => Answer::from(code),
+    }
+}
+
+/// The identifier of the operator at this place.
+fn id_at(config: &Config, place: usize) -> Id
+    requires { place < length (configuration config.now).operators }
+    ensures { option_map (λ o. o.id) (slice_get (configuration config.now).operators place) ≡ Some result }
+{
+    config.operators()[place].id
+}
+
+impl<K: Named, N: Naming, L: Log, S: Space> City<K, N, L, S> {
+    /// Tells who asks.
+    ///
+    /// # Errors
+    ///
+    /// There was no memory for the response.
+    fn who(
+        &self,
+        alloc: Global,
+        asker: Actor,
+    ) -> Result<Settling<Response<Full<Bytes>>, N, L, S>, NotTold>
+        ensures { IfOk result (λ s. Waits (SaysTold (λ reply. reply ≡ who_reply (badges_view self.now.badges) asker)) s.reply) }
+    {
+        let stamp = self.stamp();
+        let answer = or_no_memory(whoami(alloc, &self.badges, asker));
+        self.told(alloc, Answered { answer, stamp })
+    }
+
+    /// What the operator at this place is told of withdrawals, from one look of its desk, under the desk's lock.
+    ///
+    /// # Errors
+    ///
+    /// There was no memory for it.
+    fn desk_told<R: Wait>(&self, rt: &R, place: usize) -> Result<Answered<N, L>, NotTold>
+        requires { place < length (configuration self.now.hall.config.value).operators }
+        ensures { IfOk result (λ answered. IsToldReply (TellsOperator (configuration self.now.hall.config.value) (badges_view self.now.badges)
+            place Withdrawals) answered.answer) }
+    {
+        let config = self.hall.configuration()?;
+        let telling = WithdrawnFor {
+            operator: id_at(&*config, place),
+        };
+        let Some(mut desk) = self.hall.desk_at(rt, place) else {
+            return Err(NotTold::NoMemory);
+        };
+        let note = self.hall.note(rt);
+        let answer = or_refused(desk.told(note.as_ref(), &telling));
+        let stamp = self.stamp();
+        Ok(Answered { answer, stamp })
+    }
+
+    /// Tells the operator at this place which of its policies are withdrawn.
+    ///
+    /// # Errors
+    ///
+    /// There was no memory for it.
+    fn of_desk<R: Wait>(
+        &self,
+        rt: &R,
+        alloc: Global,
+        place: usize,
+    ) -> Result<Settling<Response<Full<Bytes>>, N, L, S>, NotTold>
+        requires { place < length (configuration self.now.hall.config.value).operators }
+        ensures { IfOk result (λ s. Waits (SaysTold (TellsOperator (configuration self.now.hall.config.value) (badges_view self.now.badges)
+            place Withdrawals)) s.reply) }
+    {
+        match self.desk_told(rt, place) {
+            Ok(answered) => self.told(alloc, answered),
+            Err(fault) => Err(fault),
+        }
+    }
+
+    /// What the author is told of its room, under the room's lock.
+    fn room_told<R: Wait>(&self, rt: &R, asked: OfRoom) -> Answered<N, L>
+        ensures { IsToldReply (RoomTells (configuration self.now.hall.config.value)
+            (λ drafts publications told. told ≡ room_told asked drafts publications)) result.answer }
+    {
+        let room = self.hall.room(rt);
+        let answer = or_no_memory(room.told(&asked));
+        let stamp = self.stamp();
+        Answered { answer, stamp }
+    }
+
+    /// Tells the author of its room.
+    ///
+    /// # Errors
+    ///
+    /// There was no memory for the response.
+    fn of_room<R: Wait>(
+        &self,
+        rt: &R,
+        alloc: Global,
+        asked: OfRoom,
+    ) -> Result<Settling<Response<Full<Bytes>>, N, L, S>, NotTold>
+        ensures { IfOk result (λ s. Waits (SaysTold (RoomTells (configuration self.now.hall.config.value)
+            (λ drafts publications told. told ≡ room_told asked drafts publications))) s.reply) }
+    {
+        let answered = self.room_told(rt, asked);
+        self.told(alloc, answered)
+    }
+}
+
+/// Tells the author what it asks beside the protocol's calls.
+///
+/// # Errors
+///
+/// There was no memory for the response.
+pub(crate) fn tell_the_author<K: Named, N: Naming, R: Wait, L: Log, S: Space>(
+    rt: &R,
+    alloc: Global,
+    question: Question,
+    city: &City<K, N, L, S>,
+) -> Result<Settling<Response<Full<Bytes>>, N, L, S>, NotTold>
+    ensures { IfOk result (λ s. Waits (SaysTold (TellsAuthor (configuration city.now.hall.config.value) (badges_view city.now.badges) question)) s.reply) }
+{
+    match question {
+        Question::Whoami => city.who(alloc, Actor::Author),
+        Question::Withdrawals => city.of_room(rt, alloc, OfRoom::Withdrawals),
+        Question::Drafts => city.of_room(rt, alloc, OfRoom::Drafts),
+    }
+}
+
+/// Tells the operator at this place what it asks beside the protocol's calls.
+///
+/// # Errors
+///
+/// There was no memory for the response.
+pub(crate) fn tell_an_operator<K: Named, N: Naming, R: Wait, L: Log, S: Space>(
+    rt: &R,
+    alloc: Global,
+    place: usize,
+    question: Question,
+    city: &City<K, N, L, S>,
+) -> Result<Settling<Response<Full<Bytes>>, N, L, S>, NotTold>
+    requires { place < length (configuration city.now.hall.config.value).operators }
+    ensures { IfOk result (λ s. Waits (SaysTold (TellsOperator (configuration city.now.hall.config.value) (badges_view city.now.badges) place question)) s.reply) }
+{
+    match question {
+        Question::Whoami => city.who(alloc, Actor::Operator(place)),
+        Question::Withdrawals => city.of_desk(rt, alloc, place),
+        Question::Drafts => city.refused(alloc, Code::Role),
+    }
+}

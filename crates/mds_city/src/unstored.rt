@@ -1,0 +1,25 @@
+//! Responses that no cache may keep.
+ghost use Rattle.std.specs.Prelude.{IfOk};
+ghost use Rattle.mds_city.specs.Unstored.{IsUnstored};
+
+use bytes::Bytes;
+use http::header::CACHE_CONTROL;
+use http::{HeaderValue, Response};
+use http_body_util::Full;
+use std::alloc::AllocError;
+
+/// The same response, which no cache may keep: what a city answers is of one moment and for one asker.
+///
+/// # Errors
+///
+/// There was no memory for the field.
+pub fn unstored(response: Response<Full<Bytes>>) -> Result<Response<Full<Bytes>>, AllocError>
+    ensures { IfOk result (IsUnstored response) }
+{
+    let mut marked = response;
+    let no_store = HeaderValue::from_static("no-store");
+    match marked.headers_mut().insert(CACHE_CONTROL, no_store) {
+        Ok(_) => Ok(marked),
+        Err(_) => Err(AllocError),
+    }
+}

@@ -1,0 +1,77 @@
+-- What the words ask for that is done between files and another server.
+use Rattle.std.specs.Prelude.{ℕ, ◌+◌, ◌-◌, ◌==◌, ◌&&◌, Bool, true, false, List, [], ◌∷◌, length, take, drop, map, bytes_eq, codes, string_bytes, option_map, if◌then◌else◌, Option, Some, None}
+use Rattle.mds_command.specs.Options.{value_of, are_options}
+use Rattle.mds_command.specs.declared.errands.Destination.{Destination}
+use Rattle.mds_command.specs.declared.errands.Import.{Import}
+use Rattle.mds_command.specs.declared.errands.Errand.{Errand}
+use Rattle.mds_command.specs.declared.errands.Errand.TheVariants.{Policies}
+
+-- what is done: files are sent to an address by an access token, or to nobody
+pub data Job : Type 0 where
+  policies : (files : List (List ℕ)) → (destination : Option (List ℕ × List ℕ)) → Job
+
+-- a word that begins an option
+abbrev pub begins_option : List ℕ → Bool
+begins_option (a ∷ b ∷ word) = (a == 45) && (b == 45)
+begins_option word = false
+
+-- how many words stand before the first option
+abbrev pub file_count : List (List ℕ) → ℕ
+file_count [] = 0
+file_count (word ∷ words) = if begins_option word then 0 else 1 + file_count words
+
+-- the last word is `--dry-run`
+abbrev pub is_dry : List (List ℕ) → Bool
+is_dry [] = false
+is_dry (word ∷ []) = bytes_eq word (codes "--dry-run")
+is_dry (word ∷ next ∷ words) = is_dry (next ∷ words)
+
+-- an address and an access token, where both are given
+abbrev pub place_with : Option (List ℕ) → Option (List ℕ) → Option (List ℕ × List ℕ)
+place_with (Some address) (Some token) = Some (address, token)
+place_with address token = None
+
+-- a server that options name: its address behind this one, its access token behind `--token`
+abbrev pub place_in : List ℕ → List (List ℕ) → Option (List ℕ × List ℕ)
+place_in name words =
+    if are_options (name ∷ codes "--token" ∷ []) words then place_with (value_of name words) (value_of (codes "--token") words) else None
+
+-- nothing is sent, where the other options are none or name a server
+abbrev pub dry_with : List (List ℕ) → Option (List ℕ × List ℕ) → Option (Option (List ℕ × List ℕ))
+dry_with [] place = Some None
+dry_with words (Some place) = Some None
+dry_with words None = None
+
+-- to whom files are sent: to nobody with `--dry-run` as the last word
+abbrev pub destination_in : List (List ℕ) → Option (Option (List ℕ × List ℕ))
+destination_in words =
+    if is_dry words then (let rest = take (length words - 1) words in dry_with rest (place_in (codes "--to") rest))
+    else option_map Some (place_in (codes "--to") words)
+
+-- files, of which there is one at least, and to whom they are sent
+abbrev pub sent : (List (List ℕ) → Option (List ℕ × List ℕ) → Job) → List (List ℕ) → Option (Option (List ℕ × List ℕ)) → Option Job
+sent job [] destination = None
+sent job files None = None
+sent job files (Some destination) = Some (job files destination)
+
+abbrev pub sent_by : (List (List ℕ) → Option (List ℕ × List ℕ) → Job) → List (List ℕ) → Option Job
+sent_by job words = sent job (take (file_count words) words) (destination_in (drop (file_count words) words))
+
+-- what `import` asks for, with a kind of file and further words
+abbrev pub import_of : List ℕ → List (List ℕ) → Option Job
+import_of kind words =
+    if bytes_eq kind (codes "policies") then sent_by policies words else None
+
+-- what a word asks for, with another and options
+abbrev pub errand_of : List ℕ → List ℕ → List (List ℕ) → Option Job
+errand_of verb name words =
+    if bytes_eq verb (codes "import") then import_of name words else None
+
+abbrev pub place_view : Destination → List ℕ × List ℕ
+place_view d = (d.address.now, d.token.now)
+
+abbrev pub import_view : (List (List ℕ) → Option (List ℕ × List ℕ) → Job) → Import → Job
+import_view job i = job (map string_bytes i.files.now) (option_map place_view i.destination)
+
+abbrev pub errand_view : Errand → Job
+errand_view (Policies i) = import_view policies i

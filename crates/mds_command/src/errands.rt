@@ -1,0 +1,149 @@
+//! What the program is asked to do between files and another server.
+ghost use Rattle.std.specs.Prelude.{◌≡◌, ◌≤◌, ◌<◌, ◌∷◌, [], length, map, codes, string_bytes, option_map, IsTrue, if◌then◌else◌, Some, None};
+ghost use Rattle.mds_command.specs.Errands.{policies, begins_option, file_count, is_dry, place_in, dry_with, destination_in, sent_by, import_of, errand_of, place_view, import_view, errand_view};
+
+use crate::options::{are_options, value_of};
+
+/// The word that, behind all others, has nothing sent.
+const DRY_RUN: &str = "--dry-run";
+
+/// Another server, and by which access token it is asked.
+#[derive(Clone, Copy)]
+pub struct Destination<'a> {
+    /// Where it listens, as `127.0.0.1:8080`.
+    pub address: &'a str,
+    pub token: &'a str,
+}
+
+/// Files that are read, and to whom what they hold is sent.
+#[derive(Clone, Copy)]
+pub struct Import<'a> {
+    pub files: &'a [String],
+    /// None, where nothing is sent and it is told what would be.
+    pub destination: Option<Destination<'a>>,
+}
+
+/// What is done between files and another server.
+#[derive(Clone, Copy)]
+pub enum Errand<'a> {
+    /// Documents of policies and geographies go to a server as drafts.
+    Policies(Import<'a>),
+}
+
+/// Whether a word begins an option.
+fn begins_option(word: &str) -> bool
+    ensures { result ≡ begins_option word.now }
+{
+    match word.as_bytes() {
+        [first, second, ..] => *first == b'-' && *second == b'-',
+        _ => false,
+    }
+}
+
+/// How many words stand before the first option.
+fn file_count(words: &[String]) -> usize
+    ensures value { result ≡ file_count (map string_bytes words.now) }
+    ensures within { result ≤ length words.now }
+{
+    let mut count = 0;
+    for word in words {
+        if begins_option(word.as_str()) {
+            return count;
+        }
+        count += 1;
+    }
+    count
+}
+
+/// Whether nothing is to be sent.
+fn is_dry(words: &[String]) -> bool
+    ensures value { result ≡ is_dry (map string_bytes words.now) }
+    ensures within { IsTrue result → 0 < length words.now }
+{
+    let mut rest = words;
+    while let Some((word, behind)) = rest.split_first() {
+        if behind.is_empty() {
+            return word.as_str() == DRY_RUN;
+        }
+        rest = behind;
+    }
+    false
+}
+
+/// The server that options name, by the option that its address stands behind.
+fn place_in<'a>(name: &str, words: &'a [String]) -> Option<Destination<'a>>
+    ensures { option_map place_view result ≡ place_in name.now (map string_bytes words.now) }
+{
+    if !are_options(&[name, "--token"], words) {
+        return None;
+    }
+    let address = value_of(name, words)?;
+    let token = value_of("--token", words)?;
+    Some(Destination { address, token })
+}
+
+/// To nobody, where the words in front of the last are no options or name a server.
+fn dry_with(rest: &[String], place: Option<Destination<'_>>) -> bool
+    ensures { dry_with (map string_bytes rest.now) (option_map place_view place.entry) ≡ (if result then Some None else None) }
+{
+    rest.is_empty() || place.is_some()
+}
+
+/// To whom files are sent; `None` where the options aren't as they have to be.
+#[tactic(auto, using(crate::proofs::Fronts::front_of_texts))]
+fn destination_in(words: &[String]) -> Option<Option<Destination<'_>>>
+    ensures { option_map (option_map place_view) result ≡ destination_in (map string_bytes words.now) }
+{
+    if is_dry(words) {
+        let rest = &words[..words.len() - 1];
+        if dry_with(rest, place_in("--to", rest)) {
+            Some(None)
+        } else {
+            None
+        }
+    } else {
+        match place_in("--to", words) {
+            Some(place) => Some(Some(place)),
+            None => None,
+        }
+    }
+}
+
+/// Files, of which there is one at least, and to whom they are sent.
+fn sent(words: &[String]) -> Option<Import<'_>>
+    ensures { option_map (import_view policies) result ≡ sent_by policies (map string_bytes words.now) }
+{
+    let (files, options) = words.split_at(file_count(words));
+    if files.is_empty() {
+        return None;
+    }
+    match destination_in(options) {
+        Some(destination) => Some(Import { files, destination }),
+        None => None,
+    }
+}
+
+/// What of files is imported, by their kind.
+fn import_of<'a>(kind: &str, words: &'a [String]) -> Option<Errand<'a>>
+    ensures { option_map errand_view result ≡ import_of kind.now (map string_bytes words.now) }
+{
+    if kind == "policies" {
+        match sent(words) {
+            Some(import) => Some(Errand::Policies(import)),
+            None => None,
+        }
+    } else {
+        None
+    }
+}
+
+/// What a word asks for, with another and options; `None` for any that isn't `import`.
+pub(crate) fn errand_of<'a>(verb: &str, name: &'a str, words: &'a [String]) -> Option<Errand<'a>>
+    ensures { option_map errand_view result ≡ errand_of verb.now name.now (map string_bytes words.now) }
+{
+    if verb == "import" {
+        import_of(name, words)
+    } else {
+        None
+    }
+}

@@ -1,0 +1,59 @@
+//! How many vehicles each operator has, in numbers that any thread may change.
+ghost use Rattle.std.specs.Prelude.{◌≡◌, IfOk, string_bytes};
+ghost use Rattle.mds_control.specs.Lines.{vehicles_of};
+
+use std::alloc::{AllocError, Global};
+use std::sync::Arc;
+use std::sync::atomic::{AtomicU64, Ordering};
+
+/// How many vehicles an operator has.
+#[derive(Drop)]
+pub struct Fleet {
+    /// What is counted, with the operator's identifier.
+    name: String,
+    vehicles: Arc<AtomicU64>,
+}
+
+impl Fleet {
+    /// The fleet of the operator with this identifier, a UUID as it is spelled: of no vehicle, until another number is told.
+    ///
+    /// # Errors
+    ///
+    /// Memory ran out.
+    pub fn new(alloc: Global, operator: &str) -> Result<Fleet, AllocError>
+        ensures { IfOk result (λ fleet. string_bytes fleet.name ≡ vehicles_of operator.now) }
+    {
+        Ok(Fleet {
+            name: name_for(alloc, operator)?,
+            vehicles: Arc::new(alloc, AtomicU64::new(0))?,
+        })
+    }
+
+    /// A share of its number, for who counts its vehicles.
+    ///
+    /// # Errors
+    ///
+    /// There are too many shares.
+    pub fn vehicles(&self) -> Result<Arc<AtomicU64>, AllocError> {
+        Arc::try_clone(&self.vehicles)
+    }
+
+    /// What is counted, with the operator's identifier.
+    pub(crate) fn name(&self) -> &str
+        ensures { result.now ≡ string_bytes self.now.name }
+    {
+        self.name.as_str()
+    }
+
+    /// Its number by now.
+    pub(crate) fn count(&self) -> u64 {
+        self.vehicles.load(Ordering::SeqCst)
+    }
+}
+
+/// What is counted of the operator with this identifier.
+fn name_for(alloc: Global, operator: &str) -> Result<String, AllocError>
+    ensures { IfOk result (λ name. string_bytes name ≡ vehicles_of operator.now) }
+{
+    format!(in alloc; "ruffletuff_vehicles{{operator=\"{operator}\"}}")
+}

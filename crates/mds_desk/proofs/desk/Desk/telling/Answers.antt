@@ -1,0 +1,11 @@
+use mathlib.Core.List.{IsPrefix}
+use Rattle.std.proofs.Common.{◌≡◌, sym, subst}
+use Rattle.mds_world.proofs.Lasting.{fits_front}
+use Rattle.mds_desk.proofs.desk.Desk.telling.Goals as goal
+
+-- what the book keeps stays right for a front that begins with all that is known
+pub invariant_of-desk : goal.invariant_of-desk
+invariant_of-desk g c =
+    let d = c.args.self in
+    let left : c.leave-pane.result ≡ c.in-Ok.look = cc in
+    record { limit = d.limit; fits = fits_front d.pane c.leave-pane.result d.book (subst (IsPrefix d.pane) (sym left) c.in-Ok.ensures) d.fits }

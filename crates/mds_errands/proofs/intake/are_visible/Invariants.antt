@@ -1,0 +1,8 @@
+use Rattle.std.proofs.Common.{◌≡◌, drop}
+use Rattle.std.specs.List.{list_all}
+use Rattle.mds_errands.specs.Intake.{is_visible_byte}
+use Rattle.mds_errands.proofs.intake.are_visible.Given as goal
+
+-- what was passed is visible
+abbrev pub invariant-loop-byte : goal.invariant-loop-byte
+invariant-loop-byte l = list_all is_visible_byte (drop l.byte-index l.bytes) ≡ list_all is_visible_byte l.bytes

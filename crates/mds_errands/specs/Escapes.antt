@@ -1,0 +1,17 @@
+-- Bytes of elsewhere as they are shown on a terminal: those of printable ASCII (RFC 20) as they are, and each other one by its number.
+use Rattle.std.specs.Prelude.{ℕ, ◌+◌, ◌/◌, ◌%◌, ◌≤◌, ◌==◌, ◌&&◌, not, Bool, nat_le, nat_lt, if◌then◌else◌, List, [], ◌∷◌, codes}
+use Rattle.std.specs.List.{flat_map}
+
+abbrev pub is_shown : ℕ → Bool
+is_shown byte = nat_le 32 byte && nat_le byte 126 && not (byte == 92)
+
+-- a lower-case hexadecimal digit
+abbrev pub hex_digit : ℕ → ℕ
+hex_digit digit = if nat_lt digit 10 then 48 + digit else 87 + digit
+
+-- a byte that isn't shown stands as `\x` and two digits, and the backslash so too
+abbrev pub escaped_byte : ℕ → List ℕ
+escaped_byte byte = if is_shown byte then byte ∷ [] else 92 ∷ 120 ∷ hex_digit (byte / 16) ∷ hex_digit (byte % 16) ∷ []
+
+abbrev pub escaped : List ℕ → List ℕ
+escaped bytes = flat_map escaped_byte bytes

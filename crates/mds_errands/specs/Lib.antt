@@ -1,0 +1,4 @@
+pub mod Ends
+pub mod Intake
+pub mod Escapes
+pub mod Meanings

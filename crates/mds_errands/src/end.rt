@@ -1,0 +1,108 @@
+//! How an errand ends.
+ghost use Rattle.std.specs.Prelude.{◌≡◌, ◌+◌, ◌-◌, ◌^◌, min};
+ghost use Rattle.mds_errands.specs.Ends.{end_of, exit_status};
+
+use std::alloc::AllocError;
+
+/// How an errand ends.
+#[derive(Clone, Copy, Debug, PartialEq, Eq)]
+pub enum End {
+    /// All of it is done.
+    Done,
+    /// Something is refused, each time by name; all else is done.
+    SomeRefused,
+    /// No server answers.
+    NoServer,
+    /// Standard output can't be written.
+    NotPrinted,
+    /// The address or the access token is none.
+    BadPlace,
+    /// Memory ran out.
+    NoMemory,
+    /// The server takes nothing by this access token.
+    Barred,
+}
+
+/// What was done.
+#[derive(Clone, Copy, Debug, PartialEq, Eq)]
+pub struct Tally {
+    pub sent: u64,
+    pub refused: u64,
+}
+
+impl Tally {
+    /// Nothing yet.
+    pub fn new() -> Tally
+        ensures { result ≡ record { sent = 0; refused = 0 } }
+    {
+        Tally {
+            sent: 0,
+            refused: 0,
+        }
+    }
+
+    /// One more is sent.
+    pub fn count_sent(&mut self)
+        ensures { self.new ≡ record self.old { sent = min (self.old.sent + 1) (2 ^ 64 - 1) } }
+    {
+        self.sent = self.sent.saturating_add(1);
+    }
+
+    /// One more is refused.
+    pub fn count_refused(&mut self)
+        ensures { self.new ≡ record self.old { refused = min (self.old.refused + 1) (2 ^ 64 - 1) } }
+    {
+        self.refused = self.refused.saturating_add(1);
+    }
+
+    /// How an errand ends that went to its end.
+    pub fn end(&self) -> End
+        ensures { result ≡ end_of self.now }
+    {
+        if self.refused == 0 {
+            End::Done
+        } else {
+            End::SomeRefused
+        }
+    }
+}
+
+impl End {
+    /// The program's exit status.
+    pub fn status(self) -> u8
+        ensures { result ≡ exit_status self }
+    {
+        match self {
+            End::Done => 0,
+            End::NoServer | End::NotPrinted => 1,
+            End::BadPlace => 2,
+            End::NoMemory => 3,
+            End::SomeRefused => 9,
+            End::Barred => 10,
+        }
+    }
+
+    /// What the program says of it on standard error; nothing where all is done.
+    pub fn message(self) -> &'static str {
+        match self {
+            End::Done => "",
+            End::NoServer => "no server answers",
+            End::NotPrinted => "standard output can't be written",
+            End::BadPlace => "the address or the access token is none",
+            End::NoMemory => "memory ran out",
+            End::SomeRefused => "something was refused",
+            End::Barred => "the server takes nothing by this access token",
+        }
+    }
+}
+
+impl From<AllocError> for End {
+    ghost use Rattle.std.specs.Prelude.{◌≡◌};
+    ghost use Rattle.mds_errands.specs.declared.end.End.TheVariants.{NoMemory};
+
+    ghost from_gives = { λ _ e. e ≡ NoMemory };
+
+    fn from(_: AllocError) -> End {
+        End::NoMemory
+    }
+}

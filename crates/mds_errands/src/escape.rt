@@ -1,0 +1,49 @@
+//! Bytes of elsewhere, as they are shown on a terminal.
+ghost use Rattle.std.specs.Prelude.{◌≡◌, ◌++◌, ◌<◌, ◌≤◌, IfOk, OnOk, string_bytes};
+ghost use Rattle.mds_errands.specs.Escapes.{is_shown, hex_digit, escaped_byte, escaped};
+
+use std::alloc::{AllocError, Global};
+
+/// Whether a byte is shown as it is.
+pub(crate) fn is_shown(byte: u8) -> bool
+    ensures { result ≡ is_shown byte }
+{
+    32 <= byte && byte <= 126 && byte != b'\\'
+}
+
+fn hex_digit(digit: u8) -> u8
+    requires { digit < 16 }
+    ensures value { result ≡ hex_digit digit }
+    ensures within { result < 128 }
+{
+    if digit < 10 {
+        b'0' + digit
+    } else {
+        b'a' + (digit - 10)
+    }
+}
+
+/// Adds a byte as it is shown.
+fn push_escaped(text: &mut String, byte: u8) -> Result<(), AllocError>
+    ensures { OnOk result (string_bytes text.new ≡ string_bytes text.old ++ escaped_byte byte) }
+{
+    if is_shown(byte) {
+        text.push(char::from(byte))
+    } else {
+        text.push_str("\\x")?;
+        text.push(char::from(hex_digit(byte / 16)))?;
+        text.push(char::from(hex_digit(byte % 16)))
+    }
+}
+
+/// Bytes as they are shown on a terminal: those of printable ASCII as they are, each other one, and the backslash, as `\x` and
+/// two hexadecimal digits. So nothing of a file or a server moves a cursor, changes a colour or begins a line.
+pub fn escaped(alloc: Global, bytes: &[u8]) -> Result<String, AllocError>
+    ensures { IfOk result (λ text. string_bytes text ≡ escaped bytes.now) }
+{
+    let mut text = String::new(alloc);
+    for byte in bytes {
+        push_escaped(&mut text, *byte)?;
+    }
+    Ok(text)
+}

@@ -1,0 +1,279 @@
+//! Documents of policies and geographies, as drafts.
+
+use crate::end::{End, Tally};
+use crate::escape::escaped;
+use crate::intake::why_unkept;
+use crate::sending::send_drafts;
+use crate::sources::{Source, read_source};
+use crate::told::{Spot, tell};
+use mds_command::Import;
+use mds_import::{
+    Draft, Origin, Prepared, Refused, Why, decimal_at, documents, ordered, prepare,
+    prepare_feature, target_of, unjudged,
+};
+use mds_text::{DraftKind, Tree};
+use std::alloc::{AllocError, AllocGlobal, Global};
+use std::fs::{File, Files};
+use std::io::{Eprint, Print};
+use std::net::Net;
+use std::time::Clock;
+
+/// What was gathered of files.
+#[derive(Drop)]
+struct Gathered {
+    drafts: Vec<Draft>,
+    tally: Tally,
+}
+
+/// The file whose documents are gathered.
+#[derive(Clone, Copy)]
+struct Sheet<'a> {
+    path: &'a str,
+    /// Its place among the files.
+    place: usize,
+    /// Whether it has numbers that aren't plain.
+    decimals: bool,
+}
+
+impl<'a> Sheet<'a> {
+    fn spot(self, document: usize) -> Spot<'a> {
+        Spot {
+            file: self.path,
+            document: Some(document),
+        }
+    }
+
+    fn origin(self, document: usize) -> Origin {
+        Origin {
+            file: self.place,
+            document,
+        }
+    }
+}
+
+/// Why a document becomes no draft, in words.
+fn refusal(alloc: Global, refused: &Refused<'_>) -> Result<String, AllocError> {
+    let member = escaped(alloc, refused.member.as_bytes())?;
+    let why = match refused.why {
+        Why::BadField => "it is missing, or isn't as it has to be",
+        Why::Decimal => "a bound of a rule that is judged has to be a whole number",
+    };
+    format!(in alloc; "{}: {why}", member.as_str())
+}
+
+/// Says what of a policy is kept and has no effect.
+///
+/// # Errors
+///
+/// `NoMemory`.
+fn tell_kept<R: Eprint + AllocGlobal>(
+    rt: &R,
+    sheet: Sheet<'_>,
+    document: usize,
+    value: &Tree,
+) -> Result<(), End> {
+    let alloc = rt.alloc();
+    for id in unjudged(alloc, value)? {
+        let id = escaped(alloc, id.as_bytes())?;
+        let words = format!(in alloc; "rule {}: it is kept and not judged", id.as_str())?;
+        tell(rt, sheet.spot(document), words.as_str())?;
+    }
+    if !sheet.decimals {
+        return Ok(());
+    }
+    if let Some(member) = decimal_at("document", value) {
+        let member = escaped(alloc, member.as_bytes())?;
+        let words = format!(in alloc;
+            "{}: a number that isn't whole is kept as a text",
+            member.as_str()
+        )?;
+        tell(rt, sheet.spot(document), words.as_str())?;
+    }
+    Ok(())
+}
+
+/// Takes in what a document becomes, or says why it isn't sent.
+///
+/// # Errors
+///
+/// `NoMemory`.
+fn take_in<R: Eprint + AllocGlobal>(
+    rt: &R,
+    gathered: &mut Gathered,
+    sheet: Sheet<'_>,
+    document: usize,
+    prepared: Prepared<'_>,
+) -> Result<(), End> {
+    match prepared {
+        Prepared::Draft(draft) => match why_unkept(&gathered.drafts, &draft) {
+            None => {
+                return match gathered.drafts.push(draft) {
+                    Ok(()) => Ok(()),
+                    Err(_) => Err(End::NoMemory),
+                };
+            }
+            Some(unkept) => tell(rt, sheet.spot(document), unkept.words())?,
+        },
+        Prepared::Refused(refused) => {
+            let words = refusal(rt.alloc(), &refused)?;
+            tell(rt, sheet.spot(document), words.as_str())?;
+        }
+    }
+    gathered.tally.count_refused();
+    Ok(())
+}
+
+/// Gathers the features of a file.
+///
+/// # Errors
+///
+/// `NoMemory`.
+fn gather_features<R: Eprint + AllocGlobal>(
+    rt: &R,
+    gathered: &mut Gathered,
+    sheet: Sheet<'_>,
+    features: &[Tree],
+) -> Result<(), End> {
+    for (document, feature) in features.iter().enumerate() {
+        let prepared = prepare_feature(rt.alloc(), sheet.origin(document), feature)?;
+        take_in(rt, gathered, sheet, document, prepared)?;
+    }
+    Ok(())
+}
+
+/// Gathers the documents of a list, of which so many stand in front of it in its file.
+///
+/// # Errors
+///
+/// `NoMemory`.
+fn gather_list<R: Eprint + AllocGlobal>(
+    rt: &R,
+    gathered: &mut Gathered,
+    sheet: Sheet<'_>,
+    before: usize,
+    list: &[Tree],
+) -> Result<(), End> {
+    for (place, value) in list.iter().enumerate() {
+        let document = before.saturating_add(place);
+        let prepared = prepare(rt.alloc(), sheet.origin(document), sheet.decimals, value)?;
+        if is_policy(&prepared) {
+            tell_kept(rt, sheet, document, value)?;
+        }
+        take_in(rt, gathered, sheet, document, prepared)?;
+    }
+    Ok(())
+}
+
+/// Whether a document becomes the draft of a policy.
+fn is_policy(prepared: &Prepared<'_>) -> bool {
+    match prepared {
+        Prepared::Draft(draft) => matches!(draft.kind, DraftKind::Policy),
+        Prepared::Refused(_) => false,
+    }
+}
+
+/// Gathers what a file holds.
+///
+/// # Errors
+///
+/// `NoMemory`.
+fn gather<R: Eprint + AllocGlobal>(
+    rt: &R,
+    gathered: &mut Gathered,
+    sheet: Sheet<'_>,
+    source: &Source,
+) -> Result<(), End> {
+    let lists = documents(&source.tree);
+    gather_features(rt, gathered, sheet, lists.features)?;
+    gather_list(rt, gathered, sheet, 0, lists.first)?;
+    gather_list(rt, gathered, sheet, lists.first.len(), lists.second)
+}
+
+/// Gathers what files hold. A file that can't be read is told and counts as refused.
+///
+/// # Errors
+///
+/// `NoMemory`.
+fn gather_all<R: Files<File = File> + Eprint + AllocGlobal>(
+    rt: &R,
+    files: &[String],
+) -> Result<Gathered, End> {
+    let mut gathered = Gathered {
+        drafts: Vec::new(rt.alloc()),
+        tally: Tally::new(),
+    };
+    for (place, path) in files.iter().enumerate() {
+        let path = path.as_str();
+        match read_source(rt, path)? {
+            Some(source) => {
+                let sheet = Sheet {
+                    path,
+                    place,
+                    decimals: source.decimals,
+                };
+                gather(rt, &mut gathered, sheet, &source)?;
+            }
+            None => gathered.tally.count_refused(),
+        }
+    }
+    Ok(gathered)
+}
+
+/// Says which drafts would be sent, in their order.
+///
+/// # Errors
+///
+/// `NotPrinted`, `NoMemory`.
+fn print_drafts<R: Print + AllocGlobal>(
+    rt: &R,
+    drafts: &[Draft],
+    tally: &mut Tally,
+) -> Result<(), End> {
+    for draft in drafts {
+        let target = target_of(rt.alloc(), draft)?;
+        if println!(rt; "PUT {}", target.as_str()).is_err() {
+            return Err(End::NotPrinted);
+        }
+        tally.count_sent();
+    }
+    Ok(())
+}
+
+/// Says how many documents were sent, and how many refused.
+fn printed<R: Print>(rt: &R, import: &Import<'_>, tally: &Tally) -> End {
+    let Tally { sent, refused } = *tally;
+    let said = match import.destination {
+        Some(_) => println!(rt; "{sent} documents sent, {refused} refused"),
+        None => println!(rt; "{sent} documents would be sent, {refused} refused"),
+    };
+    match said {
+        Ok(()) => tally.end(),
+        Err(_) => End::NotPrinted,
+    }
+}
+
+/// Sends the documents of files to a server as drafts, geographies at first and each policy behind those that it supersedes;
+/// without a destination it prints what would be sent. On standard error stands what isn't sent and why, and what of a policy
+/// is kept and has no effect; on standard output, at the end, how many were sent and how many refused.
+pub fn import_policies<R>(rt: &R, import: &Import<'_>) -> End
+where
+    R: Net + Clock + Files<File = File> + Print + Eprint + AllocGlobal,
+{
+    let Gathered { drafts, mut tally } = match gather_all(rt, import.files) {
+        Ok(gathered) => gathered,
+        Err(end) => return end,
+    };
+    let drafts = match ordered(rt.alloc(), drafts) {
+        Ok(drafts) => drafts,
+        Err(_) => return End::NoMemory,
+    };
+    let done = match &import.destination {
+        Some(destination) => send_drafts(rt, destination, import.files, &drafts, &mut tally),
+        None => print_drafts(rt, &drafts, &mut tally),
+    };
+    let end = printed(rt, import, &tally);
+    match done {
+        Ok(()) => end,
+        Err(end) => end,
+    }
+}

@@ -1,0 +1,137 @@
+//! Sending to a server.
+
+use crate::dialing::Dialer;
+use crate::end::{End, Tally};
+use crate::intake::is_visible;
+use crate::meaning::{Meaning, meaning_of};
+use crate::told::{Spot, tell, word_of};
+use mds_client::{Call, Client, Reply, Server};
+use mds_command::Destination;
+use mds_import::{Draft, target_of};
+use std::alloc::AllocGlobal;
+use std::io::{self, Eprint, ErrorKind};
+use std::net::Net;
+use std::time::Clock;
+
+/// Behind each so many documents it is said how many are through.
+const STEP: usize = 64;
+
+/// A client of the server that a destination names.
+///
+/// # Errors
+///
+/// `BadPlace` where the address or the access token may not stand in a request.
+pub(crate) fn client_of<'a, R: Net + Clock>(
+    rt: &'a R,
+    destination: &Destination<'a>,
+) -> Result<Client<'a, Dialer<'a, R>>, End> {
+    if !is_visible(destination.address) || !is_visible(destination.token) {
+        return Err(End::BadPlace);
+    }
+    let dialer = Dialer {
+        rt,
+        address: destination.address,
+    };
+    let server = Server {
+        host: destination.address,
+        token: destination.token,
+    };
+    Ok(Client::new(dialer, server))
+}
+
+/// The reply, if there is one.
+///
+/// # Errors
+///
+/// `NoMemory`, or `NoServer` for any other error.
+pub(crate) fn answered(asked: io::Result<Reply>) -> Result<Reply, End> {
+    match asked {
+        Ok(reply) => Ok(reply),
+        Err(error) => Err(match error.kind() {
+            ErrorKind::OutOfMemory => End::NoMemory,
+            _ => End::NoServer,
+        }),
+    }
+}
+
+/// Says with which status and word something was refused.
+///
+/// # Errors
+///
+/// `NoMemory`.
+pub(crate) fn tell_refusal<R: Eprint + AllocGlobal>(
+    rt: &R,
+    spot: Spot<'_>,
+    reply: &Reply,
+) -> Result<(), End> {
+    let word = word_of(rt.alloc(), &reply.body)?;
+    let status = reply.status;
+    let words = format!(in rt.alloc(); "{status} {}", word.as_str())?;
+    tell(rt, spot, words.as_str())
+}
+
+/// Takes note of what a reply says.
+///
+/// # Errors
+///
+/// `Barred` and `NoServer` where nothing else is taken either, `NoMemory`.
+pub(crate) fn note_reply<R: Eprint + AllocGlobal>(
+    rt: &R,
+    spot: Spot<'_>,
+    reply: &Reply,
+    tally: &mut Tally,
+) -> Result<(), End> {
+    let meaning = meaning_of(reply.status);
+    if meaning != Meaning::Taken {
+        tell_refusal(rt, spot, reply)?;
+    }
+    match meaning {
+        Meaning::Taken => tally.count_sent(),
+        Meaning::Refused => tally.count_refused(),
+        Meaning::Barred => return Err(End::Barred),
+        Meaning::Unavailable => return Err(End::NoServer),
+    }
+    Ok(())
+}
+
+/// Where a draft stood.
+fn spot_of<'a>(files: &'a [String], draft: &Draft) -> Spot<'a> {
+    let file = match files.get(draft.origin.file) {
+        Some(file) => file.as_str(),
+        None => "",
+    };
+    Spot {
+        file,
+        document: Some(draft.origin.document),
+    }
+}
+
+/// Sends drafts in their order, and says what is refused and how far it is.
+///
+/// # Errors
+///
+/// `BadPlace`, `NoServer`, `Barred` and `NoMemory`: what stands behind isn't sent then.
+pub(crate) fn send_drafts<R: Net + Clock + Eprint + AllocGlobal>(
+    rt: &R,
+    destination: &Destination<'_>,
+    files: &[String],
+    drafts: &[Draft],
+    tally: &mut Tally,
+) -> Result<(), End> {
+    let mut client = client_of(rt, destination)?;
+    let all = drafts.len();
+    for (place, draft) in drafts.iter().enumerate() {
+        if place > 0 && place % STEP == 0 {
+            let _ = eprintln!(rt; "ruffletuff: {place} of {all} documents are through");
+        }
+        let target = target_of(rt.alloc(), draft)?;
+        let call = Call {
+            method: "PUT",
+            target: target.as_str(),
+            body: &draft.body,
+        };
+        let reply = answered(client.ask(rt.alloc(), &call))?;
+        note_reply(rt, spot_of(files, draft), &reply, tally)?;
+    }
+    Ok(())
+}

@@ -1,0 +1,86 @@
+//! Files that are read.
+
+use crate::end::End;
+use crate::told::{Spot, tell};
+use mds_reading::read_counted;
+use mds_text::{TextFault, Tree};
+use std::alloc::{AllocGlobal, Global};
+use std::fs::{File, Files};
+use std::io::{Eprint, ErrorKind, Read};
+
+/// The most bytes of a file.
+const MOST_BYTES: u64 = 67_108_864;
+
+/// What a file holds.
+#[derive(Drop)]
+pub struct Source {
+    pub tree: Tree,
+    /// Whether it has numbers that aren't plain.
+    pub decimals: bool,
+}
+
+/// A file's bytes, or in words why they can't be had.
+///
+/// # Errors
+///
+/// `NoMemory`.
+fn bytes_in<S: Read + Drop>(alloc: Global, file: S) -> Result<Result<Vec<u8>, &'static str>, End> {
+    let mut bytes = Vec::new(alloc);
+    let mut front = file.take(MOST_BYTES + 1);
+    if let Err(error) = front.read_to_end(&mut bytes) {
+        return match error.kind() {
+            ErrorKind::OutOfMemory => Err(End::NoMemory),
+            _ => Ok(Err("it can't be read")),
+        };
+    }
+    if bytes.len() as u64 > MOST_BYTES {
+        return Ok(Err("it has more than 67108864 bytes"));
+    }
+    Ok(Ok(bytes))
+}
+
+/// What bytes hold, or in words why they hold nothing.
+///
+/// # Errors
+///
+/// `NoMemory`.
+fn source_in(alloc: Global, bytes: &[u8]) -> Result<Result<Source, &'static str>, End> {
+    match read_counted(alloc, bytes) {
+        Ok((tree, quoted)) => Ok(Ok(Source {
+            tree,
+            decimals: quoted > 0,
+        })),
+        Err(TextFault::NoMemory) => Err(End::NoMemory),
+        Err(_) => Ok(Err("it isn't JSON in UTF-8 of at most 127 levels")),
+    }
+}
+
+/// What a file holds; none, where it holds nothing that can be read, which is told.
+///
+/// # Errors
+///
+/// `NoMemory`.
+pub fn read_source<R: Files<File = File> + Eprint + AllocGlobal>(
+    rt: &R,
+    path: &str,
+) -> Result<Option<Source>, End> {
+    let bytes = match File::open(rt, path) {
+        Ok(file) => bytes_in(rt.alloc(), file)?,
+        Err(_) => Err("it can't be read"),
+    };
+    let source = match bytes {
+        Ok(bytes) => source_in(rt.alloc(), &bytes)?,
+        Err(words) => Err(words),
+    };
+    match source {
+        Ok(source) => Ok(Some(source)),
+        Err(words) => {
+            let spot = Spot {
+                file: path,
+                document: None,
+            };
+            tell(rt, spot, words)?;
+            Ok(None)
+        }
+    }
+}

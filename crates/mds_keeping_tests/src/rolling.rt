@@ -1,0 +1,292 @@
+//! Exchanging a log's file for a shorter one, over journals in memory whose calls fail from the Nth on.
+ghost use Rattle.std.specs.Prelude.{ℕ, List, IfSome};
+
+use mds_records::{AppendFault, Journal, Log, Memory, NotSynced, ReadFault, Seal, Sealed};
+use mds_rolling::{Beside, Finding, NotReplaced, Pace, Rolling, Shorter, is_little};
+use std::alloc::{AllocError, Global};
+use std::cell::{Cell, RefCell};
+
+/// As many calls as any test makes.
+const MANY: u32 = 1_000;
+
+/// Any list leads to where any other does.
+struct Anything;
+
+impl Finding for Anything {
+    ghost use Rattle.std.specs.Prelude.{⊤};
+
+    ghost same = { λ _ _. ⊤ };
+}
+
+/// What a test hands to who stands beside a log, and what is told of it.
+#[derive(Drop)]
+struct Board<L: Sealed> {
+    ready: RefCell<Option<Shorter<L, Anything>>>,
+    /// Whether what is appended behind the next seal is kept.
+    is_kept: Cell<bool>,
+    /// Whether no log can be put into the place.
+    is_failing: Cell<bool>,
+    /// The seal of the log that was put into the place last.
+    replaced: Cell<Option<Seal>>,
+    /// How the last exchange ended, and with how many bytes.
+    ended: Cell<Option<(bool, u64)>>,
+    /// Up to where the log was synced last.
+    synced: Cell<Option<Seal>>,
+}
+
+/// What stands beside a log: a board.
+#[derive(Drop)]
+struct OnBoard<'a, L: Sealed>(&'a Board<L>);
+
+type Rolled<'a> = Rolling<Journal<Memory>, Anything, OnBoard<'a, Journal<Memory>>>;
+
+impl<L: Sealed> Beside<L, Anything> for OnBoard<'_, L> {
+    fn ready(&mut self) -> Option<Shorter<L, Anything>> {
+        match self.0.ready.try_replace(None) {
+            Ok(ready) => ready,
+            Err(_) => None,
+        }
+    }
+
+    fn replace(&mut self, log: &L) -> Result<(), NotReplaced> {
+        if self.0.is_failing.get() {
+            return Err(NotReplaced);
+        }
+        self.0.replaced.set(Some(log.seal()));
+        Ok(())
+    }
+
+    fn ended(&mut self, is_exchanged: bool, bytes: u64) {
+        self.0.ended.set(Some((is_exchanged, bytes)));
+    }
+
+    fn synced(&mut self, seal: Seal) -> bool {
+        self.0.synced.set(Some(seal));
+        self.0.is_kept.get()
+    }
+}
+
+fn quiet() -> Board<Journal<Memory>> {
+    Board {
+        ready: RefCell::new(None),
+        is_kept: Cell::new(true),
+        is_failing: Cell::new(false),
+        replaced: Cell::new(None),
+        ended: Cell::new(None),
+        synced: Cell::new(None),
+    }
+}
+
+fn texts(alloc: Global, text: &[u8]) -> Result<Vec<Vec<u8>>, AllocError> {
+    let mut texts = Vec::new(alloc);
+    texts.push(Vec::from_slice(alloc, text)?)?;
+    Ok(texts)
+}
+
+/// A log with one text more, synced.
+fn appended<L: Sealed>(alloc: Global, log: L, text: &[u8]) -> Option<L>
+    requires { (list : List (List ℕ)) × L.may_be log list }
+    ensures { IfSome result (λ log. (list : List (List ℕ)) × L.may_be log list) }
+{
+    let mut log = log;
+    let Ok(texts) = texts(alloc, text) else {
+        return None;
+    };
+    let count = log.seal().count;
+    let Ok(_) = log.append(count, &texts) else {
+        return None;
+    };
+    let Ok(_) = log.sync() else {
+        return None;
+    };
+    Some(log)
+}
+
+/// A log as a shorter one of what another has.
+fn shorter<L: Sealed>(log: L, other: &L) -> Shorter<L, Anything>
+    requires one { (list : List (List ℕ)) × L.may_be log list }
+    requires other { (list : List (List ℕ)) × L.may_be other.now list }
+{
+    Shorter::new(log, other.seal())
+}
+
+fn memory(alloc: Global, calls_left: u32) -> Memory {
+    Memory {
+        bytes: Vec::new(alloc),
+        calls_left,
+        is_synced: true,
+    }
+}
+
+/// A log of "one", "two", and a shorter one of both, of "both", which answers so many calls behind what it has.
+fn offered(alloc: Global, calls: u32) -> Option<Shorter<Journal<Memory>, Anything>> {
+    let Ok(long) = Journal::open(alloc, memory(alloc, MANY)) else {
+        return None;
+    };
+    let long = appended(alloc, long, b"one")?;
+    let long = appended(alloc, long, b"two")?;
+    // It is read, synced, and appended to and synced once.
+    let Ok(short) = Journal::open(alloc, memory(alloc, calls.saturating_add(4))) else {
+        return None;
+    };
+    let short = appended(alloc, short, b"both")?;
+    Some(shorter(short, &long))
+}
+
+/// The seal of a log of these two texts.
+fn seal_of(alloc: Global, first: &[u8], second: &[u8]) -> Option<Seal> {
+    let Ok(log) = Journal::open(alloc, memory(alloc, MANY)) else {
+        return None;
+    };
+    let log = appended(alloc, log, first)?;
+    let log = appended(alloc, log, second)?;
+    Some(log.seal())
+}
+
+/// Appends a text, and syncs it.
+fn written(
+    alloc: Global,
+    log: &mut Rolled<'_>,
+    count: u64,
+    text: &[u8],
+) -> Result<u64, AppendFault> {
+    log.append(count, &texts(alloc, text)?)?;
+    match log.sync() {
+        Ok(count) => Ok(count),
+        Err(NotSynced) => Err(AppendFault::Unknown),
+    }
+}
+
+/// A log of "one" and "two", synced, which answers so many calls behind that.
+fn rolling(alloc: Global, board: &Board<Journal<Memory>>, calls: u32) -> Option<Rolled<'_>> {
+    let Ok(log) = Journal::open(alloc, memory(alloc, calls.saturating_add(6))) else {
+        return None;
+    };
+    let log = appended(alloc, log, b"one")?;
+    let mut log = Rolling::new(alloc, log, OnBoard(board));
+    written(alloc, &mut log, 1, b"two").ok()?;
+    Some(log)
+}
+
+/// Hands a shorter log to who stands beside.
+fn offer(
+    board: &Board<Journal<Memory>>,
+    shorter: Option<Shorter<Journal<Memory>, Anything>>,
+) -> bool {
+    shorter.is_some() && board.ready.try_replace(shorter).is_ok()
+}
+
+/// How many texts a log tells; none, it tells none.
+fn told(log: &mut Rolled<'_>) -> Result<usize, ReadFault> {
+    Ok(log.read_from(0)?.len())
+}
+
+#[test]
+fn files_are_exchanged(rt: HostRuntime) {
+    let alloc = rt.alloc();
+    let board = quiet();
+    let mut log = rolling(alloc, &board, MANY).expect(&rt, "a log");
+    assert!(rt; told(&mut log) == Ok(2));
+    let mut log = rolling(alloc, &board, MANY).expect(&rt, "a log");
+    assert!(rt; offer(&board, offered(alloc, MANY)));
+    assert!(rt; written(alloc, &mut log, 2, b"three") == Ok(3));
+    let seal = seal_of(alloc, b"both", b"three").expect(&rt, "a seal");
+    assert!(rt; board.replaced.get() == Some(seal));
+    assert!(rt; board.ended.get() == Some((true, seal.position)));
+    assert!(rt; board.synced.get() == Some(seal));
+    assert!(rt; written(alloc, &mut log, 2, b"four") == Err(AppendFault::Conflict));
+    assert!(rt; written(alloc, &mut log, 3, b"four") == Ok(4));
+    // What it has isn't all that was appended.
+    assert!(rt; told(&mut log) == Err(ReadFault::NoAnswer));
+}
+
+#[test]
+fn what_is_lacking_is_not_exchanged(rt: HostRuntime) {
+    let alloc = rt.alloc();
+    let board = quiet();
+    board.is_kept.set(false);
+    let mut log = rolling(alloc, &board, MANY).expect(&rt, "a log");
+    assert!(rt; offer(&board, offered(alloc, MANY)));
+    assert!(rt; written(alloc, &mut log, 2, b"three") == Ok(3));
+    assert!(rt; board.replaced.get().is_none() && told(&mut log) == Ok(3));
+    let bytes = board.synced.get().expect(&rt, "a seal").position;
+    assert!(rt; board.ended.get() == Some((false, bytes)));
+    // What is kept from here on is behind another seal.
+    board.is_kept.set(true);
+    assert!(rt; written(alloc, &mut log, 3, b"four") == Ok(4));
+    assert!(rt; offer(&board, offered(alloc, MANY)));
+    assert!(rt; written(alloc, &mut log, 4, b"five") == Ok(5));
+    assert!(rt; board.replaced.get().is_none() && told(&mut log) == Ok(5));
+}
+
+#[test]
+fn too_much_is_not_kept(rt: HostRuntime) {
+    let alloc = rt.alloc();
+    let board = quiet();
+    let mut log = rolling(alloc, &board, MANY).expect(&rt, "a log");
+    board.is_kept.set(false);
+    let large = vec![in alloc; 120u8; 1_048_576].expect(&rt, "memory");
+    // They are as many bytes as are kept at the most.
+    for count in 2..10u64 {
+        assert!(rt; written(alloc, &mut log, count, &large) == Ok(count.saturating_add(1)));
+    }
+    assert!(rt; offer(&board, offered(alloc, MANY)));
+    assert!(rt; written(alloc, &mut log, 10, b"last") == Ok(11));
+    assert!(rt; board.replaced.get().is_none());
+    assert!(rt; board.ended.get().is_some_and(|it| !it.0));
+}
+
+#[test]
+fn shorter_logs_that_fail_are_not_taken(rt: HostRuntime) {
+    let alloc = rt.alloc();
+    // Its append fails, or its sync.
+    for calls in 0..2 {
+        let board = quiet();
+        let mut log = rolling(alloc, &board, MANY).expect(&rt, "a log");
+        assert!(rt; offer(&board, offered(alloc, calls)));
+        assert!(rt; written(alloc, &mut log, 2, b"three") == Ok(3));
+        assert!(rt; board.replaced.get().is_none() && told(&mut log) == Ok(3));
+        assert!(rt; board.ended.get().is_some_and(|it| !it.0));
+    }
+}
+
+#[test]
+fn places_that_fail_end_it(rt: HostRuntime) {
+    let alloc = rt.alloc();
+    let board = quiet();
+    let mut log = rolling(alloc, &board, MANY).expect(&rt, "a log");
+    assert!(rt; offer(&board, offered(alloc, MANY)));
+    board.is_failing.set(true);
+    assert!(rt; written(alloc, &mut log, 2, b"three") == Err(AppendFault::Unknown));
+    assert!(rt; board.ended.get().is_some_and(|it| !it.0));
+    board.is_failing.set(false);
+    assert!(rt; written(alloc, &mut log, 3, b"four") == Err(AppendFault::Unknown));
+    assert!(rt; log.sync().is_err() && told(&mut log) == Err(ReadFault::NoAnswer));
+}
+
+#[test]
+fn logs_that_fail_end_it(rt: HostRuntime) {
+    let alloc = rt.alloc();
+    // An append fails, or a sync.
+    for calls in 0..2 {
+        let board = quiet();
+        let mut log = rolling(alloc, &board, calls).expect(&rt, "a log");
+        assert!(rt; written(alloc, &mut log, 2, b"three") == Err(AppendFault::Unknown));
+        assert!(rt; board.ended.get().is_none());
+        assert!(rt; log.sync().is_err());
+    }
+}
+
+#[test]
+fn journals_are_thinned_by_their_growth(rt: HostRuntime) {
+    let mut pace = Pace::new(100);
+    assert!(rt; !pace.is_due(100) && pace.is_due(101));
+    pace.tried(true, 50);
+    assert!(rt; !pace.is_due(250) && pace.is_due(251));
+    pace.tried(false, 251);
+    assert!(rt; !pace.is_due(502) && pace.is_due(503));
+    pace.tried(true, u64::MAX);
+    assert!(rt; !pace.is_due(u64::MAX));
+    assert!(rt; !Pace::new(0).is_due(u64::MAX));
+    assert!(rt; is_little(1_048_576) && !is_little(1_048_577));
+}

@@ -1,0 +1,6 @@
+use Rattle.mds_thinning.proofs.front.shortened.Goals as goal
+
+pub new-requires : goal.new-requires
+new-requires g c =
+    let t = c.in_ok-thin.ensures.thinned in
+    (t.read_back, _, t.back, (t.configuration, _, t.head, t.entries, t.journal, t.alike), c.requires.sealed)

@@ -1,0 +1,6 @@
+use Rattle.mds_snapshot.specs.Opening.{book_of}
+use Rattle.mds_thinning.proofs.front.shortened_named.Given as goal
+
+-- the book of the other blank
+abbrev pub ghosts-shortened : goal.ghosts-shortened
+ghosts-shortened g a = record { book = book_of a.blanks.1 }

@@ -1,0 +1,6 @@
+use Rattle.mds_snapshot.specs.Opening.{book_of}
+use Rattle.mds_thinning.proofs.front.thin_front.Given as goal
+
+-- the book of what was just prepared
+abbrev pub ghosts-shortened_named : goal.ghosts-shortened_named
+ghosts-shortened_named g a = record { book = book_of a.one }

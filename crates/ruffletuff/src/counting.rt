@@ -1,0 +1,43 @@
+//! What is counted of a city's connections, and of its operators' vehicles.
+
+use mds_control::{Counters, Fleet};
+use mds_doors::Closing;
+use mds_hall::{Hall, Named};
+use mds_request::Config;
+use std::alloc::{AllocError, Global};
+use std::sync::Wait;
+
+/// Counters of a server that has counted nothing: of the connections that this closing ends, and of the vehicles of each
+/// operator.
+///
+/// # Errors
+///
+/// Memory ran out.
+pub fn counters_of(
+    alloc: Global,
+    closing: &Closing,
+    config: &Config,
+) -> Result<Counters, AllocError> {
+    let mut fleets = Vec::new(alloc);
+    for operator in config.operators() {
+        let id = operator.id.print(alloc)?;
+        fleets.push(Fleet::new(alloc, id.as_str())?)?;
+    }
+    Counters::new(alloc, closing.connections()?, fleets)
+}
+
+/// From now on these counters, which are of the hall's configuration, tell how many vehicles each operator has.
+///
+/// # Errors
+///
+/// There are too many shares of a number.
+pub fn count_vehicles<K: Named, R: Wait>(
+    rt: &R,
+    hall: &Hall<K>,
+    counters: &Counters,
+) -> Result<(), AllocError> {
+    for (place, fleet) in counters.fleets().iter().enumerate() {
+        hall.count_at(rt, place, fleet.vehicles()?);
+    }
+    Ok(())
+}
