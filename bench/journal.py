@@ -7,8 +7,8 @@ Reports over HTTP by wrk, on 32 and on 256 connections, by turns of both servers
 write-ahead log, synchronous FULL, one row a commit, of as many bytes as a report's record), and of PostgreSQL by 32 clients
 (postgres.py); the 99th percentile of a short list, idle and while 32 connections report; the bytes of the journal for a report; and how
 long a start takes with 200,000 vehicles, thinned. The folder is on the disk that is timed; without one a temporary one is taken. Each
-figure is the median of the rounds, with the least and the greatest. Beside single reports stand bodies of many, over as many connections,
-by one operator and by all in turn. It needs Debian's wrk; gcc with libsqlite3-dev for SQLite, and as root
+figure is the median of the rounds, with the least and the greatest. Beside single reports stand bodies of many, over as many connections.
+It needs Debian's wrk; gcc with libsqlite3-dev for SQLite, and as root
 Debian's postgresql, which else are left out.
 """
 
@@ -55,18 +55,13 @@ def commits(folder, seconds, size):
     return [float(it) for it in re.findall(r"[\d.]+", ran.stdout)]
 
 
-# Bodies of many reports, a line each; every report is later than the one before of its vehicle. With OPERATORS tokens, by them in turn.
+# Bodies of many reports, a line each; every report is later than the one before of its vehicle.
 BODIES = """
-local threads, turn, tokens = 0, 0, {}
+local threads, turn = 0, 0
 local first = %d + 10000000 * tonumber(os.getenv("LOAD"))
 function setup(thread)
     thread:set("number", threads)
     threads = threads + 1
-end
-function init()
-    for token in string.gmatch("%s", "%%S+") do
-        table.insert(tokens, token)
-    end
 end
 function request()
     local lines, reports = {}, %d
@@ -77,8 +72,7 @@ function request()
             number * 20000 + (turn * reports + report) %% 20000, first + turn)
     end
     turn = turn + 1
-    local headers = { ["authorization"] = "Bearer " .. tokens[turn %% #tokens + 1] }
-    return wrk.format("POST", "/app/fleet/events", headers, table.concat(lines, "\\n"))
+    return wrk.format("POST", "/app/fleet/events", nil, table.concat(lines, "\\n"))
 end
 """
 
@@ -121,9 +115,8 @@ def loads(city, without, folder, scripts, rounds, seconds):
                 rounds.add(f"{name} {connections} worst", load.worst)
                 if server is keeping:
                     rounds.add(f"bytes {connections}", (len(city.bytes()) - before) / max(1, load.rate * seconds))
-        for name, bodies_script in bodies.items():
-            load = Load(keeping.process.pid, keeping.port, MANY, CONNECTIONS[0], seconds, REPORTING, bodies_script)
-            rounds.add(name, load.rate * IN_A_BODY)
+        load = Load(keeping.process.pid, keeping.port, MANY, CONNECTIONS[0], seconds, REPORTING, bodies)
+        rounds.add("many", load.rate * IN_A_BODY)
         rounds.add("idle", Load(keeping.process.pid, keeping.port, LIST, 32, seconds, READING).worst)
         rounds.add("busy", beside_reports(keeping, script, seconds))
     if found := commits(folder, seconds, ROW):
@@ -176,9 +169,7 @@ def tell(rounds, count):
         rounds.tell(f"99th percentile of a report, {connections} connections", f"{kept} worst", 1e3, " ms", f"plain {connections} worst")
         name = f"bytes of the journal for a report, {connections} connections"
         rounds.tell(name, f"bytes {connections}", against="bytes of a row", must="400", aim="250")
-    for who, name in (("one operator", "many of one"), ("%d operators" % generate.OPERATORS, "many of all")):
-        label = f"reports a second, %d in a body, 32 connections, by {who}, against single ones" % IN_A_BODY
-        rounds.tell(label, name, against="kept 32", must="5")
+    rounds.tell(f"reports a second, {IN_A_BODY} in a body, 32 connections, against single ones", "many", against="kept 32", must="5")
     rounds.tell("commits of SQLite a second, one writer", "commits")
     rounds.tell("commits of PostgreSQL a second, 32 clients", "inserts")
     rounds.tell("bytes of SQLite's files for a row of 250 bytes", "bytes of a row")
@@ -210,12 +201,8 @@ def main():
     program, without, rounds = os.path.abspath(options.program), os.path.abspath(options.without), Rounds()
     given = generate.config().encode()
     with tempfile.TemporaryDirectory(dir=options.folder) as folder:
-        everyone = " ".join(generate.token(it) for it in range(generate.OPERATORS))
         script = written(folder, "reports", REPORTS % generate.START)
-        bodies = {
-            "many of one": written(folder, "one", BODIES % (generate.START, REPORTING, IN_A_BODY)),
-            "many of all": written(folder, "all", BODIES % (generate.START, everyone, IN_A_BODY)),
-        }
+        bodies = written(folder, "bodies", BODIES % (generate.START, IN_A_BODY))
         for number in range(options.rounds):
             with tempfile.TemporaryDirectory(dir=folder) as room:
                 loads(City(program, room, given), without, folder, (script, bodies), rounds, options.seconds)

@@ -1,0 +1,8 @@
+mod Found
+mod Identified
+mod Joined
+mod Listed
+mod Members
+mod Moments
+mod Numbers
+mod Whole

@@ -1,0 +1,11 @@
+use Rattle.std.proofs.Common.{rules, tests}
+use Rattle.std.proofs.lemmas.Iterator.Search.{any_from_yields_List}
+use Rattle.std.proofs.lemmas.Iterator.Splits.{YieldsList-from_slice_split}
+use Rattle.mds_public.specs.Accepted.{is_comma, takes}
+use Rattle.mds_public.proofs.accepted.line_takes.Goals as goal
+
+pub returns : goal.returns
+returns c =
+    any_from_yields_List takes _ _ _ c.any.ensures.ran
+    (YieldsList-from_slice_split _ is_comma c.args.line.now c.split.ensures.rest c.split.ensures.done c.split.ensures.closure (λ x b q k. search (rules, tests)))
+    (λ x b q k. search (rules, tests))

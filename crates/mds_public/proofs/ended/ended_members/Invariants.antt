@@ -1,0 +1,8 @@
+use Rattle.std.proofs.Common.{◌≡◌, filter, map, take}
+use Rattle.mds_text.specs.View.{member_view}
+use Rattle.mds_public.specs.Withdrawn.{is_not_end}
+use Rattle.mds_public.proofs.ended.ended_members.Given as goal
+
+-- the members so far, but for the end
+abbrev pub invariant-loop-member : goal.invariant-loop-member
+invariant-loop-member l = map member_view l.told.items ≡ filter is_not_end (map member_view (take l.member-index l.members))

@@ -1,0 +1,9 @@
+use Rattle.std.proofs.Common.{◌≡◌, map, take}
+use Rattle.mds_catalog.specs.Catalogue.{lent_policy, publications_of}
+use Rattle.mds_public.specs.Face.{policy_notice}
+use Rattle.mds_public.specs.View.{notice}
+use Rattle.mds_public.proofs.making.policy_notices.Given as goal
+
+-- those of the policies so far
+abbrev pub invariant-loop-policy : goal.invariant-loop-policy
+invariant-loop-policy l = map notice l.notices.items ≡ map (policy_notice (publications_of l.catalogue)) (map lent_policy (take l.policy-index l.policies))

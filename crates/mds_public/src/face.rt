@@ -1,0 +1,25 @@
+//! What everyone is told.
+ghost use Rattle.std.specs.Prelude.{◌≡◌, codes, map};
+ghost use Rattle.mds_public.specs.Body.{body_text};
+
+use crate::notice::Notice;
+use bytes::Bytes;
+
+/// The name of policies in a body.
+pub(crate) const POLICIES: &str = "policies";
+
+/// The name of geographies in a body.
+pub(crate) const GEOGRAPHIES: &str = "geographies";
+
+/// What everyone is told of what is published: each document, and both lists as bodies that lie ready.
+#[derive(Drop)]
+pub struct Face {
+    pub(crate) policies: Vec<Notice>,
+    pub(crate) geographies: Vec<Notice>,
+    /// When something of it changed last, in milliseconds since the Unix epoch.
+    pub(crate) updated: u64,
+    pub(crate) all_policies: Bytes,
+    pub(crate) all_geographies: Bytes,
+    ghost policies_ready: { all_policies ≡ body_text (codes "policies") (map (λ n. n.text.items) policies.items) updated },
+    ghost geographies_ready: { all_geographies ≡ body_text (codes "geographies") (map (λ n. n.text.items) geographies.items) updated },
+}
