@@ -11,11 +11,10 @@ what is otherwise, and last 'N passed, M failed'; ends with 1 where one failed.
 """
 
 import json
-import os
 import sys
 import tempfile
 
-from kept import Alone, City, Tried
+from kept import Alone, City, tried
 from wire import AUTHOR, FIRST, SECOND, identifier
 
 THIRD = "charlie"
@@ -193,16 +192,5 @@ def withdrawals(program):
     yield from ()
 
 
-def main():
-    """Asks for all."""
-    if len(sys.argv) != 2:
-        sys.exit(__doc__)
-    program = os.path.abspath(sys.argv[1])
-    tried = Tried()
-    for call in (who, refusals, listing, withdrawals):
-        tried.one(call.__name__, call(program))
-    return tried.told()
-
-
 if __name__ == "__main__":
-    sys.exit(main())
+    sys.exit(tried(__doc__, (who, refusals, listing, withdrawals)))

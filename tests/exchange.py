@@ -20,7 +20,7 @@ import tempfile
 import threading
 import uuid
 
-from kept import Alone, Tried, ended
+from kept import Alone, ended, tried
 from wire import AUTHOR, FIRST, PATIENCE, free_port
 
 LONG = 10_000_000  # bytes of a long file
@@ -243,16 +243,5 @@ def answers_that_are_none(program):
     yield from ()
 
 
-def main():
-    """Tries all."""
-    if len(sys.argv) != 2:
-        sys.exit(__doc__)
-    program = os.path.abspath(sys.argv[1])
-    tried = Tried()
-    for call in (in_order, kept_and_refused, features, hostile, places_and_tokens, answers_that_are_none):
-        tried.one(call.__name__.replace("_", " "), call(program))
-    return tried.told()
-
-
 if __name__ == "__main__":
-    sys.exit(main())
+    sys.exit(tried(__doc__, (in_order, kept_and_refused, features, hostile, places_and_tokens, answers_that_are_none)))

@@ -6,6 +6,7 @@ import os
 import re
 import shutil
 import subprocess
+import sys
 import tempfile
 
 from wire import SECONDS, Closed, Link, Server, configuration, first_line, free_port
@@ -169,3 +170,14 @@ class Tried:
         """Says how many passed, and gives the status to end with."""
         print(f"{self.passed} passed, {self.failed} failed")
         return 1 if self.failed else 0
+
+
+def tried(text, calls):
+    """Tries these on the program that the only argument names, and tells how they went; without one it tells this text. Gives the status."""
+    if len(sys.argv) != 2:
+        sys.exit(text)
+    program = os.path.abspath(sys.argv[1])
+    found = Tried()
+    for call in calls:
+        found.one(call.__name__.replace("_", " "), call(program))
+    return found.told()

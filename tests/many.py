@@ -11,13 +11,12 @@ full disk refuses all of the lines or none. Prints what is otherwise, and last '
 """
 
 import json
-import os
 import subprocess
 import sys
 import tempfile
 import time
 
-from kept import Alone, City, Tried, split
+from kept import Alone, City, split, tried
 from wire import AUTHOR, FIRST, PATIENCE, SECOND, Link, configuration, report, request
 
 PATH = "/app/fleet/events"
@@ -197,16 +196,5 @@ def full_disk(program):
     yield from ()
 
 
-def main():
-    """Asks for all."""
-    if len(sys.argv) != 2:
-        sys.exit(__doc__)
-    program = os.path.abspath(sys.argv[1])
-    tried = Tried()
-    for call in (each_line, ends_of_lines, as_single_requests, refusals, kept, full_disk):
-        tried.one(call.__name__.replace("_", " "), call(program))
-    return tried.told()
-
-
 if __name__ == "__main__":
-    sys.exit(main())
+    sys.exit(tried(__doc__, (each_line, ends_of_lines, as_single_requests, refusals, kept, full_disk)))
