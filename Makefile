@@ -92,12 +92,13 @@ try:
 		exit 1; \
 	fi
 
-# With MDS_SERVE=FILE the server is that one; else the proved one, or where that isn't built one from its sources.
+# With PAGE=FILE the server is that one, a ruffletuff or mds_serve; else the proved ruffletuff, or where that isn't built one from its
+# sources.
 test-web:
-	@python3 -B tests/web/run.py checks $(MDS_SERVE)
+	@python3 -B tests/web/run.py checks $(PAGE)
 
 shots:
-	@python3 -B tests/web/run.py shots $(MDS_SERVE)
+	@python3 -B tests/web/run.py shots $(PAGE)
 
 bench: build
 	python3 -B bench/measure.py

@@ -1,28 +1,22 @@
 #!/usr/bin/env python3
-"""River City to look at: starts a server and the page beside it, fills both, and prints the address and the access tokens.
+"""River City to look at: starts ruffletuff, fills it, and prints the address of its page and the access tokens.
 
-    try.py PROGRAM [--port N] [--vehicles N] [--app] [--settings FILE]
+    try.py PROGRAM [--port N] [--vehicles N]
 
-PROGRAM is a built ruffletuff, or mds_serve. The page is at 127.0.0.1:8090, or at port N (0: one that is free): the same that ruffletuff
-serves, with the settings of this folder. Ends at Ctrl-C, and all with it. With --app the page is also told what no server tells yet
-(tests/web/serve.py).
+PROGRAM is a built ruffletuff, which serves the page itself: at 127.0.0.1:8090, or at port N (0: one that is free). `scoot` reports N
+vehicles more than it has. Ends at Ctrl-C, and what was kept goes with it.
 """
 
 import argparse
 import contextlib
-import json
 import os
 import signal
 import socket
 import subprocess
 import sys
 import tempfile
-import threading
 
 HERE = os.path.dirname(os.path.abspath(__file__))
-sys.path.insert(0, f"{HERE}/../../tests/web")
-
-import serve  # noqa: E402, it stands in another folder
 
 
 def free_port():
@@ -34,12 +28,10 @@ def free_port():
 
 @contextlib.contextmanager
 def city(program, port):
-    """A server of the configuration of this folder, once it is ready. What ruffletuff keeps goes with it."""
-    address, file = f"127.0.0.1:{port}", f"{HERE}/city.json"
-    is_keeping = subprocess.run([program, "--version"], stdout=subprocess.PIPE, check=True).stdout.startswith(b"ruffletuff ")
-    with tempfile.TemporaryDirectory(prefix="river-city-") as room, open(file, "rb") as configuration:
-        words = ["serve", "--config", file, "--state", room, "--listen", address] if is_keeping else [address]
-        process = subprocess.Popen([program, *words], stdin=configuration, stdout=subprocess.PIPE)
+    """A server of the configuration of this folder, once it is ready."""
+    with tempfile.TemporaryDirectory(prefix="river-city-") as state:
+        words = ["serve", "--config", f"{HERE}/city.json", "--state", state, "--listen", f"127.0.0.1:{port}"]
+        process = subprocess.Popen([program, *words], stdin=subprocess.DEVNULL, stdout=subprocess.PIPE)
         try:
             if process.stdout.readline() != b"ready\n":
                 raise SystemExit(f"try: {program} didn't start")
@@ -54,19 +46,12 @@ def main():
     parser.add_argument("program")
     parser.add_argument("--port", type=int, default=8090)
     parser.add_argument("--vehicles", default="0")
-    parser.add_argument("--app", action="store_true")
-    parser.add_argument("--settings", default=f"{HERE}/settings.json")
     options = parser.parse_args()
     signal.signal(signal.SIGTERM, signal.default_int_handler)
-    behind = free_port()
-    with open(f"{HERE}/city.json", encoding="utf-8") as text:
-        configuration = json.load(text) if options.app else None
-    with city(options.program, behind), contextlib.suppress(KeyboardInterrupt):
-        page = serve.server(options.port, f"127.0.0.1:{behind}", options.settings, configuration)
-        threading.Thread(target=page.serve_forever, daemon=True).start()
-        url = f"http://127.0.0.1:{page.server_address[1]}"
-        filled = subprocess.run([sys.executable, "-B", f"{HERE}/publish.py", url, "--vehicles", options.vehicles], check=False)
-        if filled.returncode:
+    port = options.port or free_port()
+    with city(options.program, port), contextlib.suppress(KeyboardInterrupt):
+        words = [f"{HERE}/publish.py", f"http://127.0.0.1:{port}", "--vehicles", options.vehicles]
+        if subprocess.run([sys.executable, "-B", *words], check=False).returncode:
             return 1
         print("Ctrl-C ends it.", flush=True)
         signal.pause()

@@ -1,7 +1,7 @@
 // What the author does: drafts, places drawn, typed and pasted, policies by form and as JSON, publishing, replacing, withdrawing.
 
 import { wait } from "./browser.mjs";
-import { City } from "./city.mjs";
+import { City, isKeeping } from "./city.mjs";
 import { cardOf, clean, inState, press, standingOf, texts, told } from "./looking.mjs";
 
 const SCRIPT = "<img src=x onerror=\"document.title='broken into'\"><script>document.title='broken into'</script>";
@@ -82,7 +82,7 @@ async function life(page, city, { is, ok }) {
   ok("it is published", /^Published/.test(await publish(page)), await page.text("#say"));
   is("and in force", await standingOf(page, name), "in force");
   is("a script in a name stays text", await page.run(() => document.querySelectorAll("article img, article script").length), 0);
-  is("and isn't run", await page.run(() => document.title), "River City: rules for shared vehicles");
+  is("and isn't run", await page.run(() => document.title), city.title);
   ok("an operator is served it", (await city.sure("scoot", "GET", "/policies")).policies.some((it) => it.name === name));
   await press(page, name, "button.replace");
   is("its fields are its successor's", await page.run(() => {
@@ -146,7 +146,7 @@ async function journal(page, city, { is, ok }) {
   is("the journal can be saved", await page.text("#drafts a[download]"), `Save the journal of this visit (${lines.length} lines)`);
   ok("each line is a request", lines.every((it) => /^(PUT|POST|DELETE) \/\S+( \{.*\})?$/.test(it)), lines);
   await city.stop();
-  await city.begin();
+  await city.beginAnew();
   city.fill();
   const statuses = [];
   for (const line of lines) {
@@ -157,15 +157,17 @@ async function journal(page, city, { is, ok }) {
 }
 
 export default async function author(browser, program, tally) {
-  for (const isTold of [false, true]) {
+  for (const isTold of isKeeping(program) ? [true] : [false, true]) {
     const city = await City.start(program, { seconds: 600, isTold });
     const page = await browser.open(city.url, { isDark: isTold });
     await page.signIn("city");
     await places(page, tally);
     await life(page, city, tally);
-    if (!isTold) await documents(page, city, tally);
-    if (!isTold) await journal(page, city, tally);
-    else tally.is("the operators' names are told", await texts(page, "[name=who] option"), "Scoot,Wheels");
+    if (isTold) tally.is("the operators' names are told", await texts(page, "[name=who] option"), "Scoot,Wheels");
+    if (!isTold || city.isKeeping) {
+      await documents(page, city, tally);
+      await journal(page, city, tally);
+    }
     await clean(page, city, tally, "the author", /status of 4(00|04|09|13) /);
     tally.ok("the cards have the policies", (await cardOf(page, "Downtown fleet cap")) !== "");
     await page.close();

@@ -1,13 +1,13 @@
 // What comes from outside: other browsers, tokens that expire, a server that goes away, and documents at their limits.
 
-import { City } from "./city.mjs";
+import { City, isKeeping } from "./city.mjs";
 import { cardOf, clean, differences, press, standingOf, told } from "./looking.mjs";
 
 const id = (kind, number) => `00000000-0000-4000-8000-${kind.padStart(4, "0")}${String(number).padStart(8, "0")}`;
 
 /** One browser withdraws, the others see it by themselves. */
 export async function twoBrowsers(browser, program, { is, ok }) {
-  for (const isTold of [false, true]) {
+  for (const isTold of isKeeping(program) ? [true] : [false, true]) {
     const city = await City.start(program, { seconds: 1, isTold }), name = "Downtown fleet cap";
     const [first, second, operator] = [await browser.open(city.url), await browser.open(city.url), await browser.open(city.url)];
     await first.signIn("city");
@@ -42,17 +42,27 @@ export async function comingAndGoing(browser, program, { is, ok }) {
   await page.go(city.url);
   await page.until(() => document.querySelectorAll("article").length === 6);
   ok("it is there after a reload", true);
+  const late = await browser.open(city.url);
   await city.stop();
-  await page.go(city.url);
-  ok("one that signs in while it is gone is told", /can’t be reached.*asked again/.test(await told(page, "#say", /reached/)));
+  await late.run(() => { document.getElementById("token").value = "scoot"; document.getElementById("sign").requestSubmit(); });
+  ok("one that signs in while it is gone is told", /can’t be reached.*asked again/.test(await told(late, "#say", /reached/)));
   await city.begin();
-  city.fill();
-  await page.until(() => document.querySelectorAll("article").length === 6);
+  if (!city.isKeeping) city.fill();
+  await late.until(() => document.querySelectorAll("article").length === 6);
   ok("and is in once it is back, by the same token", true);
+  await late.close();
+  await page.until(() => document.querySelectorAll("article").length === 6);
   await city.stop();
   ok("a server that is gone is told", /can’t be reached.*What is shown is from/.test(await told(page, "#say", /reached/)));
   is("what was read is still there", await page.run(() => document.querySelectorAll("article").length), 6);
-  await city.begin();
+  if (city.isKeeping) {
+    await city.begin();
+    ok("that it is back is told", /is back/.test(await told(page, "#say", /is back/)));
+    is("and what it has kept is shown", await page.run(() => document.querySelectorAll("article").length), 6);
+    await city.stop();
+    await told(page, "#say", /reached/);
+  }
+  await city.beginAnew();
   const news = await told(page, "#say", /begun anew|is back/);
   ok("that it is back, and has begun anew, is told", /begun anew/.test(news), news);
   is("and what it holds is shown", await page.run(() => document.querySelectorAll("article").length), 0);
@@ -66,7 +76,7 @@ export async function comingAndGoing(browser, program, { is, ok }) {
   is("and is kept no longer", await page.run(() => sessionStorage.length), 0);
   await page.signIn("new-scoot");
   ok("another token is taken", true);
-  await clean(page, city, { is }, "who comes and goes", /status of (401|50[24]) /);
+  await clean(page, city, { is }, "who comes and goes", /status of (401|50[24]) |ERR_(CONNECTION_REFUSED|EMPTY_RESPONSE|CONNECTION_RESET)/);
   await page.close();
   await city.close();
 }

@@ -8,7 +8,10 @@ import { join } from "node:path";
 const FLAGS = ["--headless", "--no-sandbox", "--remote-debugging-pipe", "--disable-gpu", "--no-first-run", "--disable-extensions",
   "--disable-background-networking", "--disable-component-update", "--disable-sync", "--no-default-browser-check",
   "--disable-dev-shm-usage", "--lang=en-US", "--host-resolver-rules=MAP * ~NOTFOUND, EXCLUDE 127.0.0.1"];
-const PATIENCE = 1000 * Number(process.env.WEB_SECONDS || 60);
+const PATIENCE = 60_000 * Number(process.env.PATIENCE || 1);
+
+/** What a browser is given in place of a file, by its address. */
+export const given = new Map();
 
 export const wait = (milliseconds) => new Promise((done) => { setTimeout(done, milliseconds); });
 
@@ -78,6 +81,7 @@ class Page {
   async begin(url, { width = 1280, height = 800, isDark = false, isMobile = false }) {
     for (const domain of ["Page", "Runtime", "Log", "Network"]) await this.call(`${domain}.enable`);
     await this.call("Target.setAutoAttach", { autoAttach: true, waitForDebuggerOnStart: false, flatten: true });
+    if (given.size) await this.call("Fetch.enable", { patterns: [...given.keys()].map((urlPattern) => ({ urlPattern })) });
     await this.call("Emulation.setDeviceMetricsOverride", { width, height, deviceScaleFactor: 1, mobile: isMobile });
     await this.scheme(isDark);
     await this.go(url);
@@ -98,6 +102,7 @@ class Page {
       this.browser.pages.set(params.sessionId, this);
       for (const domain of ["Runtime", "Network"]) this.call(`${domain}.enable`, {}, params.sessionId).catch(() => {});
     }
+    if (method === "Fetch.requestPaused") this.give(params);
     if (method === "Network.requestWillBeSent") this.asked.push(params.request);
     if (method === "Network.responseReceived") this.statuses.push([params.response.status, params.response.url]);
     if (method === "Runtime.exceptionThrown") this.console.push(params.exceptionDetails.exception?.description || "exception");
@@ -107,6 +112,14 @@ class Page {
     if (method === "Log.entryAdded" && params.entry.level === "error") {
       this.console.push(`${params.entry.text} ${params.entry.url || ""}`);
     }
+  }
+
+  give({ requestId, request }) {
+    const body = given.get(request.url);
+    const told = { responseCode: 200, responseHeaders: [{ name: "content-type", value: "application/json" }], body: btoa(body) };
+    const called = body === undefined ? this.call("Fetch.continueRequest", { requestId }) : this.call("Fetch.fulfillRequest", { requestId, ...told });
+    // The page may have gone on meanwhile.
+    called.catch(() => {});
   }
 
   /** What an expression is in the page, or a function of these values. */

@@ -1,6 +1,6 @@
-// Checks of the page in Chromium, beside a running mds_serve: node checks.mjs PROGRAM [GROUP]..
+// Checks of the page in Chromium: node checks.mjs PROGRAM [GROUP]..
 //
-// PROGRAM is a built mds_serve; the groups are operator, author, browsers, coming, large, access, all where none is named.
+// PROGRAM is a built ruffletuff, whose own page it is, or mds_serve with the page beside it; the groups are operator, author, browsers, coming, large, access, all where none is named.
 // Prints what doesn't hold, and last 'N passed, M failed'; ends with 1 where one doesn't.
 
 import access from "./access.mjs";

@@ -1,4 +1,5 @@
-// River City for the tests: a running mds_serve and the page beside it, which can be ended and begun anew.
+// River City for the tests: a running server with its page, which can be ended and begun anew. ruffletuff serves the page itself; beside
+// mds_serve stands tests/web/serve.py.
 
 import { execFileSync, spawn } from "node:child_process";
 import { mkdtempSync, readFileSync, rmSync, writeFileSync } from "node:fs";
@@ -6,6 +7,7 @@ import { createServer } from "node:net";
 import { tmpdir } from "node:os";
 import { dirname, join } from "node:path";
 import { fileURLToPath } from "node:url";
+import { given } from "./browser.mjs";
 
 export const HERE = dirname(fileURLToPath(import.meta.url)), TOP = dirname(dirname(HERE));
 export const EXAMPLE = join(TOP, "examples", "river-city");
@@ -40,27 +42,43 @@ function end(it) {
   return ended;
 }
 
+/** Whether a server keeps what it answers, and serves the page itself. */
+export const isKeeping = (program) => /^ruffletuff /.test(execFileSync(program, ["--version"]).toString());
+
 /** The servers, and requests to them. */
 export class City {
   // Those that run, which end with the tests however these end.
   static running = new Set();
 
-  /** Starts them: `isTold` whether /app/ is answered, `seconds` between two rounds of the page, `fill` what they are filled with. */
+  /** Starts them: `isTold` whether /app/ is answered, as ruffletuff always does, `seconds` between two rounds of the page, `fill` what
+   * they are filled with. */
   static async start(program, { isTold = false, seconds = 2, fill = "policies" } = {}) {
     const it = new City();
     City.running.add(it);
-    it.program = program;
-    it.folder = mkdtempSync(join(tmpdir(), "city-"));
+    Object.assign(it, { program, isKeeping: isKeeping(program), folder: mkdtempSync(join(tmpdir(), "city-")), port: await freePort() });
     it.configuration = example("city.json");
-    it.port = await freePort();
     await it.begin();
-    writeFileSync(join(it.folder, "settings.json"), JSON.stringify({ ...example("settings.json"), refresh_seconds: seconds }));
-    const port = await freePort(), told = isTold ? ["--app", join(EXAMPLE, "city.json")] : [];
-    it.page = await ready("python3", ["-B", join(HERE, "serve.py"), `${port}`, `127.0.0.1:${it.port}`,
-      "--settings", join(it.folder, "settings.json"), ...told]);
-    it.url = `http://127.0.0.1:${port}`;
+    if (it.isKeeping) it.showOwnPage(seconds);
+    else await it.showPageBeside(isTold, seconds);
     if (fill !== "nothing") it.fill(fill);
     return it;
+  }
+
+  /** The page that the server serves. Of its settings a browser is given another time between two rounds. */
+  showOwnPage(seconds) {
+    const settings = JSON.parse(readFileSync(join(TOP, "web", "settings.json"), "utf8"));
+    this.title = settings.city;
+    this.url = `http://127.0.0.1:${this.port}`;
+    given.set(`${this.url}/settings.json`, JSON.stringify({ ...settings, refresh_seconds: seconds }));
+  }
+
+  async showPageBeside(isTold, seconds) {
+    const port = await freePort(), settings = join(this.folder, "settings.json"), usual = example("settings.json");
+    this.title = usual.city;
+    writeFileSync(settings, JSON.stringify({ ...usual, refresh_seconds: seconds }));
+    const told = isTold ? ["--app", join(EXAMPLE, "city.json")] : [];
+    this.page = await ready("python3", ["-B", join(HERE, "serve.py"), `${port}`, `127.0.0.1:${this.port}`, "--settings", settings, ...told]);
+    this.url = `http://127.0.0.1:${port}`;
   }
 
   /** Publishes the example's `policies`, or its policies and `fleets`. */
@@ -68,10 +86,23 @@ export class City {
     execFileSync("python3", ["-B", join(EXAMPLE, "publish.py"), this.url, ...(what === "policies" ? ["--policies-only"] : [])]);
   }
 
-  /** Begins mds_serve anew, with these changes of its configuration. */
+  /** Begins the server, with these changes of its configuration and with what it has kept. */
   async begin(changes = {}) {
-    const line = `${JSON.stringify({ ...this.configuration, ...changes })}\n`;
-    this.server = await ready(this.program, [`127.0.0.1:${this.port}`], line);
+    const line = `${JSON.stringify({ ...this.configuration, ...changes })}\n`, address = `127.0.0.1:${this.port}`;
+    const file = join(this.folder, "configuration.json");
+    writeFileSync(file, line);
+    const words = this.isKeeping ? ["serve", "--config", file, "--state", this.state, "--listen", address] : [address];
+    this.server = await ready(this.program, words, line);
+  }
+
+  /** Begins it with nothing kept. */
+  async beginAnew(changes = {}) {
+    rmSync(this.state, { recursive: true, force: true });
+    await this.begin(changes);
+  }
+
+  get state() {
+    return join(this.folder, "state");
   }
 
   stop() {

@@ -1,11 +1,12 @@
 #!/usr/bin/env python3
 """Runs the checks of the page, or makes the screenshots of the README, where chromium and node are there.
 
-    run.py checks | shots [PROGRAM]
+    run.py checks | shots [PROGRAM [GROUP]..]
 
-PROGRAM is a built mds_serve. Without it the proved program is taken where it is built and no source is newer, else one is built from
-the sources before their proof (tests/unproved.py, some three minutes), which is kept in out/web for as long as no source is newer.
-What can't be done here is named in one line. Last comes 'N passed, M failed'; ends with 1 where one failed.
+PROGRAM is a built ruffletuff, whose own page it is, or mds_serve with the page beside it. Without it the proved ruffletuff is taken where
+it is built and no source is newer, else one is built from the sources before their proof (tests/unproved.py, some four minutes), which is
+kept in out/web for as long as no source is newer. The groups are those of checks.mjs, all where none is named.
+With PATIENCE=N each wait is N times as long. What can't be done here is named in one line. Last comes 'N passed, M failed'; ends with 1 where one failed.
 """
 
 import os
@@ -25,19 +26,19 @@ SECONDS = 1800
 
 
 def program():
-    """A mds_serve that is built from the present sources."""
-    built = unproved.proved("mds_serve")
+    """A ruffletuff that is built from the present sources."""
+    built = unproved.proved("ruffletuff")
     if built:
         return built
-    file = f"{TOP}/out/web/mds_serve"
+    file = f"{TOP}/out/web/ruffletuff"
     newest = max(map(os.path.getmtime, [*unproved.sources(), f"{TOP}/crates.txt"]))
     if os.path.exists(file) and os.path.getmtime(file) > newest:
         return file
     os.makedirs(os.path.dirname(file), exist_ok=True)
     if os.path.exists(file):
         os.remove(file)
-    print("builds mds_serve from its sources, which proves nothing", flush=True)
-    status, text = unproved.build("mds_serve", file)
+    print("builds ruffletuff from its sources, which proves nothing", flush=True)
+    status, text = unproved.build("ruffletuff", file)
     if status:
         raise SystemExit(f"{text}0 passed, 1 failed")
     return file
@@ -60,7 +61,7 @@ def main():
         left = "the page's checks" if "node" in missing else "the page's checks in a browser"
         print(f"left out: {left if what == 'checks' else 'the screenshots'}, for want of {' and '.join(missing)}")
     else:
-        done.append(node(f"{what}.mjs", rest[0] if rest else program()))
+        done.append(node(f"{what}.mjs", *(rest or [program()])))
     passed, failed = (sum(it[n] for it in done) for n in (0, 1))
     print(f"{passed} passed, {failed} failed")
     return 1 if failed else 0

@@ -1,6 +1,6 @@
 // The README's screenshots: node shots.mjs PROGRAM
 //
-// PROGRAM is a built mds_serve. Writes docs/page-operator.png and docs/page-author.png, each under 150 KB. Look at them.
+// PROGRAM is a built ruffletuff, or mds_serve. Writes docs/page-operator.png and docs/page-author.png, each under 150 KB. Look at them.
 
 import { readFileSync, statSync, writeFileSync } from "node:fs";
 import { join } from "node:path";
