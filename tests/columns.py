@@ -3,10 +3,11 @@
 
     columns.py PROGRAM [SEED [CITIES]]
 
-A city's author publishes, supersedes and withdraws policies while operators report, repeat, move and remove a few vehicles each. In one
-script every operator asks for its compliance behind each of these steps, at moments before and behind the windows of the rules. In
-further scripts, one for each step, the same is asked behind that step alone, when nothing can have been kept. Both must have the same
-answers. Prints what differs, and last 'N passed, M failed'; ends with 1 where one failed.
+A city's author publishes, supersedes and withdraws policies while operators report, repeat, move and remove a few vehicles each, none or
+some in a step, so that devices come and go between questions. In one script every operator asks for its compliance behind each of these
+steps, at moments before and behind the windows of the rules. In further scripts, one for each step, the same is asked behind that step
+alone, when nothing can have been kept. Both must have the same answers. Prints what differs, and last 'N passed, M failed'; ends with 1
+where one failed.
 """
 
 import json
@@ -18,7 +19,7 @@ import sys
 # How many times as long as for the proved program is waited for one that isn't proved, which is slower (tests/unproved.py).
 SECONDS = 60 * int(os.environ.get("PATIENCE", "1"))
 AUTHOR = "city"
-OPERATORS, STEPS, DEVICES, CITIES = 16, 24, 3, 6
+OPERATORS, STEPS, DEVICES, CITIES = 16, 24, 5, 6
 START, HOUR = 1_700_000_000_000, 3_600_000
 TYPES, STATES, EVENTS = ("scooter", "bicycle"), ("available", "reserved"), ("trip_end", "off_hours")
 
@@ -93,7 +94,7 @@ class City:
     def of_operator(self, operator, moment):
         """What an operator does in a step: a report, which may be the same again, too old or of the future, or a removal."""
         device, token = identifier(4, DEVICES * operator + self.chance.randrange(DEVICES)), f"op-{operator}"
-        if self.chance.random() < 0.1:
+        if self.chance.random() < 0.2:
             return moment, token, "DELETE", f"/fleet/vehicles/{device}", None
         place = {"lat": self.chance.choice([-5, 0, 5, 10]), "lng": self.chance.choice([0, 7, 12, 25])}
         report = {
@@ -109,7 +110,8 @@ class City:
     def step(self, number):
         """The requests of a step, and at which moments each operator asks behind it."""
         moment = START + number * HOUR // 2
-        done = [*self.of_author(moment), *(self.of_operator(it, moment) for it in range(OPERATORS) if self.chance.random() < 0.6)]
+        times = [self.chance.choice([0, 0, 1, 1, 2, 5]) for _ in range(OPERATORS)]
+        done = [*self.of_author(moment), *(self.of_operator(it, moment) for it, many in enumerate(times) for _ in range(many))]
         return done, [self.a_moment() for _ in range(OPERATORS)]
 
 

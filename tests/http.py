@@ -243,7 +243,7 @@ def long_questions(server):
         if answer.status != 200:
             yield f"what makes questions long is answered {answer}"
     for number, count in enumerate((1, 2 * (os.cpu_count() or 1) + 4)):
-        # A further vehicle drops what is kept of the others, so that a question looks at each again.
+        # The first question looks at each vehicle, and so does the next one, which keeps what it finds of them.
         if (further := server.ask("POST", "/fleet/events", FIRST, report(50_000 + number))).status != 200:
             yield f"a further vehicle is answered {further}"
         with contextlib.ExitStack() as stack:
@@ -314,16 +314,17 @@ def a_question_by_threads(server):
             yield from reported(link, numbers)
             asked = []
             for _ in range(max(3, 20 // PATIENCE)):
-                # Behind a new device nothing of the fleet lies ready.
-                server.ask("DELETE", f"/fleet/vehicles/{identifier(4, numbers.start)}")
-                yield from reported(link, numbers[:1])
+                # Behind more than 64 devices that went and came nothing of the fleet lies ready.
+                for it in numbers[:33]:
+                    server.ask("DELETE", f"/fleet/vehicles/{identifier(4, it)}")
+                yield from reported(link, numbers[:33])
                 asked.append(most_threads(server, link))
             if any(answer.status != 200 for answer, _ in asked):
                 yield f"a question over {numbers.stop} vehicles isn't answered"
             most = max(most for _, most in asked)
             if (most > at_rest) != wanted:
                 yield f"over {numbers.stop} vehicles the server has {most} threads, and {at_rest} at rest"
-            # The second question behind a new device makes what further ones go by.
+            # The second question behind so many makes what further ones go by.
             again = [most_threads(server, link)[1] for _ in range(1 + max(3, 20 // PATIENCE))]
             if max(again) > at_rest:
                 yield f"over {numbers.stop} vehicles a question that was asked before starts threads"

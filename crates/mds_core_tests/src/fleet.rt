@@ -1,21 +1,29 @@
 //! A book with one growth refused. A book of many against a plain list is asked by a script (`tests/replays.py`).
 
-use crate::square::{device, instant, position, word};
+use crate::square::{device, instant, position, word, words};
 use mds_fleet::{Book, BookFault, Report, Taken};
+use mds_match::Words;
 use std::alloc::Global;
 use std::process::Abort;
+use std::sync::Arc;
 
 /// More devices than a node of the book's map holds.
 const DEVICES: u32 = 40;
 
-/// A report without lists, which takes no memory.
+/// A word without types, made once more where there was no memory.
+fn words_at_last(rt: &impl Abort, alloc: Global, text: &str) -> Arc<Words> {
+    match words(rt, alloc, text) {
+        Ok(words) => words,
+        Err(_) => words(rt, alloc, text).expect(rt, "memory"),
+    }
+}
+
+/// A report without lists.
 fn report(rt: &impl Abort, alloc: Global, number: u32, timestamp: i64) -> Report {
     Report {
         device: device(rt, number),
-        vehicle_type: word(rt, "scooter"),
-        propulsion: Vec::new(alloc),
-        state: word(rt, "available"),
-        events: Vec::new(alloc),
+        make: words_at_last(rt, alloc, "scooter"),
+        condition: words_at_last(rt, alloc, "available"),
         timestamp: instant(rt, timestamp),
         position: position(rt, 5, 5),
     }
@@ -55,4 +63,23 @@ fn takes_and_removes_or_wants_memory(rt: HostRuntime) {
     assert!(rt; book.len() == 40);
     expect_changed(&rt, alloc, &mut book);
     assert!(rt; book.len() == 0);
+}
+
+/// Vehicles with the same words hold one share of them, and so do those that are reported again.
+#[test]
+fn shares_words(rt: HostRuntime) {
+    let alloc = rt.alloc();
+    let mut book = Book::new(alloc, DEVICES);
+    for moment in [2000, 2001] {
+        for number in 0..3 {
+            let taken = book.report(report(&rt, alloc, number, moment), instant(&rt, moment));
+            assert!(rt; taken.is_ok());
+        }
+    }
+    let vehicle = book.get(device(&rt, 0)).expect(&rt, "held");
+    assert!(rt; vehicle.vehicle_type() == word(&rt, "scooter"));
+    assert!(rt; vehicle.state() == word(&rt, "available"));
+    // Three vehicles, and the book for those to come.
+    assert!(rt; Arc::strong_count(&vehicle.make) == 4);
+    assert!(rt; Arc::strong_count(&vehicle.condition) == 4);
 }

@@ -1,6 +1,6 @@
 //! Zones at local times worked out by hand, and the first rule that a vehicle meets. Windows, words and bounds are in scripts.
 
-use crate::square::{NOON, instant, known, one_square, position, word};
+use crate::square::{NOON, instant, known, one_square, position, words};
 use mds_match::{Local, ResolvedPolicy, Vehicle, Zone, ZoneFault, first, meets, open_at};
 use mds_policy::Policy;
 use std::alloc::Global;
@@ -10,10 +10,8 @@ use std::process::Abort;
 fn scooter(rt: &impl Abort, alloc: Global, lng: i64) -> Vehicle {
     Vehicle {
         device: known(rt, "00000000-0000-4000-8000-000000000401"),
-        vehicle_type: word(rt, "scooter"),
-        propulsion: Vec::new(alloc),
-        state: word(rt, "available"),
-        events: Vec::new(alloc),
+        make: words(rt, alloc, "scooter").expect(rt, "memory"),
+        condition: words(rt, alloc, "available").expect(rt, "memory"),
         timestamp: instant(rt, 2000),
         position: position(rt, lng, 100_000_000),
         since: instant(rt, 2000),

@@ -2,14 +2,15 @@
 
 ghost use Rattle.std.specs.Thread.{IsSync};
 
-use crate::square::{NOON, Square, device, instant, known, one_square, position, word};
-use mds_match::Vehicle;
+use crate::square::{NOON, Square, device, instant, known, one_square, position, words};
+use mds_match::{Vehicle, Words};
 use mds_parallel::{Chunked, by_threads};
 use mds_policy::Policy;
 use mds_text::Moment;
 use mds_verdict::{Evaluator, Plain, RuleVerdict, Status};
 use std::alloc::{AllocError, Global};
 use std::process::Abort;
+use std::sync::Arc;
 use std::thread::Threads;
 
 const CAP: &str =
@@ -25,13 +26,11 @@ struct City {
 }
 
 /// A vehicle at 5 degrees east and north.
-fn vehicle(rt: &impl Abort, alloc: Global, number: u32, kind: &str, state: &str) -> Vehicle {
+fn vehicle(rt: &impl Abort, number: u32, make: Arc<Words>, condition: Arc<Words>) -> Vehicle {
     Vehicle {
         device: device(rt, number),
-        vehicle_type: word(rt, kind),
-        propulsion: Vec::new(alloc),
-        state: word(rt, state),
-        events: Vec::new(alloc),
+        make,
+        condition,
         timestamp: instant(rt, 2000),
         position: position(rt, 50_000_000, 50_000_000),
         since: instant(rt, 2000),
@@ -49,17 +48,32 @@ const TYPES: [&str; 64] = [
     "48", "49", "50", "51", "52", "53", "54", "55", "56", "57", "58", "59", "60", "61", "62", "63",
 ];
 
+/// The vehicle types, without types of propulsion.
+fn makes(rt: &impl Abort, alloc: Global) -> Result<Vec<Arc<Words>>, AllocError> {
+    let mut makes = Vec::with_capacity(alloc, TYPES.len())?;
+    for kind in &TYPES {
+        makes.push(words(rt, alloc, kind)?)?;
+    }
+    Ok(makes)
+}
+
 /// Vehicles of 64 types in turn, in one of two states.
 fn fleet(rt: &impl Abort, alloc: Global) -> Result<Vec<Vehicle>, AllocError> {
+    let makes = makes(rt, alloc)?;
+    let (available, reserved) = (
+        words(rt, alloc, "available")?,
+        words(rt, alloc, "reserved")?,
+    );
     let mut fleet = Vec::with_capacity(alloc, VEHICLES as usize)?;
     for number in 0..VEHICLES {
         let state = if number % 3 == 0 {
-            "available"
+            &available
         } else {
-            "reserved"
+            &reserved
         };
-        let kind = TYPES[(number % 64) as usize];
-        fleet.push(vehicle(rt, alloc, number, kind, state))?;
+        let make = makes.get((number % 64) as usize).expect(rt, "a type");
+        let (make, state) = (Arc::try_clone(make)?, Arc::try_clone(state)?);
+        fleet.push(vehicle(rt, number, make, state))?;
     }
     Ok(fleet)
 }

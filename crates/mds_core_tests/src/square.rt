@@ -3,10 +3,11 @@
 ghost use Rattle.std.specs.Prelude.{[], cond, bytes_eq};
 
 use mds_geometry::{Area, Polygon, Position, Ring};
-use mds_match::{Local, Places};
+use mds_match::{Local, Places, Words};
 use mds_text::{Id, Moment, Token, Units7};
 use std::alloc::{AllocError, Global};
 use std::process::Abort;
+use std::sync::Arc;
 
 /// Thursday, noon.
 pub(crate) const NOON: Local = Local {
@@ -50,6 +51,11 @@ pub(crate) fn instant(rt: &impl Abort, millis: i64) -> Moment {
 /// The word that a text is.
 pub(crate) fn word(rt: &impl Abort, text: &str) -> Token {
     Token::read(text).expect(rt, "a token")
+}
+
+/// A word without types.
+pub(crate) fn words(rt: &impl Abort, alloc: Global, text: &str) -> Result<Arc<Words>, AllocError> {
+    Words::shared(alloc, word(rt, text), Vec::new(alloc))
 }
 
 /// The position at so many ten-millionths of a degree.

@@ -180,6 +180,9 @@ held_not_new : (row : Row) (held limit : ℕ) (report : Report) → is_new_one (
 held_not_new row held limit report =
     either (nat_lt report.timestamp row.timestamp) (Err Stale) _ refl (either (is_same (reported row) report) (Ok Same) (Ok Changed) refl refl)
 
+pub never_new : (row : Row) (held limit : ℕ) (report : Report) (r : Result Taken BookFault) → r ≡ outcome_at (Some row) held limit report → r ≡ Ok New → ⊥
+never_new row held limit report r outcome new = false≢true (sym (held_not_new row held limit report) ∙ ap is_new_one (sym outcome ∙ new))
+
 -- to insert the row that is there changes nothing
 same_row : (rows : Rows) (device : List ℕ) (row : Row) → finite.get rows device ≡ Some row → finite.insert rows device row ≡ rows
 same_row rows device row held = same_map device_total device_exact _ _ (λ other. get-insert device_total rows device row other ∙ by other (eq_by_cmp device_cmp other device) refl)

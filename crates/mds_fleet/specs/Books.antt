@@ -27,10 +27,10 @@ abbrev pub report_document : program.Report → Report
 report_document r =
     record {
       device = r.device;
-      vehicle_type = r.vehicle_type;
-      propulsion = r.propulsion.items;
-      state = r.state;
-      events = r.events.items;
+      vehicle_type = r.make.value.word;
+      propulsion = r.make.value.types.items;
+      state = r.condition.value.word;
+      events = r.condition.value.types.items;
       timestamp = r.timestamp;
       position = r.position;
     }

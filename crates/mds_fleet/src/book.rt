@@ -7,11 +7,12 @@ ghost use Rattle.mds_policy.specs.Policy.{policy_document};
 ghost use Rattle.mds_match.specs.Row.{row_of};
 ghost use Rattle.mds_match.specs.declared.vehicle.TheConstants.{MOST_VEHICLES};
 ghost use Rattle.mds_verdict.specs.Verdict.{verdict_document, verdicts};
-ghost use Rattle.mds_kept.specs.Kept.{IsChanged, IsPublished, Published};
+ghost use Rattle.mds_kept.specs.Kept.{HasArrived, IsChanged, IsPublished, Published};
 ghost use Rattle.mds_fleet.specs.Books.{device_cmp, Take, outcome_at, report_document, reported, row_after, row_from, run_start};
 ghost use Rattle.mds_fleet.specs.Fleet.{rows_of, IsKept};
 
 use crate::report::Report;
+use crate::shares::Shares;
 use mds_kept::Kept;
 use mds_match::{Local, Places, Vehicle};
 use mds_policy::Policy;
@@ -59,6 +60,7 @@ pub struct Book {
     limit: u32,
     alloc: Global,
     kept: Kept,
+    shares: Shares,
 }
 
 impl Model for Book {
@@ -101,6 +103,7 @@ impl Book {
             limit,
             alloc,
             kept: Kept::new(),
+            shares: Shares::new(alloc),
         }
     }
 
@@ -118,9 +121,16 @@ impl Book {
         ensures fits { (published : Published) → Fits published self.old → Fits published self.new }
     {
         let device = report.device;
-        let taken = take(self.alloc, &mut self.vehicles, self.limit, report, moment);
+        let taken = take(
+            self.alloc,
+            &mut self.vehicles,
+            &mut self.shares,
+            self.limit,
+            report,
+            moment,
+        );
         match taken {
-            Ok(Taken::New) => self.kept.clear(),
+            Ok(Taken::New) => self.kept.arrive(device),
             Ok(Taken::Changed) => self.kept.note(device),
             _ => {}
         }
@@ -142,7 +152,7 @@ impl Book {
     {
         match self.vehicles.remove(&device) {
             Some(vehicle) => {
-                self.kept.clear();
+                self.kept.depart(device);
                 Ok(Box::into_inner(vehicle))
             }
             None => Err(Absent),
@@ -151,7 +161,7 @@ impl Book {
 
     /// The verdict on each rule of a policy, in their order, at a local time and at the moment up to
     /// which a vehicle's time in its state counts, by what is kept. `None` the first time that the policy
-    /// is asked about since a device came or went, where it has more than 64 rules, where there are more
+    /// is asked about since all was dropped, where it has more than 64 rules, where there are more
     /// than 4,194,304 vehicles or where memory ran out; then the rows are to be asked. The vehicles stay
     /// as they are.
     pub fn verdicts<P: Places>(
@@ -219,6 +229,7 @@ fn lent(alloc: Global, vehicles: &BTreeMap<Id, Box<Vehicle>>) -> Result<Vec<&Veh
 fn take(
     alloc: Global,
     vehicles: &mut BTreeMap<Id, Box<Vehicle>>,
+    shares: &mut Shares,
     limit: u32,
     report: Report,
     moment: Moment,
@@ -226,25 +237,26 @@ fn take(
     requires { IsKept limit vehicles.old }
     ensures taken { Take (rows_of vehicles.old) limit (report_document report) moment result (rows_of vehicles.new) }
     ensures kept { IsKept limit vehicles.new }
+    ensures arrived { result ≡ Ok Taken.New → HasArrived report.device vehicles.old vehicles.new }
     ensures changed { result ≡ Ok Taken.Changed → IsChanged report.device vehicles.old vehicles.new }
 {
     if report.timestamp > moment {
         return Err(BookFault::Future);
     }
     if let Some(vehicle) = vehicles.get_mut(&report.device) {
-        return update(vehicle, report);
+        return update(vehicle, shares, report);
     }
     if vehicles.len() >= limit as usize {
         return Err(BookFault::FleetFull);
     }
     let (device, since) = (report.device, report.timestamp);
-    let vehicle = Box::new(alloc, vehicle_of(report, since))?;
+    let vehicle = Box::new(alloc, vehicle_of(shares, report, since))?;
     vehicles.insert(device, vehicle)?;
     Ok(Taken::New)
 }
 
 // Takes a report of a device that is held.
-fn update(vehicle: &mut Vehicle, report: Report) -> Result<Taken, BookFault>
+fn update(vehicle: &mut Vehicle, shares: &mut Shares, report: Report) -> Result<Taken, BookFault>
     ensures outcome { (held limit : ℕ) → result ≡ outcome_at (Some (row_of vehicle.old)) held limit (report_document report) }
     ensures changed { result ≡ Ok Taken.Changed → row_of vehicle.new ≡ row_after (Some (row_of vehicle.old)) (report_document report) }
     ensures others { result ≢ Ok Taken.Changed → row_of vehicle.new ≡ row_of vehicle.old }
@@ -256,7 +268,7 @@ fn update(vehicle: &mut Vehicle, report: Report) -> Result<Taken, BookFault>
         return Ok(Taken::Same);
     }
     let since = run_start(vehicle, &report);
-    *vehicle = vehicle_of(report, since);
+    *vehicle = vehicle_of(shares, report, since);
     Ok(Taken::Changed)
 }
 
@@ -264,7 +276,7 @@ fn update(vehicle: &mut Vehicle, report: Report) -> Result<Taken, BookFault>
 fn run_start(vehicle: &Vehicle, report: &Report) -> Moment
     ensures { result ≡ run_start (row_of vehicle.now) (report_document report.now) }
 {
-    if vehicle.state == report.state {
+    if vehicle.state() == report.state() {
         vehicle.since
     } else {
         report.timestamp
@@ -276,47 +288,43 @@ fn is_reported(vehicle: &Vehicle, report: &Report) -> bool
     ensures { IsTrue result ↔ (reported (row_of vehicle.now) ≡ report_document report.now) }
 {
     vehicle.device == report.device
-        && is_token(vehicle.vehicle_type, report.vehicle_type)
-        && are_tokens(&vehicle.propulsion, &report.propulsion)
-        && is_token(vehicle.state, report.state)
-        && are_tokens(&vehicle.events, &report.events)
+        && is_token(vehicle.vehicle_type(), report.vehicle_type())
+        && are_tokens(vehicle.propulsion(), report.propulsion())
+        && is_token(vehicle.state(), report.state())
+        && are_tokens(vehicle.events(), report.events())
         && vehicle.timestamp == report.timestamp
         && vehicle.position == report.position
 }
 
 // Whether two tokens are one.
-fn is_token(token: Token, other: Token) -> bool
+pub(crate) fn is_token(token: Token, other: Token) -> bool
     ensures { IsTrue result ↔ (token ≡ other) }
 {
     token == other
 }
 
 // Whether two lists of tokens are one.
-fn are_tokens(tokens: &[Token], others: &[Token]) -> bool
+pub(crate) fn are_tokens(tokens: &[Token], others: &[Token]) -> bool
     ensures { IsTrue result ↔ (tokens.now ≡ others.now) }
 {
     tokens == others
 }
 
-// The vehicle of a report, and of when the run of its state began.
-fn vehicle_of(report: Report, since: Moment) -> Vehicle
+// The vehicle of a report, with words that others share, and of when the run of its state began.
+fn vehicle_of(shares: &mut Shares, report: Report, since: Moment) -> Vehicle
     ensures { row_of result ≡ row_from (report_document report) since }
 {
     let Report {
         device,
-        vehicle_type,
-        propulsion,
-        state,
-        events,
+        make,
+        condition,
         timestamp,
         position,
     } = report;
     Vehicle {
         device,
-        vehicle_type,
-        propulsion,
-        state,
-        events,
+        make: shares.share(make),
+        condition: shares.share(condition),
         timestamp,
         position,
         since,

@@ -7,6 +7,7 @@ ghost use Rattle.mds_fleet.specs.Reading.{report_of, location_of, position_of, c
 
 use crate::report::Report;
 use mds_geometry::{Position, coordinate_of_node};
+use mds_match::Words;
 use mds_reading::{
     Node, document_of, object_of, required_id, required_member, required_moment, required_token,
     tokens_at as optional_tokens,
@@ -29,10 +30,8 @@ pub(crate) fn report_of(alloc: Global, tree: &Node<'_>) -> Result<Report, TextFa
     let position = position_of(location)?;
     Ok(Report {
         device,
-        vehicle_type,
-        propulsion,
-        state,
-        events,
+        make: Words::shared(alloc, vehicle_type, propulsion)?,
+        condition: Words::shared(alloc, state, events)?,
         timestamp,
         position,
     })

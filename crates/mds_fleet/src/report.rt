@@ -1,8 +1,10 @@
 use crate::reading::report_of;
 use mds_geometry::Position;
+use mds_match::Words;
 use mds_reading::Source;
 use mds_text::{Id, Moment, TextFault, Token};
 use std::alloc::Global;
+use std::sync::Arc;
 
 /// What an operator reports of one of its vehicles. Lists are kept as reported, in order and with
 /// repeats.
@@ -10,14 +12,10 @@ use std::alloc::Global;
 pub struct Report {
     /// The device's identifier.
     pub device: Id,
-    /// The vehicle's type.
-    pub vehicle_type: Token,
-    /// Its types of propulsion.
-    pub propulsion: Vec<Token>,
-    /// The state that it is in.
-    pub state: Token,
-    /// The types of the events that led to it.
-    pub events: Vec<Token>,
+    /// The vehicle's type, with its types of propulsion.
+    pub make: Arc<Words>,
+    /// The state that it is in, with the types of the events that led to it.
+    pub condition: Arc<Words>,
     /// When it was so, in milliseconds since the Unix epoch.
     pub timestamp: Moment,
     /// Where it is.
@@ -25,6 +23,7 @@ pub struct Report {
 }
 
 impl Report {
+    ghost use Rattle.std.specs.Prelude.{◌≡◌};
     ghost use Rattle.mds_text.specs.Fault.{Gives, text_cause};
     ghost use Rattle.mds_fleet.specs.Books.{report_document};
     ghost use Rattle.mds_fleet.specs.Reading.{read_report};
@@ -44,5 +43,33 @@ impl Report {
         let mut source = Source::new(alloc);
         let tree = source.read(alloc, text)?;
         report_of(alloc, &tree)
+    }
+
+    /// The vehicle's type.
+    pub fn vehicle_type(&self) -> Token
+        ensures { result ≡ (report_document self.now).vehicle_type }
+    {
+        self.make.word
+    }
+
+    /// Its types of propulsion.
+    pub fn propulsion(&self) -> &[Token]
+        ensures { result.now ≡ (report_document self.now).propulsion }
+    {
+        &self.make.types
+    }
+
+    /// The state that it is in.
+    pub fn state(&self) -> Token
+        ensures { result ≡ (report_document self.now).state }
+    {
+        self.condition.word
+    }
+
+    /// The types of the events that led to its state.
+    pub fn events(&self) -> &[Token]
+        ensures { result.now ≡ (report_document self.now).events }
+    {
+        &self.condition.types
     }
 }

@@ -18,7 +18,7 @@ pub struct Kept {
 fn is_same_state(report: &Report, other: &Report) -> bool
     ensures { result ≡ bytes_eq (report_document report.now).state (report_document other.now).state }
 {
-    report.state == other.state
+    report.state() == other.state()
 }
 
 /// Which of a device's accepted reports a thinned journal keeps, where they stand in the order in which they were

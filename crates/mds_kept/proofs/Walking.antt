@@ -121,6 +121,14 @@ apart_places vehicles ordered j k inside within e apart = by (cases_order j k)
     by (inr (inl less)) = apart_before vehicles ordered j k less within e
     by (inr (inr less)) = apart_before vehicles ordered k j less inside (sym e)
 
+-- a changed device that isn't held any more has no word
+pub not_held : (Is : Row → ℕ → Type 0) (vehicles : Vehicles) (devices changed : List (List ℕ)) (words : List ℕ) (i : ℕ) → i < length changed → get device_cmp vehicles (get_or changed i []) ≡ None
+    → AreKept Is vehicles devices words (drop i changed) → AreKept Is vehicles devices words (drop (i + 1) changed)
+not_held Is vehicles devices changed words i short absent kept k v less found out =
+    let here = get_or devices k [] in
+    let apart : here ≡ get_or changed i [] → ⊥ = λ e. let no : None ≡ Some v = sym absent ∙ ap (get device_cmp vehicles) (sym e) ∙ found in absurd (cc) in
+    kept k v less found (λ e. not_first (get_or changed i []) here (drop (i + 1) changed) apart out (subst (λ (xs : List (List ℕ)). Contains xs here) (drop_more changed i [] short) e))
+
 -- one changed device more is read
 module _ (Is : Row → ℕ → Type 0) (vehicles : Vehicles) (ordered : IsOrdered device_cmp vehicles) (devices changed : List (List ℕ)) (listed : devices ≡ keys vehicles) (words : List ℕ) (i : ℕ) (short : i < length changed)
     (kept : AreKept Is vehicles devices words (drop i changed)) (at : ℕ) (here : get_or devices at [] ≡ get_or changed i []) (inside : at < length devices) where

@@ -1,11 +1,14 @@
 -- What is kept of an operator's vehicles between questions, and what ties it to the vehicles and to what is published.
-use Rattle.std.specs.Prelude.{◌≡◌, ◌<◌, ◌≤◌, ℕ, List, [], Bool, true, Some, IfSome, All, Contains, length, get_or, drop, map}
+use Rattle.std.specs.Prelude.{◌≡◌, ◌<◌, ◌≤◌, ℕ, List, [], Bool, true, None, Some, IfSome, All, Contains, if◌then◌else◌, length, get_or, nat_lt, drop, map}
 use Rattle.std.specs.declared.alloc.Global.{Global}
 use Rattle.std.specs.declared.boxed.Box.{Box}
 use Rattle.std.specs.declared.cmp.Ordering.{Ordering}
-use Rattle.std.specs.BTreeMap.{BTreeMap, get, keys, values}
+use Rattle.std.specs.BTreeMap.{BTreeMap, get, is_at, keys, values}
+use Rattle.std.specs.BTreeSet.{insert_key}
 use Rattle.std.specs.Cmp.Lexicographic.{slice_cmp}
+use Rattle.std.specs.List.{insert, remove}
 use Rattle.std.specs.Ordering.{nat_cmp}
+use Rattle.std.specs.Set.{remove_key}
 use Rattle.mds_geometry.specs.declared.position.Position.{Position}
 use Rattle.mds_policy.specs.Policy.{Policy}
 use Rattle.mds_match.specs.declared.vehicle.Vehicle.{Vehicle}
@@ -96,6 +99,33 @@ abbrev pub IsChanged : List ℕ → Vehicles → Vehicles → Type 0
 IsChanged device before after =
     (keys after ≡ keys before)
     × ((other : List ℕ) → (other ≡ device → ⊥) → get device_cmp after other ≡ get device_cmp before other)
+
+-- a device came, and the others' vehicles are as they were
+abbrev pub HasArrived : List ℕ → Vehicles → Vehicles → Type 0
+HasArrived device before after =
+    (keys after ≡ insert_key device_cmp (keys before) device)
+    × ((other : List ℕ) → (other ≡ device → ⊥) → get device_cmp after other ≡ get device_cmp before other)
+
+-- a device went, and the others' vehicles are as they were
+abbrev pub HasDeparted : List ℕ → Vehicles → Vehicles → Type 0
+HasDeparted device before after =
+    (keys after ≡ remove_key (is_at (device_cmp device)) (keys before)) × (get device_cmp after device ≡ None)
+    × ((other : List ℕ) → (other ≡ device → ⊥) → get device_cmp after other ≡ get device_cmp before other)
+
+-- words with a 0 put in at a place, if they reach so far
+abbrev pub with_place : ℕ → List ℕ → List ℕ
+with_place place words = if nat_lt (length words) place then words else insert words place 0
+
+-- words without that at a place, if they reach so far
+abbrev pub without_place : ℕ → List ℕ → List ℕ
+without_place place words = remove words place
+
+-- columns are as they were, but for what was done to the masks of each
+pub record AreEdited (edit : List ℕ → List ℕ) (before after : List Column) : Type 0 where
+  pub long : length after ≡ length before
+  pub policies : (k : ℕ) (d : Column) → k < length before → (get_or after k d).policy ≡ (get_or before k d).policy
+  pub seen : (k : ℕ) (d : Column) → k < length before → (get_or after k d).seen ≡ (get_or before k d).seen
+  pub masks : (k : ℕ) (d : Column) → k < length before → (get_or after k d).masks.items ≡ edit (get_or before k d).masks.items
 
 -- what is kept is right for what is published, and the policy is among that
 abbrev pub MayAsk : Kept → Policy → (List ℕ → List (List (List Position))) → Vehicles → Type 0

@@ -1,10 +1,11 @@
-ghost use Rattle.std.specs.Prelude.{◌≡◌, ◌≤◌, List, ℕ, true, All, IfSome, drop, length};
+ghost use Rattle.std.specs.Prelude.{◌≡◌, ◌≤◌, ◌∷◌, ◌++◌, [], List, ℕ, true, All, IfSome, drop, length};
 ghost use Rattle.std.specs.BTreeMap.{IsOrdered, keys};
 ghost use Rattle.mds_policy.specs.Policy.{policy_document};
 ghost use Rattle.mds_masks.specs.Masks.{IsMask};
 ghost use Rattle.mds_kept.specs.Kept.{AreKept, AreRead, AreRows, IsChanged, IsColumn, IsListed, IsSince, Published, Vehicles, device_cmp, rows_in};
 
 use crate::columns::{Columns, verdicts_by};
+use crate::places::{arrived, departed};
 use crate::words::{Mask, Since, fresh};
 use mds_masks::{MOST_RULES, MaskedPolicy};
 use mds_match::{Local, Places, Vehicle};
@@ -15,7 +16,7 @@ use std::alloc::Global;
 use std::collections::BTreeMap;
 
 /// The most masks that are kept of an operator's vehicles, over all policies.
-const MOST_MASKS: usize = 4_194_304;
+pub(crate) const MOST_MASKS: usize = 4_194_304;
 
 /// How many changed devices are noted at least, before all that is kept is dropped; of a great fleet
 /// an eighth.
@@ -31,7 +32,8 @@ pub(crate) struct Column {
 }
 
 /// The devices in the order of their ids, when the runs of their states began, up to where these have
-/// read the log, the columns of policies, and the log of changed devices.
+/// read the log, the columns of policies, the log of changed devices, and how many devices came or
+/// went since the last question.
 #[derive(Drop)]
 pub(crate) struct Listed {
     pub(crate) devices: Vec<Id>,
@@ -39,6 +41,7 @@ pub(crate) struct Listed {
     pub(crate) seen: usize,
     pub(crate) columns: Vec<Column>,
     pub(crate) changed: Vec<Id>,
+    pub(crate) moved: usize,
 }
 
 /// What is kept of an operator's vehicles between questions, if anything is, and which policies were
@@ -51,9 +54,10 @@ pub struct Kept {
 
 impl Kept {
     ghost use Rattle.std.specs.Prelude.{◌≡◌, ◌^◌, ◌<◌, List, ℕ, All, IfSome, map};
+    ghost use Rattle.std.specs.BTreeMap.{IsOrdered};
     ghost use Rattle.mds_policy.specs.Policy.{policy_document};
     ghost use Rattle.mds_verdict.specs.Verdict.{verdict_document, verdicts};
-    ghost use Rattle.mds_kept.specs.Kept.{AreOwn, Fits, IsChanged, IsPublished, MayAsk, Published, Vehicles, rows_in};
+    ghost use Rattle.mds_kept.specs.Kept.{AreOwn, Fits, HasArrived, HasDeparted, IsChanged, IsPublished, MayAsk, Published, Vehicles, device_cmp, rows_in};
 
     /// Nothing is kept. Takes no memory.
     pub fn new() -> Kept
@@ -76,8 +80,36 @@ impl Kept {
         }
     }
 
-    /// Drops what is kept, as it must be where a device comes or goes.
-    pub fn clear(&mut self)
+    /// Notes that a device came. Where more than 64 came or went since the last question, or there is no
+    /// room or no memory for it, nothing is kept any more.
+    pub fn arrive(&mut self, device: Id)
+        ensures { (published : Published) (before after : Vehicles) → IsOrdered device_cmp before → HasArrived device before after →
+            Fits published before self.old → Fits published after self.new }
+    {
+        if let Some(listed) = self.listed.take() {
+            match arrived(listed, device) {
+                Some(listed) => self.listed = Some(listed),
+                None => self.clear(),
+            }
+        }
+    }
+
+    /// Notes that a device went. Where more than 64 came or went since the last question, nothing is kept
+    /// any more. Takes no memory.
+    pub fn depart(&mut self, device: Id)
+        ensures { (published : Published) (before after : Vehicles) → IsOrdered device_cmp before → HasDeparted device before after →
+            Fits published before self.old → Fits published after self.new }
+    {
+        if let Some(listed) = self.listed.take() {
+            match departed(listed, device) {
+                Some(listed) => self.listed = Some(listed),
+                None => self.clear(),
+            }
+        }
+    }
+
+    /// Drops what is kept, and forgets which policies were asked about.
+    fn clear(&mut self)
         ensures { (published : Published) (vehicles : Vehicles) → Fits published vehicles self.new }
     {
         self.listed = None;
@@ -149,11 +181,19 @@ fn noted(listed: Listed, device: Id) -> Option<Listed>
         IsListed published before listed → IsListed published after new) }
 {
     let mut listed = listed;
-    let most = LEAST_NOTES.max(listed.devices.len() / 8);
-    if listed.changed.len() >= most || listed.changed.push(device).is_err() {
+    let fleet = listed.devices.len();
+    if !logged(&mut listed.changed, fleet, device) {
         return None;
     }
     Some(listed)
+}
+
+/// Logs a changed device. `false` where there is no room or no memory for it in the log of so great a
+/// fleet.
+pub(crate) fn logged(changed: &mut Vec<Id>, fleet: usize, device: Id) -> bool
+    ensures { result ≡ true → changed.new.items ≡ changed.old.items ++ device ∷ [] }
+{
+    changed.len() < LEAST_NOTES.max(fleet / 8) && changed.push(device).is_ok()
 }
 
 /// What is kept; where nothing is, a list of the devices alone. `None` where memory ran out.
@@ -192,6 +232,7 @@ fn with_sinces(
         seen,
         columns,
         changed,
+        moved: _,
     } = listed;
     let sinces = fresh(alloc, sinces, &Since, &devices, vehicles, &changed[seen..])?;
     let seen = changed.len();
@@ -201,6 +242,7 @@ fn with_sinces(
         seen,
         columns,
         changed,
+        moved: 0,
     })
 }
 
@@ -218,6 +260,7 @@ fn without_columns(alloc: Global, vehicles: &BTreeMap<Id, Box<Vehicle>>) -> Opti
         seen: 0,
         columns: Vec::new(alloc),
         changed: Vec::new(alloc),
+        moved: 0,
     })
 }
 

@@ -6,6 +6,7 @@ mod bounds;
 mod columns;
 mod kept;
 pub mod laws;
+mod places;
 mod words;
 
 pub use columns::{Columns, verdicts_by};

@@ -70,8 +70,8 @@ fn made<W: Word>(
     Ok(words)
 }
 
-/// Makes the words of changed devices anew where they stand. `false` where one isn't listed or isn't
-/// held.
+/// Makes the words of changed devices anew where they stand, if they are still held. `false` where one
+/// isn't listed.
 fn renew<W: Word>(
     words: &mut [u64],
     word: &W,
@@ -88,7 +88,7 @@ fn renew<W: Word>(
 {
     for device in changed {
         let Some(vehicle) = vehicles.get(device) else {
-            return false;
+            continue;
         };
         let Ok(at) = devices.binary_search(device) else {
             return false;

@@ -26,8 +26,8 @@ pub(crate) fn is_evaluated(kind: Kind) -> bool
 pub(crate) fn is_meant(rule: &Rule, vehicle: &Vehicle) -> bool
     ensures { result ≡ is_meant (rule_document rule.now) (row_of vehicle.now) }
 {
-    has_or_all(&rule.vehicle_types, vehicle.vehicle_type)
-        && shares_or_all(&rule.propulsion_types, &vehicle.propulsion)
+    has_or_all(&rule.vehicle_types, vehicle.vehicle_type())
+        && shares_or_all(&rule.propulsion_types, vehicle.propulsion())
         && state_fits_or_all(&rule.states, vehicle)
 }
 
@@ -60,7 +60,7 @@ fn any_state_fits(states: &[StateEvents], vehicle: &Vehicle) -> bool
 fn state_fits(states: &StateEvents, vehicle: &Vehicle) -> bool
     ensures { result ≡ state_fits (row_of vehicle.now) (states_document states.now) }
 {
-    is_word(states.state, vehicle.state) && shares_or_all(&states.events, &vehicle.events)
+    is_word(states.state, vehicle.state()) && shares_or_all(&states.events, vehicle.events())
 }
 
 fn contains(words: &[Token], word: Token) -> bool

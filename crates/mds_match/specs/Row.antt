@@ -2,6 +2,7 @@
 use Rattle.std.specs.Prelude.{ℕ, List}
 use Rattle.mds_geometry.specs.declared.position.Position.{Position}
 use Rattle.mds_match.specs.declared.vehicle.Vehicle.{Vehicle}
+use Rattle.mds_match.specs.declared.vehicle.Words.{Words}
 
 pub record Row : Type 0 where
   pub device : List ℕ
@@ -13,15 +14,19 @@ pub record Row : Type 0 where
   pub position : Position
   pub since : ℕ
 
+-- a word with its types, as a `Words` has them
+abbrev pub words_of : Words → List ℕ × List (List ℕ)
+words_of w = (w.word, w.types.items)
+
 -- the row that a `Vehicle` stands for
 abbrev pub row_of : Vehicle → Row
 row_of v =
     record {
       device = v.device;
-      vehicle_type = v.vehicle_type;
-      propulsion = v.propulsion.items;
-      state = v.state;
-      events = v.events.items;
+      vehicle_type = v.make.value.word;
+      propulsion = v.make.value.types.items;
+      state = v.condition.value.word;
+      events = v.condition.value.types.items;
       timestamp = v.timestamp;
       position = v.position;
       since = v.since;

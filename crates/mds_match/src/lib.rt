@@ -15,6 +15,6 @@ pub use local::Local;
 pub use matching::{first, meets};
 pub use places::Places;
 pub use resolved::ResolvedPolicy;
-pub use vehicle::{MOST_VEHICLES, Vehicle};
+pub use vehicle::{MOST_VEHICLES, Vehicle, Words};
 pub use window::open_at;
 pub use zone::{Zone, ZoneFault};

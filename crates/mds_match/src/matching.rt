@@ -29,8 +29,8 @@ pub fn meets<P: Places>(rule: &Rule, places: &P, vehicle: &Vehicle, local: Local
 pub(crate) fn is_meant(rule: &Rule, vehicle: &Vehicle) -> bool
     ensures { result ≡ is_meant (rule_document rule.now) (row_of vehicle.now) }
 {
-    has_or_all(&rule.vehicle_types, vehicle.vehicle_type)
-        && shares_or_all(&rule.propulsion_types, &vehicle.propulsion)
+    has_or_all(&rule.vehicle_types, vehicle.vehicle_type())
+        && shares_or_all(&rule.propulsion_types, vehicle.propulsion())
         && state_fits_or_all(&rule.states, vehicle)
 }
 
@@ -107,7 +107,7 @@ fn shares_or_all(words: &[Token], others: &[Token]) -> bool
 fn state_fits(states: &StateEvents, vehicle: &Vehicle) -> bool
     ensures { result ≡ state_fits (row_of vehicle.now) (states_document states.now) }
 {
-    is_word(states.state, vehicle.state) && shares_or_all(&states.events, &vehicle.events)
+    is_word(states.state, vehicle.state()) && shares_or_all(&states.events, vehicle.events())
 }
 
 fn state_fits_or_all(states: &[StateEvents], vehicle: &Vehicle) -> bool

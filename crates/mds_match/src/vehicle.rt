@@ -1,20 +1,80 @@
 use mds_geometry::Position;
 use mds_text::{Id, Moment, Token};
+use std::alloc::{AllocError, Global};
+use std::sync::Arc;
 
 /// The most vehicles that an operator may hold.
 pub const MOST_VEHICLES: u32 = 200_000;
+
+/// A word of a vehicle with the list of types that goes with it: its vehicle type with its propulsion
+/// types, or its state with the types of the events that led to it. Vehicles with the same words may
+/// share them.
+#[derive(Drop)]
+pub struct Words {
+    pub word: Token,
+    pub types: Vec<Token>,
+}
+
+impl Words {
+    ghost use Rattle.std.specs.Prelude.{◌≡◌, IfOk};
+
+    /// A share of a word and its types, that may be held by many.
+    ///
+    /// # Errors
+    ///
+    /// Memory ran out.
+    pub fn shared(alloc: Global, word: Token, types: Vec<Token>) -> Result<Arc<Words>, AllocError>
+        ensures word { IfOk result (λ share. share.value.word ≡ word) }
+        ensures types { IfOk result (λ share. share.value.types ≡ types) }
+    {
+        Ok(Arc::new(alloc, Words { word, types })?)
+    }
+}
 
 /// A device as its last accepted report says, with the beginning of the run of its state.
 #[derive(Drop)]
 pub struct Vehicle {
     pub device: Id,
-    pub vehicle_type: Token,
-    pub propulsion: Vec<Token>,
-    pub state: Token,
-    pub events: Vec<Token>,
+    /// The vehicle type with the propulsion types.
+    pub make: Arc<Words>,
+    /// The state with the types of the events that led to it.
+    pub condition: Arc<Words>,
     /// The report's own timestamp.
     pub timestamp: Moment,
     pub position: Position,
     /// The timestamp of the first report of the unbroken run of reports with this state.
     pub since: Moment,
+}
+
+impl Vehicle {
+    ghost use Rattle.std.specs.Prelude.{◌≡◌};
+    ghost use Rattle.mds_match.specs.Row.{row_of};
+
+    /// The vehicle's type.
+    pub fn vehicle_type(&self) -> Token
+        ensures { result ≡ (row_of self.now).vehicle_type }
+    {
+        self.make.word
+    }
+
+    /// Its types of propulsion.
+    pub fn propulsion(&self) -> &[Token]
+        ensures { result.now ≡ (row_of self.now).propulsion }
+    {
+        &self.make.types
+    }
+
+    /// The state that it is in.
+    pub fn state(&self) -> Token
+        ensures { result ≡ (row_of self.now).state }
+    {
+        self.condition.word
+    }
+
+    /// The types of the events that led to its state.
+    pub fn events(&self) -> &[Token]
+        ensures { result.now ≡ (row_of self.now).events }
+    {
+        &self.condition.types
+    }
 }

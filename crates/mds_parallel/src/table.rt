@@ -75,17 +75,17 @@ fn new_pair(
 ) -> Result<Pair, AllocError>
     ensures { IfOk result (IsServed resolved.now) }
 {
-    let numbers = resolved.candidates(alloc, vehicle.vehicle_type, vehicle.state)?;
+    let numbers = resolved.candidates(alloc, vehicle.vehicle_type(), vehicle.state())?;
     Ok(Pair {
-        vehicle_type: vehicle.vehicle_type,
-        state: vehicle.state,
+        vehicle_type: vehicle.vehicle_type(),
+        state: vehicle.state(),
         numbers,
     })
 }
 
 /// The pair that a vehicle is of, where it is there.
 fn pair_of<'a>(pairs: &'a [Pair], vehicle: &Vehicle) -> Option<&'a Pair>
-    ensures { IfSome result (λ pair. Contains pairs.now pair.now × (vehicle.now.vehicle_type ≡ pair.now.vehicle_type) × (vehicle.now.state ≡ pair.now.state)) }
+    ensures { IfSome result (λ pair. Contains pairs.now pair.now × ((row_of vehicle.now).vehicle_type ≡ pair.now.vehicle_type) × ((row_of vehicle.now).state ≡ pair.now.state)) }
 {
     for pair in pairs {
         if is_of(pair, vehicle) {
@@ -96,7 +96,7 @@ fn pair_of<'a>(pairs: &'a [Pair], vehicle: &Vehicle) -> Option<&'a Pair>
 }
 
 fn is_of(pair: &Pair, vehicle: &Vehicle) -> bool
-    ensures { result ≡ (bytes_eq pair.now.vehicle_type vehicle.now.vehicle_type && bytes_eq pair.now.state vehicle.now.state) }
+    ensures { result ≡ (bytes_eq pair.now.vehicle_type (row_of vehicle.now).vehicle_type && bytes_eq pair.now.state (row_of vehicle.now).state) }
 {
-    pair.vehicle_type == vehicle.vehicle_type && pair.state == vehicle.state
+    pair.vehicle_type == vehicle.vehicle_type() && pair.state == vehicle.state()
 }

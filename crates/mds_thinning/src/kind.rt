@@ -45,7 +45,7 @@ fn reported(alloc: Global, operator: usize, body: &[u8]) -> Result<Kind, AllocEr
     match Report::read(alloc, body) {
         Ok(report) => {
             let id = report.device;
-            Ok(Kind::Report(Device { operator, id }, report.state))
+            Ok(Kind::Report(Device { operator, id }, report.state()))
         }
         Err(TextFault::NoMemory) => Err(AllocError),
         Err(_) => Ok(Kind::Other),

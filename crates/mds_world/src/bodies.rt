@@ -155,25 +155,25 @@ fn vehicle_tree(alloc: Global, vehicle: &Vehicle) -> Result<Tree, AllocError>
     add_member(
         &mut members,
         "event_types",
-        words_tree(alloc, &vehicle.events)?,
+        words_tree(alloc, vehicle.events())?,
     )?;
     add_member(&mut members, "location", location_tree(alloc, vehicle)?)?;
     add_member(
         &mut members,
         "propulsion_types",
-        words_tree(alloc, &vehicle.propulsion)?,
+        words_tree(alloc, vehicle.propulsion())?,
     )?;
     add_member(&mut members, "since", int_tree(vehicle.since.get()))?;
     add_member(&mut members, "timestamp", int_tree(vehicle.timestamp.get()))?;
     add_member(
         &mut members,
         "vehicle_state",
-        text_tree(alloc, vehicle.state.as_str())?,
+        text_tree(alloc, vehicle.state().as_str())?,
     )?;
     add_member(
         &mut members,
         "vehicle_type",
-        text_tree(alloc, vehicle.vehicle_type.as_str())?,
+        text_tree(alloc, vehicle.vehicle_type().as_str())?,
     )?;
     Ok(object_tree(members))
 }

@@ -1,7 +1,7 @@
 use Rattle.std.proofs.Common.{◌≡◌, ◌≢◌, ◌<◌, ◌≤◌, ℕ, Some, None, IsSome, Result, Ok, Err, false, cond, map, refl, sym, ap, subst, ◌∙◌, ◌+◌, arith}
 use Rattle.std.specs.Box.{with_value}
 use Rattle.std.specs.BTreeMap as tree
-use Rattle.std.specs.BTreeMap.{btree_map_len}
+use Rattle.std.specs.BTreeMap.{btree_map_len, insert_entry}
 use Rattle.std.specs.FinMap.{len, from_entries}
 use Rattle.std.specs.Option.{is_some}
 use Rattle.std.specs.Ordering.{is_gt, nat_cmp}
@@ -15,8 +15,8 @@ use Rattle.mds_fleet.specs.declared.book.BookFault.{BookFault}
 use Rattle.mds_fleet.specs.declared.book.BookFault.TheVariants.{NoMemory}
 use Rattle.mds_fleet.specs.Books.{device_cmp, report_document, outcome_at, row_after, row_from}
 use Rattle.mds_fleet.specs.Fleet.{Vehicles, rows_of}
-use Rattle.mds_fleet.proofs.Rows.{Updates, ByOutcome, entry, take_held, held_kept, take_full, take_refused, take_new, new_kept}
-use Rattle.mds_fleet.proofs.Fitting.{changed_one}
+use Rattle.mds_fleet.proofs.Rows.{Updates, ByOutcome, never_new, entry, take_held, held_kept, take_full, take_refused, take_new, new_kept}
+use Rattle.mds_fleet.proofs.Fitting.{arrived_one, changed_one}
 use Rattle.mds_fleet.proofs.book.take.Goals as goal
 
 -- a time that isn't greater
@@ -51,6 +51,11 @@ pub returns-in-Some-clause-kept : goal.returns-in-Some-clause-kept
 returns-in-Some-clause-kept c =
     held_kept c.args.vehicles.now (c.get_mut.follows.lender (with_value c.in-Some.vehicle.now c.update.new.vehicle)) (report_document c.args.report) _ _ (sym c.in-Some.ensures.value) (updated c) c.args.limit c.update.result (by_outcome c)
     (c.get_mut.follows.holds (with_value c.in-Some.vehicle.now c.update.new.vehicle)).4 (c.get_mut.follows.holds (with_value c.in-Some.vehicle.now c.update.new.vehicle)).2 c.requires
+
+-- it isn't new
+pub returns-in-Some-clause-arrived : goal.returns-in-Some-clause-arrived
+returns-in-Some-clause-arrived c is =
+    absurd (never_new (row_of c.deref_mut.result.now) (len (rows_of c.args.vehicles.now)) c.args.limit (report_document c.args.report) c.update.result (c.update.ensures.outcome (len (rows_of c.args.vehicles.now)) c.args.limit) is)
 
 -- no device came or went
 pub returns-in-Some-clause-changed : goal.returns-in-Some-clause-changed
@@ -104,3 +109,8 @@ returns-clause-kept c =
     let more = c.in_ok-insert.ensures.len ∙ ap (λ found. btree_map_len c.get_mut.follows.lender-at-none + cond (is_some found) 0 1) absent ∙ ap (λ m. btree_map_len m + 1) same in
     new_kept c.args.vehicles.now c.get_mut.ensures.ordered (report_document c.args.report) (sym c.in_default.ensures.value) c.args.limit c.args.moment (in_past _ _ c.if-gt.ensures) room
     c.insert.new.self c.in_ok-vehicle.vehicle (boxed c) (inserted c) c.in_ok-insert.ensures.ordered more c.requires
+
+pub returns-clause-arrived : goal.returns-clause-arrived
+returns-clause-arrived c is =
+    let entries = c.in_ok-insert.ensures.entries ∙ ap (λ (m : Vehicles). insert_entry device_cmp m.entries c.args.report.device c.in_ok-vehicle.vehicle) c.get_mut.follows.holds-at-none in
+    arrived_one c.args.vehicles.now c.insert.new.self c.args.report.device c.in_ok-vehicle.vehicle (inserted c) entries

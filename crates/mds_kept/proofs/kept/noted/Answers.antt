@@ -9,7 +9,7 @@ returns c published before after changes is =
     let listed = c.args.listed in
     let devices = listed.devices.items in
     let changed = listed.changed.items in
-    let more : c.push.new.self.items ≡ changed ++ c.args.device ∷ [] = search rules in
+    let more : c.logged.new.changed.items ≡ changed ++ c.args.device ∷ [] = search rules in
     record {
       devices = is.devices ∙ sym changes.0;
       seen = rw more (omega (arith, is.seen, length_push changed c.args.device));

@@ -1,11 +1,11 @@
-use Rattle.std.proofs.Common.{◌≡◌, ◌<◌, ◌≤◌, Some, List, [], ℕ, length, get_or, subst, ap, sym, ◌∙◌, rules, arith}
+use Rattle.std.proofs.Common.{◌≡◌, ◌<◌, ◌≤◌, None, Some, List, [], ℕ, length, get_or, subst, ap, sym, ◌∙◌, rules, arith}
 use Rattle.std.specs.BTreeMap.{get}
 use Rattle.std.proofs.lemmas.List.{get_or_default, length-set}
 use Rattle.std.proofs.lemmas.Map.Lookups.{exact_bytes}
 use Rattle.mds_match.specs.Row.{row_of}
 use Rattle.mds_match.specs.declared.vehicle.Vehicle.{Vehicle}
 use Rattle.mds_kept.specs.Kept.{device_cmp}
-use Rattle.mds_kept.proofs.Walking.{put, beyond}
+use Rattle.mds_kept.proofs.Walking.{put, beyond, not_held}
 use Rattle.mds_kept.proofs.words.renew.Goals.{then-at-words, else-at-words}
 use Rattle.mds_kept.proofs.words.renew.Goals as goal
 
@@ -36,3 +36,15 @@ loop-device-preserved g c =
             kept = beyond Is c.args.vehicles.now c.requires.ordered devices changed c.requires.listed words i c.loop-device-test.true c.loop-device.invariant.kept c.in-Ok.at here inside outside few;
           })
     ]
+
+-- the device went since it changed
+pub loop-device-preserved-in_default : goal.loop-device-preserved-in_default
+loop-device-preserved-in_default g c =
+    let i = c.loop-device.device-index in
+    let changed : List (List ℕ) = c.args.changed.now in
+    let item : c.device-item.result ≡ get_or changed i [] = c.device-item.is ∙ get_or_default changed i c.device-item.result [] c.loop-device-test.true in
+    let absent : get device_cmp c.args.vehicles.now c.device-item.result ≡ None = search rules in
+    record {
+      long = c.loop-device.invariant.long;
+      kept = not_held (g.W.Word.is c.args.word.now) c.args.vehicles.now c.args.devices.now changed c.loop-device.words i c.loop-device-test.true (ap (get device_cmp c.args.vehicles.now) (sym item) ∙ absent) c.loop-device.invariant.kept;
+    }

@@ -1,6 +1,8 @@
-use Rattle.std.proofs.Common.{Some, ap, sym, ◌∙◌, arith}
+use Rattle.std.proofs.Common.{Some, ap, refl, subst, sym, ◌∙◌, arith}
 use Rattle.std.specs.FinMap as finite
 use Rattle.mds_match.specs.Row.{row_of}
+use Rattle.mds_fleet.specs.Fleet.{Fits, rows_of}
+use Rattle.mds_fleet.proofs.Fitting.{departed_one, fits_book}
 use Rattle.mds_fleet.proofs.Rows.{get_row, held_row, removed_row, removed_kept}
 use Rattle.mds_fleet.proofs.book.Book.remove.Goals as goal
 
@@ -23,3 +25,13 @@ returns-in-None-clause-held c =
 pub returns-in-Some-clause-rows : goal.returns-in-Some-clause-rows
 returns-in-Some-clause-rows c =
     removed_row c.self.inside.vehicles c.remove.new.self c.args.device c.remove.ensures.updates.0 ∙ ap (λ b. finite.remove b.rows c.args.device) c.self.view_is
+
+-- the device that went is taken out
+pub returns-in-Some-clause-fits : goal.returns-in-Some-clause-fits
+returns-in-Some-clause-fits c published fits =
+    let before = c.self.inside.vehicles in
+    let after = c.remove.new.self in
+    let fitted = subst (Fits published) (sym c.self.view_is) fits before c.self.invariant.ordered refl in
+    let departs = departed_one before after c.args.device c.remove.ensures.updates.0 c.remove.ensures.updates.1 c.remove.ensures.entries in
+    fits_book published after (record { rows = rows_of after; limit = c.self.inside.limit; kept = c.depart.new.self }) c.remove.ensures.ordered refl
+    (c.depart.ensures published before after c.self.invariant.ordered departs fitted)

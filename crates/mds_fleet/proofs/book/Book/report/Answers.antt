@@ -14,11 +14,22 @@ use Rattle.mds_fleet.proofs.book.Book.report.Goals as goal
 read : Result Taken BookFault → Taken
 read r = (values_d (enum taken.the_row fault.the_row) 0 (New, tt) r).0
 
-as_changed : (r : Result Taken BookFault) (is : Taken) → r ≡ Ok is → read r ≡ Changed → r ≡ Ok Changed
+as_read : (r : Result Taken BookFault) (is taken : Taken) → r ≡ Ok is → read r ≡ taken → r ≡ Ok taken
 unfolding read
-as_changed r is ok changed =
-    let same : is ≡ Changed = ap read (sym ok) ∙ changed in
+as_read r is taken ok reads =
+    let same : is ≡ taken = ap read (sym ok) ∙ reads in
     ok ∙ ap (λ t. Ok t) same
+
+-- the device that came is put in
+pub returns-in-Ok-New-clause-fits : goal.returns-in-Ok-New-clause-fits
+unfolding read
+returns-in-Ok-New-clause-fits c published fits =
+    let before = c.self.inside.vehicles in
+    let after = c.take-taken.new.vehicles in
+    let is = as_read c.take-taken.result c.in-Ok-New.field-0 New c.in-Ok-New.is c.in-Ok-New.field-0-is in
+    let fitted = subst (Fits published) (sym c.self.view_is) fits before c.self.invariant.ordered refl in
+    fits_book published after (record { rows = rows_of after; limit = c.self.inside.limit; kept = c.arrive.new.self }) c.take-taken.ensures.kept.ordered refl
+    (c.arrive.ensures published before after c.self.invariant.ordered (c.take-taken.ensures.arrived is) fitted)
 
 -- the device is noted
 pub returns-in-Ok-Changed-clause-fits : goal.returns-in-Ok-Changed-clause-fits
@@ -26,7 +37,7 @@ unfolding read
 returns-in-Ok-Changed-clause-fits c published fits =
     let before = c.self.inside.vehicles in
     let after = c.take-taken.new.vehicles in
-    let is = as_changed c.take-taken.result c.in-Ok-Changed.field-0 c.in-Ok-Changed.is c.in-Ok-Changed.field-0-is in
+    let is = as_read c.take-taken.result c.in-Ok-Changed.field-0 Changed c.in-Ok-Changed.is c.in-Ok-Changed.field-0-is in
     let fitted = subst (Fits published) (sym c.self.view_is) fits before c.self.invariant.ordered refl in
     fits_book published after (record { rows = rows_of after; limit = c.self.inside.limit; kept = c.note.new.self }) c.take-taken.ensures.kept.ordered refl
     (c.note.ensures published before after (c.take-taken.ensures.changed is) fitted)
