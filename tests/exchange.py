@@ -1,14 +1,16 @@
 #!/usr/bin/env python3
-"""Files and a running server: starts ruffletuff, and has it import documents of MDS 2.0 and GeoJSON.
+"""Files and a running server: starts ruffletuff, and has it import documents of MDS 2.0 and GeoJSON and vehicles of feeds, and export what
+is published.
 
     exchange.py PROGRAM
 
 Expects that geographies and predecessors are sent first, whatever their order in the files; that a rule that isn't judged is kept and
 told, and a number of it that isn't whole goes as a text; that a bound with a fraction is refused by its name; that a feature of GeoJSON
 becomes a geography with an identifier that its name alone gives; that a dry run sends nothing; that files that are broken, deep, long, of
-other types or cut within a character, and identifiers that stand twice, are told by file and place and stop nothing else; that no byte of
-a file reaches standard output or standard error that could move a cursor; and the exit statuses of docs/PROTOCOL.md. Prints what is
-otherwise, and last 'N passed, M failed'; ends with 1 where one failed.
+other types or cut within a character, and identifiers that stand twice, are told by file and place and stop nothing else; that vehicles of
+MDS and of GBFS become the reports that are worked out here, many in one request, and those that are away are taken away; that what is
+exported and imported again is exported as the same; that no byte of a file reaches standard output or standard error that could move a
+cursor; and the exit statuses of docs/PROTOCOL.md. Prints what is otherwise, and last 'N passed, M failed'; ends with 1 where one failed.
 """
 
 import contextlib
@@ -24,6 +26,7 @@ from kept import Alone, ended, tried
 from wire import AUTHOR, FIRST, PATIENCE, free_port
 
 LONG = 10_000_000  # bytes of a long file
+MANY = 5_000 if PATIENCE == 1 else 200  # vehicles of a feed, in more than one request
 NAMES = ("Altstadt", "Nördlicher Hafen")  # of places in GeoJSON
 RATE = {"rule_id": "7ea0d16e-ad15-4337-9722-9924e3af9147", "name": "fee", "rule_type": "rate", "geographies": [], "rate_amount": 0.15}
 
@@ -106,12 +109,14 @@ def drafts(server, kind, count):
 def in_order(program):
     """Geographies and predecessors go first, from files in any order; the drafts are as they were written."""
     with Room(program) as room, Alone(program) as server:
-        first = room.file("a.json", {"version": "2.0.0", "data": {"policies": [policy(3, [number(2, 2)]), policy(2, [number(2, 1)]), policy(1)]}})
+        chain = [policy(3, [number(2, 2)]), policy(2, [number(2, 1)]), policy(1)]
+        first = room.file("a.json", {"version": "2.0.0", "data": {"policies": chain}})
         second = room.file("b.json", {"version": "2.0.0", "data": {"geographies": [place(1), place(2)]}})
         status, out, err = room.run("import", "policies", first, second, "--dry-run")
         wanted = [("geographies", 1, 1), ("geographies", 1, 2), ("policies", 2, 1), ("policies", 2, 2), ("policies", 2, 3)]
         lines = [f"PUT /drafts/{kind}/{number(group, count)}" for kind, group, count in wanted]
-        expect((status, err) == (0, "") and out.splitlines() == [*lines, "5 documents would be sent, 0 refused"], f"dry: {status} {out} {err}")
+        lines.append("5 documents would be sent, 0 refused")
+        expect((status, err) == (0, "") and out.splitlines() == lines, f"dry: {status} {out} {err}")
         expect(drafts(server, "policies", 1) is None, "a dry run sent something")
         status, out, err = room.policies(server, first, second)
         expect((status, out, err) == (0, "5 documents sent, 0 refused\n", ""), f"sent: {status} {out} {err}")
@@ -133,7 +138,8 @@ def kept_and_refused(program):
         fraction["rules"][0]["maximum"] = 7.5
         unread = policy(3)
         unread["start_date"] = "soon"
-        name = room.file("rates.json", {"policies": [policy(1, rules=[RATE, *policy(1)["rules"]]), fraction, unread, {"policy_id": "x"}, 7]})
+        rated = policy(1, rules=[RATE, *policy(1)["rules"]])
+        name = room.file("rates.json", {"policies": [rated, fraction, unread, {"policy_id": "x"}, 7]})
         status, out, err = room.policies(server, name)
         lines = [
             f"{name}: document 1: rule {RATE['rule_id']}: it is kept and not judged",
@@ -155,10 +161,11 @@ def features(program):
         own = number(1, 7)
         made = [{"type": "Feature", "properties": {"name": it}, "geometry": square(5, 5 + n)} for n, it in enumerate(NAMES)]
         made.append({"type": "Feature", "id": own, "properties": {"name": "Own", "area": 1.25}, "geometry": square(6, 6)})
-        made += [{"type": "Feature", "properties": None, "geometry": square(7, 7)}, {"type": "Feature", "properties": {"name": "Nowhere"}, "geometry": None}]
+        made.append({"type": "Feature", "properties": None, "geometry": square(7, 7)})
+        made.append({"type": "Feature", "properties": {"name": "Nowhere"}, "geometry": None})
         name = room.file("places.geojson", {"type": "FeatureCollection", "features": made})
         status, out, err = room.policies(server, name)
-        lines = [f"{name}: document 4: name: it is missing, or isn't as it has to be", f"{name}: document 5: geometry: it is missing, or isn't as it has to be"]
+        lines = [f"{name}: document {n}: {it}: it is missing, or isn't as it has to be" for n, it in ((4, "name"), (5, "geometry"))]
         expect((status, out) == (9, "3 documents sent, 2 refused\n") and err.splitlines()[:2] == lines, f"{status} {out} {err}")
         for it, wanted in [*((it, str(uuid.uuid5(uuid.NAMESPACE_URL, it))) for it in NAMES), ("Own", own)]:
             answer = server.ask("GET", f"/drafts/geographies/{wanted}", AUTHOR)
@@ -170,7 +177,7 @@ def hostile(program):
     """Files that are no documents are told by their names, and stop nothing else."""
     with Room(program) as room, Alone(program) as server:
         good = room.file("good.json", place(1))
-        long = b'{"geographies":[' + b",".join(json.dumps({"geography_id": number(9, n), "name": "x" * 200}).encode() for n in range(LONG // 270)) + b"]}"
+        many = [{"geography_id": number(9, n), "name": "x" * 200} for n in range(LONG // 270)]
         bad = {
             "deep.json": b"[" * 200_000 + b"]" * 200_000,
             "cut.json": json.dumps({"name": "ü"}, ensure_ascii=False).encode()[:-3],
@@ -185,18 +192,21 @@ def hostile(program):
         words = ["it isn't JSON in UTF-8 of at most 127 levels"] * 5 + ["it can't be read"] * 2
         shown = [it.replace("\x1b", "\\x1b") for it in files]
         expect(err.splitlines()[:7] == [f"{it}: {why}" for it, why in zip(shown, words)], err)
-        status, out, err = room.policies(server, room.file("types.json", {"policies": {"a": 1}, "geographies": [[], None, {"geography_id": 5}]}))
+        types = room.file("types.json", {"policies": {"a": 1}, "geographies": [[], None, {"geography_id": 5}]})
+        status, out, err = room.policies(server, types)
         expect((status, out) == (9, "0 documents sent, 3 refused\n"), f"types: {status} {out} {err}")
         status, out, err = room.policies(server, room.file("twice.json", [place(2), place(2), place(3)]))
-        expect((status, out) == (9, "2 documents sent, 1 refused\n") and "document 2: one of its kind and identifier stands before it" in err, err)
+        twice = "document 2: one of its kind and identifier stands before it"
+        expect((status, out) == (9, "2 documents sent, 1 refused\n") and twice in err, err)
         sly = {"policy_id": "x\x1b[2J\x9b", "ev\x1bil": 1, "rules": [{"rule_id": "a\nb\u009b", "rule_type": "rate"}]}
         status, out, err = room.policies(server, room.file("sly.json", [sly, {**policy(5), "rules": sly["rules"]}]))
         expect(status == 9 and "rule a\\x0ab\\xc2\\x9b: it is kept and not judged" in err, f"sly: {status} {out} {err}")
         wide = {**place(4), "description": "x" * 1_100_000}
         status, out, err = room.policies(server, room.file("wide.json", wide))
-        expect((status, out) == (9, "0 documents sent, 1 refused\n") and "it has more than 1048576 bytes" in err, f"wide: {status} {out} {err}")
+        expect((status, out) == (9, "0 documents sent, 1 refused\n"), f"wide: {status} {out} {err}")
+        expect("it has more than 1048576 bytes" in err, err)
         if PATIENCE == 1:
-            status, out, err = room.policies(server, room.file("long.json", long))
+            status, out, err = room.policies(server, room.file("long.json", {"geographies": many}))
             expect(status == 9 and "1024 documents stand before it" in err, f"long: {status} {out} {err[:300]}")
     yield from ()
 
@@ -207,15 +217,195 @@ def places_and_tokens(program):
         name = room.file("place.json", place(1))
         for token, code in ((FIRST, "403 role"), ("nobody", "401 token")):
             status, out, err = room.policies(server, name, token=token)
-            expect(status == 10 and out == "0 documents sent, 0 refused\n" and err.startswith(f"{name}: document 1: {code}\n"), f"{token}: {status} {out} {err}")
+            expect((status, out) == (10, "0 documents sent, 0 refused\n"), f"{token}: {status} {out} {err}")
+            expect(err.startswith(f"{name}: document 1: {code}\n"), f"{token}: {err}")
         status, out, err = room.policies(server, name, token="a\r\nx: y")
         expect(status == 2, f"a token with a line end: {status} {out} {err}")
         status, _, err = room.run("import", "policies", name, "--to", f"127.0.0.1:{free_port()}", "--token", AUTHOR)
         expect(status == 1 and "no server answers: 127.0.0.1:" in err, f"no server: {status} {err}")
-        for words in (["policies"], ["policies", name], ["policies", name, "--to", "x"], ["policies", "--dry-run"], ["other", name, "--dry-run"],
-                      ["policies", name, "--to", "x", "--dry-run"], ["policies", name, "--to", "x", "--token", "y", "--what", "z"]):
+        to = ["--to", "x"]
+        for words in (["policies"], ["policies", name], ["policies", name, *to], ["policies", "--dry-run"], ["other", name, "--dry-run"],
+                      ["policies", name, *to, "--dry-run"], ["policies", name, *to, "--token", "y", "--what", "z"]):
             status, _, err = room.run("import", *words)
             expect(status == 2 and "usage: " in err, f"{words}: {status} {err}")
+    yield from ()
+
+
+def fleet(server):
+    """What the first operator's fleet is."""
+    answer = server.ask("GET", "/fleet/vehicles")
+    return json.loads(answer.body)["vehicles"]
+
+
+def doing(count, state="available", moment=2000, **more):
+    """A vehicle's status of MDS 2.0."""
+    location = {"lat": 45.5123456, "lng": -122.25}
+    event = {"vehicle_state": state, "event_types": ["trip_end"], "timestamp": moment, "location": location, **more}
+    return {"device_id": number(4, count), "provider_id": number(5, 1), "last_event": event}
+
+
+def what(count, kind="scooter_standing"):
+    """A vehicle of MDS 2.0."""
+    return {"device_id": number(4, count), "vehicle_type": kind, "propulsion_types": ["electric"]}
+
+
+def vehicles_of_mds(program):
+    """Statuses with their vehicles become reports; those that are away are taken away; what is missing or refused is told."""
+    with Room(program) as room, Alone(program, limit=MANY) as server:
+        kinds = room.file("vehicles.json", {"version": "2.0.0", "vehicles": [what(n) for n in range(MANY + 1)]})
+        status = [doing(n) for n in range(MANY)]
+        first = room.file("status.json", {"version": "2.0.0", "data": {"vehicles_status": status}})
+        to = ("--to", f"127.0.0.1:{server.port}", "--token", FIRST)
+        code, out, err = room.run("import", "status", first, kinds, "--dry-run")
+        expect((code, err) == (0, ""), f"dry: {code} {err[:200]}")
+        expect(out.endswith(f"\n{MANY} reports would be sent, 0 refused\n"), f"dry: {out[-200:]}")
+        deed = {"vehicle_state": "available", "event_types": ["trip_end"], "timestamp": 2000}
+        whole = {**what(0), **deed, "location": {"lat": 45.5123456, "lng": -122.25}}
+        line = out.partition("\n")[0]
+        expect(line.startswith("POST /fleet/events ") and json.loads(line[len("POST /fleet/events "):]) == whole, f"dry: {line}")
+        expect(fleet(server) == [], "a dry run sent something")
+        code, out, err = room.run("import", "status", first, kinds, *to)
+        expect((code, out) == (0, f"{MANY} reports sent, 0 refused\n"), f"{code} {out} {err[:300]}")
+        found = fleet(server)
+        expect(len(found) == MANY, f"{len(found)} vehicles")
+        expect(found[0] == {**whole, "since": 2000}, f"another vehicle: {found[0]}")
+        away = [doing(n, state, 3000) for n, state in enumerate(("removed", "missing", "elsewhere", "on_trip"))]
+        odd = [doing(4, moment=1000), doing(5, location=None), {"device_id": "x"}, doing(6, moment=None), doing(MANY + 2), 7, doing(MANY)]
+        name = room.file("later.json", {"vehicles_status": [*away, *odd]})
+        code, out, err = room.run("import", "status", name, kinds, *to)
+        words = ("409 stale", "location", "device_id", "timestamp", "vehicle_type", "device_id")
+        lines = {f"document {n}: {it}" for n, it in enumerate(words, 5)}
+        expect((code, out) == (9, "5 reports sent, 6 refused\n") and all(it in err for it in lines), f"{code} {out} {err}")
+        found = {it["device_id"]: it["vehicle_state"] for it in fleet(server)}
+        expect(len(found) == MANY - 2 and number(4, 0) not in found and found[number(4, 3)] == "on_trip", f"{len(found)} vehicles")
+        none = room.file("none.json", {"data": {"bikes": []}})
+        code, out, err = room.run("import", "status", none, "--dry-run")
+        expect((code, out) == (9, "0 reports would be sent, 1 refused\n"), f"no list: {code} {out} {err}")
+        expect(err.startswith(f"{none}: it has no list of vehicles or of their types\n"), err)
+        code, out, err = room.run("import", "status", name, kinds, "--to", f"127.0.0.1:{server.port}", "--token", AUTHOR)
+        expect(code == 10 and "403 role" in err, f"the author: {code} {out} {err}")
+    yield from ()
+
+
+def vehicles_of_gbfs(program):
+    """A vehicle's state is that of its marks, its moment one of RFC 3339, and its device the identifier that its name gives."""
+    with Room(program) as room, Alone(program, limit=9) as server:
+        seen = {"lat": 45.5, "lon": -122.6, "vehicle_type_id": "s", "is_reserved": False, "is_disabled": False}
+        seen["last_reported"] = "2023-07-17T13:34:13+02:00"
+        others = ({}, {"is_reserved": True}, {"is_disabled": True}, {"lat": None}, {"vehicle_type_id": "t"}, {"last_reported": "yesterday"})
+        made = [{**seen, "vehicle_id": name, **more} for name, more in zip("abcdef", others)]
+        name = room.file("vehicle_status.json", {"version": "3.0", "last_updated": "2023-07-17T13:34:13Z", "data": {"vehicles": made}})
+        kind = {"vehicle_type_id": "s", "form_factor": "bicycle", "propulsion_type": "human"}
+        kinds = room.file("vehicle_types.json", {"data": {"vehicle_types": [kind]}})
+        code, out, err = room.run("import", "status", name, kinds, "--to", f"127.0.0.1:{server.port}", "--token", FIRST)
+        expect((code, out) == (9, "3 reports sent, 3 refused\n"), f"{code} {out} {err}")
+        expect(all(it in err for it in ("document 4: lat", "document 5: vehicle_type", "document 6: timestamp")), err)
+        found = {it["device_id"]: it for it in fleet(server)}
+        for it, state in (("a", "available"), ("b", "reserved"), ("c", "non_operational")):
+            vehicle = found[str(uuid.uuid5(uuid.NAMESPACE_URL, it))]
+            names = ("vehicle_state", "vehicle_type", "propulsion_types", "timestamp")
+            expect([vehicle[name] for name in names] == [state, "bicycle", ["human"], 1689593653000], f"{it}: {vehicle}")
+    yield from ()
+
+
+def from_addresses(program):
+    """A feed at an address is read; one that isn't there, that isn't HTTP, that breaks off or that hangs is told."""
+    head = b"HTTP/1.1 200 OK\r\n"
+    text = json.dumps({"vehicles_status": [{**doing(1), **what(1)}]}).encode()
+    told = [
+        (head + b"\r\n" + text, None),
+        (head + b"content-length: %d\r\n\r\n" % len(text) + text, None),
+        (b"", "its server answers what isn't HTTP"),
+        (head + b"content-length: 9999\r\n\r\n" + text, "its server broke off"),
+        (b"HTTP/1.1 404 no\r\n\r\n\x1b[31m", "its server doesn't give it"),
+        (None, "its server doesn't answer"),
+    ]
+    with Room(program) as room, socket.create_server(("127.0.0.1", 0)) as listener:
+        held = []
+
+        def serve():
+            for it, _ in told:
+                link, _ = listener.accept()
+                held.append(link)
+                link.recv(65536)
+                if it is not None:
+                    link.sendall(it)
+                    link.close()
+
+        threading.Thread(target=serve, daemon=True).start()
+        address = f"http://127.0.0.1:{listener.getsockname()[1]}/feed"
+        for it, words in told:
+            status, out, err = room.run("import", "status", address, "--dry-run")
+            wanted = (9, f"{address}: {words}\n") if words else (0, "")
+            expect((status, err.replace("ruffletuff: something was refused\n", "")) == wanted, f"{it}: {status} {out} {err}")
+        for link in held:
+            link.close()
+        status, _, err = room.run("import", "status", f"http://127.0.0.1:{free_port()}/feed", "--dry-run")
+        expect(status == 9 and "its server doesn't answer" in err, f"nobody there: {status} {err}")
+    yield from ()
+
+
+def published(room, server, name):
+    """The three files of an export."""
+    folder = os.path.join(room.folder, name)
+    code, out, err = room.run("export", folder, "--from", f"127.0.0.1:{server.port}", "--token", AUTHOR)
+    expect((code, out, err) == (0, "2 policies, 2 geographies\n", ""), f"export: {code} {out} {err}")
+    files = []
+    for it in ("policies.json", "geographies.json", "geographies.geojson"):
+        with open(os.path.join(folder, it), "rb") as text:
+            files.append(json.loads(text.read()))
+    return files
+
+
+def is_ring(ring):
+    """RFC 7946, sections 3.1.1 and 3.1.6: four or more positions, longitude first, the last one the first, counterclockwise."""
+    turns = sum((b[0] - a[0]) * (b[1] + a[1]) for a, b in zip(ring, ring[1:]))
+    return len(ring) >= 4 and ring[0] == ring[-1] and turns < 0 and all(abs(it[0]) <= 180 and abs(it[1]) <= 90 for it in ring)
+
+
+def is_collection(file):
+    """RFC 7946, sections 3.2 and 3.3: features, each with its three members, of polygons whose rings are numbers."""
+    expect(set(file) == {"type", "features"} and file["type"] == "FeatureCollection", f"no collection: {file}")
+    for it in file["features"]:
+        expect(set(it) == {"type", "id", "properties", "geometry"} and it["type"] == "Feature", f"no feature: {it}")
+        expect(set(it["properties"]) == {"geography_id", "name", "description"}, f"no properties: {it}")
+        expect(set(it["geometry"]) == {"type", "coordinates"} and it["geometry"]["type"] == "MultiPolygon", f"no geometry: {it}")
+        expect(all(is_ring(polygon[0]) for polygon in it["geometry"]["coordinates"]), f"no ring: {it}")
+
+
+def undated(file, name):
+    """The documents of a file without the moments of their publications."""
+    return [{**it, "published_date": None} for it in file["data"][name]]
+
+
+def there_and_back(program):
+    """What is published, exported, imported at another server and published there is exported as the same."""
+    with Room(program) as room:
+        policies = [policy(2, [number(2, 1)]), policy(1, rules=[RATE])]
+        name = room.file("all.json", {"data": {"policies": policies, "geographies": [place(1), place(2)]}})
+        told = []
+        for count in (1, 2):
+            with Alone(program) as server:
+                files = [name] if count == 1 else [os.path.join(room.folder, "1", it) for it in ("policies.json", "geographies.json")]
+                code, out, _ = room.policies(server, *files)
+                expect((code, out) == (0, "4 documents sent, 0 refused\n"), f"import {count}: {code} {out}")
+                for body in ({"policies": [number(2, 1)], "geographies": [number(1, 1), number(1, 2)]}, {"policies": [number(2, 2)]}):
+                    answer = server.ask("POST", "/publish", AUTHOR, json.dumps(body).encode())
+                    expect(answer.status == 200, f"publish: {answer}")
+                told.append(published(room, server, str(count)))
+        for (policies, geographies, features) in told:
+            expect(undated(policies, "policies") == undated(told[0][0], "policies"), "other policies")
+            expect(undated(geographies, "geographies") == undated(told[0][1], "geographies"), "other geographies")
+            expect(features == told[0][2], "other features")
+        is_collection(told[0][2])
+        shape = told[0][2]["features"][0]
+        expect(shape["geometry"] == {"type": "MultiPolygon", "coordinates": [place(1)["geography_json"]["coordinates"]]}, f"{shape}")
+        expect(shape["properties"]["name"] == "Place 1" and shape["id"] == number(1, 1), f"{shape}")
+        with Alone(program) as server:
+            code, out, _ = room.policies(server, os.path.join(room.folder, "1", "geographies.geojson"))
+            expect((code, out) == (0, "2 documents sent, 0 refused\n"), f"features: {code} {out}")
+            shape = drafts(server, "geographies", 2)["geography_json"]["features"][0]["geometry"]
+            expect(shape == told[0][2]["features"][1]["geometry"], f"another shape: {shape}")
     yield from ()
 
 
@@ -244,4 +434,5 @@ def answers_that_are_none(program):
 
 
 if __name__ == "__main__":
-    sys.exit(tried(__doc__, (in_order, kept_and_refused, features, hostile, places_and_tokens, answers_that_are_none)))
+    documents = (in_order, kept_and_refused, features, hostile, places_and_tokens, answers_that_are_none)
+    sys.exit(tried(__doc__, (*documents, vehicles_of_mds, vehicles_of_gbfs, from_addresses, there_and_back)))

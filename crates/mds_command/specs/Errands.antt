@@ -3,12 +3,15 @@ use Rattle.std.specs.Prelude.{ℕ, ◌+◌, ◌-◌, ◌==◌, ◌&&◌, Bool, t
 use Rattle.mds_command.specs.Options.{value_of, are_options}
 use Rattle.mds_command.specs.declared.errands.Destination.{Destination}
 use Rattle.mds_command.specs.declared.errands.Import.{Import}
+use Rattle.mds_command.specs.declared.errands.Export.{Export}
 use Rattle.mds_command.specs.declared.errands.Errand.{Errand}
-use Rattle.mds_command.specs.declared.errands.Errand.TheVariants.{Policies}
+use Rattle.mds_command.specs.declared.errands.Errand.TheVariants.{Policies, Status, Published}
 
--- what is done: files are sent to an address by an access token, or to nobody
+-- what is done: files are sent to an address by an access token, or to nobody; or what is published there goes into a folder
 pub data Job : Type 0 where
   policies : (files : List (List ℕ)) → (destination : Option (List ℕ × List ℕ)) → Job
+  status : (files : List (List ℕ)) → (destination : Option (List ℕ × List ℕ)) → Job
+  published : (folder : List ℕ) → (source : List ℕ × List ℕ) → Job
 
 -- a word that begins an option
 abbrev pub begins_option : List ℕ → Bool
@@ -60,12 +63,18 @@ sent_by job words = sent job (take (file_count words) words) (destination_in (dr
 -- what `import` asks for, with a kind of file and further words
 abbrev pub import_of : List ℕ → List (List ℕ) → Option Job
 import_of kind words =
-    if bytes_eq kind (codes "policies") then sent_by policies words else None
+    if bytes_eq kind (codes "policies") then sent_by policies words
+    else (if bytes_eq kind (codes "status") then sent_by status words else None)
+
+-- what `export` asks for, with a folder and options
+abbrev pub export_of : List ℕ → List (List ℕ) → Option Job
+export_of folder words = option_map (published folder) (place_in (codes "--from") words)
 
 -- what a word asks for, with another and options
 abbrev pub errand_of : List ℕ → List ℕ → List (List ℕ) → Option Job
 errand_of verb name words =
-    if bytes_eq verb (codes "import") then import_of name words else None
+    if bytes_eq verb (codes "import") then import_of name words
+    else (if bytes_eq verb (codes "export") then export_of name words else None)
 
 abbrev pub place_view : Destination → List ℕ × List ℕ
 place_view d = (d.address.now, d.token.now)
@@ -75,3 +84,5 @@ import_view job i = job (map string_bytes i.files.now) (option_map place_view i.
 
 abbrev pub errand_view : Errand → Job
 errand_view (Policies i) = import_view policies i
+errand_view (Status i) = import_view status i
+errand_view (Published e) = published e.folder.now (place_view e.source)

@@ -1,6 +1,6 @@
 //! What the program is asked to do between files and another server.
 ghost use Rattle.std.specs.Prelude.{◌≡◌, ◌≤◌, ◌<◌, ◌∷◌, [], length, map, codes, string_bytes, option_map, IsTrue, if◌then◌else◌, Some, None};
-ghost use Rattle.mds_command.specs.Errands.{policies, begins_option, file_count, is_dry, place_in, dry_with, destination_in, sent_by, import_of, errand_of, place_view, import_view, errand_view};
+ghost use Rattle.mds_command.specs.Errands.{policies, status, begins_option, file_count, is_dry, place_in, dry_with, destination_in, sent_by, import_of, export_of, errand_of, place_view, import_view, errand_view};
 
 use crate::options::{are_options, value_of};
 
@@ -23,11 +23,22 @@ pub struct Import<'a> {
     pub destination: Option<Destination<'a>>,
 }
 
+/// A server that is read, and the folder into which goes what is published there.
+#[derive(Clone, Copy)]
+pub struct Export<'a> {
+    pub folder: &'a str,
+    pub source: Destination<'a>,
+}
+
 /// What is done between files and another server.
 #[derive(Clone, Copy)]
 pub enum Errand<'a> {
     /// Documents of policies and geographies go to a server as drafts.
     Policies(Import<'a>),
+    /// What vehicles do goes to a server as reports.
+    Status(Import<'a>),
+    /// What is published at a server goes into a folder.
+    Published(Export<'a>),
 }
 
 /// Whether a word begins an option.
@@ -111,7 +122,8 @@ fn destination_in(words: &[String]) -> Option<Option<Destination<'_>>>
 
 /// Files, of which there is one at least, and to whom they are sent.
 fn sent(words: &[String]) -> Option<Import<'_>>
-    ensures { option_map (import_view policies) result ≡ sent_by policies (map string_bytes words.now) }
+    ensures documents { option_map (import_view policies) result ≡ sent_by policies (map string_bytes words.now) }
+    ensures vehicles { option_map (import_view status) result ≡ sent_by status (map string_bytes words.now) }
 {
     let (files, options) = words.split_at(file_count(words));
     if files.is_empty() {
@@ -132,17 +144,34 @@ fn import_of<'a>(kind: &str, words: &'a [String]) -> Option<Errand<'a>>
             Some(import) => Some(Errand::Policies(import)),
             None => None,
         }
+    } else if kind == "status" {
+        match sent(words) {
+            Some(import) => Some(Errand::Status(import)),
+            None => None,
+        }
     } else {
         None
     }
 }
 
-/// What a word asks for, with another and options; `None` for any that isn't `import`.
+/// What is exported into a folder.
+fn export_of<'a>(folder: &'a str, words: &'a [String]) -> Option<Errand<'a>>
+    ensures { option_map errand_view result ≡ export_of folder.now (map string_bytes words.now) }
+{
+    match place_in("--from", words) {
+        Some(source) => Some(Errand::Published(Export { folder, source })),
+        None => None,
+    }
+}
+
+/// What a word asks for, with another and options; `None` for any that is neither `import` nor `export`.
 pub(crate) fn errand_of<'a>(verb: &str, name: &'a str, words: &'a [String]) -> Option<Errand<'a>>
     ensures { option_map errand_view result ≡ errand_of verb.now name.now (map string_bytes words.now) }
 {
     if verb == "import" {
         import_of(name, words)
+    } else if verb == "export" {
+        export_of(name, words)
     } else {
         None
     }

@@ -8,6 +8,6 @@ mod options;
 mod text;
 
 pub use asking::{Asked, Audit, Service, Thinning, asked_by};
-pub use errands::{Destination, Errand, Import};
+pub use errands::{Destination, Errand, Export, Import};
 pub use moment::moment_of;
 pub use text::{HELP, USAGE, VERSION};

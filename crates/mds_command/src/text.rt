@@ -22,6 +22,11 @@ ruffletuff stop ADDRESS
     stops the server whose control port is at this address
 ruffletuff import policies FILE.. --to ADDRESS --token TOKEN [--dry-run]
     sends documents of MDS 2.0, or GeoJSON with names, to a server as drafts
+ruffletuff import status FILE.. --to ADDRESS --token TOKEN [--dry-run]
+    sends vehicles of MDS 2.0 or GBFS 3 to a server as reports; a FILE of an
+    import may be an address http://..
+ruffletuff export DIR --from ADDRESS --token TOKEN
+    writes what is published at a server as files of MDS 2.0 and GeoJSON
 ruffletuff --help
     says this
 ruffletuff --version
@@ -30,8 +35,8 @@ ruffletuff --version
 ADDRESS  where to listen, as 127.0.0.1:8080. The control port, at the address
          behind --control, says whether the server serves and what it counts,
          and stops it: let nobody else reach it
-DIR      the folder in which the city is kept; to serve, it is made where it
-         isn't there
+DIR      the folder in which the city is kept, or into which what is published
+         is written; to serve and to export, it is made where it isn't there
 FILE     the configuration, a JSON object on as many lines as one likes:
            author     the author's access token
            operators  at most 64 objects with id (a UUID), limit (1 to 200000

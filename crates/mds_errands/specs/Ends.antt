@@ -1,7 +1,7 @@
 -- How an errand ends, and with which exit status (PROTOCOL, ruffletuff).
 use Rattle.std.specs.Prelude.{ℕ, ◌==◌, if◌then◌else◌, List, codes}
 use Rattle.mds_errands.specs.declared.end.End.{End}
-use Rattle.mds_errands.specs.declared.end.End.TheVariants.{Done, SomeRefused, NoServer, NotPrinted, BadPlace, NoMemory, Barred}
+use Rattle.mds_errands.specs.declared.end.End.TheVariants.{Done, SomeRefused, NoServer, NotPrinted, BadPlace, NoMemory, NotWritten, Barred}
 use Rattle.mds_errands.specs.declared.end.Tally.{Tally}
 
 -- all is done where nothing is refused
@@ -14,5 +14,6 @@ exit_status NoServer = 1
 exit_status NotPrinted = 1
 exit_status BadPlace = 2
 exit_status NoMemory = 3
+exit_status NotWritten = 4
 exit_status SomeRefused = 9
 exit_status Barred = 10

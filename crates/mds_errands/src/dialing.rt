@@ -7,7 +7,7 @@ use std::thread;
 use std::time::{Clock, Duration};
 
 /// How many seconds a server has for an answer.
-const ANSWER_SECONDS: u64 = 30;
+const ANSWER_SECONDS: u64 = 20;
 
 /// How many milliseconds are waited before a request is sent again.
 const PAUSE_MILLIS: u64 = 200;

@@ -19,6 +19,8 @@ pub enum End {
     BadPlace,
     /// Memory ran out.
     NoMemory,
+    /// The folder can't be made or written.
+    NotWritten,
     /// The server takes nothing by this access token.
     Barred,
 }
@@ -77,6 +79,7 @@ impl End {
             End::NoServer | End::NotPrinted => 1,
             End::BadPlace => 2,
             End::NoMemory => 3,
+            End::NotWritten => 4,
             End::SomeRefused => 9,
             End::Barred => 10,
         }
@@ -90,6 +93,7 @@ impl End {
             End::NotPrinted => "standard output can't be written",
             End::BadPlace => "the address or the access token is none",
             End::NoMemory => "memory ran out",
+            End::NotWritten => "the folder can't be used",
             End::SomeRefused => "something was refused",
             End::Barred => "the server takes nothing by this access token",
         }

@@ -1,15 +1,21 @@
-//! What is done between files and a server: documents of MDS and GeoJSON as drafts.
+//! What is done between files and a server: documents of MDS and GeoJSON as drafts, vehicles of feeds as reports, and what is
+//! published as files.
 #![tactic(auto)]
 
+mod batch;
 mod dialing;
 mod end;
 mod errand;
 mod escape;
+mod export;
+mod feed;
+mod fetching;
 mod intake;
 mod meaning;
 mod policies;
 mod sending;
 mod sources;
+mod status;
 mod told;
 
 pub use end::{End, Tally};

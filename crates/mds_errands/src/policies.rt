@@ -194,7 +194,7 @@ fn gather<R: Eprint + AllocGlobal>(
 /// # Errors
 ///
 /// `NoMemory`.
-fn gather_all<R: Files<File = File> + Eprint + AllocGlobal>(
+fn gather_all<R: Net + Clock + Files<File = File> + Eprint + AllocGlobal>(
     rt: &R,
     files: &[String],
 ) -> Result<Gathered, End> {

@@ -4,7 +4,7 @@ use crate::dialing::Dialer;
 use crate::end::{End, Tally};
 use crate::intake::is_visible;
 use crate::meaning::{Meaning, meaning_of};
-use crate::told::{Spot, tell, word_of};
+use crate::told::{Spot, spot_at, tell, word_of};
 use mds_client::{Call, Client, Reply, Server};
 use mds_command::Destination;
 use mds_import::{Draft, target_of};
@@ -94,18 +94,6 @@ pub(crate) fn note_reply<R: Eprint + AllocGlobal>(
     Ok(())
 }
 
-/// Where a draft stood.
-fn spot_of<'a>(files: &'a [String], draft: &Draft) -> Spot<'a> {
-    let file = match files.get(draft.origin.file) {
-        Some(file) => file.as_str(),
-        None => "",
-    };
-    Spot {
-        file,
-        document: Some(draft.origin.document),
-    }
-}
-
 /// Sends drafts in their order, and says what is refused and how far it is.
 ///
 /// # Errors
@@ -131,7 +119,7 @@ pub(crate) fn send_drafts<R: Net + Clock + Eprint + AllocGlobal>(
             body: &draft.body,
         };
         let reply = answered(client.ask(rt.alloc(), &call))?;
-        note_reply(rt, spot_of(files, draft), &reply, tally)?;
+        note_reply(rt, spot_at(files, draft.origin), &reply, tally)?;
     }
     Ok(())
 }

@@ -1,15 +1,15 @@
 //! Files that are read.
 
 use crate::end::End;
+use crate::fetching::{MOST_BYTES, TOO_LONG, fetched, link_of};
 use crate::told::{Spot, tell};
 use mds_reading::read_counted;
 use mds_text::{TextFault, Tree};
 use std::alloc::{AllocGlobal, Global};
 use std::fs::{File, Files};
 use std::io::{Eprint, ErrorKind, Read};
-
-/// The most bytes of a file.
-const MOST_BYTES: u64 = 67_108_864;
+use std::net::Net;
+use std::time::Clock;
 
 /// What a file holds.
 #[derive(Drop)]
@@ -34,7 +34,7 @@ fn bytes_in<S: Read + Drop>(alloc: Global, file: S) -> Result<Result<Vec<u8>, &'
         };
     }
     if bytes.len() as u64 > MOST_BYTES {
-        return Ok(Err("it has more than 67108864 bytes"));
+        return Ok(Err(TOO_LONG));
     }
     Ok(Ok(bytes))
 }
@@ -55,20 +55,35 @@ fn source_in(alloc: Global, bytes: &[u8]) -> Result<Result<Source, &'static str>
     }
 }
 
-/// What a file holds; none, where it holds nothing that can be read, which is told.
+/// The bytes of a file, or of what a server has at an address `http://..`, or in words why they can't be had.
 ///
 /// # Errors
 ///
 /// `NoMemory`.
-pub fn read_source<R: Files<File = File> + Eprint + AllocGlobal>(
+fn bytes_of<R: Net + Clock + Files<File = File> + AllocGlobal>(
+    rt: &R,
+    path: &str,
+) -> Result<Result<Vec<u8>, &'static str>, End> {
+    let alloc = rt.alloc();
+    match link_of(alloc, path)? {
+        Some(link) => fetched(rt, &link),
+        None => match File::open(rt, path) {
+            Ok(file) => bytes_in(alloc, file),
+            Err(_) => Ok(Err("it can't be read")),
+        },
+    }
+}
+
+/// What a file holds, or what a server has at an address `http://..`; none, where nothing can be read, which is told.
+///
+/// # Errors
+///
+/// `NoMemory`.
+pub fn read_source<R: Net + Clock + Files<File = File> + Eprint + AllocGlobal>(
     rt: &R,
     path: &str,
 ) -> Result<Option<Source>, End> {
-    let bytes = match File::open(rt, path) {
-        Ok(file) => bytes_in(rt.alloc(), file)?,
-        Err(_) => Err("it can't be read"),
-    };
-    let source = match bytes {
+    let source = match bytes_of(rt, path)? {
         Ok(bytes) => source_in(rt.alloc(), &bytes)?,
         Err(words) => Err(words),
     };

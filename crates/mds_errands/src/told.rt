@@ -2,6 +2,7 @@
 
 use crate::end::End;
 use crate::escape::escaped;
+use mds_import::Origin;
 use mds_reading::read_tree;
 use mds_text::{TextFault, Tree};
 use std::alloc::{AllocGlobal, Global};
@@ -16,6 +17,18 @@ pub struct Spot<'a> {
     pub file: &'a str,
     /// Its place in its file, from 0 on; none, of the file as a whole.
     pub document: Option<usize>,
+}
+
+/// Where a document of these files stands.
+pub(crate) fn spot_at(files: &[String], origin: Origin) -> Spot<'_> {
+    let file = match files.get(origin.file) {
+        Some(file) => file.as_str(),
+        None => "",
+    };
+    Spot {
+        file,
+        document: Some(origin.document),
+    }
 }
 
 /// Says something of a document on standard error. The words are shown as they are.

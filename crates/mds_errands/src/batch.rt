@@ -1,0 +1,218 @@
+//! Many reports in one request, and what is answered of each.
+
+use crate::end::{End, Tally};
+use crate::escape::escaped;
+use crate::meaning::{Meaning, meaning_of};
+use crate::sending::note_reply;
+use crate::told::spot_at;
+use mds_client::Reply;
+use mds_import::{Origin, named};
+use mds_reading::read_tree;
+use mds_text::{TextFault, Tree, print_tree};
+use std::alloc::{AllocGlobal, Global};
+use std::io::{Eprint, Print};
+
+/// The most reports of a batch, and the most bytes.
+const MOST_REPORTS: usize = 4_000;
+
+const MOST_BYTES: usize = 1_000_000;
+
+/// Reports of which each is a line.
+#[derive(Drop)]
+pub(crate) struct Batch {
+    body: Vec<u8>,
+    /// Where each stood.
+    origins: Vec<Origin>,
+}
+
+impl Batch {
+    /// A batch without a report.
+    fn new(alloc: Global) -> Batch {
+        Batch {
+            body: Vec::new(alloc),
+            origins: Vec::new(alloc),
+        }
+    }
+
+    /// Its reports, a line each.
+    pub(crate) fn body(&self) -> &[u8] {
+        &self.body
+    }
+
+    /// Whether another report of so many bytes goes into it.
+    fn has_room(&self, bytes: usize) -> bool {
+        self.origins.len() < MOST_REPORTS && self.body.len().saturating_add(bytes) < MOST_BYTES
+    }
+
+    /// Adds a report.
+    ///
+    /// # Errors
+    ///
+    /// `NoMemory`.
+    fn add(&mut self, origin: Origin, report: &[u8]) -> Result<(), End> {
+        self.body.extend_from_slice(report)?;
+        self.body.extend_from_slice(b"\n")?;
+        match self.origins.push(origin) {
+            Ok(()) => Ok(()),
+            Err(_) => Err(End::NoMemory),
+        }
+    }
+}
+
+/// Adds a report to a new batch behind these.
+///
+/// # Errors
+///
+/// `NoMemory`.
+fn put_behind(
+    alloc: Global,
+    batches: &mut Vec<Batch>,
+    origin: Origin,
+    report: &[u8],
+) -> Result<(), End> {
+    let mut batch = Batch::new(alloc);
+    batch.add(origin, report)?;
+    match batches.push(batch) {
+        Ok(()) => Ok(()),
+        Err(_) => Err(End::NoMemory),
+    }
+}
+
+/// Adds a report to the last of these batches, or to a new one where that is full.
+///
+/// # Errors
+///
+/// `NoMemory`.
+pub(crate) fn put_in(
+    alloc: Global,
+    batches: &mut Vec<Batch>,
+    origin: Origin,
+    report: &[u8],
+) -> Result<(), End> {
+    let is_full = match batches.last() {
+        Some(last) => !last.has_room(report.len()),
+        None => true,
+    };
+    if is_full {
+        return put_behind(alloc, batches, origin, report);
+    }
+    match batches.last_mut() {
+        Some(last) => last.add(origin, report),
+        None => Ok(()),
+    }
+}
+
+/// How many bytes stand in front of the first line end.
+fn line_len(bytes: &[u8]) -> usize {
+    match bytes.iter().position(|byte| *byte == b'\n') {
+        Some(end) => end,
+        None => bytes.len(),
+    }
+}
+
+/// The first line of bytes.
+fn line_in(bytes: &[u8]) -> &[u8] {
+    bytes.get(..line_len(bytes)).unwrap_or_default()
+}
+
+/// What stands behind the first line of bytes.
+fn behind_line(bytes: &[u8]) -> &[u8] {
+    bytes
+        .get(line_len(bytes).saturating_add(1)..)
+        .unwrap_or_default()
+}
+
+/// Prints the requests of a batch's reports, a line each, with bytes of elsewhere as they are shown.
+///
+/// # Errors
+///
+/// `NotPrinted`, `NoMemory`.
+pub(crate) fn print_batch<R: Print + AllocGlobal>(
+    rt: &R,
+    batch: &Batch,
+    tally: &mut Tally,
+) -> Result<(), End> {
+    let mut rest: &[u8] = &batch.body;
+    for _ in &batch.origins {
+        let line = escaped(rt.alloc(), line_in(rest))?;
+        if println!(rt; "POST /fleet/events {}", line.as_str()).is_err() {
+            return Err(End::NotPrinted);
+        }
+        tally.count_sent();
+        rest = behind_line(rest);
+    }
+    Ok(())
+}
+
+/// What a line of an answer says of its report: the status and the body that it would have had by itself.
+///
+/// # Errors
+///
+/// `NoMemory`, and `NoServer` where the line says nothing of the kind.
+fn reply_in(alloc: Global, line: &[u8]) -> Result<Reply, End> {
+    let tree = match read_tree(alloc, line) {
+        Ok(tree) => tree,
+        Err(TextFault::NoMemory) => return Err(End::NoMemory),
+        Err(_) => return Err(End::NoServer),
+    };
+    let Some(body) = named(&tree, "body") else {
+        return Err(End::NoServer);
+    };
+    match status_in(&tree) {
+        Some(status) => Ok(Reply {
+            status,
+            body: print_tree(alloc, body)?,
+        }),
+        None => Err(End::NoServer),
+    }
+}
+
+/// The status that a line of an answer has.
+fn status_in(line: &Tree) -> Option<u16> {
+    match named(line, "status") {
+        Some(Tree::Int(status)) => u16::try_from(*status).ok(),
+        _ => None,
+    }
+}
+
+/// Takes note of what is answered of each report.
+///
+/// # Errors
+///
+/// `NoServer`, `Barred`, `NoMemory`.
+fn note_lines<R: Eprint + AllocGlobal>(
+    rt: &R,
+    files: &[String],
+    batch: &Batch,
+    lines: &[u8],
+    tally: &mut Tally,
+) -> Result<(), End> {
+    let mut rest: &[u8] = lines;
+    for origin in &batch.origins {
+        let reply = reply_in(rt.alloc(), line_in(rest))?;
+        note_reply(rt, spot_at(files, *origin), &reply, tally)?;
+        rest = behind_line(rest);
+    }
+    Ok(())
+}
+
+/// Takes note of what is answered of a batch: a line of each report, or that it is refused as a whole.
+///
+/// # Errors
+///
+/// `NoServer`, `Barred`, `NoMemory`.
+pub(crate) fn note_batch<R: Eprint + AllocGlobal>(
+    rt: &R,
+    files: &[String],
+    batch: &Batch,
+    reply: &Reply,
+    tally: &mut Tally,
+) -> Result<(), End> {
+    if meaning_of(reply.status) == Meaning::Taken {
+        return note_lines(rt, files, batch, &reply.body, tally);
+    }
+    for origin in &batch.origins {
+        note_reply(rt, spot_at(files, *origin), reply, tally)?;
+    }
+    Ok(())
+}

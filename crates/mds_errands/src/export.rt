@@ -1,0 +1,156 @@
+//! What is published at a server, as files.
+
+use crate::end::End;
+use crate::meaning::{Meaning, meaning_of};
+use crate::sending::{answered, client_of, tell_refusal};
+use crate::told::Spot;
+use mds_client::{Call, Reply};
+use mds_command::{Destination, Export};
+use mds_feeds::{features_file, geographies_file, policies_file};
+use mds_import::list_named;
+use mds_reading::read_tree;
+use mds_text::{TextFault, Tree};
+use std::alloc::{AllocGlobal, Global};
+use std::fs::{self, File, Files};
+use std::io::{Eprint, Print};
+use std::net::Net;
+use std::time::Clock;
+
+/// What a reply holds.
+///
+/// # Errors
+///
+/// `NoServer` where it holds nothing that can be read, `NoMemory`.
+fn tree_in(alloc: Global, reply: &Reply) -> Result<Tree, End> {
+    match read_tree(alloc, &reply.body) {
+        Ok(tree) => Ok(tree),
+        Err(TextFault::NoMemory) => Err(End::NoMemory),
+        Err(_) => Err(End::NoServer),
+    }
+}
+
+/// Says what a server answered that tells nothing, and how the errand ends by it.
+///
+/// # Errors
+///
+/// `NoMemory`.
+fn ended<R: Eprint + AllocGlobal>(rt: &R, target: &str, reply: &Reply) -> Result<End, End> {
+    let spot = Spot {
+        file: target,
+        document: None,
+    };
+    tell_refusal(rt, spot, reply)?;
+    match meaning_of(reply.status) {
+        Meaning::Barred => Ok(End::Barred),
+        _ => Ok(End::NoServer),
+    }
+}
+
+/// What a server tells of what is published at a path.
+///
+/// # Errors
+///
+/// `BadPlace`, `NoServer` where it tells nothing, `Barred`, `NoMemory`.
+fn asked<R: Net + Clock + Eprint + AllocGlobal>(
+    rt: &R,
+    source: &Destination<'_>,
+    target: &str,
+) -> Result<Tree, End> {
+    let mut client = client_of(rt, source)?;
+    let call = Call {
+        method: "GET",
+        target,
+        body: b"",
+    };
+    let reply = answered(client.ask(rt.alloc(), &call))?;
+    if meaning_of(reply.status) != Meaning::Taken {
+        return Err(ended(rt, target, &reply)?);
+    }
+    tree_in(rt.alloc(), &reply)
+}
+
+/// Writes a file of a folder.
+///
+/// # Errors
+///
+/// `NotWritten`, `NoMemory`.
+fn write<R: Files<File = File> + AllocGlobal>(
+    rt: &R,
+    folder: &str,
+    name: &str,
+    text: &[u8],
+) -> Result<(), End> {
+    let path = format!(in rt.alloc(); "{folder}/{name}")?;
+    match fs::write(rt, path.as_str(), text) {
+        Ok(()) => Ok(()),
+        Err(_) => Err(End::NotWritten),
+    }
+}
+
+/// Writes the three files of what is published.
+///
+/// # Errors
+///
+/// `NotWritten`, `NoMemory`.
+fn write_all<R: Files<File = File> + AllocGlobal>(
+    rt: &R,
+    folder: &str,
+    policies: &[Tree],
+    geographies: &[Tree],
+) -> Result<(), End> {
+    if fs::create_dir_all(rt, folder).is_err() {
+        return Err(End::NotWritten);
+    }
+    let file = policies_file(rt.alloc(), policies)?;
+    write(rt, folder, "policies.json", &file)?;
+    let file = geographies_file(rt.alloc(), geographies)?;
+    write(rt, folder, "geographies.json", &file)?;
+    let file = features_file(rt.alloc(), geographies)?;
+    write(rt, folder, "geographies.geojson", &file)
+}
+
+/// Asks for what is published, and writes it.
+///
+/// # Errors
+///
+/// `BadPlace`, `NoServer`, `Barred`, `NotWritten`, `NotPrinted`, `NoMemory`.
+fn exported<R>(rt: &R, export: &Export<'_>) -> Result<(), End>
+where
+    R: Net + Clock + Files<File = File> + Print + Eprint + AllocGlobal,
+{
+    let told_policies = asked(rt, &export.source, "/policies")?;
+    let told_geographies = asked(rt, &export.source, "/geographies")?;
+    let Some(policies) = list_named(&told_policies, "policies") else {
+        return Err(End::NoServer);
+    };
+    let Some(geographies) = list_named(&told_geographies, "geographies") else {
+        return Err(End::NoServer);
+    };
+    write_all(rt, export.folder, policies, geographies)?;
+    print_counts(rt, policies.len(), geographies.len())
+}
+
+/// Says how many documents are written.
+///
+/// # Errors
+///
+/// `NotPrinted`.
+fn print_counts<R: Print>(rt: &R, policies: usize, geographies: usize) -> Result<(), End> {
+    match println!(rt; "{policies} policies, {geographies} geographies") {
+        Ok(()) => Ok(()),
+        Err(_) => Err(End::NotPrinted),
+    }
+}
+
+/// Writes what is published at a server into a folder, which is made where it isn't there: its policies as a file of MDS 2.0
+/// (`policies.json`), its geographies as one (`geographies.json`) and as GeoJSON (`geographies.geojson`). On standard output
+/// stands how many of each.
+pub fn export_published<R>(rt: &R, export: &Export<'_>) -> End
+where
+    R: Net + Clock + Files<File = File> + Print + Eprint + AllocGlobal,
+{
+    match exported(rt, export) {
+        Ok(()) => End::Done,
+        Err(end) => end,
+    }
+}

@@ -1,0 +1,170 @@
+//! Files that another server has.
+
+use crate::dialing::{Dialer, Timed};
+use crate::end::End;
+use crate::intake::is_visible;
+use mds_client::{Dial, Heading, heading_of};
+use std::alloc::{AllocError, AllocGlobal, Global};
+use std::io::{self, ErrorKind, Read, Write};
+use std::net::Net;
+use std::time::Clock;
+
+/// The most bytes of a file, and of an answer that has one.
+pub(crate) const MOST_BYTES: u64 = 67_108_864;
+
+/// What is said of one with more.
+pub(crate) const TOO_LONG: &str = "it has more than 67108864 bytes";
+
+/// Where a file is asked for: the host, with its port, and the path.
+#[derive(Drop)]
+pub(crate) struct Link {
+    host: String,
+    target: String,
+}
+
+/// A host with its port.
+///
+/// # Errors
+///
+/// Memory ran out.
+fn with_port(alloc: Global, host: &str) -> Result<String, AllocError> {
+    if host.contains(':') {
+        String::from_str(alloc, host)
+    } else {
+        format!(in alloc; "{host}:80")
+    }
+}
+
+/// A path at a host.
+///
+/// # Errors
+///
+/// Memory ran out.
+fn link_to(alloc: Global, host: &str, path: &str) -> Result<Link, AllocError> {
+    Ok(Link {
+        host: with_port(alloc, host)?,
+        target: format!(in alloc; "/{path}")?,
+    })
+}
+
+/// The parts of an address `http://HOST/PATH`; `None` for any other word.
+///
+/// # Errors
+///
+/// Memory ran out.
+pub(crate) fn link_of(alloc: Global, word: &str) -> Result<Option<Link>, AllocError> {
+    if !is_visible(word) {
+        return Ok(None);
+    }
+    let Some(rest) = word.strip_prefix("http://") else {
+        return Ok(None);
+    };
+    match rest.split_once('/') {
+        Some((host, path)) => Ok(Some(link_to(alloc, host, path)?)),
+        None => Ok(Some(link_to(alloc, rest, "")?)),
+    }
+}
+
+/// All that comes over a connection behind a request, up to so many bytes.
+///
+/// # Errors
+///
+/// The connection's, want of memory.
+fn exchanged<S: Read + Write + Drop>(
+    alloc: Global,
+    stream: S,
+    request: &[u8],
+    most: u64,
+) -> io::Result<Vec<u8>> {
+    let mut stream = stream;
+    stream.write_all(request)?;
+    let mut bytes = Vec::new(alloc);
+    let mut front = stream.take(most);
+    front.read_to_end(&mut bytes)?;
+    Ok(bytes)
+}
+
+/// The body of a reply that has one; or in words why there is none.
+///
+/// # Errors
+///
+/// `NoMemory`.
+fn body_in(alloc: Global, bytes: &[u8]) -> Result<Result<Vec<u8>, &'static str>, End> {
+    let head = match heading_of(bytes) {
+        Heading::Whole(head) => head,
+        Heading::Partial | Heading::Broken => {
+            return Ok(Err("its server answers what isn't HTTP"));
+        }
+    };
+    if head.status != 200 {
+        return Ok(Err("its server doesn't give it"));
+    }
+    let body = bytes.get(head.len..).unwrap_or_default();
+    let size = head.body.unwrap_or_default();
+    if size > body.len() as u64 {
+        return Ok(Err("its server broke off"));
+    }
+    Ok(Ok(Vec::from_slice(alloc, body)?))
+}
+
+/// The request for a file.
+///
+/// # Errors
+///
+/// Memory ran out.
+fn request_for(alloc: Global, link: &Link) -> Result<String, AllocError> {
+    format!(in alloc;
+        "GET {} HTTP/1.0\r\nhost: {}\r\nconnection: close\r\n\r\n",
+        link.target.as_str(),
+        link.host.as_str()
+    )
+}
+
+/// A connection to an address.
+///
+/// # Errors
+///
+/// Nothing listens there.
+fn dialed<'a, R: Net + Clock>(rt: &'a R, address: &'a str) -> io::Result<Timed<'a, R>> {
+    let dialer = Dialer { rt, address };
+    dialer.dial()
+}
+
+/// All that a server answers to a request, up to so many bytes.
+///
+/// # Errors
+///
+/// Nothing listens there; the connection's; want of memory.
+fn answer_of<R: Net + Clock + AllocGlobal>(
+    rt: &R,
+    address: &str,
+    request: &str,
+    most: u64,
+) -> io::Result<Vec<u8>> {
+    let stream = dialed(rt, address)?;
+    exchanged(rt.alloc(), stream, request.as_bytes(), most)
+}
+
+/// Asks for a file once; gives its bytes, or in words why they can't be had.
+///
+/// # Errors
+///
+/// `NoMemory`.
+pub(crate) fn fetched<R: Net + Clock + AllocGlobal>(
+    rt: &R,
+    link: &Link,
+) -> Result<Result<Vec<u8>, &'static str>, End> {
+    let request = request_for(rt.alloc(), link)?;
+    match answer_of(rt, link.host.as_str(), request.as_str(), MOST_BYTES + 1) {
+        Ok(bytes) => {
+            if bytes.len() as u64 > MOST_BYTES {
+                return Ok(Err(TOO_LONG));
+            }
+            body_in(rt.alloc(), &bytes)
+        }
+        Err(error) => match error.kind() {
+            ErrorKind::OutOfMemory => Err(End::NoMemory),
+            _ => Ok(Err("its server doesn't answer")),
+        },
+    }
+}

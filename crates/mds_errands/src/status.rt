@@ -1,0 +1,365 @@
+//! Vehicles of feeds, as reports.
+
+use crate::batch::{Batch, note_batch, print_batch, put_in};
+use crate::end::{End, Tally};
+use crate::feed::{Known, Sheet, is_feed, is_gbfs, statuses_in, type_of, vehicle_of, vehicles_in};
+use crate::sending::{answered, client_of, note_reply};
+use crate::sources::read_source;
+use crate::told::{Spot, spot_at, tell, word_of};
+use mds_client::{Call, Reply};
+use mds_command::{Destination, Import};
+use mds_feeds::{Meant, gbfs_meant, instant_of, mds_meant};
+use mds_import::{Origin, named};
+use mds_text::{Id, Tree};
+use std::alloc::{AllocError, AllocGlobal, Global};
+use std::fs::{File, Files};
+use std::io::{Eprint, Print};
+use std::net::Net;
+use std::time::Clock;
+
+/// A vehicle that is taken away.
+#[derive(Clone, Copy)]
+struct Removal {
+    origin: Origin,
+    device: Id,
+}
+
+/// What vehicles become.
+#[derive(Drop)]
+struct Gathered {
+    batches: Vec<Batch>,
+    removals: Vec<Removal>,
+    tally: Tally,
+}
+
+/// Takes in what a vehicle becomes, or says why nothing is sent.
+///
+/// # Errors
+///
+/// `NoMemory`.
+fn take_in<R: Eprint + AllocGlobal>(
+    rt: &R,
+    files: &[String],
+    gathered: &mut Gathered,
+    origin: Origin,
+    meant: Meant,
+) -> Result<(), End> {
+    match meant {
+        Meant::Present(body) => put_in(rt.alloc(), &mut gathered.batches, origin, &body),
+        Meant::Gone(device) => match gathered.removals.push(Removal { origin, device }) {
+            Ok(()) => Ok(()),
+            Err(_) => Err(End::NoMemory),
+        },
+        Meant::Faulty(member) => {
+            gathered.tally.count_refused();
+            let words = format!(in rt.alloc();
+                "{member}: it is missing, or isn't as it has to be"
+            )?;
+            tell(rt, spot_at(files, origin), words.as_str())
+        }
+    }
+}
+
+/// What a vehicle of MDS becomes. Where its entry isn't known, its status may say as much.
+///
+/// # Errors
+///
+/// Memory ran out.
+fn status_meant(
+    alloc: Global,
+    sheets: &[Sheet],
+    known: &Known,
+    status: &Tree,
+) -> Result<Meant, AllocError> {
+    match vehicle_of(sheets, known, status) {
+        Some(vehicle) => mds_meant(alloc, status, vehicle),
+        None => mds_meant(alloc, status, status),
+    }
+}
+
+/// When a vehicle of GBFS was last seen: as it says itself, or else its file.
+fn seen_at(file: &Tree, vehicle: &Tree) -> Option<i64> {
+    match named(vehicle, "last_reported") {
+        Some(seen) => instant_of(seen),
+        None => instant_of(named(file, "last_updated")?),
+    }
+}
+
+/// Gathers the statuses of a file.
+///
+/// # Errors
+///
+/// `NoMemory`.
+fn gather_statuses<R: Eprint + AllocGlobal>(
+    rt: &R,
+    files: &[String],
+    sheets: &[Sheet],
+    known: &Known,
+    sheet: &Sheet,
+    gathered: &mut Gathered,
+) -> Result<(), End> {
+    for (document, status) in statuses_in(&sheet.source.tree).iter().enumerate() {
+        let meant = status_meant(rt.alloc(), sheets, known, status)?;
+        let file = sheet.file;
+        take_in(rt, files, gathered, Origin { file, document }, meant)?;
+    }
+    Ok(())
+}
+
+/// Gathers the vehicles of GBFS of a file.
+///
+/// # Errors
+///
+/// `NoMemory`.
+fn gather_vehicles<R: Eprint + AllocGlobal>(
+    rt: &R,
+    files: &[String],
+    sheets: &[Sheet],
+    known: &Known,
+    sheet: &Sheet,
+    gathered: &mut Gathered,
+) -> Result<(), End> {
+    let tree = &sheet.source.tree;
+    for (document, vehicle) in vehicles_in(tree).iter().enumerate() {
+        if is_gbfs(vehicle) {
+            let moment = seen_at(tree, vehicle);
+            let kind = type_of(sheets, known, vehicle);
+            let meant = gbfs_meant(rt.alloc(), vehicle, kind, moment)?;
+            let file = sheet.file;
+            take_in(rt, files, gathered, Origin { file, document }, meant)?;
+        }
+    }
+    Ok(())
+}
+
+/// Says that a file has none of the lists of a feed.
+///
+/// # Errors
+///
+/// `NoMemory`.
+fn tell_none<R: Eprint + AllocGlobal>(rt: &R, path: &str) -> Result<(), End> {
+    let spot = Spot {
+        file: path,
+        document: None,
+    };
+    tell(rt, spot, "it has no list of vehicles or of their types")
+}
+
+/// What a file holds; none, where it can't be read or has no list of a feed, which is told.
+///
+/// # Errors
+///
+/// `NoMemory`.
+fn sheet_in<R: Net + Clock + Files<File = File> + Eprint + AllocGlobal>(
+    rt: &R,
+    file: usize,
+    path: &str,
+) -> Result<Option<Sheet>, End> {
+    let Some(source) = read_source(rt, path)? else {
+        return Ok(None);
+    };
+    if is_feed(&source.tree) {
+        return Ok(Some(Sheet { file, source }));
+    }
+    tell_none(rt, path)?;
+    Ok(None)
+}
+
+/// Reads files. One that is told counts as refused.
+///
+/// # Errors
+///
+/// `NoMemory`.
+fn read_all<R: Net + Clock + Files<File = File> + Eprint + AllocGlobal>(
+    rt: &R,
+    files: &[String],
+    tally: &mut Tally,
+) -> Result<Vec<Sheet>, End> {
+    let mut sheets = Vec::new(rt.alloc());
+    for (file, path) in files.iter().enumerate() {
+        match sheet_in(rt, file, path.as_str())? {
+            Some(sheet) => {
+                if sheets.push(sheet).is_err() {
+                    return Err(End::NoMemory);
+                }
+            }
+            None => tally.count_refused(),
+        }
+    }
+    Ok(sheets)
+}
+
+/// Where the entries of these files stand.
+///
+/// # Errors
+///
+/// `NoMemory`.
+fn known_in(alloc: Global, sheets: &[Sheet]) -> Result<Known, End> {
+    let mut known = Known::new(alloc);
+    for (place, sheet) in sheets.iter().enumerate() {
+        known.take_in(place, &sheet.source.tree)?;
+    }
+    Ok(known)
+}
+
+/// Gathers what the vehicles of files become.
+///
+/// # Errors
+///
+/// `NoMemory`.
+fn gather_all<R: Net + Clock + Files<File = File> + Eprint + AllocGlobal>(
+    rt: &R,
+    files: &[String],
+) -> Result<Gathered, End> {
+    let mut gathered = Gathered {
+        batches: Vec::new(rt.alloc()),
+        removals: Vec::new(rt.alloc()),
+        tally: Tally::new(),
+    };
+    let sheets = read_all(rt, files, &mut gathered.tally)?;
+    let known = known_in(rt.alloc(), &sheets)?;
+    for sheet in &sheets {
+        gather_statuses(rt, files, &sheets, &known, sheet, &mut gathered)?;
+        gather_vehicles(rt, files, &sheets, &known, sheet, &mut gathered)?;
+    }
+    Ok(gathered)
+}
+
+/// The path under which a vehicle is taken away.
+///
+/// # Errors
+///
+/// Memory ran out.
+fn removal_target(alloc: Global, device: Id) -> Result<String, AllocError> {
+    let device = device.print(alloc)?;
+    format!(in alloc; "/fleet/vehicles/{}", device.as_str())
+}
+
+/// Whether a vehicle that is taken away wasn't there.
+///
+/// # Errors
+///
+/// `NoMemory`.
+fn is_absent(alloc: Global, reply: &Reply) -> Result<bool, End> {
+    if reply.status != 404 {
+        return Ok(false);
+    }
+    let word = word_of(alloc, &reply.body)?;
+    Ok(word.as_str() == "not_found")
+}
+
+/// Takes note of what is answered of a removal. A vehicle that isn't there is away already.
+///
+/// # Errors
+///
+/// `NoServer`, `Barred`, `NoMemory`.
+fn note_removal<R: Eprint + AllocGlobal>(
+    rt: &R,
+    spot: Spot<'_>,
+    reply: &Reply,
+    tally: &mut Tally,
+) -> Result<(), End> {
+    if is_absent(rt.alloc(), reply)? {
+        tally.count_sent();
+        return Ok(());
+    }
+    note_reply(rt, spot, reply, tally)
+}
+
+/// Sends what was gathered, at first whom it takes away, and says how far it is.
+///
+/// # Errors
+///
+/// `BadPlace`, `NoServer`, `Barred`, `NoMemory`: what stands behind isn't sent then.
+fn send_all<R: Net + Clock + Eprint + AllocGlobal>(
+    rt: &R,
+    destination: &Destination<'_>,
+    files: &[String],
+    gathered: &Gathered,
+    tally: &mut Tally,
+) -> Result<(), End> {
+    let mut client = client_of(rt, destination)?;
+    for removal in &gathered.removals {
+        let target = removal_target(rt.alloc(), removal.device)?;
+        let call = Call {
+            method: "DELETE",
+            target: target.as_str(),
+            body: b"",
+        };
+        let reply = answered(client.ask(rt.alloc(), &call))?;
+        note_removal(rt, spot_at(files, removal.origin), &reply, tally)?;
+    }
+    let all = gathered.batches.len();
+    for (place, batch) in gathered.batches.iter().enumerate() {
+        if place > 0 {
+            let _ = eprintln!(rt; "ruffletuff: {place} of {all} requests with reports are through");
+        }
+        let call = Call {
+            method: "POST",
+            target: "/app/fleet/events",
+            body: batch.body(),
+        };
+        let reply = answered(client.ask(rt.alloc(), &call))?;
+        note_batch(rt, files, batch, &reply, tally)?;
+    }
+    Ok(())
+}
+
+/// Says which vehicles would be taken away, and which reports sent.
+///
+/// # Errors
+///
+/// `NotPrinted`, `NoMemory`.
+fn print_all<R: Print + AllocGlobal>(
+    rt: &R,
+    gathered: &Gathered,
+    tally: &mut Tally,
+) -> Result<(), End> {
+    for removal in &gathered.removals {
+        let target = removal_target(rt.alloc(), removal.device)?;
+        if println!(rt; "DELETE {}", target.as_str()).is_err() {
+            return Err(End::NotPrinted);
+        }
+        tally.count_sent();
+    }
+    for batch in &gathered.batches {
+        print_batch(rt, batch, tally)?;
+    }
+    Ok(())
+}
+
+/// Says how many reports and removals were sent, and how many refused.
+fn printed<R: Print>(rt: &R, import: &Import<'_>, tally: &Tally) -> End {
+    let Tally { sent, refused } = *tally;
+    let said = match import.destination {
+        Some(_) => println!(rt; "{sent} reports sent, {refused} refused"),
+        None => println!(rt; "{sent} reports would be sent, {refused} refused"),
+    };
+    match said {
+        Ok(()) => tally.end(),
+        Err(_) => End::NotPrinted,
+    }
+}
+
+/// Sends what the vehicles of files do to a server as reports, many in one request, and takes those away that aren't on the
+/// street; without a destination it prints what would be sent. On standard error stands which vehicle isn't sent or is refused,
+/// and why; on standard output, at the end, how many were sent and how many refused.
+pub fn import_status<R>(rt: &R, import: &Import<'_>) -> End
+where
+    R: Net + Clock + Files<File = File> + Print + Eprint + AllocGlobal,
+{
+    let gathered = match gather_all(rt, import.files) {
+        Ok(gathered) => gathered,
+        Err(end) => return end,
+    };
+    let mut tally = gathered.tally;
+    let done = match &import.destination {
+        Some(destination) => send_all(rt, destination, import.files, &gathered, &mut tally),
+        None => print_all(rt, &gathered, &mut tally),
+    };
+    let end = printed(rt, import, &tally);
+    match done {
+        Ok(()) => end,
+        Err(end) => end,
+    }
+}

@@ -1,0 +1,188 @@
+//! The text of a report.
+ghost use Rattle.std.specs.Prelude.{◌≡◌, ◌++◌, IfOk, OnOk, option_map};
+ghost use Rattle.mds_text.specs.View.{view};
+ghost use Rattle.mds_feeds.specs.Reports.{device_text, place_text, make_text, deed_text, report_text, list_text, place_with, place_at, told, meant_view, place_view, make_view, deed_view};
+
+use crate::bare::print_bare;
+use mds_import::named;
+use mds_text::{Id, Tree, print_tree};
+use std::alloc::{AllocError, Global};
+
+/// What a vehicle of a feed becomes.
+#[derive(Drop)]
+pub enum Meant {
+    /// A report, by its text.
+    Present(Vec<u8>),
+    /// A vehicle that isn't on the street: it is taken away.
+    Gone(Id),
+    /// The member for which nothing is sent.
+    Faulty(&'static str),
+}
+
+/// Where a vehicle was seen, in degrees as they are written.
+#[derive(Drop)]
+pub(crate) struct Place {
+    pub lat: Vec<u8>,
+    pub lng: Vec<u8>,
+}
+
+/// What a vehicle is.
+#[derive(Drop)]
+pub(crate) struct Make {
+    /// Its type, between quotation marks.
+    pub kind: Vec<u8>,
+    /// The text of the list of its propulsion types.
+    pub propulsion: Vec<u8>,
+}
+
+/// What a vehicle does.
+#[derive(Drop)]
+pub(crate) struct Deed {
+    /// Its state, between quotation marks.
+    pub state: Vec<u8>,
+    /// The text of the list of its events.
+    pub events: Vec<u8>,
+    /// Their moment.
+    pub moment: Vec<u8>,
+}
+
+/// The text of a list, empty where there is none.
+pub(crate) fn list_text(alloc: Global, value: Option<&Tree>) -> Result<Vec<u8>, AllocError>
+    ensures { IfOk result (λ v. v.items ≡ list_text (option_map (λ t. view t.now) value.entry)) }
+{
+    match value {
+        Some(value) => print_tree(alloc, value),
+        None => Vec::from_slice(alloc, b"[]"),
+    }
+}
+
+/// A position, where both of its numbers are there.
+fn place_with(
+    alloc: Global,
+    lat: Option<&Tree>,
+    lng: Option<&Tree>,
+) -> Result<Option<Place>, AllocError>
+    ensures { IfOk result (λ p. option_map place_view p ≡ place_with (option_map (λ t. view t.now) lat.entry) (option_map (λ t. view t.now) lng.entry)) }
+{
+    match (lat, lng) {
+        (Some(lat), Some(lng)) => Ok(Some(Place {
+            lat: print_bare(alloc, lat)?,
+            lng: print_bare(alloc, lng)?,
+        })),
+        _ => Ok(None),
+    }
+}
+
+/// The position that a value has, by the names of its two numbers.
+pub(crate) fn place_at(
+    alloc: Global,
+    lat: &str,
+    lng: &str,
+    value: &Tree,
+) -> Result<Option<Place>, AllocError>
+    ensures { IfOk result (λ p. option_map place_view p ≡ place_at lat.now lng.now (view value.now)) }
+{
+    place_with(alloc, named(value, lat), named(value, lng))
+}
+
+/// What a vehicle does, as members of a report.
+#[tactic(auto, unfolding(crate::specs::Reports::deed_text))]
+fn deed_text(alloc: Global, deed: &Deed) -> Result<Vec<u8>, AllocError>
+    ensures { IfOk result (λ v. v.items ≡ deed_text (deed_view deed.now)) }
+{
+    let mut text = Vec::new(alloc);
+    text.extend_from_slice(b",\"event_types\":")?;
+    text.extend_from_slice(&deed.events)?;
+    text.extend_from_slice(b",\"timestamp\":")?;
+    text.extend_from_slice(&deed.moment)?;
+    text.extend_from_slice(b",\"vehicle_state\":")?;
+    text.extend_from_slice(&deed.state)?;
+    Ok(text)
+}
+
+/// Where a vehicle was seen, as a member of a report.
+#[tactic(auto, unfolding(crate::specs::Reports::place_text))]
+fn place_text(alloc: Global, place: &Place) -> Result<Vec<u8>, AllocError>
+    ensures { IfOk result (λ v. v.items ≡ place_text (place_view place.now)) }
+{
+    let mut text = Vec::new(alloc);
+    text.extend_from_slice(b",\"location\":{\"lat\":")?;
+    text.extend_from_slice(&place.lat)?;
+    text.extend_from_slice(b",\"lng\":")?;
+    text.extend_from_slice(&place.lng)?;
+    text.extend_from_slice(b"}")?;
+    Ok(text)
+}
+
+/// What a vehicle is, as members of a report.
+#[tactic(auto, unfolding(crate::specs::Reports::make_text))]
+fn make_text(alloc: Global, make: &Make) -> Result<Vec<u8>, AllocError>
+    ensures { IfOk result (λ v. v.items ≡ make_text (make_view make.now)) }
+{
+    let mut text = Vec::new(alloc);
+    text.extend_from_slice(b",\"propulsion_types\":")?;
+    text.extend_from_slice(&make.propulsion)?;
+    text.extend_from_slice(b",\"vehicle_type\":")?;
+    text.extend_from_slice(&make.kind)?;
+    Ok(text)
+}
+
+/// The front of a report, which names its vehicle.
+#[tactic(auto, unfolding(crate::specs::Reports::device_text))]
+fn device_text(alloc: Global, device: Id) -> Result<Vec<u8>, AllocError>
+    ensures { IfOk result (λ v. v.items ≡ device_text device) }
+{
+    let device = device.print(alloc)?;
+    let mut text = Vec::new(alloc);
+    text.extend_from_slice(b"{\"device_id\":\"")?;
+    text.extend_from_slice(device.as_bytes())?;
+    text.extend_from_slice(b"\"")?;
+    Ok(text)
+}
+
+/// The text of a report.
+fn report_text(
+    alloc: Global,
+    device: Id,
+    place: &Place,
+    make: &Make,
+    deed: &Deed,
+) -> Result<Vec<u8>, AllocError>
+    ensures { IfOk result (λ v. v.items ≡ report_text device (place_view place.now) (make_view make.now) (deed_view deed.now)) }
+{
+    let mut text = device_text(alloc, device)?;
+    text.extend_from_slice(&deed_text(alloc, deed)?)?;
+    text.extend_from_slice(&place_text(alloc, place)?)?;
+    text.extend_from_slice(&make_text(alloc, make)?)?;
+    text.extend_from_slice(b"}")?;
+    Ok(text)
+}
+
+/// What is known of a vehicle, where it may be missing.
+#[derive(Drop)]
+pub(crate) struct Known {
+    pub device: Id,
+    pub place: Option<Place>,
+    pub make: Option<Make>,
+    pub deed: Option<Deed>,
+}
+
+/// A report of what is known, or the first member that is missing.
+pub(crate) fn told(
+    alloc: Global,
+    where_named: &'static str,
+    known: &Known,
+) -> Result<Meant, AllocError>
+    ensures { IfOk result (λ m. meant_view m ≡ told known.now.device where_named.now (option_map place_view known.now.place) (option_map make_view known.now.make) (option_map deed_view known.now.deed)) }
+{
+    let Some(place) = &known.place else {
+        return Ok(Meant::Faulty(where_named));
+    };
+    let Some(make) = &known.make else {
+        return Ok(Meant::Faulty("vehicle_type"));
+    };
+    let Some(deed) = &known.deed else {
+        return Ok(Meant::Faulty("timestamp"));
+    };
+    Ok(Meant::Present(report_text(alloc, known.device, place, make, deed)?))
+}
