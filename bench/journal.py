@@ -1,15 +1,15 @@
 """Times ruffletuff, which keeps what it serves, over loopback: beside mds_serve, which doesn't, and beside SQLite and PostgreSQL on the
 same disk.
 
-    journal.py [--program FILE] [--without FILE] [--folder FOLDER] [--rounds N] [--seconds N]
+    journal.py [--program FILE] [--without FILE] [--folder FOLDER] [--rounds N] [--seconds N] [--slower N]
 
 Reports over HTTP by wrk, on 32 and on 256 connections, by turns of both servers in each round; rows of SQLite (bench/commits.c: a
 write-ahead log, synchronous FULL, one row a commit, of as many bytes as a report's record), and of PostgreSQL by 32 clients
 (postgres.py); the 99th percentile of a short list, idle and while 32 connections report; the bytes of the journal for a report; and how
 long a start takes with 200,000 vehicles, thinned. The folder is on the disk that is timed; without one a temporary one is taken. Each
 figure is the median of the rounds, with the least and the greatest. Beside single reports stand bodies of many, over as many connections.
-It needs Debian's wrk; gcc with libsqlite3-dev for SQLite, and as root
-Debian's postgresql, which else are left out.
+With --slower each sync of all of them takes N microseconds longer, as on another disk (slow_sync.c). It needs Debian's wrk; gcc with
+libsqlite3-dev for SQLite, and as root Debian's postgresql, which else are left out.
 """
 
 import argparse
@@ -180,6 +180,15 @@ def tell(rounds, count):
     rounds.tell("thinning it", "thinning", 1, " s")
 
 
+def slow_down(folder, microseconds):
+    """From now on each sync of a program that is started takes so much longer."""
+    library = os.path.join(folder, "slow_sync.so")
+    subprocess.run(["gcc", "-O2", "-shared", "-fPIC", "-o", library, os.path.join(HERE, "slow_sync.c"), "-ldl"], check=True)
+    # Another user's programs read it too.
+    os.chmod(folder, 0o755)
+    os.environ.update(LD_PRELOAD=library, SYNC_MICROSECONDS=str(microseconds))
+
+
 def written(folder, name, text):
     """A script of wrk's in the folder."""
     path = os.path.join(folder, f"{name}.lua")
@@ -195,12 +204,15 @@ def main():
     parser.add_argument("--folder", help="a folder on the disk that is timed")
     parser.add_argument("--rounds", type=int, default=ROUNDS)
     parser.add_argument("--seconds", type=int, default=SECONDS, help="how long each measure takes")
+    parser.add_argument("--slower", type=int, default=0, help="microseconds that each sync takes longer")
     options = parser.parse_args()
     if not shutil.which("wrk"):
         sys.exit("the benchmark needs wrk")
     program, without, rounds = os.path.abspath(options.program), os.path.abspath(options.without), Rounds()
     given = generate.config().encode()
     with tempfile.TemporaryDirectory(dir=options.folder) as folder:
+        if options.slower:
+            slow_down(folder, options.slower)
         script = written(folder, "reports", REPORTS % generate.START)
         bodies = written(folder, "bodies", BODIES % (generate.START, IN_A_BODY))
         for number in range(options.rounds):

@@ -30,10 +30,13 @@ QUESTIONS = {"ours": 100, "good": 20, "keeping": 400}
 POLICIES, POLICY_RULES, PART_FLEET = 30, 8, 20_000
 SMALL_POLICIES, SMALL_RULES, SMALL_PLACES, SMALL_CITY = 5, 4, 8, 1_000
 NEW_DEVICES = 20_000
+ARRIVALS = 50
 MANY_DEVICES = 100_000
 SMALL_FLEET = 2_000
 PUTS, POLICY_PUTS, LISTS = 100, 10_000, 50
 FEW_AREAS, MANY_AREAS = 10, 110
+# The scripts on which the plain program isn't run.
+NOT_SCANNED = ("large", "areas", "second", "one policy", "all policies", "no arrival", "arrivals")
 
 
 class Run:
@@ -89,7 +92,20 @@ def question_scripts(random):
     for place, edges in enumerate(EDGES):
         found = asked("fleet", scripts["fleet"], "/compliance/" + generate.policy_id(100 * (place + 1)))
         scripts |= {f"{name.replace('fleet', str(edges))}": it for name, it in found.items() if name != "fleet"}
-    return scripts
+    questions = [generate.get("/compliance/" + generate.policy_id(100 * (place + 1))) for place in range(len(EDGES))]
+    return scripts | {"one policy kept": scripts["fleet"] + questions[:1] * 2, "all policies kept": scripts["fleet"] + questions * 2}
+
+
+def arrival_scripts(random):
+    """A question of a great fleet again and again, and the same behind a new device each time."""
+    vehicles = generate.fleet(random, FLEET)
+    lines = city(random, 100, EDGES[1]) + sorted(vehicles[ARRIVALS:])
+    question = generate.get("/compliance/" + generate.policy_id(100))
+    asked = lines + [question] * 2
+    return {
+        "no arrival": asked + [question] * ARRIVALS,
+        "arrivals": asked + [it for vehicle in vehicles[:ARRIVALS] for it in (vehicle, question)],
+    }
 
 
 def policies_scripts(random, name, policies, rules, places, fleet):
@@ -157,7 +173,7 @@ def scripts_for(who, scripts):
         only = name.partition(", ")[2]
         if only and only != who:
             continue
-        if who == "scan" and (name.startswith(("large", "areas", "second")) or name == f"first {EDGES[-1]}"):
+        if who == "scan" and (name.startswith(NOT_SCANNED) or name == f"first {EDGES[-1]}"):
             continue
         asked = name.startswith(("first", "second")) or f"first {name}" in scripts
         if who == "keeping" and not (only or asked or name == "fleet"):
@@ -243,6 +259,12 @@ class Table:
         cells = [spread(rates, 1e-3, "thousand") for rates in (ours, good, scan)]
         line([label] + cells[:2] + told(ratio(ours, good), bounds, more=True) + ["", "", cells[2], figure(ratio(ours, scan))])
 
+    def most(self, label, longer, shorter, count, bounds):
+        """A line of what the longer run takes more, each time, in milliseconds, and what that must and should be."""
+        ours, good = (self.seconds(who, longer, shorter, count) for who in ("ours", "good"))
+        _, must, aim, kept = told(1e3 * statistics.median(ours), bounds)
+        line([label, spread(ours, 1e3, "ms"), spread(good, 1e3, "ms"), "", f"{must} ms", f"{aim} ms", kept] + [""] * 4)
+
     def compare(self, label, ours, others, bounds):
         line([label, "", ""] + told(ratio(ours, others), bounds) + [""] * 4)
 
@@ -289,6 +311,7 @@ def tell(runs):
     label = "a question, %d policies of %d rules, %d vehicles"
     table.question(label % (POLICIES, POLICY_RULES, PART_FLEET), "policies", (0.12, 0.05))
     table.question(label % (SMALL_POLICIES, SMALL_RULES, SMALL_CITY), "small city", (0.5, 0.2))
+    table.most("a question more behind one new device, fleet of %d" % FLEET, "arrivals", "no arrival", ARRIVALS, (3, 0.7))
     label = "a report of a new device, fleet of %d"
     large = table.row(label % FLEET, "large fleet and more", "large fleet", MANY_DEVICES, 1e6, "us", None)
     small = table.row(label % SMALL_FLEET, "small fleets and more", "small fleets", NEW_DEVICES, 1e6, "us", None)
@@ -298,7 +321,8 @@ def tell(runs):
     table.row(label, "geography again", "geography", PUTS, 1e3, "ms", (1.2, 0.6))
     table.row("putting a policy of 2 KB", "policy again", "policy", POLICY_PUTS, 1e6, "us", (0.74, 0.3))
     table.row("GET of 100 policies and of 100 geographies", "lists", "published", LISTS, 1e3, "ms", (3, 1.5))
-    tell_memory(runs, "memory of a vehicle, bytes", ("fleet", "cities"), FLEET, (400, 200))
+    tell_memory(runs, "memory of a vehicle, bytes", ("fleet", "cities"), FLEET, (200, 130))
+    tell_memory(runs, "for each policy kept", ("all policies kept", "one policy kept"), FLEET * (len(EDGES) - 1), (12, 8))
     label = "memory of a published geography of %d positions, MB" % generate.MOST_POSITIONS
     tell_memory(runs, label, ("areas and more", "areas"), (MANY_AREAS - FEW_AREAS) * 1_000_000, (1.1, 0.8))
 
@@ -326,7 +350,7 @@ def main():
     random = generate.Xorshift(generate.SEED)
     scripts = question_scripts(random) | policies_scripts(random, "policies", POLICIES, POLICY_RULES, RULES, PART_FLEET)
     scripts |= policies_scripts(random, "small city", SMALL_POLICIES, SMALL_RULES, SMALL_PLACES, SMALL_CITY)
-    scripts |= report_scripts(random) | document_scripts(random) | area_scripts(random)
+    scripts |= report_scripts(random) | document_scripts(random) | area_scripts(random) | arrival_scripts(random)
     with tempfile.TemporaryDirectory() as folder:
         runs = build_runs(folder, os.path.abspath(options.program), scripts)
         for number in range(options.rounds):
