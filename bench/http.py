@@ -394,26 +394,29 @@ def send_many(link, lines):
             sys.exit("not every report is taken")
 
 
-def asked(server, question):
-    """The seconds of each of several answers to a question, and the last of them."""
-    seconds = []
+def asked_first(server, policies):
+    """The seconds of the answers to questions about policies, each asked once and published just before, and those answers."""
+    seconds, answers = [], []
     with server.link() as link:
-        for _ in range(QUESTIONS):
+        for number, policy in policies:
+            send(link, generate.put_policy(number, policy))
+            send(link, generate.publish([], [number]))
             begun = time.perf_counter()
-            answer = send(link, question)
+            answer = send(link, generate.get("/compliance/" + generate.policy_id(number)))
             seconds.append(time.perf_counter() - begun)
-    return seconds, re.sub(rb'"at":\d+', b"", answer)
+            answers.append(re.sub(rb'"at":\d+', b"", answer))
+    return seconds, answers
 
 
 def several_processors(name, program, rounds):
-    """A question over the largest fleet, judged on one processor and on several."""
+    """The first question about a policy, over the largest fleet, judged on one processor and on several."""
     processors = sorted(os.sched_getaffinity(0))
     if len(processors) < PROCESSORS:
         print(f"fewer than {PROCESSORS} processors: judging by several threads wasn't timed")
         return
     random = generate.Xorshift(generate.SEED)
     lines, fleet = city(random, 100, EDGES), generate.fleet(random, generate.MOST_VEHICLES)
-    question, times, answers = generate.get("/compliance/" + generate.policy_id(100)), {}, set()
+    numbers, times = range(100, 100 + MOST_RULES), {}
     with contextlib.ExitStack() as stack:
         servers = {}
         for count in (1, PROCESSORS):
@@ -421,14 +424,17 @@ def several_processors(name, program, rounds):
                 servers[count] = serve(stack, program, lines)
             with servers[count].link() as link:
                 send_many(link, fleet)
-        for _ in range(rounds):
+        for turn in range(rounds):
+            first = 1000 + turn * QUESTIONS
+            asked = [(n, generate.policy(random, n, MOST_RULES, numbers)) for n in range(first, first + QUESTIONS)]
+            told = []
             for count, server in servers.items():
-                seconds, answer = asked(server, question)
+                seconds, answers = asked_first(server, asked)
                 times.setdefault(count, []).append(statistics.median(seconds))
-                answers.add(answer)
-    if len(answers) != 1:
-        sys.exit("the answers on one processor and on several differ")
-    what = f"a question, {len(fleet)} vehicles, {MOST_RULES} rules, {EDGES} edges each, {name}"
+                told.append(answers)
+            if told[0] != told[1]:
+                sys.exit("the answers on one processor and on several differ")
+    what = f"the first question about a policy, {len(fleet)} vehicles, {MOST_RULES} rules, {EDGES} edges each, {name}"
     label = f"{what}, on {PROCESSORS} processors against one (speed-up)"
     speed = spread([one / several for one, several in zip(times[1], times[PROCESSORS])], 1, "")
     print("\n| Measure | one | several | speed-up | must | aim |\n|---|---|---|---|---|---|")
