@@ -24,6 +24,7 @@ export const WORDS = {
   no_geography: "A place of a rule is neither published nor in this publication.",
   no_memory: "The server is short of memory, and nothing has changed. Try again.",
   no_predecessor: "What it takes the place of isn't published.",
+  no_room: "The server's disk is full, and nothing has changed. Tell whoever runs it.",
   no_route: "The server doesn't know that request.",
   no_snapshot: "The server is about to end.",
   not_found: "It isn't there.",
