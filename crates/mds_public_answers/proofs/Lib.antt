@@ -1,0 +1,4 @@
+mod Alike
+mod Apart
+pub mod Publics
+mod Telling

@@ -1,0 +1,35 @@
+-- From what is shown to the response.
+use Rattle.std.proofs.Common.{◌≡◌, ℕ, List, Result, Ok, Err, IfOk, sym, ap, subst, ◌∙◌}
+use Rattle.std.proofs.Math.Logic.{∥∥₁_map}
+use Rattle.std.specs.declared.alloc.AllocError.{AllocError}
+use Rattle.http.specs.declared.request.Parts.{Parts}
+use Rattle.http.specs.declared.response.Response.{Response}
+use Rattle.http_body_util.specs.declared.full.Full.{Full}
+use Rattle.mds_public.specs.Answer.{Meets, answer_of}
+use Rattle.mds_public.specs.View.{face}
+use Rattle.mds_public.specs.declared.asked.Asked.{Asked}
+use Rattle.mds_public.specs.declared.face.Face as program
+use Rattle.mds_public.specs.declared.refusal.Denied.{Denied}
+use Rattle.mds_public.specs.declared.refusal.Denied.TheVariants.{Refused}
+use Rattle.mds_public.specs.declared.refusal.Refusal.{Refusal}
+use Rattle.mds_request.specs.Configuration.{Configuration}
+use Rattle.mds_public_answers.specs.Response.{Says, query_of}
+use Rattle.mds_public_answers.specs.Told.{IsFace, IsTold}
+
+-- what is refused is what is to be refused
+pub refused_for : (expected : Result (List ℕ) Refusal) (answer : Result (List ℕ) Denied) (denied : Denied) (refusal : Refusal)
+    → answer ≡ Err denied → denied ≡ Refused refusal → Meets expected answer → expected ≡ Err refusal
+refused_for expected answer denied refusal is denied_is meets = subst (Meets expected) (is ∙ ap (λ d. Err d) denied_is) meets
+
+-- the answer of what is shown is that of the room's publications
+pub says_of_room : (configuration : Configuration) (f : program.Face) (asked : Asked) (parts : Parts) (answer : Result (List ℕ) Refusal)
+    (response : Result (Response (Full (List ℕ))) AllocError)
+    → ∥ IsFace configuration f ∥₁ → answer_of (face f) asked parts.method (query_of parts) parts.headers ≡ answer → IfOk response (Says answer)
+    → IfOk response (IsTold configuration asked parts)
+says_of_room configuration f asked parts answer (Ok response) of is says =
+    ∥∥₁_map of (λ it. record {
+      room = it.room;
+      is_its = it.is_its;
+      tells = subst (λ a. Says a response) (sym is ∙ ap (λ shown. answer_of shown asked parts.method (query_of parts) parts.headers) it.tells) says;
+    })
+says_of_room configuration f asked parts answer (Err e) of is says = tt

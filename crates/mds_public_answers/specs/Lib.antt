@@ -1,0 +1,4 @@
+pub mod Configured
+pub mod Response
+pub mod Told
+pub mod Laws

@@ -1,0 +1,21 @@
+//! What everyone is told of what is published, made of the publications alone.
+use mds_catalog::Catalogue;
+use mds_desk::Telling;
+use mds_public::Face;
+use std::alloc::{AllocError, Global};
+
+/// What everyone is told. It looks at what is published, and at nothing else: at no drafts, and at no operator's vehicles.
+#[derive(Clone, Copy)]
+pub struct Everyone;
+
+impl Telling for Everyone {
+    ghost use Rattle.mds_public_answers.specs.Told.{IsFaceOf};
+
+    type Told = Face;
+
+    ghost tells = { λ everyone publications told. IsFaceOf publications told };
+
+    fn tell(&self, alloc: Global, catalogue: &Catalogue) -> Result<Face, AllocError> {
+        Face::new(alloc, catalogue)
+    }
+}

@@ -1,0 +1,106 @@
+//! The responses that tell it.
+ghost use Rattle.std.specs.Prelude.{◌≡◌, [], map, IfOk, OnOk, Ok, Err};
+ghost use Rattle.http_header.specs.HeaderMap.{insert};
+ghost use Rattle.mds_public.specs.declared.refusal.Refusal.TheVariants.{Method};
+ghost use Rattle.mds_public_answers.specs.Response.{Says, common_fields, field, fields_of, refusal_status, refusal_text};
+
+use bytes::Bytes;
+use http::header::{ACCESS_CONTROL_ALLOW_ORIGIN, ALLOW, CACHE_CONTROL, CONTENT_TYPE};
+use http::{HeaderMap, HeaderName, HeaderValue, Response, StatusCode};
+use http_body_util::Full;
+use mds_public::Refusal;
+use std::alloc::{AllocError, Global};
+
+/// The type of every response, with its version.
+const MEDIA_TYPE: &str = "application/vnd.mds+json;version=2.0";
+
+/// Sets a field.
+fn put(headers: &mut HeaderMap, name: HeaderName, value: HeaderValue) -> Result<(), AllocError>
+    ensures { OnOk result (headers.new ≡ insert headers.old name value) }
+{
+    match headers.insert(name, value) {
+        Ok(_) => Ok(()),
+        Err(_) => Err(AllocError),
+    }
+}
+
+/// Sets the fields of every response.
+fn put_common(headers: &mut HeaderMap) -> Result<(), AllocError>
+    requires { headers.old ≡ [] }
+    ensures { OnOk result (headers.new ≡ map field common_fields) }
+{
+    let no_cache = HeaderValue::from_static("no-cache");
+    let any_origin = HeaderValue::from_static("*");
+    put(headers, CONTENT_TYPE, HeaderValue::from_static(MEDIA_TYPE))?;
+    put(headers, CACHE_CONTROL, no_cache)?;
+    put(headers, ACCESS_CONTROL_ALLOW_ORIGIN, any_origin)
+}
+
+/// The status of a refusal.
+fn status_of(refusal: Refusal) -> StatusCode
+    ensures { result ≡ refusal_status refusal }
+{
+    match refusal {
+        Refusal::BadParameter => StatusCode::BAD_REQUEST,
+        Refusal::NotFound => StatusCode::NOT_FOUND,
+        Refusal::Method => StatusCode::METHOD_NOT_ALLOWED,
+        Refusal::NotAcceptable => StatusCode::NOT_ACCEPTABLE,
+    }
+}
+
+/// A refusal as a body has it.
+fn text_of(refusal: Refusal) -> &'static str
+    ensures { result.now ≡ refusal_text refusal }
+{
+    match refusal {
+        Refusal::BadParameter =>
+            "{\"error\":\"bad_param\",\"error_description\":\"moments are milliseconds since the Unix epoch\",\"error_details\":[]}",
+        Refusal::NotFound =>
+            "{\"error\":\"not_found\",\"error_description\":\"nothing of this identifier is public\",\"error_details\":[]}",
+        Refusal::Method =>
+            "{\"error\":\"method\",\"error_description\":\"this is only to be read\",\"error_details\":[]}",
+        Refusal::NotAcceptable =>
+            "{\"error\":\"not_acceptable\",\"error_description\":\"the version served is 2.0\",\"error_details\":[]}",
+    }
+}
+
+/// The response with this body.
+fn found(alloc: Global, body: Bytes) -> Result<Response<Full<Bytes>>, AllocError>
+    ensures { IfOk result (Says (Ok body)) }
+{
+    let mut response = Response::new(alloc, Full::new(body));
+    put_common(response.headers_mut())?;
+    Ok(response)
+}
+
+/// The response that says a refusal.
+fn refused(alloc: Global, refusal: Refusal) -> Result<Response<Full<Bytes>>, AllocError>
+    ensures { IfOk result (Says (Err refusal)) }
+{
+    let body = Bytes::from_static(text_of(refusal).as_bytes());
+    let mut response = Response::new(alloc, Full::new(body));
+    *response.status_mut() = status_of(refusal);
+    put_common(response.headers_mut())?;
+    if refusal == Refusal::Method {
+        let reading = HeaderValue::from_static("GET, HEAD");
+        put(response.headers_mut(), ALLOW, reading)?;
+    }
+    Ok(response)
+}
+
+/// The response that says an answer.
+///
+/// # Errors
+///
+/// Memory ran out.
+pub fn response_of(
+    alloc: Global,
+    answer: Result<Bytes, Refusal>,
+) -> Result<Response<Full<Bytes>>, AllocError>
+    ensures { IfOk result (Says answer) }
+{
+    match answer {
+        Ok(body) => found(alloc, body),
+        Err(refusal) => refused(alloc, refusal),
+    }
+}
