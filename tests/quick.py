@@ -133,7 +133,6 @@ def parts(room):
     add("what people are told", 0.3, kept, lambda: script("app.py", keep, slow=slow["ruffletuff"]))
     add("files and a server", 0.5, kept, lambda: script("exchange.py", keep, slow=slow["ruffletuff"]))
     add("the page", 0.2, kept, lambda: script("page.py", keep, slow=slow["ruffletuff"]))
-    add("the page in a browser", 2, kept, lambda: script("web/run.py", "checks", keep, slow=slow["ruffletuff"]))
     add("thinned journals", 1, kept + replayed, lambda: script("thinning.py", keep, "--replay", replay, *DAY, slow=slowly))
     for part in range(1, SCRIPT_PARTS + 1):
         words = ("replays.py", replay, str(part), str(SCRIPT_PARTS))
@@ -148,7 +147,8 @@ def parts(room):
             add(f"some growths refused to {name}", GROWTH_SECONDS / 60, needs, lambda words=words: script(*words))
     add("a short stress", 0.5, kept + replayed, lambda: script(*stress, slow=slowly))
     add("the description of the protocol", 0.1, [], description)
-    # Last and with nothing beside them, so that no other part makes them late.
+    # Last and with nothing beside each of them, so that no other part makes them late.
+    add("the page in a browser", 2, [*made], lambda: script("web/run.py", "checks", keep, slow=slow["ruffletuff"]))
     add("short loads", 1.5, [*made], lambda: script("http.py", keep, "short-loads", slow=slow["ruffletuff"]))
     return made
 
