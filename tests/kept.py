@@ -13,6 +13,8 @@ from wire import SECONDS, Closed, Link, Server, configuration, first_line, free_
 
 # As long as a program may take that ends by itself.
 END_SECONDS = 3 * SECONDS
+# What a program says before it is ready, where everyone is told what is meant for everyone.
+TELLS_EVERYONE = b"tells everyone at /mds/2.0\n"
 
 
 @functools.cache
@@ -39,6 +41,9 @@ class Keeping(Server):
         self.process = subprocess.Popen([program, "serve", "--config", file, "--state", folder, *ports, *words], **streams, **how)
         self.ended = None
         self.ready = first_line(self.process.stdout) if is_awaited else None
+        self.tells_everyone = self.ready == TELLS_EVERYONE
+        if self.tells_everyone:
+            self.ready = first_line(self.process.stdout)
 
     def __enter__(self):
         if self.ready != b"ready\n":

@@ -7,10 +7,10 @@ The tests of each crate that has some are built and run by `rt try --test`, and 
 (tests/unproved.py), as many at once as there are processors and memory; a proved program is taken where it is built and no source is
 newer. Then come the scripts (replays.py), questions that are asked once and again (columns.py), ruffletuff on the messages that wait for
 no deadline and on the short loads (http.py), some kills (kills.py), journals (journals.py, thinning.py), many reports at once (many.py),
-files that are imported (exchange.py), what people are told (app.py), the page (page.py), in a browser too where Debian's chromium and
-nodejs are there (web/run.py), and a short stress (stress.py), some refused growths of memory (growths.py) and the check of
-docs/openapi.yaml (openapi.py), which has failed where its two Debian packages are missing. The other messages, and mds_serve, which
-serves by the same crates, are tried by `make prove` alone.
+files that are imported (exchange.py), what people are told (app.py), what everyone is told (public.py), the page (page.py), in a browser
+too where Debian's chromium and nodejs are there (web/run.py), and a short stress (stress.py), some refused growths of memory
+(growths.py) and the check of docs/openapi.yaml (openapi.py). The last, and public.py, have failed where their Debian packages are
+missing. The other messages, and mds_serve, which serves by the same crates, are tried by `make prove` alone.
 What a part prints comes once the part is over. Last comes 'N passed, M failed' over all parts; ends with 1 where one failed.
 """
 
@@ -133,6 +133,7 @@ def parts(room):
     add("what people are told", 0.3, kept, lambda: script("app.py", keep, slow=slow["ruffletuff"]))
     add("files and a server", 0.5, kept, lambda: script("exchange.py", keep, slow=slow["ruffletuff"]))
     add("the page", 0.2, kept, lambda: script("page.py", keep, slow=slow["ruffletuff"]))
+    add("what everyone is told", 0.3, kept, lambda: script("public.py", keep, slow=slow["ruffletuff"]))
     add("thinned journals", 1, kept + replayed, lambda: script("thinning.py", keep, "--replay", replay, *DAY, slow=slowly))
     for part in range(1, SCRIPT_PARTS + 1):
         words = ("replays.py", replay, str(part), str(SCRIPT_PARTS))

@@ -45,7 +45,9 @@ pub struct City<K: Named, N: Naming, L: Log, S: Space> {
 /// What was answered, and the stamp of all that it shows.
 #[derive(Drop)]
 pub(crate) struct Answered<N: Naming, L: Log> {
+    /// What is answered, once all that it shows is synced.
     pub answer: Answer,
+    /// The texts of the journal that have to be synced before it is told.
     pub stamp: Stamp<N, L>,
 }
 

@@ -10,6 +10,7 @@ mod leaving;
 mod lines;
 mod many;
 mod people;
+mod published;
 mod reception;
 mod recording;
 mod records;

@@ -25,10 +25,15 @@ use std::sync::Wait;
 /// A city, what judges its vehicles, and the clock that gives each request its moment.
 #[derive(Drop)]
 pub struct CityReception<K: Named, N: Naming, R, E, M, L: Log, S: Space> {
+    /// By what locks and syncs are waited for.
     pub rt: R,
+    /// Where answers are made.
     pub alloc: Global,
+    /// What answers.
     pub city: City<K, N, L, S>,
+    /// What judges vehicles.
     pub evaluator: E,
+    /// What gives each request its moment.
     pub moments: M,
 }
 

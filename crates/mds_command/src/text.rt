@@ -40,8 +40,10 @@ DIR      the folder in which the city is kept, or into which what is published
 FILE     the configuration, a JSON object on as many lines as one likes:
            author     the author's access token
            operators  at most 64 objects with id (a UUID), limit (1 to 200000
-                      vehicles) and token
+                      vehicles) and token, and a name for people if you like
            zone       Z, +hh:mm, -hh:mm or a POSIX rule
+           public     true where everyone is told, at /mds/2.0, what is
+                      published and meant for everyone; else left out
          An access token is 1 to 64 letters, digits, '-' and '_'. No two are
          equal.
 ID       an operator, by its UUID. --drop leaves out what the journal has of
@@ -49,15 +51,17 @@ ID       an operator, by its UUID. --drop leaves out what the journal has of
          prints its requests and the author's alone
 MOMENT   in milliseconds of the Unix epoch: the requests before the first later
          one are printed
-BYTES    by how many the journal grows before it is thinned while the city is
-         served: 67108864 where it isn't said, 0 for never
+BYTES    how many the journal has before it is thinned while the city is served,
+         and then three times what it was thinned to and so many more: 67108864
+         where it isn't said, 0 for never
 
 To check and to audit read while a server writes; to thin needs the folder
 alone. Standard output says 'ready' once the server listens. After a fault
 standard error says which.
 
 Exit status: 0 done
-             1 nothing can be listened to at ADDRESS, or no server there stops
+             1 nothing can be listened to at ADDRESS, no server there stops or
+               answers, or standard output can't be written
              2 the arguments or the configuration are wrong
              3 memory ran out
              4 the folder can't be used, or another program has it

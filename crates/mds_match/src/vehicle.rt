@@ -11,7 +11,9 @@ pub const MOST_VEHICLES: u32 = 200_000;
 /// share them.
 #[derive(Drop)]
 pub struct Words {
+    /// The vehicle type or the state.
     pub word: Token,
+    /// Its propulsion types, or the types of the events that led to it, as they were reported.
     pub types: Vec<Token>,
 }
 

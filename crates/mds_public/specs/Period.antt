@@ -59,8 +59,7 @@ both from to = None
 abbrev pub period_in : List ℕ → Option Period
 period_in query = both (moment_in (value_of (codes "start_date=") query)) (moment_in (value_of (codes "end_date=") query))
 
--- it holds at some moment of the period, both ends of which belong to it: it hasn't ended by its beginning, and takes effect by
--- its end
+-- it hasn't ended by the beginning of the period, and has taken effect by its end
 abbrev pub is_in : Period → Notice → Bool
 is_in period n =
     option_map_or (λ from. option_map_or (nat_lt from) n.end true) period.from true && option_map_or (nat_le n.start) period.to true

@@ -16,9 +16,13 @@ use std::alloc::{AllocError, Global};
 /// it holds.
 #[derive(Drop)]
 pub struct Notice {
+    /// Its identifier.
     pub id: Id,
+    /// From when on it holds; of a geography, when it was published.
     pub start: u64,
+    /// Up to when it holds; none, where it has no end.
     pub end: Option<u64>,
+    /// Its JSON text.
     pub text: Vec<u8>,
 }
 

@@ -11,7 +11,9 @@ use crate::notice::Notice;
 /// The moments from which and up to which, in milliseconds since the Unix epoch; what isn't given bounds nothing.
 #[derive(Clone, Copy)]
 pub struct Period {
+    /// `start_date` of the query.
     pub from: Option<u64>,
+    /// `end_date` of the query.
     pub to: Option<u64>,
 }
 
@@ -107,7 +109,7 @@ impl Period {
         Some(Period { from, to })
     }
 
-    /// Whether what a notice tells holds at some moment of the period.
+    /// Whether what a notice tells hasn't ended by the beginning of the period, and has taken effect by its end.
     pub fn holds(&self, sheet: &Notice) -> bool
         ensures { result ≡ is_in self.now (notice sheet.now) }
     {

@@ -27,9 +27,13 @@ type Told = Ready<Result<Response<Full<Bytes>>, AllocError>>;
 /// nothing else is asked. Any other is answered as if there were no window.
 #[derive(Drop)]
 pub struct Public<K: Named, A, R> {
+    /// By what locks are waited for.
     pub rt: R,
+    /// Where responses are made.
     pub alloc: Global,
+    /// What everyone is told; none, where nobody is told anything here.
     pub window: Option<Window<K>>,
+    /// What answers any other request.
     pub answers: A,
 }
 

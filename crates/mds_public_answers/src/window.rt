@@ -1,12 +1,16 @@
 //! What everyone is told now.
+ghost use Rattle.std.specs.Prelude.{◌≡◌, is_some, IfOk};
+ghost use Rattle.mds_public_answers.specs.Configured.{is_public};
+
+use crate::configured::is_public;
 use crate::shown::{Shown, Shows};
 use mds_hall::Named;
 use std::alloc::{AllocError, Global};
 use std::sync::{Arc, Mutex, Wait};
 
 /// What everyone is told by now, made once a publication: by the first request behind it, while others are told what was shown before.
-/// So however many ask, the author's room is looked at once a publication. A lock is held for as long as a share is made, and none while
-/// documents are.
+/// So however many ask, the author's room is looked at once a publication. The lock of what is shown is held for as long as a share is
+/// made, that of the room while documents are.
 #[derive(Drop)]
 pub struct Window<K: Named> {
     shown: Mutex<Arc<Shown<K>>>,
@@ -19,11 +23,30 @@ impl<K: Named> Window<K> {
     /// # Errors
     ///
     /// Memory ran out.
-    pub fn new(alloc: Global, shown: Shown<K>) -> Result<Window<K>, AllocError> {
+    fn new(alloc: Global, shown: Shown<K>) -> Result<Window<K>, AllocError> {
         Ok(Window {
             shown: Mutex::new(Arc::new(alloc, shown)?),
             making: Mutex::new(()),
         })
+    }
+
+    /// A window of what everyone is told by now, where a configuration's text has it so; else none.
+    ///
+    /// # Errors
+    ///
+    /// Memory ran out.
+    pub fn open<A: Shows<K>>(
+        alloc: Global,
+        configuration: &[u8],
+        answers: &A,
+    ) -> Result<Option<Window<K>>, AllocError>
+        ensures { IfOk result (λ window. is_some window ≡ is_public configuration.now) }
+    {
+        if !is_public(alloc, configuration)? {
+            return Ok(None);
+        }
+        let window = Window::new(alloc, Shown::of(answers)?)?;
+        Ok(Some(window))
     }
 
     /// What was shown last.

@@ -8,6 +8,7 @@ mod board;
 mod checking;
 mod configuration;
 mod controlling;
+mod counted;
 mod counting;
 mod ending;
 mod errand;

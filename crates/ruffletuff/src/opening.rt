@@ -72,7 +72,9 @@ fn threads_for<R: Threads>(rt: &R, config: &Config) -> usize {
 /// A configuration, and its text.
 #[derive(Drop)]
 pub struct Given<'a> {
+    /// The configuration.
     pub config: Config,
+    /// The text that it was read from.
     pub text: &'a [u8],
 }
 

@@ -1,21 +1,23 @@
 //! A city that is open is served: by one thread that writes its journal, and by those that answer.
-ghost use Rattle.std.specs.Prelude.{◌≡◌, ℕ, List};
+ghost use Rattle.std.specs.Prelude.{◌≡◌, ℕ, List, is_some, IfOk};
+ghost use Rattle.mds_public_answers.specs.Configured.{is_public};
 ghost use Rattle.ruffletuff.specs.Ends.{outcome_of};
 
 use crate::board::Board;
 use crate::configuration::badges_in;
+use crate::counted::Counted;
 use crate::counting::count_vehicles;
 use crate::ending::Ending;
 use crate::errand::{Errand, beside};
 use mds_city::{City, CityReception};
 use mds_commit::{FlushFault, Flusher, Keeper, Naming, Opened, Space, open};
-use mds_control::Counters;
 use mds_doors::{Closing, Ended, MachineClock, Queues, bound, serve_by};
 use mds_hall::{Hall, Named};
 use mds_meter::Metered;
 use mds_page::Page;
 use mds_page_answers::Paged;
 use mds_parallel::Chunked;
+use mds_public_answers::{Public, Window};
 use mds_records::Log;
 use mds_text::Id;
 use std::alloc::{AllocError, AllocGlobal};
@@ -35,17 +37,19 @@ pub struct Stage<'a> {
     pub listen: &'a str,
     /// The operators whose entries are left out.
     pub dropped: &'a [Id],
+    /// How many requests may wait.
     pub queues: Queues,
     /// How many threads answer.
     pub threads: usize,
+    /// What the server shows to who controls it.
     pub board: Board<'a>,
 }
 
 /// The city, at the machine's moments, with verdicts by several threads.
 type Reception<K, N, L, S, R> = CityReception<K, N, R, Chunked<R>, MachineClock<R>, L, S>;
 
-/// Who answers: the page, and behind it the city. What the city answers is counted.
-type Answering<'a, K, N, L, S, R> = Paged<Metered<'a, Reception<K, N, L, S, R>, R>>;
+/// Who answers: the page, behind it what everyone is told, and behind that the city. What the city answers is counted.
+type Answering<'a, K, N, L, S, R> = Paged<Public<K, Counted<'a, Reception<K, N, L, S, R>, R>, R>>;
 
 /// Writes and syncs the journal until the keeper is stopped. Where it can't be written any more, the server ends.
 #[derive(Drop)]
@@ -153,16 +157,19 @@ where
     served(rt, city, &*keeper, flusher, stage)
 }
 
-/// Who answers for a city: the page is made, and what the city answers is counted from now on.
+/// Who answers for a city: the page is made, and what everyone is told where the configuration has it so; what the city answers is
+/// counted from now on.
 ///
 /// # Errors
 ///
 /// Memory ran out.
-fn with_page<'a, K: Named, N: Naming, L: Log, S: Space, R: AllocGlobal + Copy + Drop>(
+fn answering_for<'a, K: Named, N: Naming, L: Log, S: Space, R: Wait + AllocGlobal + Copy + Drop>(
     rt: &R,
     city: City<K, N, L, S>,
-    counters: &'a Counters,
-) -> Result<Answering<'a, K, N, L, S, R>, AllocError> {
+    board: Board<'a>,
+) -> Result<Answering<'a, K, N, L, S, R>, AllocError>
+    ensures { IfOk result (λ paged. is_some paged.answers.window ≡ is_public board.entry.configuration.now) }
+{
     let alloc = rt.alloc();
     let page = Page::new(alloc)?;
     let city = CityReception {
@@ -172,10 +179,19 @@ fn with_page<'a, K: Named, N: Naming, L: Log, S: Space, R: AllocGlobal + Copy + 
         evaluator: Chunked(*rt),
         moments: MachineClock(*rt),
     };
-    let answers = Metered {
-        answers: city,
-        counters,
-        clock: *rt,
+    let answers = Counted {
+        metered: Metered {
+            answers: city,
+            counters: board.counters,
+            clock: *rt,
+        },
+    };
+    let window = Window::open(alloc, board.configuration, &answers)?;
+    let answers = Public {
+        rt: *rt,
+        alloc,
+        window,
+        answers,
     };
     Ok(Paged {
         alloc,
@@ -184,13 +200,22 @@ fn with_page<'a, K: Named, N: Naming, L: Log, S: Space, R: AllocGlobal + Copy + 
     })
 }
 
+/// Whether everyone is told what is meant for everyone.
+fn tells_everyone<K: Named, N: Naming, L: Log, S: Space, R>(
+    answering: &Answering<'_, K, N, L, S, R>,
+) -> bool
+    ensures { result ≡ is_some answering.now.answers.window }
+{
+    answering.answers.window.is_some()
+}
+
 /// Listens, says so, serves a city until it is to end, and ends it.
-fn served<K, N, L, S, R>(
+fn served<'a, K, N, L, S, R>(
     rt: &R,
     city: City<K, N, L, S>,
-    keeper: &Keeper<N, L, S>,
+    keeper: &'a Keeper<N, L, S>,
     flusher: Flusher<N, L>,
-    stage: Stage<'_>,
+    stage: Stage<'a>,
 ) -> Result<(), Ending>
 where
     K: Named + Send + Sync,
@@ -209,7 +234,7 @@ where
         + Copy
         + Drop,
 {
-    let answering = with_page(rt, city, stage.board.counters)?;
+    let answering = answering_for(rt, city, stage.board)?;
     let Ok(mut runtime) = Runtime::with_worker_threads(rt, stage.threads.max(1)) else {
         return Err(Ending::NoListener);
     };
@@ -217,6 +242,9 @@ where
         return Err(Ending::NoListener);
     };
     stage.board.control.serves();
+    if tells_everyone(&answering) {
+        let _ = println!(rt; "tells everyone at /mds/2.0");
+    }
     let _ = println!(rt; "ready");
     let flushing = Flushing {
         rt: *rt,
@@ -245,8 +273,10 @@ fn finished<K: Named, N: Naming, L: Log, S: Space, R: Wait + Drop>(
     let is_served = match ended {
         Ok(Ended { answers, outcome }) => {
             if let Some(paged) = answers {
-                let counted = paged.answers;
-                let reception = counted.answers;
+                let public = paged.answers;
+                let counted = public.answers;
+                let metered = counted.metered;
+                let reception = metered.answers;
                 reception.city.finish(rt);
             }
             outcome.is_ok()

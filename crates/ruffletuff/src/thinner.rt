@@ -37,11 +37,13 @@ impl From<ThinFault> for Ceased {
 /// writes the journal.
 #[derive(Drop)]
 pub struct Thinner<'a, R> {
+    /// By what locks are waited for.
     pub rt: R,
     /// The city's folder.
     pub folder: &'a str,
     /// The text of the configuration.
     pub config: &'a [u8],
+    /// Where shorter journals are handed over.
     pub meeting: &'a Table,
 }
 

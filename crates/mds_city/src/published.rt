@@ -1,0 +1,55 @@
+//! What is told of what is published, and of nothing else.
+ghost use Rattle.std.specs.Prelude.{IfOk};
+ghost use Rattle.mds_hall.specs.Told.{RoomTells};
+
+use crate::city::City;
+use mds_catalog::Catalogue;
+use mds_commit::{Naming, Space};
+use mds_desk::{AuthorTelling, Telling};
+use mds_drafts::Drafts;
+use mds_hall::Named;
+use mds_records::Log;
+use mds_snapshot::Note;
+use std::alloc::{AllocError, Global};
+use std::sync::Wait;
+
+/// What a telling tells of the publications of the author's room, whatever its drafts are.
+#[derive(Drop)]
+struct Published<'a, T> {
+    telling: &'a T,
+}
+
+impl<T: Telling> AuthorTelling for Published<'_, T> {
+    type Told = T::Told;
+
+    ghost tells = { λ published drafts publications told. T.tells published.telling.now publications told };
+
+    fn tell(
+        &self,
+        alloc: Global,
+        _drafts: &Drafts,
+        catalogue: &Catalogue,
+    ) -> Result<T::Told, AllocError> {
+        self.telling.tell(alloc, catalogue)
+    }
+}
+
+impl<K: Named, N: Naming, L: Log, S: Space> City<K, N, L, S> {
+    /// A note of what was published last; none where nothing was since the city was opened.
+    pub fn note<R: Wait>(&self, rt: &R) -> Option<Note<K>> {
+        self.hall.note(rt)
+    }
+
+    /// Tells what a telling has to tell of what is published, under the room's lock. It waits for no sync: what is published was
+    /// synced before the room shows it. Nothing changes.
+    ///
+    /// # Errors
+    ///
+    /// Memory ran out.
+    pub fn tell<T: Telling, R: Wait>(&self, rt: &R, telling: &T) -> Result<T::Told, AllocError>
+        ensures { IfOk result (RoomTells K.configuration (λ drafts publications told. T.tells telling.now publications told)) }
+    {
+        let room = self.hall.room(rt);
+        room.told(&Published { telling })
+    }
+}

@@ -1,0 +1,56 @@
+//! A city whose replies are counted, which shows everyone what is published.
+
+use http::request::Parts;
+use mds_city::CityReception;
+use mds_commit::{Naming, Space};
+use mds_connections::{Answers, Taken};
+use mds_hall::Named;
+use mds_limits::Asker;
+use mds_meter::{Metered, MeteredReply};
+use mds_public::Face;
+use mds_public_answers::{Everyone, Shows};
+use mds_records::Log;
+use mds_snapshot::Note;
+use std::alloc::AllocError;
+use std::sync::Wait;
+use std::time::Clock;
+
+/// What answers, with what it answers counted. Of a city it shows everyone what is published.
+#[derive(Drop)]
+pub struct Counted<'a, A, C> {
+    /// What answers, counted.
+    pub metered: Metered<'a, A, C>,
+}
+
+impl<'a, A: Answers, C: Clock + Copy + Drop> Answers for Counted<'a, A, C> {
+    type Reply = MeteredReply<'a, A::Reply, C>;
+
+    ghost may_answer = { A.may_answer };
+
+    fn asker(&self, parts: &Parts) -> Asker {
+        self.metered.asker(parts)
+    }
+
+    fn answer(&self, parts: &Parts, taken: Taken) -> MeteredReply<'a, A::Reply, C> {
+        self.metered.answer(parts, taken)
+    }
+}
+
+impl<K, N, R, E, M, L, S, C> Shows<K> for Counted<'_, CityReception<K, N, R, E, M, L, S>, C>
+where
+    K: Named,
+    N: Naming,
+    R: Wait,
+    L: Log,
+    S: Space,
+{
+    fn note(&self) -> Option<Note<K>> {
+        let reception = &self.metered.answers;
+        reception.city.note(&reception.rt)
+    }
+
+    fn face(&self) -> Result<Face, AllocError> {
+        let reception = &self.metered.answers;
+        reception.city.tell(&reception.rt, &Everyone)
+    }
+}
