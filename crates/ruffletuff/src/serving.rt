@@ -234,13 +234,13 @@ where
         + Copy
         + Drop,
 {
-    let answering = answering_for(rt, city, stage.board)?;
     let Ok(mut runtime) = Runtime::with_worker_threads(rt, stage.threads.max(1)) else {
         return Err(Ending::NoListener);
     };
     let Ok(listener) = bound(rt, stage.listen, runtime.handle().reactor()) else {
         return Err(Ending::NoListener);
     };
+    let answering = answering_for(rt, city, stage.board)?;
     stage.board.control.serves();
     if tells_everyone(&answering) {
         let _ = println!(rt; "tells everyone at /mds/2.0");
