@@ -6,10 +6,10 @@
 # server   proves ruffletuff with all that it stands on, and builds it
 # plain    the same of mds_serve, which keeps nothing
 # serve    the server on 127.0.0.1:8080 for the city of examples/city.json, kept in out/city, with three lines to paste that ask it
-# try      River City to look at in a browser, on 127.0.0.1:8090: the built ruffletuff, the page beside it, six policies and two fleets
+# try      River City to look at in a browser, on 127.0.0.1:8090: ruffletuff with its page, six policies and two fleets
 # test-web  the page's checks in headless Chromium (Debian's chromium and nodejs; minutes, once a server is built)
 # shots    the README's screenshots, by the same Chromium
-# openapi  checks docs/openapi.yaml against the protocol and the scripts (Debian's python3-yaml, python3-jsonschema)
+# openapi  checks docs/openapi.yaml against the protocol and the scripts (a python3 with the modules yaml and jsonschema)
 # bench    times mds_replay on generated input, and a program in plain Rust beside it, in three forms (minutes, once built)
 # bench-journal  times ruffletuff beside mds_serve, SQLite and PostgreSQL, thinning and a large start (minutes, once built)
 # stress   publishes 500 batches at mds_serve while 8 operators ask, and checks each reply against a replay (seconds, once built)
@@ -20,12 +20,18 @@
 .PHONY: demo test prove edits build server plain serve try test-web shots openapi bench bench-journal stress dist dist-try help
 
 # What each takes where nothing is built, on a machine that does nothing else.
-DEMO_TIME := about a minute
 TEST_TIME := about 12 minutes on two processors
 PROVE_TIME := an hour and more on four processors, two on two
 EDITS_TIME := about four hours
 BUILD_TIME := about 40 minutes
-SERVE_TIME := about an hour
+SERVER_TIME := about an hour
+# And once it is built.
+TRY_TIME := half a minute
+WEB_TIME := some minutes
+BENCH_TIME := some minutes
+STRESS_TIME := seconds
+DIST_TIME := seconds
+DIST_TRY_TIME := about two minutes
 
 PROGRAM := crates/mds_replay/out/mds_replay
 SCRIPT := examples/first-verdict.replay
@@ -36,25 +42,19 @@ CITY := out/city
 # Whether a proved program is built and no source is newer.
 is_built = [ -x $(1) ] && [ -z "$$(find crates.txt crates -path '*/out' -prune -o -newer $(1) \( -name '*.rt' -o -name crates.txt \) -print)" ]
 
-# The proved program, else the sources before their proof.
+# Prints the program that is run: the proved one, else one of the same sources before their proof, which is built where none is there yet.
+to_run = python3 -B tests/unproved.py
+
 demo:
-	@if $(call is_built,$(PROGRAM)); then \
-		$(PROGRAM) < $(SCRIPT); \
-	else \
-		echo "mds_replay isn't built (make build): this runs its sources before their proof, which takes $(DEMO_TIME)" >&2; \
-		said=$$(mktemp); cd crates/mds_replay; \
-		rt try < ../../$(SCRIPT) 2> $$said | grep '^[1-5][0-9][0-9] ' || { cat $$said >&2; rm -f $$said; exit 1; }; \
-		rm -f $$said; \
-	fi
+	@program=$$($(to_run) mds_replay) && exec $$program < $(SCRIPT)
 
 test:
-	@echo "make test proves nothing: it runs sources before their proof. make prove proves them ($(PROVE_TIME))."
-	@echo "It takes $(TEST_TIME). Each part prints what it found once it is over."
+	@echo "make test takes $(TEST_TIME), and proves nothing: it runs sources before their proof (make prove: $(PROVE_TIME))."
+	@echo "Each part prints what it found once it is over."
 	@python3 -B tests/quick.py
 
 prove:
-	@echo "make prove proves every crate that this machine hasn't proved yet, in $(PROVE_TIME) where it has proved none."
-	@echo "Each crate prints its lines once it is proved."
+	@echo "make prove takes $(PROVE_TIME). Each crate prints its lines once it is proved."
 	@bash tests/gate
 
 edits:
@@ -69,53 +69,54 @@ build:
 # Proves and builds ruffletuff with all that it stands on, where a source is newer.
 server:
 	@if ! { $(call is_built,$(SERVER)); }; then \
-		echo "this proves ruffletuff and all below it, in $(SERVE_TIME) where nothing is built" >&2; \
+		echo "this proves ruffletuff and all below it, in $(SERVER_TIME) where nothing is built" >&2; \
 		cd crates/ruffletuff && rt run -- --version > /dev/null; \
 	fi
 
 plain:
 	@if ! { $(call is_built,$(PLAIN)); }; then \
-		echo "this proves mds_serve and all below it, in $(SERVE_TIME) where nothing is built" >&2; \
+		echo "this proves mds_serve and all below it, in $(SERVER_TIME) where nothing is built" >&2; \
 		cd crates/mds_serve && rt run -- 127.0.0.1:0 0 < stdin > /dev/null; \
 	fi
 
 # The lines publish, report and ask. What they change stays in the folder: behind a restart the last one is answered the same.
-serve: server
-	@cat examples/serve.curl
-	@exec $(SERVER) serve --config examples/city.json --state $(CITY) --listen 127.0.0.1:8080 --control 127.0.0.1:8081
+serve:
+	@program=$$($(to_run) ruffletuff) && cat examples/serve.curl && \
+		exec $$program serve --config examples/city.json --state $(CITY) --listen 127.0.0.1:8080 --control 127.0.0.1:8081
 
 try:
-	@if $(call is_built,$(SERVER)); then \
-		exec python3 -B examples/river-city/try.py $(SERVER); \
-	else \
-		echo "ruffletuff isn't built: make server comes first, which takes $(SERVE_TIME)" >&2; \
-		exit 1; \
-	fi
+	@program=$$($(to_run) ruffletuff) && echo "this fills River City, in $(TRY_TIME)" && exec python3 -B examples/river-city/try.py $$program
 
-# With PAGE=FILE the server is that one, a ruffletuff or mds_serve; else the proved ruffletuff, or where that isn't built one from its
-# sources.
+# With PAGE=FILE the server is that one, a ruffletuff or mds_serve; else as above.
 test-web:
+	@echo "make test-web takes $(WEB_TIME) once a server is built"
 	@python3 -B tests/web/run.py checks $(PAGE)
 
 shots:
+	@echo "make shots takes $(WEB_TIME) once a server is built"
 	@python3 -B tests/web/run.py shots $(PAGE)
 
 bench: build
+	@echo "make bench takes $(BENCH_TIME)"
 	python3 -B bench/measure.py
 
 bench-journal: server plain
+	@echo "make bench-journal takes $(BENCH_TIME)"
 	python3 -B bench/journal.py
 
 stress: build plain
+	@echo "make stress takes $(STRESS_TIME)"
 	python3 -B tests/stress.py
 
 openapi:
-	/usr/bin/python3 -B tests/openapi.py docs/PROTOCOL.md
+	@GATE=1 python3 -B tests/openapi.py docs/PROTOCOL.md
 
 dist: build server plain
+	@echo "make dist takes $(DIST_TIME)"
 	@bash dist/build
 
 dist-try:
+	@echo "make dist-try takes $(DIST_TRY_TIME)"
 	@bash dist/try
 
 help:

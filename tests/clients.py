@@ -6,11 +6,11 @@ A refusal that says nothing of a close leaves the connection open, and the next 
 
 import contextlib
 import os
-import shutil
 import subprocess
 import sys
 import tempfile
 
+import packages
 from messages import BODY_LIMIT, code
 from wire import AUTHOR, SECONDS, Closed, identifier, report, request
 
@@ -240,8 +240,9 @@ def closes(file):
 
 def by_curl(server, refusals):
     """The same by curl, with two addresses in one call; a long body with and without a wait for 100."""
-    if not shutil.which("curl"):
-        print("curl isn't there: clients of Python's library alone are tried", flush=True)
+    if not packages.program("curl"):
+        _, failed, _ = packages.leave_out("curl as a client", "curl")
+        yield from ["curl isn't there"] * failed
         return
     asked = [(*it, ("expect:",)) for it in refusals]
     asked += [(FIRST, "POST", EVENTS, b" " * length, 413, "too_large", ()) for length in (BODY_LIMIT + 1, 5_000_000)]

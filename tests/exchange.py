@@ -10,24 +10,37 @@ becomes a geography with an identifier that its name alone gives; that a dry run
 other types or cut within a character, and identifiers that stand twice, are told by file and place and stop nothing else; that vehicles of
 MDS and of GBFS become the reports that are worked out here, many in one request, and those that are away are taken away; that what is
 exported and imported again is exported as the same; that no byte of a file reaches standard output or standard error that could move a
-cursor; and the exit statuses of docs/PROTOCOL.md. Prints what is otherwise, and last 'N passed, M failed'; ends with 1 where one failed.
+cursor; that a reply counts only where it is whole by its head (RFC 9112, section 6.3); that an access token is read from a file and shown
+nowhere; that a FIFO, a socket, a device and a folder are refused at once; and the exit statuses of docs/PROTOCOL.md. Prints what is
+otherwise, and last 'N passed, M failed'; ends with 1 where one failed.
 """
 
 import contextlib
 import json
 import os
 import socket
+import subprocess
 import sys
 import tempfile
 import threading
+import time
 import uuid
 
-from kept import Alone, ended, tried
-from wire import AUTHOR, FIRST, PATIENCE, free_port
+from kept import END_SECONDS, Alone, ended, tried
+from wire import AUTHOR, FIRST, PATIENCE, SECONDS, free_port
 
 LONG = 10_000_000  # bytes of a long file
 MANY = 5_000 if PATIENCE == 1 else 200  # vehicles of a feed, in more than one request
 NAMES = ("Altstadt", "Nördlicher Hafen")  # of places in GeoJSON
+NO_LENGTH = "the server answers with a content-length that is none"
+NO_LENGTHS = (  # fields of a head, each of which says it of a body
+    b"content-length: 99999999999999999999\r\n",
+    b"content-length: 2\r\ncontent-length: 3\r\n",
+    b"content-length: +5\r\n",
+    b"content-length: -5\r\n",
+    b"content-length: 0x2\r\n",
+    b"content-length: \r\n",
+)
 RATE = {"rule_id": "7ea0d16e-ad15-4337-9722-9924e3af9147", "name": "fee", "rule_type": "rate", "geographies": [], "rate_amount": 0.15}
 
 
@@ -189,7 +202,7 @@ def hostile(program):
         files += [os.path.join(room.folder, "absent\x1b[31m.json"), room.folder]
         status, out, err = room.policies(server, *files, good)
         expect((status, out) == (9, "1 documents sent, 7 refused\n"), f"{status} {out} {err}")
-        words = ["it isn't JSON in UTF-8 of at most 127 levels"] * 5 + ["it can't be read"] * 2
+        words = [*["it isn't JSON in UTF-8 of at most 127 levels"] * 5, "it can't be read", "it isn't a regular file"]
         shown = [it.replace("\x1b", "\\x1b") for it in files]
         expect(err.splitlines()[:7] == [f"{it}: {why}" for it, why in zip(shown, words)], err)
         types = room.file("types.json", {"policies": {"a": 1}, "geographies": [[], None, {"geography_id": 5}]})
@@ -309,16 +322,19 @@ def vehicles_of_gbfs(program):
 
 
 def from_addresses(program):
-    """A feed at an address is read; one that isn't there, that isn't HTTP, that breaks off or that hangs is told."""
+    """A feed at an address is read; one that isn't there, that isn't HTTP, that breaks off, that hangs or of whose length nothing can be
+    relied on is told."""
     head = b"HTTP/1.1 200 OK\r\n"
     text = json.dumps({"vehicles_status": [{**doing(1), **what(1)}]}).encode()
     told = [
         (head + b"\r\n" + text, None),
         (head + b"content-length: %d\r\n\r\n" % len(text) + text, None),
-        (b"", "its server answers what isn't HTTP"),
-        (head + b"content-length: 9999\r\n\r\n" + text, "its server broke off"),
-        (b"HTTP/1.1 404 no\r\n\r\n\x1b[31m", "its server doesn't give it"),
-        (None, "its server doesn't answer"),
+        (b"", "the server answers what isn't HTTP"),
+        (head + b"content-length: 9999\r\n\r\n" + text, "the server broke off"),
+        *((head + length + b"\r\n" + text, NO_LENGTH) for length in NO_LENGTHS),
+        (head + b"transfer-encoding: chunked\r\n\r\n0\r\n\r\n", "the server answers in a transfer-encoding that isn't read"),
+        (b"HTTP/1.1 404 no\r\n\r\n\x1b[31m", "the server doesn't give it"),
+        (None, "the server doesn't answer"),
     ]
     with Room(program) as room, socket.create_server(("127.0.0.1", 0)) as listener:
         held = []
@@ -341,7 +357,7 @@ def from_addresses(program):
         for link in held:
             link.close()
         status, _, err = room.run("import", "status", f"http://127.0.0.1:{free_port()}/feed", "--dry-run")
-        expect(status == 9 and "its server doesn't answer" in err, f"nobody there: {status} {err}")
+        expect(status == 9 and "the server doesn't answer" in err, f"nobody there: {status} {err}")
     yield from ()
 
 
@@ -410,7 +426,7 @@ def there_and_back(program):
 
 
 def answers_that_are_none(program):
-    """A server that answers what isn't HTTP, or closes, is no server; nothing of it reaches the terminal as it is."""
+    """A server that answers what isn't HTTP, or closes, has no reply; nothing of it reaches the terminal as it is."""
     with Room(program) as room, socket.create_server(("127.0.0.1", 0)) as listener:
         name = room.file("place.json", place(1))
         said = [b"\x1b[2Jnothing\r\n\r\n", b"", b"HTTP/1.1 418 x\r\ncontent-length: 8\r\n\r\n\x1b[31mred"]
@@ -425,14 +441,163 @@ def answers_that_are_none(program):
 
         threading.Thread(target=serve, daemon=True).start()
         address = f"127.0.0.1:{listener.getsockname()[1]}"
-        for _ in range(2):
+        for words in ("the server answers what isn't HTTP", "the server broke off"):  # as the last of five tries ended
             status, _, err = room.run("import", "policies", name, "--to", address, "--token", AUTHOR)
-            expect(status == 1 and "no server answers" in err, f"{status} {err}")
+            expect((status, err) == (1, f"ruffletuff: {words}: {address}\n"), f"{words}: {status} {err}")
         status, out, err = room.run("import", "policies", name, "--to", address, "--token", AUTHOR)
         expect(status == 9 and "418 \\x1b[31mred" in err, f"{status} {out} {err}")
     yield from ()
 
 
+@contextlib.contextmanager
+def telling(said):
+    """A server that says the same over each connection and closes it: its address, and what each connection asked for."""
+    with socket.create_server(("127.0.0.1", 0)) as listener:
+        asked = []
+
+        def serve():
+            with contextlib.suppress(OSError):
+                while True:
+                    link, _ = listener.accept()
+                    with link:
+                        asked.append(link.recv(65536))
+                        link.sendall(said)
+
+        thread = threading.Thread(target=serve, daemon=True)
+        thread.start()
+        try:
+            yield f"127.0.0.1:{listener.getsockname()[1]}", asked
+        finally:
+            with contextlib.suppress(OSError):
+                listener.shutdown(socket.SHUT_RDWR)
+            thread.join(SECONDS)
+
+
+# Replies that aren't whole, or of which that can't be seen: the fields of the head with the body, what is said, and how often is asked.
+UNWHOLE = (
+    *((fields + b"\r\n{}", NO_LENGTH, 1) for fields in NO_LENGTHS),
+    (b"content-length: 3\r\n\r\n{}", "the server broke off", 5),
+    (b"content-length: 9999999999\r\n\r\n{}", "the server answers with more than is read", 1),
+    (b"\r\n{}", "the server answers without a content-length", 1),
+    (b"content-length: 2\r\ntransfer-encoding: chunked\r\n\r\n0\r\n\r\n",
+     "the server answers with both a content-length and a transfer-encoding", 1),
+    (b"transfer-encoding: gzip\r\n\r\n{}", "the server answers in a transfer-encoding that isn't read", 1),
+    (b"transfer-encoding: chunked\r\n\r\n2\r\n{}\r\n", "the server broke off", 5),
+    (b"transfer-encoding: chunked\r\n\r\n-2\r\n{}\r\n0\r\n\r\n", "the server answers with a chunk that is none", 1),
+)
+
+
+def replies_that_are_not_whole(program):
+    """A reply is whole by its head, or it is none; one in chunks, and one behind an interim one, are read."""
+    head = b"HTTP/1.1 200 OK\r\n"
+    with Room(program) as room:
+        name = room.file("place.json", place(1))
+        for text, words, tries in UNWHOLE:
+            with telling(head + text) as (address, asked):
+                status, out, err = room.run("import", "policies", name, "--to", address, "--token", AUTHOR)
+                wanted = (1, "0 documents sent, 0 refused\n", f"ruffletuff: {words}: {address}\n")
+                expect((status, out, err) == wanted, f"{text}: {status} {out} {err}")
+                expect(len(asked) == tries, f"{text}: asked {len(asked)} times")
+                status, out, err = room.run("export", os.path.join(room.folder, "told"), "--from", address, "--token", AUTHOR)
+                expect((status, out, err) == (1, "", wanted[2]), f"export, {text}: {status} {out} {err}")
+        chunks = b"Transfer-Encoding: Chunked\r\n\r\n1;a=b\r\n{\r\n01\r\n}\r\n0\r\nx: y\r\n\r\n"
+        interim = b"HTTP/1.1 102 Processing\r\n\r\n"
+        for said in (head + chunks, interim + head + b"content-length: 2\r\n\r\n{}", head + b"content-length: 2\r\n\r\n{}behind"):
+            with telling(said) as (address, asked):
+                status, out, err = room.run("import", "policies", name, "--to", address, "--token", AUTHOR)
+                expect((status, out, err) == (0, "1 documents sent, 0 refused\n", ""), f"{said}: {status} {out} {err}")
+                expect(len(asked) == 1, f"{said}: asked {len(asked)} times")
+    yield from ()
+
+
+def tokens_in_files(program):
+    """An access token is read from a file, without one line end behind it; a file that has none is told by its path."""
+    with Room(program) as room, Alone(program) as server:
+        name, address = room.file("place.json", place(1)), f"127.0.0.1:{server.port}"
+        for end in ("", "\n", "\r\n"):
+            path = room.file("token", f"{AUTHOR}{end}".encode())
+            found = room.run("import", "policies", name, "--to", address, "--token-file", path)
+            expect(found == (0, "1 documents sent, 0 refused\n", ""), f"a token with {end!r} behind it: {found}")
+        found = room.run("export", os.path.join(room.folder, "told"), "--token-file", path, "--from", address)
+        expect(found == (0, "0 policies, 0 geographies\n", ""), f"export: {found}")
+        piped = subprocess.run([program, "import", "policies", name, "--to", address, "--token-file", "/dev/stdin"],
+                               input=AUTHOR.encode(), capture_output=True, timeout=END_SECONDS, check=False)
+        expect((piped.returncode, piped.stderr) == (0, b""), f"a token of standard input: {piped}")
+        fifo = os.path.join(room.folder, "fifo")
+        os.mkfifo(fifo)
+        faults = {
+            os.path.join(room.folder, "absent"): "the access token's file can't be read",
+            room.folder: "the access token's file isn't a regular file",
+            fifo: "the access token's file isn't a regular file",
+            room.file("empty", b""): "the access token's file is empty",
+            room.file("line", b"\n"): "the access token's file is empty",
+            room.file("long", b"x" * 65): "the access token's file has more than 64 bytes",
+            room.file("longer", b"x" * 64 + b"\r\n" + b"x" * LONG): "the access token's file has more than 64 bytes",
+        }
+        for path, words in faults.items():
+            for errand in (("import", "policies", name, "--to"), ("import", "status", name, "--to"), ("export", room.folder, "--from")):
+                found = room.run(*errand, address, "--token-file", path)
+                expect(found == (2, "", f"ruffletuff: {words}: {path}\n"), f"{errand}: {found}")
+        for holds in (f"{AUTHOR}\n\n", f"{AUTHOR}\nx: y", f"{AUTHOR} ", f"{AUTHOR}\r"):
+            status, _, err = room.run("import", "policies", name, "--to", address, "--token-file", room.file("lines", holds.encode()))
+            expect((status, err) == (2, f"ruffletuff: the address or the access token is none: {address}\n"), f"{holds!r}: {status} {err}")
+        whole = room.file("whole", b"x" * 64 + b"\r\n")
+        status, _, err = room.run("import", "policies", name, "--to", address, "--token-file", whole)
+        expect(status == 10 and "401 token" in err, f"a token of 64 bytes: {status} {err}")
+        status, _, err = room.run("import", "policies", name, "--to", address, "--token", AUTHOR, "--token-file", path)
+        expect(status == 2 and "usage: " in err, f"a token twice: {status} {err}")
+    yield from ()
+
+
+def tokens_that_are_not_shown(program):
+    """While an errand runs, neither its command line nor its environment has the access token of a file."""
+    with Room(program) as room, socket.create_server(("127.0.0.1", 0)) as listener:
+        listener.settimeout(SECONDS)
+        name, path = room.file("place.json", place(1)), room.file("token", b"a-secret\n")
+        words = ["import", "policies", name, "--to", f"127.0.0.1:{listener.getsockname()[1]}", "--token-file", path]
+        streams = {"stdin": subprocess.DEVNULL, "stdout": subprocess.PIPE, "stderr": subprocess.PIPE}
+        with subprocess.Popen([program, *words], **streams) as process:
+            try:
+                link, _ = listener.accept()
+                with link:
+                    link.settimeout(SECONDS)
+                    asked = link.recv(65536)
+                    shown = b""
+                    for it in ("cmdline", "environ"):
+                        with open(f"/proc/{process.pid}/{it}", "rb") as text:
+                            shown += text.read()
+                    link.sendall(b"HTTP/1.1 200 OK\r\ncontent-length: 2\r\n\r\n{}")
+                    found = (*process.communicate(timeout=END_SECONDS), process.returncode)
+            finally:
+                process.kill()
+        expect(b"\r\nauthorization: Bearer a-secret\r\n" in asked, f"it asks otherwise: {asked[:300]}")
+        expect(path.encode() in shown and b"a-secret" not in shown, f"it shows {shown}")
+        expect(found == (b"1 documents sent, 0 refused\n", b"", 0), f"{found}")
+    yield from ()
+
+
+def files_that_never_end(program):
+    """A FIFO, a socket, a device and a folder are refused before they are opened; what is piped in is read."""
+    with Room(program) as room, socket.socket(socket.AF_UNIX) as bound:
+        fifo, link = (os.path.join(room.folder, it) for it in ("fifo", "link"))
+        os.mkfifo(fifo)
+        os.symlink(fifo, link)
+        bound.bind(os.path.join(room.folder, "socket"))
+        for path in (fifo, link, bound.getsockname(), "/dev/zero", room.folder):
+            for kind, what_is_sent in (("policies", "documents"), ("status", "reports")):
+                since = time.monotonic()
+                found = room.run("import", kind, path, "--dry-run")
+                said = f"{path}: it isn't a regular file\nruffletuff: something was refused\n"
+                expect(found == (9, f"0 {what_is_sent} would be sent, 1 refused\n", said), f"{kind}, {path}: {found}")
+                expect(time.monotonic() - since < SECONDS, f"{kind}, {path}: it waited")
+        piped = subprocess.run([program, "import", "policies", "/dev/stdin", "--dry-run"], input=json.dumps(place(1)).encode(),
+                               capture_output=True, timeout=END_SECONDS, check=False)
+        wanted = f"PUT /drafts/geographies/{number(1, 1)}\n1 documents would be sent, 0 refused\n".encode()
+        expect((piped.returncode, piped.stdout, piped.stderr) == (0, wanted, b""), f"piped in: {piped}")
+    yield from ()
+
+
 if __name__ == "__main__":
-    documents = (in_order, kept_and_refused, features, hostile, places_and_tokens, answers_that_are_none)
-    sys.exit(tried(__doc__, (*documents, vehicles_of_mds, vehicles_of_gbfs, from_addresses, there_and_back)))
+    documents = (in_order, kept_and_refused, features, hostile, places_and_tokens, answers_that_are_none, replies_that_are_not_whole)
+    tokens = (tokens_in_files, tokens_that_are_not_shown, files_that_never_end)
+    sys.exit(tried(__doc__, (*documents, *tokens, vehicles_of_mds, vehicles_of_gbfs, from_addresses, there_and_back)))

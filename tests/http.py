@@ -18,6 +18,7 @@ import json
 import math
 import os
 import re
+import statistics
 import sys
 import tempfile
 import threading
@@ -129,6 +130,22 @@ def a_thousand_at_once(server):
         answers = [link.answer() for _ in range(1000)]
         sender.join()
     yield from (f"answered {it}" for it in answers if not it.is_by_the_server(*NO_POLICY))
+
+
+def two_at_once(server):
+    """Of two requests that come together none waits until the reply before it is acknowledged, for which a client takes 40 ms."""
+    taken = []
+    with server.link() as link:
+        for _ in range(60):
+            begun = time.monotonic()
+            link.send(request("GET", "/policies") * 2)
+            answers = [link.answer() for _ in range(2)]
+            taken.append(time.monotonic() - begun)
+            yield from (f"answered {it}" for it in answers if not it.is_by_the_server(*NO_POLICY))
+    # A new connection is acknowledged at once for a while.
+    median = statistics.median(taken[20:])
+    if median > 0.03 * PATIENCE:
+        yield f"two requests at once take {1000 * median:.0f} ms"
 
 
 def a_head_without_a_body(server):
@@ -572,7 +589,8 @@ def messages(tried, server, left_out=()):
     for name, (sent, accepted) in (HEADS | BODIES).items():
         if name not in left_out:
             tried.one(name, first_on_a_connection(server, sent, accepted))
-    for case in (many_on_one_connection, a_thousand_at_once, a_head_without_a_body, a_body_that_is_awaited, gone_without_a_word, *CLOSINGS):
+    cases = (many_on_one_connection, a_thousand_at_once, two_at_once, a_head_without_a_body, a_body_that_is_awaited, gone_without_a_word)
+    for case in (*cases, *CLOSINGS):
         tried.one(case.__name__, case(server))
 
 

@@ -181,26 +181,36 @@ def is_checked(small):
 # --- Changed and cut -----------------------------------------------------------------------------------------------
 
 
+def wrongs(small, found):
+    """What may be said of a journal that ends so."""
+    if found.ending == "damaged":
+        return [b"it was synced up to byte %d, and isn't whole up to there" % it for it in small.ends]
+    if found.ending == "unexplained":
+        return [b"what stands from byte %d on is no record, and isn't what a kill of the program leaves" % found.whole]
+    return [b"it doesn't begin as a journal does, but with bytes behind which records of a journal stand"]
+
+
 def looked_at(small, journal, must_be_refused, may_be_refused):
     """What check and audit make of other bytes: a front of the lines, or a refusal by name."""
     found = records.read(journal)
-    count, is_damaged = len(found.texts), found.ending == "damaged"
+    count, is_refused = len(found.texts), found.ending in records.REFUSED
+    is_wrong = is_refused or found.ending == "unexplained"
     with small.copy(journal) as city:
         status, out, err = city.check()
         audited, script, _ = ended(city.program, "audit", city.folder, "--config", city.file)
     lines = script.decode().splitlines()[1:]
-    if status != (5 if is_damaged else 0) or audited != status:
+    if status != (5 if is_wrong else 0) or audited != (5 if is_refused else 0):
         yield f"check ends with {status} and audit with {audited}: {err[:200]!r}"
-    if must_be_refused and not is_damaged or is_damaged and not may_be_refused:
+    if must_be_refused and not is_refused or is_refused and not may_be_refused:
         yield f"it is {found.ending}"
-    if is_damaged:
-        lost = [DAMAGED + city.folder.encode(), *(b"it was synced up to byte %d, and isn't whole up to there" % it for it in small.ends)]
+    if is_wrong:
         heard = err.splitlines()
-        if heard[:1] != lost[:1] or heard[1:2] == [] or heard[1] not in lost[1:]:
+        if heard[:1] != [DAMAGED + city.folder.encode()] or heard[1:2] == [] or heard[1] not in wrongs(small, found):
             yield f"check says {err[:200]!r}"
+    if is_refused:
         return
     front = f"{count} {COUNT}{found.whole} bytes, {len(journal) - found.whole} behind them, ".encode()
-    if not out.startswith(front) or (b"whole" in out) != (found.ending == "whole"):
+    if not out.startswith(front) or (b", whole\n" in out) != (found.ending == "whole"):
         yield f"check says {out!r}"
     if lines != small.lines[: max(0, count - 1)]:
         yield f"it is read as other {len(lines)} lines than the first {count - 1}"
@@ -210,7 +220,7 @@ def is_started_from(small, journal):
     """A start from other bytes: from a front, with what is cut told, or refused by name."""
     found = records.read(journal)
     with small.copy(journal) as city:
-        if found.ending == "damaged":
+        if found.ending in records.REFUSED:
             status, out, err = city.refused()
             if (status, out) != (5, b"") or not err.startswith(DAMAGED):
                 yield f"a start ends with {status, out, err[:200]}"
@@ -220,8 +230,8 @@ def is_started_from(small, journal):
         with city.serve() as server:
             yield from is_as_replayed(server, city, small.replay)
             cut = len(journal) - found.whole
-            said = f"ruffletuff: {cut} bytes that weren't synced are cut off the journal\n".encode() if cut else b""
-            if (end := server.end()) != (0, b"", said):
+            said = f"ruffletuff: {cut} bytes that weren't synced, from byte {found.whole} on, are cut off the journal".encode()
+            if (end := server.end())[:2] != (0, b"") or end[2].startswith(said) != bool(cut):
                 yield f"it ends with {end}"
         if city.audit()[1] != small.lines[: max(0, len(found.texts) - 1)]:
             yield "it has other lines than a front"
@@ -290,7 +300,7 @@ def is_refused(city, *words, said=b""):
     """A start is refused since the configuration doesn't fit, and the journal stays as it is."""
     before = city.bytes()
     status, out, err = city.refused(*words)
-    if (status, out) != (6, b"") or not err.startswith(UNFIT + city.folder.encode() + b"\n") or said not in err:
+    if (status, out) != (6, b"") or UNFIT + city.folder.encode() + b"\n" not in err or said not in err:
         yield f"a start ends with {status, out, err}"
     if city.bytes() != before:
         yield "it changes the journal"
@@ -317,11 +327,13 @@ def what_fits(small):
             if statuses != [200, 200, 200]:
                 yield f"under a higher limit reports are answered {statuses}"
         city.configure(BOTH)
+        low = b" is too low: operator " + ALFA_ID.encode() + b" has held more vehicles\n"
+        yield from is_refused(city, said=b"operators[0].limit: 3" + low)
         yield from is_refused(city, said=b"is answered with status 409")
     for limit, status in ((2, 0), (1, 6)):
         with small.copy(given=configuration(operator(ALFA_ID, ALFA, limit), operator(BRAVO_ID, BRAVO))) as city:
             if status:
-                yield from is_refused(city, said=b"is answered with status 409")
+                yield from is_refused(city, said=b"operators[0].limit: 1" + low)
             else:
                 with city.serve() as server:
                     yield from is_as_replayed(server, city, small.replay)
@@ -397,6 +409,8 @@ def one_program_a_folder(small):
 
 def ended_by_signals(small):
     """SIGTERM and SIGINT lose nothing that was answered."""
+    # A shell ignores SIGINT in what it runs in the background, and a program would inherit that.
+    signal.signal(signal.SIGINT, signal.default_int_handler)
     with small.copy() as city:
         for count, number in enumerate((signal.SIGTERM, signal.SIGINT, signal.SIGKILL), 1):
             with city.serve() as server:
@@ -649,7 +663,7 @@ def told_what_is_wrong(small):
             found = ended(program, *words)
             if found[:2] != (status, b"") or not found[2].startswith(said):
                 yield f"{words}: ends with {found}"
-    for words, said in ((("--version",), b"ruffletuff 1.1.0\n"), (("--help",), b"ruffletuff serve --config FILE")):
+    for words, said in ((("--version",), b"ruffletuff 1.2.0\n"), (("--help",), b"ruffletuff serve --config FILE")):
         found = ended(program, *words)
         if (found[0], found[2]) != (0, b"") or not found[1].startswith(said):
             yield f"{words}: ends with {found}"
@@ -744,7 +758,8 @@ def a_full_disk(small):
             os.remove(filler)
             if (answer := server.ask("POST", "/fleet/events", ALFA, report(1, 900_000).encode())).status != 200:
                 yield f"once there is room a report is answered {answer}"
-            if server.end() != (0, b"", b""):
+            # However many changes were refused, it is said once.
+            if server.end() != (0, b"", b"ruffletuff: the disk has no room: changes are answered 503 until it has\n"):
                 yield f"it ends with {server.ended}"
         if (found := len(city.audit()[1])) != len(DRAFTS) + 2 + count:
             yield f"{count + 1} reports were answered, and {found} lines are there"

@@ -64,7 +64,7 @@ class Keeping(Server):
     def asked(self, method, path):
         """The status and the text that its control port answers."""
         with Link(self.control) as link:
-            link.send(f"{method} {path} HTTP/1.1\r\nhost: x\r\n\r\n".encode())
+            link.send(f"{method} {path} HTTP/1.1\r\nhost: 127.0.0.1:{self.control}\r\n\r\n".encode())
             answer = link.answer()
             return answer.status, answer.body
 

@@ -272,10 +272,11 @@ def ends_well(server):
         yield f"ends with {found}"
 
 
-def main():
-    parser = argparse.ArgumentParser(description=__doc__, formatter_class=argparse.RawDescriptionHelpFormatter)
+def main(text, kills, lives):
+    """Reads the arguments of a test of kills, which this text describes, has `lives` kill so often, and tells how it went."""
+    parser = argparse.ArgumentParser(description=text, formatter_class=argparse.RawDescriptionHelpFormatter)
     parser.add_argument("program")
-    parser.add_argument("kills", type=int, nargs="?", default=KILLS)
+    parser.add_argument("kills", type=int, nargs="?", default=kills)
     parser.add_argument("--replay", default=REPLAY, help="the built mds_replay")
     parser.add_argument("--seed", type=int, default=1)
     options = parser.parse_args()
@@ -292,4 +293,4 @@ def main():
 
 
 if __name__ == "__main__":
-    sys.exit(main())
+    sys.exit(main(__doc__, KILLS, lives))

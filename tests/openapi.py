@@ -7,7 +7,8 @@ Every reference resolves, and every component is referred to. The routes, who ma
 protocol (docs/PROTOCOL.md, or the files that are named). Every example fits its schema, and examples of replies and of bodies stand
 in the scripts of tests/replays, but for those of paths beside the routes, which no script asks. There each reply fits the schema of
 its route and status, and so does each body that was taken.
-Prints what was checked in numbers, and each fault; ends with 1 where there is one. Needs Debian's python3-yaml and python3-jsonschema.
+Prints what was checked in numbers, and each fault, and last 'N passed, M failed', of kinds of checks and of faults; ends with 1 where there
+is one. Any python3 of the PATH that has the modules yaml and jsonschema is taken (packages.py); without one it is left out.
 """
 
 import json
@@ -15,15 +16,16 @@ import os
 import re
 import sys
 
+import packages
+
+packages.need_modules("the check of docs/openapi.yaml", "yaml", "jsonschema")
+
 HERE = os.path.dirname(os.path.abspath(__file__))
 # tests/http.py isn't the library's http, which jsonschema asks for.
 sys.path = [it for it in sys.path if os.path.abspath(it) != HERE]
 
-try:
-    import jsonschema
-    import yaml
-except ImportError as missing:
-    sys.exit(f"openapi: {missing.name} isn't there: apt-get install python3-yaml python3-jsonschema, and run it with /usr/bin/python3")
+import jsonschema
+import yaml
 
 DESCRIPTION = f"{HERE}/../docs/openapi.yaml"
 PROTOCOL = f"{HERE}/../docs/PROTOCOL.md"
@@ -319,14 +321,15 @@ def main(protocol):
             text += part.read()
     description = Description(DESCRIPTION)
     checks = [references(description)]
+    faults = [tell(checks[0])]
     # What doesn't resolve can't be looked at further.
-    failed = tell(checks[0])
-    if not failed:
+    if not faults[0]:
         seen = Seen(description)
-        rest = [schemas(description), operations(description), routes(description, text), statuses(description, text)]
-        failed = sum([tell(it) for it in rest + [replies(seen), examples(description, seen)]])
-    print(f"openapi: {failed} faults" if failed else "openapi: everything fits")
-    return 1 if failed else 0
+        checks += [schemas(description), operations(description), routes(description, text), statuses(description, text)]
+        checks += [replies(seen), examples(description, seen)]
+        faults += [tell(it) for it in checks[1:]]
+    print(packages.count(faults.count(0), sum(faults)))
+    return 1 if any(faults) else 0
 
 
 def tell(check):

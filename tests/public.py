@@ -18,19 +18,16 @@ import sys
 import tempfile
 import threading
 
+import packages
+
+packages.need_modules("what everyone is told", "yaml", "jsonschema")
+
 HERE = os.path.dirname(os.path.abspath(__file__))
 # tests/http.py isn't the library's http, which jsonschema asks for.
 sys.path = [it for it in sys.path if os.path.abspath(it) != HERE]
 
-DEBIAN = "/usr/bin/python3"
-try:
-    import jsonschema
-    import yaml
-except ImportError:
-    # Debian's package belongs to its own Python.
-    if os.path.realpath(sys.executable) != os.path.realpath(DEBIAN) and os.access(DEBIAN, os.X_OK):
-        os.execv(DEBIAN, [DEBIAN, "-B", *sys.argv])
-    sys.exit("public: apt-get install python3-yaml python3-jsonschema, and run it with /usr/bin/python3")
+import jsonschema
+import yaml
 
 sys.path.insert(0, HERE)
 

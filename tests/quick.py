@@ -4,14 +4,18 @@
     quick.py
 
 The tests of each crate that has some are built and run by `rt try --test`, and mds_replay and ruffletuff are built by `rt try`
-(tests/unproved.py), as many at once as there are processors and memory; a proved program is taken where it is built and no source is
-newer. Then come the scripts (replays.py), questions that are asked once and again (columns.py), ruffletuff on the messages that wait for
-no deadline and on the short loads (http.py), some kills (kills.py), journals (journals.py, thinning.py), many reports at once (many.py),
-files that are imported (exchange.py), what people are told (app.py), what everyone is told (public.py), the page (page.py), in a browser
-too where Debian's chromium and nodejs are there (web/run.py), and a short stress (stress.py), some refused growths of memory
-(growths.py) and the check of docs/openapi.yaml (openapi.py). The last, and public.py, have failed where their Debian packages are
-missing. The other messages, and mds_serve, which serves by the same crates, are tried by `make prove` alone.
-What a part prints comes once the part is over. Last comes 'N passed, M failed' over all parts; ends with 1 where one failed.
+(tests/unproved.py) and kept in out/unproved, as many at once as there are processors and memory; a program that is there is taken, the
+proved one first, where no source is newer. Then come the scripts (replays.py), questions that are asked once and again (columns.py),
+ruffletuff on the messages that wait for no deadline and on the short loads (http.py), some kills (kills.py, contended.py), journals
+(journals.py, damages.py, thinning.py), the control port (control.py), configurations (config.py), many reports at once (many.py), files
+that are imported (exchange.py), what people are told (app.py), what everyone is told (public.py), the counts of lines in
+docs/DEFINITIONS.md (definitions.py), nginx before a server (nginx.py), the page (page.py), in a browser too (web/run.py), a short stress
+(stress.py), some refused growths of memory (growths.py) and the check of docs/openapi.yaml (openapi.py). The other messages, and mds_serve,
+which serves by the same crates, are tried by `make prove` alone.
+
+What wants a package that isn't there is left out, which the last line but one names, with the command that gets it; with GATE=1 it has
+failed (packages.py). What a part prints comes once the part is over, and of one that failed the last lines again behind all parts. Last
+comes 'N passed, M failed' over all parts, ', K skipped' behind it where some were left out; ends with 1 where one failed.
 """
 
 import contextlib
@@ -25,6 +29,7 @@ import tempfile
 import threading
 import time
 
+import packages
 import unproved
 
 HERE = os.path.dirname(os.path.abspath(__file__))
@@ -32,22 +37,24 @@ MEMORY = 3 << 30  # bytes for one part, at most
 SCRIPT_PARTS = 3
 GROWTH_SECONDS = 20  # for the growths of a crate's tests
 KILLS = "10"
+CONTENDED_KILLS = "10"
+TOLD_AGAIN = 20  # lines of each part that failed, behind all parts
 STRIDE = "29"  # of a journal's bytes, each so many are changed
 CITIES = "2"  # whose questions are asked once and again
 DAY = ("--vehicles", "1", "--kills", "2")  # of a journal that is thinned
 # The crates whose tests for want of memory bear a refused growth in their set-up too.
 SWEPT = ("mds_core_tests", "mds_server_tests", "mds_thinning_tests")
 SLOW = "8"  # how many times as long a part waits for a program that isn't proved
-WORD = re.compile(r"^(\d+) passed, (\d+) failed$", re.M)
 TESTS = re.compile(r"^test result: \w+\. (\d+) passed; (\d+) failed;", re.M)
 
 
 class Part:
-    """One thing to do: its name, how long it takes about, the parts that it waits for, and the call that does it."""
+    """One thing to do: its name, how long it takes about, the parts whose programs it runs, those that are to be over first, and the call
+    that does it."""
 
-    def __init__(self, name, minutes, needs, call):
-        self.name, self.minutes, self.needs, self.call = name, minutes, needs, call
-        self.begun, self.ended, self.passed, self.failed = False, False, 0, 0
+    def __init__(self, name, minutes, needs, call, behind=()):
+        self.name, self.minutes, self.needs, self.call, self.behind = name, minutes, needs, call, (*needs, *behind)
+        self.begun, self.ended, self.passed, self.failed, self.skipped, self.text = False, False, 0, 0, 0, ""
 
     def do(self, printing):
         with printing:
@@ -55,33 +62,35 @@ class Part:
         begun = time.monotonic()
         lost = [it.name for it in self.needs if it.failed]
         try:
-            self.passed, self.failed, text = self.call() if not lost else (0, 1, f"not done, since this failed: {lost[0]}\n")
+            counts = self.call() if not lost else (0, 1, 0, f"not done, since this failed: {lost[0]}\n")
         except (OSError, ValueError, subprocess.SubprocessError) as fault:
-            self.passed, self.failed, text = 0, 1, f"{fault!r}\n"
+            counts = (0, 1, 0, f"{fault!r}\n")
+        self.passed, self.failed, self.skipped, self.text = counts
         with printing:
-            print(f"== {self.name}, in {time.monotonic() - begun:.0f} s: {self.passed} passed, {self.failed} failed")
-            print("".join(f"   {line}\n" for line in text.splitlines()), end="", flush=True)
+            print(f"== {self.name}, in {time.monotonic() - begun:.0f} s: {packages.count(*counts[:3])}")
+            print("".join(f"   {line}\n" for line in self.text.splitlines()), end="", flush=True)
 
 
 def counted(status, text, pattern):
-    """The counts that a part printed last. A part that printed none, or ended badly without a failure, has failed."""
+    """The counts that a part printed last, and of the lines that tell what was left out. A part that printed none, or ended badly without a
+    failure, has failed."""
     found = pattern.findall(text)
-    passed, failed = map(int, found[-1]) if found else (0, 1)
-    return passed, failed or int(status != 0), text
+    passed, failed = map(int, found[-1][:2]) if found else (0, 1)
+    return passed, failed or int(status != 0), len(packages.LEFT_OUT.findall(text)), text
 
 
 def tests_of(name, program):
     """Builds and runs the tests of a crate; those that passed are counted alone. Where a file is named, the program is kept there."""
     status, text = unproved.build(name, program, tests=True)
-    passed, failed, text = counted(status, text, TESTS)
+    passed, failed, skipped, text = counted(status, text, TESTS)
     kept = [line for line in text.splitlines() if not re.fullmatch(r"test \S+ \.\.\. ok|tests: \d+", line)]
-    return passed, failed, "\n".join(kept)
+    return passed, failed, skipped, "\n".join(kept)
 
 
-def program_of(name, program):
+def program_of(name):
     """Builds a program, and runs it on the crate's own input."""
-    status, text = unproved.build(name, program)
-    return int(status == 0), int(status != 0), text if status else ""
+    status, text = unproved.keep(name)
+    return int(status == 0), int(status != 0), 0, text if status else ""
 
 
 def script(name, *words, slow=True):
@@ -89,14 +98,7 @@ def script(name, *words, slow=True):
     words = [sys.executable, "-B", f"{HERE}/{name}", *words]
     how = {"stdin": subprocess.DEVNULL, "stdout": subprocess.PIPE, "stderr": subprocess.STDOUT, "errors": "replace"}
     ran = subprocess.run(words, env={**os.environ, "PATIENCE": SLOW if slow else "1"}, check=False, **how)
-    return counted(ran.returncode, ran.stdout, WORD)
-
-
-def description():
-    """The check of docs/openapi.yaml, with the Python that Debian's packages belong to."""
-    words = ["/usr/bin/python3", "-B", f"{HERE}/openapi.py"]
-    ran = subprocess.run(words, stdout=subprocess.PIPE, stderr=subprocess.STDOUT, errors="replace", check=False)
-    return int(ran.returncode == 0), int(ran.returncode != 0), ran.stdout
+    return counted(ran.returncode, ran.stdout, packages.COUNT)
 
 
 def crates_with_tests():
@@ -115,25 +117,33 @@ def parts(room):
     """All parts, the longest chain first."""
     made, built, slow = [], {}, {}
 
-    def add(name, minutes, needs, call):
-        made.append(Part(name, minutes, needs, call))
+    def add(name, minutes, needs, call, behind=()):
+        made.append(Part(name, minutes, needs, call, behind))
         return [made[-1]]
 
     for name, minutes in (("ruffletuff", 4), ("mds_replay", 1.5)):
-        program = unproved.proved(name)
-        needs = [] if program else add(f"{name} is built unproved", minutes, [], lambda name=name: program_of(name, f"{room}/{name}"))
-        built[name], slow[name] = (program or f"{room}/{name}", needs), not program
+        program, slow[name] = unproved.proved(name), not unproved.proved(name)
+        program = program or unproved.kept(name)
+        needs = [] if program else add(f"{name} is built unproved", minutes, [], lambda name=name: program_of(name))
+        built[name] = (program or f"{unproved.KEPT}/{name}", needs)
     (keep, kept), (replay, replayed) = built["ruffletuff"], built["mds_replay"]
     slowly = slow["ruffletuff"] or slow["mds_replay"]
     stress = ("stress.py", "20", "4", "--serve", keep, "--replay", replay)
     add("messages", 1.5, kept, lambda: script("http.py", keep, "exchanges", slow=slow["ruffletuff"]))
     add("kills", 1.5, kept + replayed, lambda: script("kills.py", keep, KILLS, "--replay", replay, slow=slowly))
+    contended = ("contended.py", keep, CONTENDED_KILLS, "--replay", replay)
+    add("one device over many connections", 1, kept + replayed, lambda: script(*contended, slow=slowly))
     add("journals", 1.5, kept + replayed, lambda: script("journals.py", keep, "--replay", replay, "--stride", STRIDE, slow=slowly))
+    add("damaged journals", 1, kept + replayed, lambda: script("damages.py", keep, "--replay", replay, slow=slowly))
+    add("the control port", 0.5, kept, lambda: script("control.py", keep, slow=slow["ruffletuff"]))
+    add("configurations", 0.3, kept, lambda: script("config.py", keep, slow=slow["ruffletuff"]))
     add("many reports", 0.5, kept, lambda: script("many.py", keep, slow=slow["ruffletuff"]))
     add("what people are told", 0.3, kept, lambda: script("app.py", keep, slow=slow["ruffletuff"]))
     add("files and a server", 0.5, kept, lambda: script("exchange.py", keep, slow=slow["ruffletuff"]))
     add("the page", 0.2, kept, lambda: script("page.py", keep, slow=slow["ruffletuff"]))
     add("what everyone is told", 0.3, kept, lambda: script("public.py", keep, slow=slow["ruffletuff"]))
+    add("the counts of definitions", 0.1, [], lambda: script("definitions.py"))
+    add("nginx before a server", 0.3, [], lambda: script("nginx.py", slow=False))
     add("thinned journals", 1, kept + replayed, lambda: script("thinning.py", keep, "--replay", replay, *DAY, slow=slowly))
     for part in range(1, SCRIPT_PARTS + 1):
         words = ("replays.py", replay, str(part), str(SCRIPT_PARTS))
@@ -147,10 +157,10 @@ def parts(room):
         if name in SWEPT:
             add(f"some growths refused to {name}", GROWTH_SECONDS / 60, needs, lambda words=words: script(*words))
     add("a short stress", 0.5, kept + replayed, lambda: script(*stress, slow=slowly))
-    add("the description of the protocol", 0.1, [], description)
+    add("the description of the protocol", 0.1, [], lambda: script("openapi.py"))
     # Last and with nothing beside each of them, so that no other part makes them late.
-    add("the page in a browser", 2, [*made], lambda: script("web/run.py", "checks", keep, slow=slow["ruffletuff"]))
-    add("short loads", 1.5, [*made], lambda: script("http.py", keep, "short-loads", slow=slow["ruffletuff"]))
+    add("the page in a browser", 2, kept, lambda: script("web/run.py", "checks", keep, slow=slow["ruffletuff"]), [*made])
+    add("short loads", 1.5, kept, lambda: script("http.py", keep, "short-loads", slow=slow["ruffletuff"]), [*made])
     return made
 
 
@@ -165,7 +175,7 @@ def work(todo, changed, printing):
     """Does one part after another, each once those that it waits for have ended."""
     while True:
         with changed:
-            while not (ready := [it for it in todo if not it.begun and all(need.ended for need in it.needs)]):
+            while not (ready := [it for it in todo if not it.begun and all(need.ended for need in it.behind)]):
                 if all(it.begun for it in todo):
                     return
                 changed.wait()
@@ -199,9 +209,17 @@ def main():
                 it.join()
         finally:
             end_all()
-    passed, failed = sum(it.passed for it in todo), sum(it.failed for it in todo)
+    passed, failed, skipped = (sum(getattr(it, which) for it in todo) for which in ("passed", "failed", "skipped"))
     print(f"in {(time.monotonic() - begun) / 60:.1f} minutes; nothing is proved by this (make prove)")
-    print(f"{passed} passed, {failed} failed")
+    for it in todo:
+        if it.failed:
+            print(f"failed: {it.name}")
+            print("".join(f"   {line}\n" for line in it.text.splitlines()[-TOLD_AGAIN:]), end="")
+    left_out = packages.LEFT_OUT.findall("\n".join(it.text for it in todo))
+    if left_out:
+        wanted = dict.fromkeys(word for _, words in left_out for word in words.split())
+        print(f"left out: {', '.join(what for what, _ in left_out)}: apt-get install {' '.join(wanted)}")
+    print(packages.count(passed, failed, skipped))
     return 1 if failed else 0
 
 

@@ -89,18 +89,42 @@ def read(data):
     return Found([it for it in texts if it[0] != WORD[0]], at, sum_, ending(data, at))
 
 
-def ending(data, whole):
-    """Whether bytes stand behind the whole records, and whether a mark among them says that more was synced."""
-    if whole == len(data):
-        return "whole"
-    at = whole
+# The endings with which a journal isn't opened.
+REFUSED = ("foreign", "moved", "damaged")
+
+
+def marks(data, start):
+    """The marks from a place on, wherever they were written: where each stands, for which place it was written, and what it says."""
+    at = start
     while (at := data.find(WORD, at)) >= 0:
         said = data[at : at + 32]
-        synced = int.from_bytes(said[16:24], "big")
-        if said == mark(at, synced) and synced > whole:
-            return "damaged"
+        own, synced = int.from_bytes(said[8:16], "big"), int.from_bytes(said[16:24], "big")
+        if said == mark(own, synced):
+            yield at, own, synced
         at += 1
-    return "torn"
+
+
+def is_torn(behind):
+    """Whether bytes are the beginning of one record, of which the end is missing."""
+    size = int.from_bytes(behind[:4], "big")
+    return behind[:1] == b"\0" if len(behind) < 4 else 0 < size <= MOST_TEXT and len(behind) < HEAD + size
+
+
+def ending(data, whole):
+    """How a file ends behind its whole records."""
+    begun = group(0, 0, 0, [])[0]
+    if whole == len(data):
+        return "whole"
+    if whole == 0:
+        return "torn" if begun.startswith(data) else "foreign"
+    found = list(marks(data, whole))
+    if any(synced > whole for _, _, synced in found):
+        return "damaged"
+    if any(own != at for at, own, _ in found):
+        return "moved"
+    if not found and is_torn(data[whole:]):
+        return "torn"
+    return "unexplained" if whole > len(begun) else "foreign"
 
 
 def head(shares, version=1):

@@ -28,7 +28,6 @@ export const state = {
   shownPlaces: null,
   offenders: new Set(), // rows of the fleet
   caught: null, // one mark a row, of the rule that is shown
-  journal: [],
 };
 
 export const isAuthor = () => state.me?.role === "author";

@@ -51,6 +51,23 @@ async function state(page, what, { is, ok }) {
 
 const isNarrow = (page) => page.run(() => document.documentElement.scrollWidth <= 320);
 
+/** Words that stand on two lines, but those of documents and the identifiers of vehicles. */
+const brokenWords = (page) => page.run(() => {
+  const isLooked = (it) => it?.offsetParent && !it.closest("script, noscript, option, pre, .devices, .hidden, .skip");
+  const lines = (node, { 0: word, index }) => {
+    const range = document.createRange();
+    range.setStart(node, index);
+    range.setEnd(node, index + word.length);
+    return new Set([...range.getClientRects()].filter((it) => it.width).map((it) => Math.round(it.top))).size;
+  };
+  const found = [], nodes = document.createTreeWalker(document.body, NodeFilter.SHOW_TEXT);
+  while (nodes.nextNode()) {
+    const node = nodes.currentNode, words = isLooked(node.parentElement) ? [...node.data.matchAll(/\S+/g)] : [];
+    found.push(...words.filter((it) => lines(node, it) > 1).map((it) => it[0]));
+  }
+  return found.join();
+});
+
 /** Each thing that can be reached by Tab, in order, until the first comes again. */
 async function tabs(page, most) {
   const found = [];
@@ -113,6 +130,22 @@ async function narrow(browser, city, { is, ok }) {
   await page.close();
 }
 
+/** A phone of 360 pixels breaks no word. */
+async function whole(browser, city, { is }) {
+  const id = "7d2f0b1e-5c43-4f6a-9b18-2a6d1c0e4f01", outline = [[-86, 39], [-85, 39], [-85, 40], [-86, 40], [-86, 39]];
+  const place = { geography_id: id, name: "School street and Churchyard", geography_json: { type: "Polygon", coordinates: [outline] } };
+  await city.sure("city", "PUT", `/drafts/geographies/${id}`, place);
+  for (const token of ["scoot", "city"]) {
+    const page = await browser.open(city.url, { width: 360, height: 740, isMobile: true });
+    is(`360 px, no word is broken: signing in before ${token}`, await brokenWords(page), "");
+    await page.signIn(token);
+    await page.run(() => document.querySelectorAll("details").forEach((it) => { it.open = true; }));
+    await page.run(() => new Promise((then) => { setTimeout(then, 100); }));
+    is(`360 px, no word is broken: ${token}`, await brokenWords(page), "");
+    await page.close();
+  }
+}
+
 /** What the page's files are served with. */
 async function served(city, { is, ok }) {
   const types = { "/": "text/html", "/page.css": "text/css", "/page.js": "text/javascript", "/settings.json": "application/json" };
@@ -158,6 +191,7 @@ export default async function access(browser, program, tally) {
   await page.close();
   await keyboard(browser, city, tally);
   await narrow(browser, city, tally);
+  await whole(browser, city, tally);
   await served(city, tally);
   await city.close();
 }

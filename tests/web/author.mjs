@@ -140,22 +140,6 @@ async function documents(page, city, { is, ok }) {
   is("and gone", (await city.ask("city", "GET", `/drafts/policies/${id}`)).status, 404);
 }
 
-/** The journal holds what a city needs to publish again, and does so. */
-async function journal(page, city, { is, ok }) {
-  const lines = await inState(page, (it) => it.journal);
-  is("the journal can be saved", await page.text("#drafts a[download]"), `Save the journal of this visit (${lines.length} lines)`);
-  ok("each line is a request", lines.every((it) => /^(PUT|POST|DELETE) \/\S+( \{.*\})?$/.test(it)), lines);
-  await city.stop();
-  await city.beginAnew();
-  city.fill();
-  const statuses = [];
-  for (const line of lines) {
-    const [, method, target, body] = /^(\S+) (\S+) ?(.*)$/.exec(line);
-    statuses.push((await city.ask("city", method, target, body || undefined)).status);
-  }
-  is("sent again they are carried out again", [...new Set(statuses)].join(), "200");
-}
-
 export default async function author(browser, program, tally) {
   for (const isTold of isKeeping(program) ? [true] : [false, true]) {
     const city = await City.start(program, { seconds: 600, isTold });
@@ -164,10 +148,8 @@ export default async function author(browser, program, tally) {
     await places(page, tally);
     await life(page, city, tally);
     if (isTold) tally.is("the operators' names are told", await texts(page, "[name=who] option"), "Scoot,Wheels");
-    if (!isTold || city.isKeeping) {
-      await documents(page, city, tally);
-      await journal(page, city, tally);
-    }
+    if (!isTold || city.isKeeping) await documents(page, city, tally);
+    tally.is("nothing of a visit is saved", await page.run(() => document.querySelectorAll("[download]").length), 0);
     await clean(page, city, tally, "the author", /status of 4(00|04|09|13) /);
     tally.ok("the cards have the policies", (await cardOf(page, "Downtown fleet cap")) !== "");
     await page.close();

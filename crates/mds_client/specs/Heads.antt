@@ -1,47 +1,41 @@
 -- The head of a reply (RFC 9112), by httparse's grammar, and what it says of the body behind it.
-use Rattle.std.specs.Prelude.{◌≡◌, ℕ, ◌+◌, ◌-◌, ◌*◌, ◌&&◌, fold, map, drop, length, List, [], ◌∷◌, Bool, false, bytes_eq, nat_le, if◌then◌else◌, Option, Some, None, option_and_then, codes}
-use Rattle.std.specs.Char.{to_ascii_lowercase, is_ascii_digit}
-use Rattle.std.specs.List.{list_all}
+use Rattle.std.specs.Prelude.{◌≡◌, ℕ, drop, List, Bool, not, Result, Ok, Err, if◌then◌else◌}
 use Rattle.httparse.specs.Grammar.{ResponseHead, ReadsResponse, HasNoResponse, status_code}
-use Rattle.httparse.specs.Spans.{name_and_value, ResponseOverflows}
+use Rattle.httparse.specs.Spans.{ResponseOverflows}
+use Rattle.http1.specs.Conn.{keeps_alive}
+use Rattle.http1.specs.Framing.{response_framing}
+use Rattle.http1.specs.Message.{known_of}
+use Rattle.http1.specs.declared.fields.KnownFields.{KnownFields}
+use Rattle.http1.specs.declared.framing.Framing.{Framing}
+use Rattle.http1.specs.declared.framing.Framing.TheVariants.{NoBody, Length, Chunked, UntilClose}
+use Rattle.http1.specs.declared.framing.FramingError.{FramingError}
+use Rattle.http1.specs.declared.framing.MethodKind.TheVariants.{Other}
+use Rattle.mds_client.specs.Faults.{fault_of_framing}
+use Rattle.mds_client.specs.declared.fault.ReplyFault.{ReplyFault}
+use Rattle.mds_client.specs.declared.fault.ReplyFault.TheVariants.{UnknownCoding}
 use Rattle.mds_client.specs.declared.head.Head.{Head}
 use Rattle.mds_client.specs.declared.head.Heading.{Heading}
 use Rattle.mds_client.specs.declared.head.Heading.TheVariants.{Whole, Partial, Broken}
 use Rattle.mds_client.specs.declared.head.TheConstants.{MOST_FIELDS}
 
--- the value of the first field of this name, in any case of letters
-abbrev pub field_of : List ℕ → List (List ℕ × List ℕ) → Option (List ℕ)
-field_of name [] = None
-field_of name (field ∷ fields) = if bytes_eq (map to_ascii_lowercase name) (map to_ascii_lowercase field.0) then Some field.1 else field_of name fields
+-- a body in a coding other than `chunked` isn't read, even where it is known how it ends
+abbrev pub uncoded : (is_coded : Bool) → Result Framing FramingError → Result Framing ReplyFault
+uncoded is_coded (Ok NoBody) = Ok NoBody
+uncoded is_coded (Ok (Length size)) = if is_coded then Err UnknownCoding else Ok (Length size)
+uncoded is_coded (Ok Chunked) = if is_coded then Err UnknownCoding else Ok Chunked
+uncoded is_coded (Ok UntilClose) = if is_coded then Err UnknownCoding else Ok UntilClose
+uncoded is_coded (Err error) = Err (fault_of_framing error)
 
--- the number that decimal digits stand for
-abbrev pub decimal : List ℕ → ℕ
-decimal digits = fold (λ n digit. 10 * n + (digit - 48)) 0 digits
-
--- 1 to 13 digits
-abbrev pub is_size : List ℕ → Bool
-is_size value = nat_le 1 (length value) && nat_le (length value) 13 && list_all is_ascii_digit value
-
-abbrev pub size_in : List ℕ → Option ℕ
-size_in value = if is_size value then Some (decimal value) else None
-
--- the length of the body (RFC 9110, section 8.6)
-abbrev pub body_size : List (List ℕ × List ℕ) → Option ℕ
-body_size fields = option_and_then size_in (field_of (codes "content-length") fields)
-
--- the field `connection` is `close` (RFC 9112, section 9.6)
-abbrev pub is_close : Option (List ℕ) → Bool
-is_close None = false
-is_close (Some value) = bytes_eq (map to_ascii_lowercase value) (codes "close")
-
-abbrev pub closes : List (List ℕ × List ℕ) → Bool
-closes fields = is_close (field_of (codes "connection") fields)
+-- how the body of a reply ends (RFC 9112, section 6.3)
+abbrev pub framing_of : (status minor : ℕ) → KnownFields → Result Framing ReplyFault
+framing_of status minor known = uncoded known.other_coding (response_framing Other status minor known)
 
 -- the bytes begin with this head
 abbrev pub IsHead : List ℕ → Head → Type 0
 IsHead bytes head =
     (read : ResponseHead) × ReadsResponse bytes read (drop head.len bytes) × (head.status ≡ status_code read)
-    × (head.body ≡ body_size (map name_and_value read.fields)) × (head.closes ≡ closes (map name_and_value read.fields))
+    × (head.framing ≡ framing_of (status_code read) read.minor (known_of read.fields))
+    × (head.closes ≡ not (keeps_alive read.minor (known_of read.fields)))
 
 -- a head at the front of the bytes, none yet, or none that they can begin with and that has no more fields than are read
 abbrev pub HeadingOf : List ℕ → Heading → Type 0

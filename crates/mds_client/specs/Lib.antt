@@ -1,2 +1,4 @@
 pub mod Requests
+pub mod Faults
 pub mod Heads
+pub mod Bodies

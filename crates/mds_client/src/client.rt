@@ -1,16 +1,20 @@
 //! A connection to a server, kept between requests and opened again.
-ghost use Rattle.std.specs.Prelude.{◌≡◌, ◌≤◌, IfOk, vec_len, length};
 
+use crate::body::{Received, read_body, read_more};
+use crate::fault::ReplyFault;
 use crate::head::{Head, Heading, heading_of};
 use crate::request::{Call, Server, request_text};
 use std::alloc::Global;
-use std::io::{self, ErrorKind, Read, Write};
+use std::io::{self, Read, Write};
 
 /// The most bytes of a reply's head.
 const MOST_OF_HEAD: usize = 65_536;
 
-/// The most bytes of a reply's body.
-const MOST_OF_BODY: u64 = 1_073_741_824;
+/// The most interim replies in front of one.
+const MOST_INTERIM: u32 = 16;
+
+/// The first status of a reply that isn't interim (RFC 9110, section 15).
+const FIRST_FINAL: u16 = 200;
 
 /// How often a request is sent.
 const TRIES: u32 = 5;
@@ -51,69 +55,60 @@ pub struct Client<'a, D: Dial> {
     stream: Option<D::Stream>,
 }
 
-/// Reads more bytes behind those that came.
+/// Reads a head, of which the first bytes may have come, with what comes behind it.
 ///
 /// # Errors
 ///
-/// The connection ends, can't be read, or memory runs out.
-fn read_more<S: Read>(stream: &mut S, came: &mut Vec<u8>) -> io::Result<()> {
-    let mut part = [0u8; 4096];
-    let count = stream.read(&mut part)?;
-    if count == 0 {
-        return Err(ErrorKind::UnexpectedEof.into());
-    }
-    came.extend_from_slice(part.get(..count).unwrap_or_default())?;
-    Ok(())
-}
-
-/// Reads a head, with what has come behind it.
-///
-/// # Errors
-///
-/// No head comes, or the connection's.
-fn read_head<S: Read>(stream: &mut S, came: &mut Vec<u8>) -> io::Result<Head> {
-    for _ in 0..MOST_OF_HEAD {
-        read_more(stream, came)?;
+/// `InvalidHead` where no head comes; as `read_more`.
+fn read_head<S: Read>(stream: &mut S, came: &mut Vec<u8>) -> Result<Head, ReplyFault> {
+    for _ in 0..=MOST_OF_HEAD {
         match heading_of(came) {
             Heading::Whole(head) => return Ok(head),
-            Heading::Partial if came.len() <= MOST_OF_HEAD => {}
+            Heading::Partial if came.len() <= MOST_OF_HEAD => read_more(stream, came)?,
             _ => break,
         }
     }
-    Err(ErrorKind::InvalidData.into())
+    Err(ReplyFault::InvalidHead)
+}
+
+/// Reads the head of the reply, and gives it with what came behind it. Interim replies in front of it are passed over
+/// (RFC 9110, section 15.2).
+///
+/// # Errors
+///
+/// As `read_head`.
+fn read_final_head<S: Read>(alloc: Global, stream: &mut S) -> Result<(Head, Vec<u8>), ReplyFault> {
+    let mut came = Vec::new(alloc);
+    for _ in 0..MOST_INTERIM {
+        let head = read_head(stream, &mut came)?;
+        let behind = Vec::from_slice(alloc, came.get(head.len..).unwrap_or_default())?;
+        if head.status >= FIRST_FINAL {
+            return Ok((head, behind));
+        }
+        came = behind;
+    }
+    Err(ReplyFault::InvalidHead)
 }
 
 /// Sends a request over a connection, and reads its reply.
 ///
 /// # Errors
 ///
-/// The connection's, or what comes is no reply with a length.
+/// Why there is none.
 fn exchange<S: Read + Write>(
     alloc: Global,
     stream: &mut S,
     request: &[u8],
-) -> io::Result<Exchanged> {
+) -> Result<Exchanged, ReplyFault> {
     stream.write_all(request)?;
-    let mut came = Vec::new(alloc);
-    let head = read_head(stream, &mut came)?;
-    let size = match head.body {
-        Some(size) if size <= MOST_OF_BODY => size,
-        _ => return Err(ErrorKind::InvalidData.into()),
-    };
-    let mut body = Vec::new(alloc);
-    body.extend_from_slice(came.get(head.len..).unwrap_or_default())?;
-    for _ in 0..size {
-        if body.len() as u64 >= size {
-            break;
-        }
-        read_more(stream, &mut body)?;
-    }
+    let (head, came) = read_final_head(alloc, stream)?;
+    let Received { body, has_surplus } = read_body(alloc, stream, head.framing?, came)?;
     Ok(Exchanged {
         reply: Reply {
             status: head.status,
             body,
         },
-        closes: head.closes,
+        closes: head.closes || has_surplus,
     })
 }
 
@@ -131,8 +126,8 @@ impl<'a, D: Dial> Client<'a, D> {
     ///
     /// # Errors
     ///
-    /// The connection's, which isn't kept then.
-    fn ask_once(&mut self, alloc: Global, request: &[u8]) -> io::Result<Reply> {
+    /// Why there is no reply; the connection isn't kept then.
+    fn ask_once(&mut self, alloc: Global, request: &[u8]) -> Result<Reply, ReplyFault> {
         let mut stream = match self.stream.take() {
             Some(stream) => stream,
             None => self.dial.dial()?,
@@ -148,13 +143,13 @@ impl<'a, D: Dial> Client<'a, D> {
     ///
     /// # Errors
     ///
-    /// As the last connection ended; want of memory.
-    pub fn ask(&mut self, alloc: Global, call: &Call<'_>) -> io::Result<Reply> {
+    /// Why there is no reply, as the last connection ended.
+    pub fn ask(&mut self, alloc: Global, call: &Call<'_>) -> Result<Reply, ReplyFault> {
         let request = request_text(alloc, &self.server, call)?;
         for _ in 1..TRIES {
             match self.ask_once(alloc, &request) {
                 Ok(reply) if reply.status != UNAVAILABLE => return Ok(reply),
-                Err(error) if error.kind() == ErrorKind::OutOfMemory => return Err(error),
+                Err(fault) if !fault.is_passing() => return Err(fault),
                 _ => self.dial.pause(),
             }
         }

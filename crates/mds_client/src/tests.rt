@@ -1,5 +1,6 @@
 //! Asking over connections that are lists of bytes.
-use crate::{Call, Client, Dial, Heading, Server, heading_of, request_text};
+use crate::{Call, Client, Dial, Heading, ReplyFault, Server, body_of, heading_of, request_text};
+use http1::framing::Framing;
 use std::cell::Cell;
 use std::io::{self, Read, Write};
 use std::test::Fail;
@@ -46,41 +47,184 @@ impl Dial for Two {
     fn pause(&self) {}
 }
 
+/// Connections over which the same is told each time.
+#[derive(Drop)]
+struct Same(&'static [u8]);
+
+impl Dial for Same {
+    type Stream = Told;
+
+    fn dial(&self) -> io::Result<Told> {
+        Ok(Told(self.0))
+    }
+
+    fn pause(&self) {}
+}
+
+/// Replies that aren't whole or can't be seen to be whole, each with what is said of it.
+const FAULTS: &[(&[u8], ReplyFault)] = &[
+    (
+        b"HTTP/1.1 200 OK\r\ncontent-length: 99999999999999999999\r\n\r\n{}",
+        ReplyFault::InvalidLength,
+    ),
+    (
+        b"HTTP/1.1 200 OK\r\ncontent-length: 2\r\ncontent-length: 3\r\n\r\n{} ",
+        ReplyFault::InvalidLength,
+    ),
+    (
+        b"HTTP/1.1 200 OK\r\ncontent-length: +2\r\n\r\n{}",
+        ReplyFault::InvalidLength,
+    ),
+    (
+        b"HTTP/1.1 200 OK\r\ncontent-length: -2\r\n\r\n{}",
+        ReplyFault::InvalidLength,
+    ),
+    (
+        b"HTTP/1.1 200 OK\r\ncontent-length: 9\r\n\r\n{}",
+        ReplyFault::Incomplete,
+    ),
+    (
+        b"HTTP/1.1 200 OK\r\ncontent-length: 9999999999\r\n\r\n{}",
+        ReplyFault::TooLong,
+    ),
+    (
+        b"HTTP/1.1 200 OK\r\ncontent-length: 2\r\ntransfer-encoding: chunked\r\n\r\n0\r\n\r\n",
+        ReplyFault::LengthAndCoding,
+    ),
+    (
+        b"HTTP/1.1 200 OK\r\ntransfer-encoding: gzip, chunked\r\n\r\n0\r\n\r\n",
+        ReplyFault::UnknownCoding,
+    ),
+    (
+        b"HTTP/1.1 200 OK\r\ntransfer-encoding: chunked\r\n\r\n2\r\n{}\r\n0\r\n",
+        ReplyFault::Incomplete,
+    ),
+    (
+        b"HTTP/1.1 200 OK\r\ntransfer-encoding: chunked\r\n\r\n2\r\n{}}\r\n0\r\n\r\n",
+        ReplyFault::InvalidChunk,
+    ),
+    (b"HTTP/1.1 200 OK\r\n\r\n{}", ReplyFault::NoLength),
+    (b"no head at all", ReplyFault::InvalidHead),
+];
+
+/// The length in chunks, behind an interim reply, with a byte too many behind its end.
+const CHUNKS: &[u8] = b"HTTP/1.1 102 \r\n\r\nHTTP/1.1 200 OK\r\nTransfer-Encoding: Chunked\r\n\r\n\
+    1;a=b\r\na\r\n02\r\nll\r\n0\r\nx: y\r\n\r\n!";
+
+const WHO: Server<'static> = Server {
+    host: "here",
+    token: "city",
+};
+
+const WHAT: Call<'static> = Call {
+    method: "GET",
+    target: "/policies",
+    body: b"",
+};
+
+#[test]
+fn takes_no_reply_that_is_not_whole(rt: HostRuntime) -> Result<(), Fail> {
+    for (said, fault) in FAULTS {
+        let mut client = Client::new(Same(said), WHO);
+        match client.ask(rt.alloc(), &WHAT) {
+            Err(found) => assert!(rt; found == *fault && !found.words().is_empty()),
+            Ok(_) => assert!(rt; false),
+        }
+    }
+    Ok(())
+}
+
+#[test]
+fn reads_chunks(rt: HostRuntime) -> Result<(), Fail> {
+    let mut client = Client::new(Same(CHUNKS), WHO);
+    for _ in 0..2 {
+        match client.ask(rt.alloc(), &WHAT) {
+            Ok(reply) => assert!(rt; reply.body.as_slice() == b"all".as_slice()),
+            Err(_) => assert!(rt; false),
+        }
+    }
+    Ok(())
+}
+
+/// What is said of the body of a reply that has come up to its connection's end.
+fn is_body(rt: &HostRuntime, said: &[u8], wanted: Result<&[u8], ReplyFault>) -> bool {
+    let Heading::Whole(head) = heading_of(said) else {
+        return false;
+    };
+    let bytes = said.get(head.len..).unwrap_or_default();
+    match (body_of(rt.alloc(), &head, bytes), wanted) {
+        (Ok(body), Ok(wanted)) => body.as_slice() == wanted,
+        (Err(found), Err(wanted)) => found == wanted,
+        _ => false,
+    }
+}
+
+#[test]
+fn reads_bodies_that_have_come(rt: HostRuntime) -> Result<(), Fail> {
+    assert!(rt;
+        is_body(
+            &rt,
+            b"HTTP/1.1 200 OK\r\ncontent-length: 2\r\n\r\n{} ",
+            Ok(b"{}")
+        )
+    );
+    assert!(rt; is_body(&rt, b"HTTP/1.0 200 OK\r\n\r\n{} ", Ok(b"{} ")));
+    assert!(rt; is_body(&rt, b"HTTP/1.1 204 \r\n\r\n", Ok(b"")));
+    let fault = ReplyFault::InvalidLength;
+    assert!(rt;
+        is_body(
+            &rt,
+            b"HTTP/1.1 200 OK\r\ncontent-length: x\r\n\r\n{}",
+            Err(fault)
+        )
+    );
+    let fault = ReplyFault::Incomplete;
+    assert!(rt;
+        is_body(
+            &rt,
+            b"HTTP/1.1 200 OK\r\ncontent-length: 3\r\n\r\n{}",
+            Err(fault)
+        )
+    );
+    let fault = ReplyFault::UnknownCoding;
+    let said = b"HTTP/1.1 200 OK\r\ntransfer-encoding: chunked\r\n\r\n0\r\n\r\n";
+    assert!(rt; is_body(&rt, said, Err(fault)));
+    Ok(())
+}
+
 #[test]
 fn asks_again(rt: HostRuntime) -> Result<(), Fail> {
-    let server = Server {
-        host: "here",
-        token: "city",
-    };
     let call = Call {
         method: "PUT",
         target: "/drafts/policies/1",
         body: b"{}",
     };
-    let mut client = Client::new(Two(Cell::new(0)), server);
-    let reply = client.ask(rt.alloc(), &call)?;
-    assert!(rt; reply.status == 200 && reply.body.as_slice() == b"all".as_slice());
+    let mut client = Client::new(Two(Cell::new(0)), WHO);
+    match client.ask(rt.alloc(), &call) {
+        Ok(reply) => {
+            assert!(rt; reply.status == 200 && reply.body.as_slice() == b"all".as_slice());
+        }
+        Err(_) => assert!(rt; false),
+    }
     Ok(())
 }
 
 #[test]
 fn writes_and_reads_heads(rt: HostRuntime) -> Result<(), Fail> {
-    let server = Server {
-        host: "here",
-        token: "city",
-    };
     let call = Call {
         method: "DELETE",
         target: "/fleet/vehicles/1",
         body: b"",
     };
-    let text = request_text(rt.alloc(), &server, &call)?;
+    let text = request_text(rt.alloc(), &WHO, &call)?;
     let wanted =
         b"DELETE /fleet/vehicles/1 HTTP/1.1\r\nhost: here\r\nauthorization: Bearer city\r\ncontent-length: 0\r\n\r\n";
     assert!(rt; text.as_slice() == wanted.as_slice());
     match heading_of(LATER) {
         Heading::Whole(head) => {
-            assert!(rt; head.status == 503 && head.body == Some(2) && head.closes);
+            assert!(rt;
+                head.status == 503 && head.closes && head.framing == Ok(Framing::Length(2))
+            );
         }
         _ => assert!(rt; false),
     }

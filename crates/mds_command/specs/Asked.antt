@@ -1,18 +1,19 @@
 -- What the words behind the program's name ask for.
-use Rattle.std.specs.Prelude.{ℕ, List, [], ◌∷◌, bytes_eq, codes, option_map, unwrap_or, if◌then◌else◌, Option, Some, None}
+use Rattle.std.specs.Prelude.{ℕ, Bool, true, false, not, ◌&&◌, List, [], ◌∷◌, bytes_eq, codes, option_map, unwrap_or, if◌then◌else◌, Option, Some, None}
 use Rattle.uuid.specs.Text.{parsed}
 use Rattle.mds_command.specs.Options.{value_of, are_options, moment_in, count_in}
 use Rattle.mds_command.specs.Errands.{Job, errand_of, errand_view}
 use Rattle.mds_command.specs.declared.asking.TheConstants.{THIN_AT}
 use Rattle.mds_command.specs.declared.asking.Asked.{Asked}
-use Rattle.mds_command.specs.declared.asking.Asked.TheVariants.{Help, Version, Serve, Check, Audit, Thin, Stop, Errand}
+use Rattle.mds_command.specs.declared.asking.Asked.TheVariants.{Help, Version, Serve, Check, CheckConfig, Audit, Thin, Stop, Errand}
 
 -- what the program is asked to do
 pub data Request : Type 0 where
   help : Request
   version : Request
-  serve : (config state listen : List ℕ) → (control dropped : Option (List ℕ)) → (thin_at : ℕ) → Request
+  serve : (config state listen : List ℕ) → (control control_host dropped : Option (List ℕ)) → (thin_at : ℕ) → Request
   check : (folder : List ℕ) → Request
+  check_config : (config : List ℕ) → Request
   audit : (folder config : List ℕ) → (until : Option ℕ) → (operator : Option (List ℕ)) → Request
   thin : (folder config : List ℕ) → Request
   stop : (address : List ℕ) → Request
@@ -24,19 +25,28 @@ read_if read None = Some None
 read_if read (Some word) = option_map Some (read word)
 
 abbrev pub serving_options : List (List ℕ)
-serving_options = codes "--config" ∷ codes "--state" ∷ codes "--listen" ∷ codes "--control" ∷ codes "--drop" ∷ codes "--thin-at" ∷ []
+serving_options = codes "--config" ∷ codes "--state" ∷ codes "--listen" ∷ codes "--control" ∷ codes "--control-host" ∷ codes "--drop" ∷ codes "--thin-at" ∷ []
+
+-- the control port has another name only where there is one
+abbrev pub is_control : (control control_host : Option (List ℕ)) → Bool
+is_control None (Some host) = false
+is_control control control_host = true
 
 -- to serve, where these three are given; the journal is thinned by its default where it isn't said when
-abbrev pub serve_with : (config state listen control : Option (List ℕ)) → (dropped : Option (Option (List ℕ))) → (thin_at : Option (Option ℕ)) → Option Request
-serve_with (Some config) (Some state) (Some listen) control (Some dropped) (Some thin_at) =
-    Some (serve config state listen control dropped (unwrap_or thin_at THIN_AT))
-serve_with config state listen control dropped thin_at = None
+abbrev pub serve_with : (config state listen control control_host : Option (List ℕ)) → (dropped : Option (Option (List ℕ)))
+    → (thin_at : Option (Option ℕ)) → Option Request
+serve_with (Some config) (Some state) (Some listen) control control_host (Some dropped) (Some thin_at) =
+    if is_control control control_host
+    then Some (serve config state listen control control_host dropped (unwrap_or thin_at THIN_AT))
+    else None
+serve_with config state listen control control_host dropped thin_at = None
 
 abbrev pub asked_to_serve : List (List ℕ) → Option Request
 asked_to_serve words =
     if are_options serving_options words
     then serve_with (value_of (codes "--config") words) (value_of (codes "--state") words) (value_of (codes "--listen") words)
-    (value_of (codes "--control") words) (read_if parsed (value_of (codes "--drop") words)) (read_if count_in (value_of (codes "--thin-at") words))
+    (value_of (codes "--control") words) (value_of (codes "--control-host") words)
+    (read_if parsed (value_of (codes "--drop") words)) (read_if count_in (value_of (codes "--thin-at") words))
     else None
 
 abbrev pub auditing_options : List (List ℕ)
@@ -63,28 +73,34 @@ abbrev pub asked_to_thin : List ℕ → List (List ℕ) → Option Request
 asked_to_thin folder words =
     if are_options (codes "--config" ∷ []) words then thin_with folder (value_of (codes "--config") words) else None
 
+-- to check a configuration, by its one option
+abbrev pub asked_to_check : List ℕ → List (List ℕ) → Option Request
+asked_to_check option (config ∷ []) = if bytes_eq option (codes "--config") then Some (check_config config) else None
+asked_to_check option words = None
+
 -- what one word asks for
 abbrev pub asked_alone : List ℕ → Option Request
 asked_alone word =
     if bytes_eq word (codes "--help") then Some help
     else (if bytes_eq word (codes "--version") then Some version else None)
 
--- what the word `check` or `stop` asks for, with a folder or an address
+-- what the word `check` or `stop` asks for, with a folder or an address; `--config` by itself is no folder
 abbrev pub asked_with : List ℕ → List ℕ → Option Request
 asked_with verb name =
-    if bytes_eq verb (codes "check") then Some (check name)
+    if bytes_eq verb (codes "check") && not (bytes_eq name (codes "--config")) then Some (check name)
     else (if bytes_eq verb (codes "stop") then Some (stop name) else None)
 
 -- what is done between files and another server
 abbrev pub asked_errand : List ℕ → List ℕ → List (List ℕ) → Option Request
 asked_errand verb name words = option_map errand (errand_of verb name words)
 
--- what a word asks for, with another and options, which `check` and `stop` haven't
+-- what a word asks for, with another and options, which `stop` hasn't
 abbrev pub asked_of : List ℕ → List ℕ → List (List ℕ) → Option Request
 asked_of verb name [] = asked_with verb name
 asked_of verb name (word ∷ words) =
-    if bytes_eq verb (codes "audit") then asked_to_audit name (word ∷ words)
-    else (if bytes_eq verb (codes "thin") then asked_to_thin name (word ∷ words) else asked_errand verb name (word ∷ words))
+    if bytes_eq verb (codes "check") then asked_to_check name (word ∷ words)
+    else (if bytes_eq verb (codes "audit") then asked_to_audit name (word ∷ words)
+    else (if bytes_eq verb (codes "thin") then asked_to_thin name (word ∷ words) else asked_errand verb name (word ∷ words)))
 
 -- what the words behind the program's name ask for
 abbrev pub asked_by : List (List ℕ) → Option Request
@@ -95,8 +111,11 @@ asked_by (verb ∷ word ∷ words) = if bytes_eq verb (codes "serve") then asked
 abbrev pub asked_view : Asked → Request
 asked_view Help = help
 asked_view Version = version
-asked_view (Serve s) = serve s.config.now s.state.now s.listen.now (option_map (λ word. word.now) s.control) s.dropped s.thin_at
+asked_view (Serve s) =
+    serve s.config.now s.state.now s.listen.now (option_map (λ word. word.now) s.control)
+    (option_map (λ word. word.now) s.control_host) s.dropped s.thin_at
 asked_view (Check folder) = check folder.now
+asked_view (CheckConfig config) = check_config config.now
 asked_view (Audit a) = audit a.folder.now a.config.now a.until a.operator
 asked_view (Thin t) = thin t.folder.now t.config.now
 asked_view (Stop address) = stop address.now

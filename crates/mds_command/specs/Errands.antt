@@ -1,17 +1,23 @@
 -- What the words ask for that is done between files and another server.
-use Rattle.std.specs.Prelude.{ℕ, ◌+◌, ◌-◌, ◌==◌, ◌&&◌, Bool, true, false, List, [], ◌∷◌, length, take, drop, map, bytes_eq, codes, string_bytes, option_map, if◌then◌else◌, Option, Some, None}
+use Rattle.std.specs.Prelude.{ℕ, ◌+◌, ◌-◌, ◌==◌, ◌&&◌, Bool, false, List, [], ◌∷◌, length, take, drop, map, bytes_eq, codes, string_bytes, option_map, if◌then◌else◌, Option, Some, None}
 use Rattle.mds_command.specs.Options.{value_of, are_options}
+use Rattle.mds_command.specs.declared.errands.TokenSource.{TokenSource}
+use Rattle.mds_command.specs.declared.errands.TokenSource.TheVariants.{Argument, File}
 use Rattle.mds_command.specs.declared.errands.Destination.{Destination}
 use Rattle.mds_command.specs.declared.errands.Import.{Import}
-use Rattle.mds_command.specs.declared.errands.Export.{Export}
 use Rattle.mds_command.specs.declared.errands.Errand.{Errand}
 use Rattle.mds_command.specs.declared.errands.Errand.TheVariants.{Policies, Status, Published}
 
+-- an access token: it stands among the words, or in the file of this path
+pub data Token : Type 0 where
+  argument : (token : List ℕ) → Token
+  in_file : (path : List ℕ) → Token
+
 -- what is done: files are sent to an address by an access token, or to nobody; or what is published there goes into a folder
 pub data Job : Type 0 where
-  policies : (files : List (List ℕ)) → (destination : Option (List ℕ × List ℕ)) → Job
-  status : (files : List (List ℕ)) → (destination : Option (List ℕ × List ℕ)) → Job
-  published : (folder : List ℕ) → (source : List ℕ × List ℕ) → Job
+  policies : (files : List (List ℕ)) → (destination : Option (List ℕ × Token)) → Job
+  status : (files : List (List ℕ)) → (destination : Option (List ℕ × Token)) → Job
+  published : (folder : List ℕ) → (source : List ℕ × Token) → Job
 
 -- a word that begins an option
 abbrev pub begins_option : List ℕ → Bool
@@ -29,35 +35,46 @@ is_dry [] = false
 is_dry (word ∷ []) = bytes_eq word (codes "--dry-run")
 is_dry (word ∷ next ∷ words) = is_dry (next ∷ words)
 
+-- the token behind `--token` or the file behind `--token-file`, where one of both is given
+abbrev pub token_with : (token path : Option (List ℕ)) → Option Token
+token_with (Some token) None = Some (argument token)
+token_with None (Some path) = Some (in_file path)
+token_with token path = None
+
+abbrev pub token_source : List (List ℕ) → Option Token
+token_source words = token_with (value_of (codes "--token") words) (value_of (codes "--token-file") words)
+
 -- an address and an access token, where both are given
-abbrev pub place_with : Option (List ℕ) → Option (List ℕ) → Option (List ℕ × List ℕ)
+abbrev pub place_with : Option (List ℕ) → Option Token → Option (List ℕ × Token)
 place_with (Some address) (Some token) = Some (address, token)
 place_with address token = None
 
--- a server that options name: its address behind this one, its access token behind `--token`
-abbrev pub place_in : List ℕ → List (List ℕ) → Option (List ℕ × List ℕ)
+-- a server that options name: its address behind this one, its access token behind `--token` or in a file
+abbrev pub place_in : List ℕ → List (List ℕ) → Option (List ℕ × Token)
 place_in name words =
-    if are_options (name ∷ codes "--token" ∷ []) words then place_with (value_of name words) (value_of (codes "--token") words) else None
+    if are_options (name ∷ codes "--token" ∷ codes "--token-file" ∷ []) words
+    then place_with (value_of name words) (token_source words)
+    else None
 
 -- nothing is sent, where the other options are none or name a server
-abbrev pub dry_with : List (List ℕ) → Option (List ℕ × List ℕ) → Option (Option (List ℕ × List ℕ))
+abbrev pub dry_with : List (List ℕ) → Option (List ℕ × Token) → Option (Option (List ℕ × Token))
 dry_with [] place = Some None
 dry_with words (Some place) = Some None
 dry_with words None = None
 
 -- to whom files are sent: to nobody with `--dry-run` as the last word
-abbrev pub destination_in : List (List ℕ) → Option (Option (List ℕ × List ℕ))
+abbrev pub destination_in : List (List ℕ) → Option (Option (List ℕ × Token))
 destination_in words =
     if is_dry words then (let rest = take (length words - 1) words in dry_with rest (place_in (codes "--to") rest))
     else option_map Some (place_in (codes "--to") words)
 
 -- files, of which there is one at least, and to whom they are sent
-abbrev pub sent : (List (List ℕ) → Option (List ℕ × List ℕ) → Job) → List (List ℕ) → Option (Option (List ℕ × List ℕ)) → Option Job
+abbrev pub sent : (List (List ℕ) → Option (List ℕ × Token) → Job) → List (List ℕ) → Option (Option (List ℕ × Token)) → Option Job
 sent job [] destination = None
 sent job files None = None
 sent job files (Some destination) = Some (job files destination)
 
-abbrev pub sent_by : (List (List ℕ) → Option (List ℕ × List ℕ) → Job) → List (List ℕ) → Option Job
+abbrev pub sent_by : (List (List ℕ) → Option (List ℕ × Token) → Job) → List (List ℕ) → Option Job
 sent_by job words = sent job (take (file_count words) words) (destination_in (drop (file_count words) words))
 
 -- what `import` asks for, with a kind of file and further words
@@ -76,10 +93,14 @@ errand_of verb name words =
     if bytes_eq verb (codes "import") then import_of name words
     else (if bytes_eq verb (codes "export") then export_of name words else None)
 
-abbrev pub place_view : Destination → List ℕ × List ℕ
-place_view d = (d.address.now, d.token.now)
+abbrev pub token_view : TokenSource → Token
+token_view (Argument token) = argument token.now
+token_view (File path) = in_file path.now
 
-abbrev pub import_view : (List (List ℕ) → Option (List ℕ × List ℕ) → Job) → Import → Job
+abbrev pub place_view : Destination → List ℕ × Token
+place_view d = (d.address.now, token_view d.token)
+
+abbrev pub import_view : (List (List ℕ) → Option (List ℕ × Token) → Job) → Import → Job
 import_view job i = job (map string_bytes i.files.now) (option_map place_view i.destination)
 
 abbrev pub errand_view : Errand → Job

@@ -1,3 +1,4 @@
 pub mod Options
 pub mod Asked
 pub mod Errands
+pub mod Versions

@@ -2,7 +2,7 @@
 ghost use Rattle.std.specs.Prelude.{◌≡◌, ◌∷◌, map, string_bytes, option_map};
 ghost use Rattle.uuid.specs.Text.{parsed};
 ghost use Rattle.mds_command.specs.Options.{moment_in, count_in};
-ghost use Rattle.mds_command.specs.Asked.{read_if, asked_to_serve, asked_to_audit, asked_to_thin, asked_alone, asked_with, asked_of, asked_errand, asked_by, asked_view};
+ghost use Rattle.mds_command.specs.Asked.{read_if, asked_to_serve, asked_to_audit, asked_to_thin, asked_to_check, asked_alone, asked_with, asked_of, asked_errand, asked_by, asked_view};
 
 use crate::errands::{Errand, errand_of};
 use crate::moment::{count_of, moment_of};
@@ -11,6 +11,9 @@ use mds_text::{Id, Moment};
 
 /// By how many bytes a journal has to have grown before it is thinned, where it isn't said: 64 MiB.
 pub const THIN_AT: u64 = 67_108_864;
+
+/// The option that the file of a configuration stands behind.
+const CONFIG: &str = "--config";
 
 /// Where a city is kept and served.
 #[derive(Clone, Copy)]
@@ -23,6 +26,8 @@ pub struct Service<'a> {
     pub listen: &'a str,
     /// Where to listen for who controls the server; none, nowhere.
     pub control: Option<&'a str>,
+    /// A name by which the control port may be called; only where there is one.
+    pub control_host: Option<&'a str>,
     /// The operator whose entries are left out.
     pub dropped: Option<Id>,
     /// By how many bytes the journal has to have grown before it is thinned; 0, it never is.
@@ -62,6 +67,8 @@ pub enum Asked<'a> {
     Serve(Service<'a>),
     /// How the journal of this folder ends.
     Check(&'a str),
+    /// Whether this file is a configuration.
+    CheckConfig(&'a str),
     /// The journal of a folder as a script.
     Audit(Audit<'a>),
     /// To thin the journal of a folder.
@@ -116,20 +123,25 @@ fn asked_to_serve(words: &[String]) -> Option<Asked<'_>>
     ensures { option_map asked_view result ≡ asked_to_serve (map string_bytes words.now) }
 {
     let names = &[
-        "--config",
+        CONFIG,
         "--state",
         "--listen",
         "--control",
+        "--control-host",
         "--drop",
         "--thin-at",
     ];
     if !are_options(names, words) {
         return None;
     }
-    let config = value_of("--config", words)?;
+    let config = value_of(CONFIG, words)?;
     let state = value_of("--state", words)?;
     let listen = value_of("--listen", words)?;
     let control = value_of("--control", words);
+    let control_host = value_of("--control-host", words);
+    if control_host.is_some() && control.is_none() {
+        return None;
+    }
     let dropped = id_if(value_of("--drop", words))?;
     let thin_at = count_if(value_of("--thin-at", words))?.unwrap_or(THIN_AT);
     Some(Asked::Serve(Service {
@@ -137,6 +149,7 @@ fn asked_to_serve(words: &[String]) -> Option<Asked<'_>>
         state,
         listen,
         control,
+        control_host,
         dropped,
         thin_at,
     }))
@@ -146,10 +159,10 @@ fn asked_to_serve(words: &[String]) -> Option<Asked<'_>>
 fn asked_to_audit<'a>(folder: &'a str, words: &'a [String]) -> Option<Asked<'a>>
     ensures { option_map asked_view result ≡ asked_to_audit folder.now (map string_bytes words.now) }
 {
-    if !are_options(&["--config", "--until", "--operator"], words) {
+    if !are_options(&[CONFIG, "--until", "--operator"], words) {
         return None;
     }
-    let config = value_of("--config", words)?;
+    let config = value_of(CONFIG, words)?;
     let until = moment_if(value_of("--until", words))?;
     let operator = id_if(value_of("--operator", words))?;
     Some(Asked::Audit(Audit {
@@ -164,11 +177,21 @@ fn asked_to_audit<'a>(folder: &'a str, words: &'a [String]) -> Option<Asked<'a>>
 fn asked_to_thin<'a>(folder: &'a str, words: &'a [String]) -> Option<Asked<'a>>
     ensures { option_map asked_view result ≡ asked_to_thin folder.now (map string_bytes words.now) }
 {
-    if !are_options(&["--config"], words) {
+    if !are_options(&[CONFIG], words) {
         return None;
     }
-    let config = value_of("--config", words)?;
+    let config = value_of(CONFIG, words)?;
     Some(Asked::Thin(Thinning { folder, config }))
+}
+
+/// Which configuration to check, by its one option.
+fn asked_to_check<'a>(option: &str, words: &'a [String]) -> Option<Asked<'a>>
+    ensures { option_map asked_view result ≡ asked_to_check option.now (map string_bytes words.now) }
+{
+    match words {
+        [config] if option == CONFIG => Some(Asked::CheckConfig(config.as_str())),
+        _ => None,
+    }
 }
 
 /// What one word asks for.
@@ -188,7 +211,7 @@ fn asked_alone(word: &str) -> Option<Asked<'_>>
 fn asked_with<'a>(verb: &str, name: &'a str) -> Option<Asked<'a>>
     ensures { option_map asked_view result ≡ asked_with verb.now name.now }
 {
-    if verb == "check" {
+    if verb == "check" && name != CONFIG {
         Some(Asked::Check(name))
     } else if verb == "stop" {
         Some(Asked::Stop(name))
@@ -203,6 +226,8 @@ fn asked_of<'a>(verb: &str, name: &'a str, words: &'a [String]) -> Option<Asked<
 {
     if words.is_empty() {
         asked_with(verb, name)
+    } else if verb == "check" {
+        asked_to_check(name, words)
     } else if verb == "audit" {
         asked_to_audit(name, words)
     } else if verb == "thin" {

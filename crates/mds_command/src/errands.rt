@@ -1,18 +1,27 @@
 //! What the program is asked to do between files and another server.
 ghost use Rattle.std.specs.Prelude.{◌≡◌, ◌≤◌, ◌<◌, ◌∷◌, [], length, map, codes, string_bytes, option_map, IsTrue, if◌then◌else◌, Some, None};
-ghost use Rattle.mds_command.specs.Errands.{policies, status, begins_option, file_count, is_dry, place_in, dry_with, destination_in, sent_by, import_of, export_of, errand_of, place_view, import_view, errand_view};
+ghost use Rattle.mds_command.specs.Errands.{policies, status, begins_option, file_count, is_dry, token_source, place_in, dry_with, destination_in, sent_by, import_of, export_of, errand_of, token_view, place_view, import_view, errand_view};
 
 use crate::options::{are_options, value_of};
 
 /// The word that, behind all others, has nothing sent.
 const DRY_RUN: &str = "--dry-run";
 
+/// Where an access token stands.
+#[derive(Clone, Copy)]
+pub enum TokenSource<'a> {
+    /// Among the arguments, where each user of the machine sees it: the token itself.
+    Argument(&'a str),
+    /// In the file of this path.
+    File(&'a str),
+}
+
 /// Another server, and by which access token it is asked.
 #[derive(Clone, Copy)]
 pub struct Destination<'a> {
     /// Where it listens, as `127.0.0.1:8080`.
     pub address: &'a str,
-    pub token: &'a str,
+    pub token: TokenSource<'a>,
 }
 
 /// Files that are read, and to whom what they hold is sent.
@@ -81,15 +90,26 @@ fn is_dry(words: &[String]) -> bool
     false
 }
 
+/// Where options have an access token; `None` where they have none, or both a token and a file.
+fn token_source<'a>(words: &'a [String]) -> Option<TokenSource<'a>>
+    ensures { option_map token_view result ≡ token_source (map string_bytes words.now) }
+{
+    match (value_of("--token", words), value_of("--token-file", words)) {
+        (Some(token), None) => Some(TokenSource::Argument(token)),
+        (None, Some(path)) => Some(TokenSource::File(path)),
+        (Some(_), Some(_)) | (None, None) => None,
+    }
+}
+
 /// The server that options name, by the option that its address stands behind.
 fn place_in<'a>(name: &str, words: &'a [String]) -> Option<Destination<'a>>
     ensures { option_map place_view result ≡ place_in name.now (map string_bytes words.now) }
 {
-    if !are_options(&[name, "--token"], words) {
+    if !are_options(&[name, "--token", "--token-file"], words) {
         return None;
     }
     let address = value_of(name, words)?;
-    let token = value_of("--token", words)?;
+    let token = token_source(words)?;
     Some(Destination { address, token })
 }
 

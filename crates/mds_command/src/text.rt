@@ -1,7 +1,7 @@
 //! What the program says of itself.
 
 /// The program's version.
-pub const VERSION: &str = "1.1.0";
+pub const VERSION: &str = "1.2.0";
 
 /// How the program is called, in one line.
 pub const USAGE: &str =
@@ -10,27 +10,30 @@ pub const USAGE: &str =
 /// What `--help` answers.
 pub const HELP: &str = "\
 ruffletuff serve --config FILE --state DIR --listen ADDRESS
-                 [--control ADDRESS] [--drop ID] [--thin-at BYTES]
+                 [--control ADDRESS [--control-host NAME]] [--drop ID]
+                 [--thin-at BYTES]
     serves one city over HTTP
 ruffletuff check DIR
     says how many records and bytes a folder's journal has, and how it ends
+ruffletuff check --config FILE
+    says whether a configuration is one, and else what is wrong
 ruffletuff audit DIR --config FILE [--until MOMENT] [--operator ID]
     prints a folder's journal as a script for mds_replay
 ruffletuff thin DIR --config FILE
     replaces a folder's journal by a shorter one that leads to the same city
 ruffletuff stop ADDRESS
     stops the server whose control port is at this address
-ruffletuff import policies FILE.. --to ADDRESS --token TOKEN [--dry-run]
+ruffletuff import policies FILE.. --to ADDRESS --token-file PATH [--dry-run]
     sends documents of MDS 2.0, or GeoJSON with names, to a server as drafts
-ruffletuff import status FILE.. --to ADDRESS --token TOKEN [--dry-run]
+ruffletuff import status FILE.. --to ADDRESS --token-file PATH [--dry-run]
     sends vehicles of MDS 2.0 or GBFS 3 to a server as reports; a FILE of an
     import may be an address http://..
-ruffletuff export DIR --from ADDRESS --token TOKEN
+ruffletuff export DIR --from ADDRESS --token-file PATH
     writes what is published at a server as files of MDS 2.0 and GeoJSON
 ruffletuff --help
     says this
 ruffletuff --version
-    says the version
+    says the version, and of which commit it is where that is known
 
 ADDRESS  where to listen, as 127.0.0.1:8080. The control port, at the address
          behind --control, says whether the server serves and what it counts,
@@ -49,6 +52,11 @@ FILE     the configuration, a JSON object on as many lines as one likes:
 ID       an operator, by its UUID. --drop leaves out what the journal has of
          an operator that isn't in the configuration any more; --operator
          prints its requests and the author's alone
+NAME     one more name, without a port, by which the control port may be called,
+         as a browser or a proxy gives it in the field Host
+PATH     a file with the access token alone; one line end behind it is no part
+         of it. In the place of --token-file PATH stands --token TOKEN, which
+         each user of the machine sees while the program runs
 MOMENT   in milliseconds of the Unix epoch: the requests before the first later
          one are printed
 BYTES    how many the journal has before it is thinned while the city is served,
@@ -61,8 +69,8 @@ standard error says which.
 
 Exit status: 0 done
              1 nothing can be listened to at ADDRESS, no server there stops or
-               answers, or standard output can't be written
-             2 the arguments or the configuration are wrong
+               gives a whole answer, or standard output can't be written
+             2 the arguments, the configuration or a token's file are wrong
              3 memory ran out
              4 the folder can't be used, or another program has it
              5 the journal is damaged, or of another version

@@ -1,16 +1,14 @@
 -- What is the server's alone to say: that it is busy, and that it closes.
 use Rattle.std.specs.Prelude.{◌≡◌, ℕ, List, [], ◌∷◌, Some, codes}
 use Rattle.http_header.specs.FieldValue.{plain_value}
-use Rattle.http_header.specs.HeaderMap.{insert}
 use Rattle.http.specs.Response.{head_of, body_of}
 use Rattle.http.specs.declared.response.Response.{Response}
 use Rattle.http_body_util.specs.declared.full.Full.{Full}
+use Rattle.mds_responses.specs.Field.{HasField}
 
 -- the same response, which says that the connection is closed behind it (RFC 9112, section 9.6)
-pub record Closes (response closing : Response (Full (List ℕ))) : Type 0 where
-  pub status : (head_of closing).status ≡ (head_of response).status
-  pub body : body_of closing ≡ body_of response
-  pub headers : (head_of closing).headers ≡ insert (head_of response).headers (codes "connection") (plain_value (codes "close"))
+abbrev pub Closes : Response (Full (List ℕ)) → Response (Full (List ℕ)) → Type 0
+Closes = HasField (codes "connection") (plain_value (codes "close"))
 
 -- 503 (RFC 9110, section 15.6.4) with one line of JSON (RFC 9110, section 8.3; RFC 8259, section 11), behind which the connection
 -- is closed

@@ -16,13 +16,17 @@ pub struct Admission {
 }
 
 impl Admission {
-    /// What came of an accept.
+    /// What came of an accept. What is written to the connection is sent at once, so that no reply waits until the one before
+    /// it was acknowledged (RFC 9293, section 3.7.4); where the system refuses that, it is served all the same.
     pub fn new<C: Clock>(accepted: io::Result<TcpStream>, clock: &C, timers: &Handle) -> Admission {
         match accepted {
-            Ok(socket) => Admission {
-                socket: Some(socket),
-                pause: None,
-            },
+            Ok(socket) => {
+                socket.set_nodelay(true).ok();
+                Admission {
+                    socket: Some(socket),
+                    pause: None,
+                }
+            }
             Err(_) => Admission {
                 socket: None,
                 pause: timers

@@ -11,15 +11,13 @@ use crate::intake::{Intake, Taken};
 use crate::replies::{busy, finished};
 use crate::seats::Admittance;
 use crate::sits::Sits;
-use bytes::Bytes;
 use futures::Future;
 use futures::task::{Context, Poll};
 use http::request::Parts;
-use http_body_util::Full;
-use hyper::Response;
 use hyper::body::Incoming;
 use mds_limits::{Arrival, Asker, BODY_SECONDS, PASSING_SECONDS, is_long};
 use mds_request::Verb;
+use mds_responses::HttpResult;
 use std::alloc::AllocError;
 use tokio::sync::AcquireOwned;
 use tokio::time::Sleep;
@@ -143,7 +141,7 @@ impl<P: Sits, I: Drop> Exchange<P, P::Reply, I> {
     }
 
     /// Waits until the reply may be told.
-    fn tell(&mut self, cx: &mut Context<'_>) -> Poll<Result<Response<Full<Bytes>>, AllocError>>
+    fn tell(&mut self, cx: &mut Context<'_>) -> Poll<HttpResult>
         requires reply { IfSome self.old.reply P.Reply.can_poll }
         ensures admittance { self.new.admittance ≡ self.old.admittance }
         ensures turn { self.new.turn ≡ self.old.turn }
@@ -166,19 +164,12 @@ impl<P: Sits, I: Drop> Exchange<P, P::Reply, I> {
     }
 
     /// The reply as it is sent.
-    fn finish(
-        &self,
-        told: Result<Response<Full<Bytes>>, AllocError>,
-    ) -> Result<Response<Full<Bytes>>, AllocError> {
+    fn finish(&self, told: HttpResult) -> HttpResult {
         finished(told?, self.arrival)
     }
 
     /// Takes the body in, waits for the turn of this asker, answers, and waits until the reply may be told.
-    fn proceed(
-        &mut self,
-        asker: Asker,
-        cx: &mut Context<'_>,
-    ) -> Poll<Result<Response<Full<Bytes>>, AllocError>>
+    fn proceed(&mut self, asker: Asker, cx: &mut Context<'_>) -> Poll<HttpResult>
         requires turn { IfSome self.old.turn CanAcquire }
         requires reply { IfSome self.old.reply P.Reply.can_poll }
         requires ready { P.may_answer }
@@ -206,7 +197,7 @@ impl<P: Sits, I: Drop> Exchange<P, P::Reply, I> {
     }
 
     /// Reads past the body, and then says that the server is busy.
-    fn pass(&mut self, cx: &mut Context<'_>) -> Poll<Result<Response<Full<Bytes>>, AllocError>>
+    fn pass(&mut self, cx: &mut Context<'_>) -> Poll<HttpResult>
         ensures says { IfReady result (λ r. IfOk r SaysBusy) }
         ensures admittance { self.new.admittance ≡ self.old.admittance }
         ensures turn { self.new.turn ≡ self.old.turn }
@@ -225,7 +216,7 @@ impl<P: Sits, I: Drop> Exchange<P, P::Reply, I> {
     }
 
     /// Says that the server is busy, and ends the exchange.
-    fn refuse(&mut self) -> Result<Response<Full<Bytes>>, AllocError>
+    fn refuse(&mut self) -> HttpResult
         ensures says { IfOk result SaysBusy }
         ensures admittance { self.new.admittance ≡ self.old.admittance }
         ensures turn { self.new.turn ≡ self.old.turn }
@@ -240,7 +231,7 @@ impl<P: Sits, I: Drop> Exchange<P, P::Reply, I> {
 }
 
 impl<P: Sits, I: Drop> Future for Exchange<P, P::Reply, I> {
-    type Output = Result<Response<Full<Bytes>>, AllocError>;
+    type Output = HttpResult;
 
     ghost can_poll = { λ e. IfSome e.turn CanAcquire × IfSome e.reply P.Reply.can_poll × P.may_answer };
 

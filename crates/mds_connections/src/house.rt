@@ -2,13 +2,11 @@
 use crate::intake::Taken;
 use crate::queues::Queues;
 use crate::seats::Register;
-use bytes::Bytes;
 use futures::Future;
-use http::Response;
 use http::request::Parts;
-use http_body_util::Full;
 use mds_limits::Asker;
-use std::alloc::{AllocError, Global};
+use mds_responses::HttpResult;
+use std::alloc::Global;
 use std::sync::Mutex;
 use tokio::time::Handle;
 
@@ -23,7 +21,7 @@ pub trait Answers: Drop {
     fn asker(&self, parts: &Parts) -> Asker;
 
     /// The response, when it may be told. Where there was no memory for it, it is an error.
-    type Reply: Future<Output = Result<Response<Full<Bytes>>, AllocError>>;
+    type Reply: Future<Output = HttpResult>;
 
     /// The response on its way.
     fn answer(&self, parts: &Parts, taken: Taken) -> Self::Reply

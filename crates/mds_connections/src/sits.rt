@@ -1,12 +1,10 @@
 //! What a connection has of its server.
 use crate::intake::Taken;
 use crate::seats::Admittance;
-use bytes::Bytes;
 use futures::Future;
-use http::Response;
 use http::request::Parts;
-use http_body_util::Full;
 use mds_limits::Asker;
+use mds_responses::HttpResult;
 use std::alloc::{AllocError, Global};
 use std::time::Instant;
 use tokio::sync::{AcquireOwned, OwnedNotified};
@@ -19,7 +17,7 @@ pub trait Sits: Drop {
     ghost use Rattle.tokio.specs.Locks.{CanAcquire};
 
     /// A reply on its way: what it says is known, and it may still wait, with no place in a queue, until it may be told.
-    type Reply: Future<Output = Result<Response<Full<Bytes>>, AllocError>>;
+    type Reply: Future<Output = HttpResult>;
 
     /// What it takes to answer.
     ghost may_answer: { Type 0 } = { ⊤ };

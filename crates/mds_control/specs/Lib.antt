@@ -1,4 +1,7 @@
 pub mod Lines
 pub mod Counted
-pub mod Heads
+pub mod Hosts
+pub mod Admission
+pub mod Requests
 pub mod Pages
+pub mod Places

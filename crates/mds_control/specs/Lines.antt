@@ -1,11 +1,24 @@
--- A line of Prometheus' text: a name with its labels, a space and a number.
-use Rattle.std.specs.Prelude.{ℕ, List, ◌++◌, codes, decimal}
+-- The lines of Prometheus' text: a name with its labels, a space and a number.
+use Rattle.std.specs.Prelude.{ℕ, ◌==◌, List, [], ◌++◌, codes, decimal, if◌then◌else◌}
+use Rattle.mds_control.specs.declared.families.Family as families
+use Rattle.mds_control.specs.declared.lines.Metadata.{Metadata}
+use Rattle.mds_control.specs.declared.lines.Metadata.TheVariants.{Family, Nothing}
 use Rattle.mds_control.specs.declared.lines.Line.{Line}
 
--- what stands before the line, and the line
-abbrev pub line_text : Line → List ℕ
-line_text line = line.before.now ++ line.name.now ++ codes " " ++ decimal line.value ++ codes "\n"
+-- the first line of a family has its metadata before it
+abbrev pub metadata_of : families.Family → ℕ → Metadata
+metadata_of family index = if index == 0 then Family family else Nothing
 
--- the name of an operator's vehicles: its identifier is the label's value, which needs no escape since it is a UUID
-abbrev pub vehicles_of : List ℕ → List ℕ
-vehicles_of operator = codes "ruffletuff_vehicles{operator=\"" ++ operator ++ codes "\"}"
+-- what the family says, and its kind
+abbrev pub metadata_text : Metadata → List ℕ
+metadata_text Nothing = []
+metadata_text (Family family) =
+    codes "# HELP " ++ family.name.now ++ codes " " ++ family.help.now
+    ++ codes "\n# TYPE " ++ family.name.now ++ codes " " ++ family.kind.now ++ codes "\n"
+
+abbrev pub line_text : Line → List ℕ
+line_text line = metadata_text line.metadata ++ line.name.now ++ line.end.now ++ codes " " ++ decimal line.value ++ codes "\n"
+
+-- the label of an operator's lines: its identifier needs no escape since it is a UUID
+abbrev pub operator_label : List ℕ → List ℕ
+operator_label operator = codes "{operator=\"" ++ operator ++ codes "\"}"

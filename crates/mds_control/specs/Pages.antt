@@ -3,7 +3,7 @@ use Rattle.std.specs.Prelude.{ℕ, List, Option, Some, None, Bool, bytes_eq, cod
 use Rattle.mds_control.specs.declared.pages.Page.{Page}
 use Rattle.mds_control.specs.declared.pages.Page.TheVariants as page
 use Rattle.mds_control.specs.declared.pages.Answer.{Answer}
-use Rattle.mds_control.specs.declared.pages.Answer.TheVariants.{Healthy, Unready, Metrics, Stops, Unread, NotFound, NotAllowed}
+use Rattle.mds_control.specs.declared.pages.Answer.TheVariants.{Healthy, Unready, Metrics, Stops, Unread, Forbidden, NotFound, NotAllowed}
 
 abbrev pub page_of : List ℕ → Option Page
 page_of path =
@@ -37,6 +37,7 @@ status_of Healthy = 200
 status_of Metrics = 200
 status_of Stops = 202
 status_of Unread = 400
+status_of Forbidden = 403
 status_of NotFound = 404
 status_of NotAllowed = 405
 status_of Unready = 503

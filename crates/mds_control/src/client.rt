@@ -1,26 +1,60 @@
 //! Who stops a server.
+ghost use Rattle.std.specs.Prelude.{◌≡◌, IfOk, string_bytes};
+ghost use Rattle.mds_control.specs.Places.{stop_request};
+
+use crate::port::{Place, place_of};
+use std::alloc::{AllocError, AllocGlobal, Global};
 use std::io::{self, Read, Write};
 use std::net::{Net, OpenStream, TcpStream};
+use std::os::unix::net::UnixStream;
 use std::time::Duration;
 
-const REQUEST: &[u8] =
-    b"POST /stop HTTP/1.1\r\nhost: control\r\ncontent-length: 0\r\nconnection: close\r\n\r\n";
-
+/// How an answer begins that says that the server stops.
 const ACCEPTED: &[u8] = b"HTTP/1.1 202";
 
 /// Within how many seconds the server has to say that it stops.
 const ANSWER_SECONDS: u64 = 5;
 
-/// Tells the server whose control port is at this address to stop, and says whether it does.
+/// The request to stop, of a server that is called by this host.
+fn stop_request(alloc: Global, host: &str) -> Result<String, AllocError>
+    ensures { IfOk result (λ text. string_bytes text ≡ stop_request host.now) }
+{
+    format!(in alloc;
+        "POST /stop HTTP/1.1\r\nhost: {host}\r\ncontent-length: 0\r\nconnection: close\r\n\r\n"
+    )
+}
+
+/// Sends the request to stop, and says whether the server does.
 ///
 /// # Errors
 ///
-/// Nothing listens there, or no answer comes.
-pub fn stop<R: Net>(net: &R, address: &str) -> io::Result<bool> {
-    let mut stream = TcpStream::connect(net, address)?;
-    stream.set_read_timeout(Some(Duration::from_secs(ANSWER_SECONDS)))?;
-    stream.write_all(REQUEST)?;
+/// The connection's, or it ends before an answer came.
+fn ask<C: Read + Write>(stream: &mut C, request: &str) -> io::Result<bool> {
+    stream.write_all(request.as_bytes())?;
     let mut answer = [0u8; 12];
     stream.read_exact(&mut answer)?;
     Ok(answer.as_slice() == ACCEPTED)
+}
+
+/// Tells the server whose control port is at this address to stop, and says whether it does. It is called by the address that was
+/// reached, and `localhost` at a Unix socket.
+///
+/// # Errors
+///
+/// Nothing listens there, no answer comes in five seconds, or memory ran out.
+pub fn stop<R: Net + AllocGlobal>(rt: &R, address: &str) -> io::Result<bool> {
+    let limit = Some(Duration::from_secs(ANSWER_SECONDS));
+    match place_of(address) {
+        Place::Tcp(address) => {
+            let mut stream = TcpStream::connect(rt, address)?;
+            stream.set_read_timeout(limit)?;
+            let host = format!(in rt.alloc(); "{}", stream.peer_addr()?)?;
+            ask(&mut stream, &stop_request(rt.alloc(), &host)?)
+        }
+        Place::Unix(path) => {
+            let mut stream = UnixStream::connect(rt, path)?;
+            stream.set_read_timeout(limit)?;
+            ask(&mut stream, &stop_request(rt.alloc(), "localhost")?)
+        }
+    }
 }

@@ -2,8 +2,9 @@
 ghost use Rattle.std.specs.Prelude.{◌≡◌};
 ghost use Rattle.mds_control.specs.Counted.{call_of, outcome_of, place_of, request_place};
 
+use crate::families::{BOUNDS, CONNECTIONS, COUNT, FIRST_BUCKET, PLACES, ROWS, SUM, VEHICLES};
 use crate::fleets::Fleet;
-use crate::lines::Line;
+use crate::lines::{Line, Metadata};
 use std::alloc::{AllocError, Global};
 use std::sync::Arc;
 use std::sync::atomic::{AtomicU64, Ordering};
@@ -53,135 +54,6 @@ pub struct Counters {
     /// In the configuration's order.
     fleets: Vec<Fleet>,
 }
-
-/// What is said of a number.
-struct Row {
-    /// What stands before it: of the first row of a name what is counted, and whether it only grows.
-    before: &'static str,
-    name: &'static str,
-}
-
-/// What is said of the open connections, and of each operator's vehicles.
-const CONNECTIONS: &str = "\
-# HELP ruffletuff_connections connections that are open\n\
-# TYPE ruffletuff_connections gauge\n";
-
-const VEHICLES: &str = "\
-# HELP ruffletuff_vehicles vehicles of each operator\n\
-# TYPE ruffletuff_vehicles gauge\n";
-
-/// How many milliseconds are no more than what each bucket counts. The last counts all.
-const BOUNDS: &[u64] = &[5, 10, 25, 100, 250, 1000, u64::MAX];
-
-const ROWS: &[Row] = &[
-    Row {
-        before: "\
-# HELP ruffletuff_requests_total requests answered, by kind and class of status\n\
-# TYPE ruffletuff_requests_total counter\n",
-        name: "ruffletuff_requests_total{call=\"read\",status=\"2xx\"}",
-    },
-    Row {
-        before: "",
-        name: "ruffletuff_requests_total{call=\"read\",status=\"4xx\"}",
-    },
-    Row {
-        before: "",
-        name: "ruffletuff_requests_total{call=\"read\",status=\"5xx\"}",
-    },
-    Row {
-        before: "",
-        name: "ruffletuff_requests_total{call=\"change\",status=\"2xx\"}",
-    },
-    Row {
-        before: "",
-        name: "ruffletuff_requests_total{call=\"change\",status=\"4xx\"}",
-    },
-    Row {
-        before: "",
-        name: "ruffletuff_requests_total{call=\"change\",status=\"5xx\"}",
-    },
-    Row {
-        before: "",
-        name: "ruffletuff_requests_total{call=\"publish\",status=\"2xx\"}",
-    },
-    Row {
-        before: "",
-        name: "ruffletuff_requests_total{call=\"publish\",status=\"4xx\"}",
-    },
-    Row {
-        before: "",
-        name: "ruffletuff_requests_total{call=\"publish\",status=\"5xx\"}",
-    },
-    Row {
-        before: "\
-# HELP ruffletuff_journal_bytes bytes of the journal\n\
-# TYPE ruffletuff_journal_bytes gauge\n",
-        name: "ruffletuff_journal_bytes",
-    },
-    Row {
-        before: "\
-# HELP ruffletuff_syncs_total how often the journal was synced\n\
-# TYPE ruffletuff_syncs_total counter\n",
-        name: "ruffletuff_syncs_total",
-    },
-    Row {
-        before: "\
-# HELP ruffletuff_pending_replies replies on their way: asked for, not yet told\n\
-# TYPE ruffletuff_pending_replies gauge\n",
-        name: "ruffletuff_pending_replies",
-    },
-    Row {
-        before: "\
-# HELP ruffletuff_revision publications: those in the journal at the start, and those told since\n\
-# TYPE ruffletuff_revision gauge\n",
-        name: "ruffletuff_revision",
-    },
-    Row {
-        before: "\
-# HELP ruffletuff_answer_milliseconds milliseconds from when a request's turn came to its answer\n\
-# TYPE ruffletuff_answer_milliseconds histogram\n",
-        name: "ruffletuff_answer_milliseconds_bucket{le=\"5\"}",
-    },
-    Row {
-        before: "",
-        name: "ruffletuff_answer_milliseconds_bucket{le=\"10\"}",
-    },
-    Row {
-        before: "",
-        name: "ruffletuff_answer_milliseconds_bucket{le=\"25\"}",
-    },
-    Row {
-        before: "",
-        name: "ruffletuff_answer_milliseconds_bucket{le=\"100\"}",
-    },
-    Row {
-        before: "",
-        name: "ruffletuff_answer_milliseconds_bucket{le=\"250\"}",
-    },
-    Row {
-        before: "",
-        name: "ruffletuff_answer_milliseconds_bucket{le=\"1000\"}",
-    },
-    Row {
-        before: "",
-        name: "ruffletuff_answer_milliseconds_bucket{le=\"+Inf\"}",
-    },
-    Row {
-        before: "",
-        name: "ruffletuff_answer_milliseconds_sum",
-    },
-    Row {
-        before: "",
-        name: "ruffletuff_answer_milliseconds_count",
-    },
-];
-
-/// The row of the first bucket. The sum and the count follow the buckets.
-const FIRST_BUCKET: usize = 13;
-
-const SUM: usize = 20;
-
-const COUNT: usize = 21;
 
 impl Call {
     /// The kind of a request of this method and path.
@@ -263,7 +135,7 @@ impl Counters {
         fleets: Vec<Fleet>,
     ) -> Result<Counters, AllocError> {
         Ok(Counters {
-            values: zeros(alloc, ROWS.len())?,
+            values: zeros(alloc, PLACES)?,
             connections,
             fleets,
         })
@@ -321,23 +193,29 @@ impl Counters {
     pub fn lines(&self, alloc: Global) -> Result<Vec<Line<'_>>, AllocError> {
         let mut lines = Vec::new(alloc);
         lines.push(Line {
-            before: CONNECTIONS,
-            name: "ruffletuff_connections",
+            metadata: Metadata::Family(CONNECTIONS),
+            name: CONNECTIONS.name,
+            end: "",
             value: self.connections.load(Ordering::SeqCst),
         })?;
-        for (place, fleet) in self.fleets.iter().enumerate() {
+        for (index, fleet) in self.fleets.iter().enumerate() {
             lines.push(Line {
-                before: if place == 0 { VEHICLES } else { "" },
-                name: fleet.name(),
+                metadata: Metadata::of(VEHICLES, index),
+                name: VEHICLES.name,
+                end: fleet.label(),
                 value: fleet.count(),
             })?;
         }
-        for (row, value) in ROWS.iter().zip(&self.values) {
-            lines.push(Line {
-                before: row.before,
-                name: row.name,
-                value: value.load(Ordering::SeqCst),
-            })?;
+        for rows in ROWS {
+            let values = self.values.get(rows.first..).unwrap_or_default();
+            for ((index, end), value) in rows.ends.iter().enumerate().zip(values) {
+                lines.push(Line {
+                    metadata: Metadata::of(rows.family, index),
+                    name: rows.family.name,
+                    end,
+                    value: value.load(Ordering::SeqCst),
+                })?;
+            }
         }
         Ok(lines)
     }

@@ -1,6 +1,6 @@
 //! How many vehicles each operator has, in numbers that any thread may change.
 ghost use Rattle.std.specs.Prelude.{◌≡◌, IfOk, string_bytes};
-ghost use Rattle.mds_control.specs.Lines.{vehicles_of};
+ghost use Rattle.mds_control.specs.Lines.{operator_label};
 
 use std::alloc::{AllocError, Global};
 use std::sync::Arc;
@@ -9,8 +9,8 @@ use std::sync::atomic::{AtomicU64, Ordering};
 /// How many vehicles an operator has.
 #[derive(Drop)]
 pub struct Fleet {
-    /// What is counted, with the operator's identifier.
-    name: String,
+    /// The operator's identifier, as the label of its lines.
+    label: String,
     vehicles: Arc<AtomicU64>,
 }
 
@@ -21,10 +21,10 @@ impl Fleet {
     ///
     /// Memory ran out.
     pub fn new(alloc: Global, operator: &str) -> Result<Fleet, AllocError>
-        ensures { IfOk result (λ fleet. string_bytes fleet.name ≡ vehicles_of operator.now) }
+        ensures { IfOk result (λ fleet. string_bytes fleet.label ≡ operator_label operator.now) }
     {
         Ok(Fleet {
-            name: name_for(alloc, operator)?,
+            label: label_for(alloc, operator)?,
             vehicles: Arc::new(alloc, AtomicU64::new(0))?,
         })
     }
@@ -38,11 +38,11 @@ impl Fleet {
         Arc::try_clone(&self.vehicles)
     }
 
-    /// What is counted, with the operator's identifier.
-    pub(crate) fn name(&self) -> &str
-        ensures { result.now ≡ string_bytes self.now.name }
+    /// The operator's identifier, as the label of its lines.
+    pub(crate) fn label(&self) -> &str
+        ensures { result.now ≡ string_bytes self.now.label }
     {
-        self.name.as_str()
+        self.label.as_str()
     }
 
     /// Its number by now.
@@ -51,9 +51,9 @@ impl Fleet {
     }
 }
 
-/// What is counted of the operator with this identifier.
-fn name_for(alloc: Global, operator: &str) -> Result<String, AllocError>
-    ensures { IfOk result (λ name. string_bytes name ≡ vehicles_of operator.now) }
+/// The label of the operator with this identifier.
+fn label_for(alloc: Global, operator: &str) -> Result<String, AllocError>
+    ensures { IfOk result (λ label. string_bytes label ≡ operator_label operator.now) }
 {
-    format!(in alloc; "ruffletuff_vehicles{{operator=\"{operator}\"}}")
+    format!(in alloc; "{{operator=\"{operator}\"}}")
 }

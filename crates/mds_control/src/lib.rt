@@ -1,21 +1,31 @@
 //! The control port of a server: whether it serves, what it counts, and how it is stopped.
 #![tactic(auto)]
 
-mod asked;
+mod admission;
 mod client;
+mod connection;
+mod control;
 mod counters;
+mod families;
 mod fleets;
+mod hosts;
 mod lines;
 mod pages;
+mod port;
+mod request;
 mod serving;
 
-pub use asked::{Asked, asked_by};
 pub use client::stop;
+pub use control::{Control, Stop};
 pub use counters::{Call, Counters, Figure, Outcome};
+pub use families::Family;
 pub use fleets::Fleet;
-pub use lines::{Line, metrics};
+pub use hosts::Hosts;
+pub use lines::{Line, Metadata, metrics};
 pub use pages::{Answer, answer_for};
-pub use serving::{Control, Stop, serve_control};
+pub use port::{Port, PortWaker};
+pub use request::{Heading, answer_due, heading_of};
+pub use serving::serve_control;
 
 #[cfg(test)]
 mod tests;

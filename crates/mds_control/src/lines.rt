@@ -1,19 +1,60 @@
 //! What is counted, as Prometheus reads it.
 ghost use Rattle.std.specs.Prelude.{◌≡◌, IfOk, string_bytes, flat_map};
-ghost use Rattle.mds_control.specs.Lines.{line_text};
+ghost use Rattle.mds_control.specs.Lines.{metadata_of, line_text};
 
+use crate::families::Family;
 use std::alloc::{AllocError, Global};
 use std::fmt;
+
+/// What stands before a line.
+#[derive(Clone, Copy)]
+pub enum Metadata {
+    /// Before the first line of a family: what it says, and its kind.
+    Family(Family),
+    /// Before any further line.
+    Nothing,
+}
 
 /// One line: what is counted, and how much of it there is.
 #[derive(Clone, Copy)]
 pub struct Line<'a> {
-    /// What stands before the line: nothing, or lines that say what is counted, each with its end.
-    pub before: &'static str,
-    /// What is counted, with its labels.
-    pub name: &'a str,
+    /// What stands before it.
+    pub metadata: Metadata,
+    /// What is counted.
+    pub name: &'static str,
+    /// What stands behind the name, as its labels.
+    pub end: &'a str,
     /// How much.
     pub value: u64,
+}
+
+impl Metadata {
+    /// What stands before the line of a family that has so many lines before it.
+    pub(crate) fn of(family: Family, index: usize) -> Metadata
+        ensures { result ≡ metadata_of family index }
+    {
+        if index == 0 {
+            Metadata::Family(family)
+        } else {
+            Metadata::Nothing
+        }
+    }
+}
+
+impl fmt::Display for Metadata {
+    ghost use Rattle.std.specs.Prelude.{Some};
+    ghost use Rattle.mds_control.specs.Lines.{metadata_text};
+
+    ghost output = { λ metadata. Some (metadata_text metadata) };
+
+    fn fmt<W: fmt::Write>(&self, f: &mut fmt::Formatter<W>) -> fmt::Result {
+        match *self {
+            Metadata::Family(Family { name, help, kind }) => {
+                write!(f, "# HELP {name} {help}\n# TYPE {name} {kind}\n")
+            }
+            Metadata::Nothing => Ok(()),
+        }
+    }
 }
 
 impl fmt::Display for Line<'_> {
@@ -23,7 +64,8 @@ impl fmt::Display for Line<'_> {
     ghost output = { λ line. Some (line_text line) };
 
     fn fmt<W: fmt::Write>(&self, f: &mut fmt::Formatter<W>) -> fmt::Result {
-        write!(f, "{}{} {}\n", self.before, self.name, self.value)
+        let (metadata, name, end, value) = (self.metadata, self.name, self.end, self.value);
+        write!(f, "{metadata}{name}{end} {value}\n")
     }
 }
 

@@ -26,6 +26,8 @@ pub enum Answer {
     Stops,
     /// The request can't be read.
     Unread,
+    /// A page asks, or another host is asked for.
+    Forbidden,
     /// There is nothing at that path.
     NotFound,
     /// The path takes another method.
@@ -33,14 +35,14 @@ pub enum Answer {
 }
 
 impl Page {
-    fn of(path: &str) -> Option<Page>
+    fn of(path: &[u8]) -> Option<Page>
         ensures { result ≡ page_of path.now }
     {
-        if path == "/healthz" {
+        if path == b"/healthz".as_slice() {
             Some(Page::Health)
-        } else if path == "/metrics" {
+        } else if path == b"/metrics".as_slice() {
             Some(Page::Metrics)
-        } else if path == "/stop" {
+        } else if path == b"/stop".as_slice() {
             Some(Page::Stop)
         } else {
             None
@@ -48,12 +50,12 @@ impl Page {
     }
 
     /// Whether this is the method that the page takes.
-    fn takes(self, method: &str) -> bool
+    fn takes(self, method: &[u8]) -> bool
         ensures { result ≡ takes self method.now }
     {
         match self {
-            Page::Health | Page::Metrics => method == "GET",
-            Page::Stop => method == "POST",
+            Page::Health | Page::Metrics => method == b"GET".as_slice(),
+            Page::Stop => method == b"POST".as_slice(),
         }
     }
 
@@ -70,7 +72,7 @@ impl Page {
 }
 
 /// What is answered to a method and a path, where the server serves or doesn't.
-pub fn answer_for(method: &str, path: &str, serves: bool) -> Answer
+pub fn answer_for(method: &[u8], path: &[u8], serves: bool) -> Answer
     ensures { result ≡ answer_of method.now path.now serves }
 {
     match Page::of(path) {
@@ -94,6 +96,7 @@ impl Answer {
             Answer::Healthy | Answer::Metrics => 200,
             Answer::Stops => 202,
             Answer::Unread => 400,
+            Answer::Forbidden => 403,
             Answer::NotFound => 404,
             Answer::NotAllowed => 405,
             Answer::Unready => 503,

@@ -1,184 +1,136 @@
-//! The control port, served.
-use crate::asked::asked_by;
+//! The control port, served by one thread.
+use crate::connection::{Connection, Turn};
+use crate::control::{Control, Server, Stop};
 use crate::counters::Counters;
-use crate::lines::metrics;
-use crate::pages::{Answer, answer_for};
-use std::alloc::{AllocError, AllocGlobal, Global};
-use std::io::{self, Read, Write};
-use std::net::{Net, OpenListener, OpenStream, TcpStream, ToSocketAddrs};
-use std::sync::atomic::{AtomicBool, Ordering};
+use crate::port::{Port, Stream};
+use std::alloc::AllocGlobal;
+use std::collections::VecDeque;
+use std::io::{self, ErrorKind};
 use std::thread;
-use std::time::{Clock, Duration, Instant};
+use std::time::{Clock, Duration};
 
-/// The most bytes of a head.
-const MOST_OF_HEAD: usize = 8192;
+/// How many connections may be open. Where one more comes, the oldest is closed.
+const MOST_CONNECTIONS: usize = 64;
 
-/// Within how many seconds a head has to come, and its answer to be taken.
-const HEAD_SECONDS: u64 = 5;
+/// How often it is looked at whether the time of a connection is over, in milliseconds.
+const TICK_MILLIS: u64 = 250;
 
-/// How long nothing is accepted after what couldn't be, in milliseconds.
+/// How long nothing is done after the system refused to wait, in milliseconds.
 const PAUSE_MILLIS: u64 = 20;
 
-/// What stops a server.
-pub trait Stop {
-    /// The server stops from now on: it accepts nothing more, and what has begun is answered.
-    fn stop(&self);
+/// The open connections, the oldest first.
+type Connections = VecDeque<Connection<Stream>>;
+
+/// What became of the connections that wait to be accepted.
+#[derive(Clone, Copy)]
+enum Backlog {
+    /// All are.
+    Empty,
+    /// As many are as may be open, and more may wait.
+    Remains,
+    /// The system accepts none at the moment.
+    Refused,
 }
 
-/// How far a server is.
-#[derive(Drop)]
-pub struct Control {
-    serves: AtomicBool,
-    stops: AtomicBool,
-    has_ended: AtomicBool,
-}
-
-impl Control {
-    /// A server that doesn't serve yet.
-    pub const fn new() -> Control {
-        Control {
-            serves: AtomicBool::new(false),
-            stops: AtomicBool::new(false),
-            has_ended: AtomicBool::new(false),
+impl Backlog {
+    /// For how long nothing else can be done, beside so many open connections; none, until something comes.
+    fn wait_limit(self, open: usize) -> Option<Duration> {
+        match self {
+            Backlog::Remains => Some(Duration::ZERO),
+            Backlog::Empty if open == 0 => None,
+            Backlog::Empty | Backlog::Refused => Some(Duration::from_millis(TICK_MILLIS)),
         }
     }
-
-    /// The server serves from now on.
-    pub fn serves(&self) {
-        self.serves.store(true, Ordering::SeqCst);
-    }
-
-    /// The server stops from now on, whoever began it.
-    pub fn stops(&self) {
-        self.stops.store(true, Ordering::SeqCst);
-    }
-
-    fn is_serving(&self) -> bool {
-        self.serves.load(Ordering::SeqCst) && !self.stops.load(Ordering::SeqCst)
-    }
-
-    /// The server has ended, and its control port, at this address, ends too. It hears so by a connection.
-    pub fn end<R: Net, A: ToSocketAddrs>(&self, net: &R, address: A) {
-        self.stops();
-        self.has_ended.store(true, Ordering::SeqCst);
-        let _woken = TcpStream::connect(net, address);
-    }
 }
 
-/// Answers at the control port, one connection after the other, until the server has ended.
-pub fn serve_control<R, L, S>(
+/// Answers at a control port until the server has ended. Each connection gets on as its bytes come, whatever the others do: a
+/// request has five seconds to come, and five more for its answer to be taken. Of more than 64 connections the oldest is closed.
+pub fn serve_control<R, S>(
     rt: &R,
-    listener: &L,
+    port: &mut Port,
     control: &Control,
     counters: &Counters,
     stop: &S,
 )
 where
     R: Clock + AllocGlobal,
-    L: OpenListener,
-    L::Stream: Read + Write + OpenStream,
     S: Stop,
 {
-    for accepted in listener.incoming() {
-        if control.has_ended.load(Ordering::SeqCst) {
+    let server = Server {
+        control,
+        counters,
+        stop,
+    };
+    let mut connections = VecDeque::new(rt.alloc());
+    for _ in 0..u64::MAX {
+        if control.has_ended() {
             return;
         }
-        match accepted {
-            Ok(stream) => {
-                let _ = attend(rt, stream, control, counters, stop);
-            }
-            Err(_) => {
-                let _ = thread::sleep(rt, Duration::from_millis(PAUSE_MILLIS));
-            }
+        advance_all(rt, &mut connections, &server);
+        let backlog = accept_some(rt, port, &mut connections, &server);
+        if port.wait(backlog.wait_limit(connections.len())).is_err() {
+            thread::sleep(rt, Duration::from_millis(PAUSE_MILLIS));
         }
     }
 }
 
-/// Answers the one request of a connection.
-fn attend<R, C, S>(
+/// Keeps a connection, unless it is through.
+///
+/// # Errors
+///
+/// Memory ran out.
+fn advance<R, S>(
     rt: &R,
-    mut stream: C,
-    control: &Control,
-    counters: &Counters,
-    stop: &S,
+    mut connection: Connection<Stream>,
+    connections: &mut Connections,
+    server: &Server<'_, S>,
 ) -> io::Result<()>
 where
     R: Clock + AllocGlobal,
-    C: Read + Write + OpenStream + Drop,
     S: Stop,
 {
-    stream.set_write_timeout(Some(Duration::from_secs(HEAD_SECONDS)))?;
-    let head = read_head(rt, &mut stream)?;
-    let answer = answer_to(&head, control.is_serving());
-    let reply = reply(rt.alloc(), answer, counters)?;
-    if answer == Answer::Stops {
-        control.stops();
-        stop.stop();
+    if connection.advance(rt, server)? == Turn::Waits {
+        connections.push_back(connection)?;
     }
-    stream.write_all(reply.as_bytes())
+    Ok(())
 }
 
-/// What is answered to this head.
-fn answer_to(head: &[u8], serves: bool) -> Answer {
-    let asked = match str::from_utf8(head) {
-        Ok(head) => asked_by(head),
-        Err(_) => None,
-    };
-    match asked {
-        Some(asked) => answer_for(asked.method, asked.path, serves),
-        None => Answer::Unread,
-    }
-}
-
-/// Reads a head to its end, or as much of it as comes in time.
-fn read_head<R, C>(rt: &R, stream: &mut C) -> io::Result<Vec<u8>>
+/// Lets each connection get on. One that fails is closed.
+fn advance_all<R, S>(rt: &R, connections: &mut Connections, server: &Server<'_, S>)
 where
     R: Clock + AllocGlobal,
-    C: Read + OpenStream,
+    S: Stop,
 {
-    let begin = Instant::now(rt)?;
-    let limit = Duration::from_secs(HEAD_SECONDS);
-    let mut head = Vec::new(rt.alloc());
-    let mut part = [0u8; 512];
-    for _ in 0..MOST_OF_HEAD {
-        let left = limit.saturating_sub(begin.elapsed(rt)?);
-        if left.is_zero() {
-            return Err(io::ErrorKind::TimedOut.into());
-        }
-        stream.set_read_timeout(Some(left))?;
-        let count = stream.read(&mut part)?;
-        head.extend_from_slice(part.get(..count).unwrap_or_default())?;
-        if count == 0 || has_end(&head) || head.len() > MOST_OF_HEAD {
-            break;
+    for _ in 0..connections.len() {
+        if let Some(connection) = connections.pop_front() {
+            let _ = advance(rt, connection, connections, server);
         }
     }
-    Ok(head)
 }
 
-/// Whether a head is there whole (RFC 9112, section 2.1).
-fn has_end(head: &[u8]) -> bool {
-    head.windows(4).any(|part| part == b"\r\n\r\n".as_slice())
-}
-
-/// What stands in the reply.
-fn body(alloc: Global, answer: Answer, counters: &Counters) -> Result<String, AllocError> {
-    let text = match answer {
-        Answer::Metrics => return metrics(alloc, &counters.lines(alloc)?),
-        Answer::Healthy => "ok\n",
-        Answer::Unready => "not ready\n",
-        Answer::Stops => "stopping\n",
-        Answer::Unread => "bad request\n",
-        Answer::NotFound => "not found\n",
-        Answer::NotAllowed => "method not allowed\n",
-    };
-    String::from_str(alloc, text)
-}
-
-/// The reply, behind which the connection is closed.
-fn reply(alloc: Global, answer: Answer, counters: &Counters) -> Result<String, AllocError> {
-    let body = body(alloc, answer, counters)?;
-    let (status, length) = (answer.status(), body.len());
-    format!(in alloc;
-        "HTTP/1.1 {status} \r\ncontent-type: text/plain; charset=utf-8\r\ncontent-length: {length}\r\nconnection: close\r\n\r\n{body}"
-    )
+/// Accepts connections that wait, no more than may be open, and lets each get on.
+fn accept_some<R, S>(
+    rt: &R,
+    port: &Port,
+    connections: &mut Connections,
+    server: &Server<'_, S>,
+) -> Backlog
+where
+    R: Clock + AllocGlobal,
+    S: Stop,
+{
+    for _ in 0..MOST_CONNECTIONS {
+        let (stream, hosts) = match port.accept(rt.alloc()) {
+            Ok(accepted) => accepted,
+            Err(error) if error.kind() == ErrorKind::WouldBlock => return Backlog::Empty,
+            Err(_) => return Backlog::Refused,
+        };
+        if connections.len() >= MOST_CONNECTIONS {
+            connections.pop_front();
+        }
+        if let Ok(connection) = Connection::new(rt, stream, hosts) {
+            let _ = advance(rt, connection, connections, server);
+        }
+    }
+    Backlog::Remains
 }

@@ -1,15 +1,21 @@
 //! What the control port says over loopback.
 use crate::counters::{Call, Counters, Figure};
 use crate::fleets::Fleet;
-use crate::serving::{Control, Stop, serve_control};
-use crate::{metrics, stop};
+use crate::{
+    Answer, Control, Heading, Hosts, Port, Stop, answer_due, heading_of, metrics, serve_control,
+    stop,
+};
 use std::alloc::{AllocError, AllocGlobal, Global};
+use std::fs::{self, Files};
 use std::io::{self, Read, Write};
 use std::net::{Net, SocketAddr, TcpListener, TcpStream};
+use std::os::unix::fs::PermissionsExt;
+use std::os::unix::net::{UnixListener, UnixStream};
 use std::sync::Arc;
 use std::sync::atomic::{AtomicBool, AtomicU64, Ordering};
 use std::test::Fail;
 use std::thread::join;
+use std::time::{Clock, Duration, Instant};
 
 /// A server that notes that it is to stop.
 #[derive(Drop)]
@@ -27,6 +33,116 @@ fn nothing_counted(alloc: Global) -> Result<Counters, AllocError> {
     Counters::new(alloc, connections, Vec::new(alloc))
 }
 
+/// What is answered to a request of these lines at `127.0.0.1:9090`, which is called `city` too.
+fn answered(alloc: Global, lines: &str) -> Result<Heading, AllocError> {
+    let hosts = Hosts::new(alloc, "0.0.0.0", "127.0.0.1", 9090, Some("City.Example"))?;
+    Ok(heading_of(lines.as_bytes(), &hosts, true))
+}
+
+#[test]
+fn lets_in_who_names_its_host(rt: HostRuntime) -> Result<(), Fail> {
+    for host in [
+        "127.0.0.1:9090",
+        "127.0.0.1",
+        "0.0.0.0:9090",
+        "localhost:9090",
+        "LOCALHOST \t",
+        "city.example",
+        "city.example:9090",
+    ] {
+        let lines = format!(in rt.alloc(); "GET /healthz HTTP/1.1\r\nhOsT: {host}\r\n\r\n")?;
+        let found = answered(rt.alloc(), &lines)?;
+        assert_eq!(rt; found, Heading::Whole(Answer::Healthy), "{host}");
+    }
+    Ok(())
+}
+
+#[test]
+fn refuses_another_host(rt: HostRuntime) -> Result<(), Fail> {
+    for host in [
+        "",
+        "evil.example",
+        "evil.example:9090",
+        "127.0.0.1:9091",
+        "127.0.0.1:",
+        "127.0.0.2:9090",
+        "localhost.evil.example",
+        "city.example.",
+        "127.0.0.1:9090, evil.example",
+    ] {
+        let lines = format!(in rt.alloc(); "POST /stop HTTP/1.1\r\nhost: {host}\r\n\r\n")?;
+        let found = answered(rt.alloc(), &lines)?;
+        assert_eq!(rt; found, Heading::Whole(Answer::Forbidden), "{host}");
+    }
+    Ok(())
+}
+
+#[test]
+fn refuses_a_page(rt: HostRuntime) -> Result<(), Fail> {
+    for field in [
+        "Origin: http://evil.example",
+        "ORIGIN: null",
+        "origin:",
+        "Sec-Fetch-Site: cross-site",
+        "sec-fetch-site: same-origin",
+    ] {
+        let lines = format!(in rt.alloc();
+            "POST /stop HTTP/1.1\r\nhost: localhost\r\n{field}\r\n\r\n"
+        )?;
+        let found = answered(rt.alloc(), &lines)?;
+        assert_eq!(rt; found, Heading::Whole(Answer::Forbidden), "{field}");
+        let anywhere = heading_of(lines.as_bytes(), &Hosts::Any, true);
+        assert_eq!(rt; anywhere, Heading::Whole(Answer::Forbidden), "{field}");
+    }
+    Ok(())
+}
+
+#[test]
+fn wants_one_host(rt: HostRuntime) -> Result<(), Fail> {
+    for (lines, wanted) in [
+        ("GET /healthz HTTP/1.1\r\n\r\n", Answer::Unread),
+        ("GET /healthz HTTP/1.0\r\n\r\n", Answer::Healthy),
+        (
+            "GET /healthz HTTP/1.1\r\nhost: localhost\r\nHost: localhost\r\n\r\n",
+            Answer::Unread,
+        ),
+        (
+            "GET /healthz HTTP/1.0\r\nhost: evil.example\r\n\r\n",
+            Answer::Forbidden,
+        ),
+    ] {
+        let found = answered(rt.alloc(), lines)?;
+        assert_eq!(rt; found, Heading::Whole(wanted), "{lines}");
+        let anywhere = heading_of(b"GET /healthz HTTP/1.1\r\n\r\n", &Hosts::Any, true);
+        assert_eq!(rt; anywhere, Heading::Whole(Answer::Healthy));
+    }
+    Ok(())
+}
+
+#[test]
+fn ends_a_head_at_line_feeds(rt: HostRuntime) -> Result<(), Fail> {
+    let whole = answered(rt.alloc(), "GET /healthz HTTP/1.1\nhost: localhost\n\n")?;
+    assert_eq!(rt; whole, Heading::Whole(Answer::Healthy));
+    let part = answered(rt.alloc(), "GET /healthz HTTP/1.1\nhost: localhost\n")?;
+    assert_eq!(rt; part, Heading::Partial);
+    let broken = answered(rt.alloc(), "GET\r\n\r\n")?;
+    assert_eq!(rt; broken, Heading::Broken);
+    Ok(())
+}
+
+#[test]
+fn waits_for_the_rest_of_a_head(rt: HostRuntime) -> Result<(), Fail> {
+    assert!(rt; answer_due(Heading::Partial, 8192, false).is_none());
+    for (heading, count, is_over) in [
+        (Heading::Partial, 8193, false),
+        (Heading::Partial, 10, true),
+        (Heading::Broken, 10, false),
+    ] {
+        assert!(rt; answer_due(heading, count, is_over) == Some(Answer::Unread));
+    }
+    Ok(())
+}
+
 /// The reply to one head.
 fn reply_to<R: Net + AllocGlobal>(rt: &R, address: SocketAddr, head: &str) -> io::Result<Vec<u8>> {
     let mut stream = TcpStream::connect(rt, address)?;
@@ -36,20 +152,26 @@ fn reply_to<R: Net + AllocGlobal>(rt: &R, address: SocketAddr, head: &str) -> io
     Ok(reply)
 }
 
+const HEALTH: &str = "GET /healthz HTTP/1.1\r\nhost: localhost\r\n\r\n";
+
 /// Whether each request has its reply.
 fn are_right<R: Net + AllocGlobal>(
     rt: &R,
     address: SocketAddr,
     control: &Control,
 ) -> io::Result<bool> {
-    const HEALTH: &str = "GET /healthz HTTP/1.1\r\n\r\n";
     let early = reply_to(rt, address, HEALTH)?;
     control.serves();
     let served = reply_to(rt, address, HEALTH)?;
-    let counted = reply_to(rt, address, "GET /metrics HTTP/1.1\r\n\r\n")?;
-    let lost = reply_to(rt, address, "GET /lost HTTP/1.1\r\n\r\n")?;
-    let wrong = reply_to(rt, address, "GET /stop HTTP/1.1\r\n\r\n")?;
-    let unread = reply_to(rt, address, "\r\n\r\n")?;
+    let counted = reply_to(rt, address, "GET /metrics HTTP/1.0\r\n\r\n")?;
+    let lost = reply_to(rt, address, "GET /lost HTTP/1.0\r\n\r\n")?;
+    let wrong = reply_to(rt, address, "GET /stop HTTP/1.0\r\n\r\n")?;
+    let unread = reply_to(rt, address, "GET /stop\r\n\r\n")?;
+    let foreign = reply_to(
+        rt,
+        address,
+        "POST /stop HTTP/1.1\r\nhost: evil.example\r\n\r\n",
+    )?;
     let stops = stop(rt, format!(in rt.alloc(); "{address}")?.as_str())?;
     let late = reply_to(rt, address, HEALTH)?;
     Ok(
@@ -60,30 +182,116 @@ fn are_right<R: Net + AllocGlobal>(
             && lost.starts_with(b"HTTP/1.1 404 ")
             && wrong.starts_with(b"HTTP/1.1 405 ")
             && unread.starts_with(b"HTTP/1.1 400 ")
+            && foreign.starts_with(b"HTTP/1.1 403 ")
             && stops
             && late.starts_with(b"HTTP/1.1 503 "),
     )
 }
 
-/// Asks, and ends the control port whatever came.
-fn asked<R: Net + AllocGlobal>(rt: &R, address: SocketAddr, control: &Control) -> io::Result<bool> {
-    let are_right = are_right(rt, address, control);
-    control.end(rt, address);
-    are_right
-}
-
 #[test]
 fn answers_and_stops(rt: HostRuntime) -> Result<(), Fail> {
-    let listener = TcpListener::bind(&rt, "127.0.0.1:0")?;
-    let address = listener.local_addr()?;
+    let mut port = Port::bind(&rt, "127.0.0.1:0", None)?;
+    let (address, waker) = (port.local_addr()?, port.waker()?);
     let counters = nothing_counted(rt.alloc())?;
     let control = Control::new();
     let noted = Noted(AtomicBool::new(false));
     let (right, ()) = join(
         &rt,
-        || asked(&rt, address, &control),
-        || serve_control(&rt, &listener, &control, &counters, &noted),
+        || {
+            let right = are_right(&rt, address, &control);
+            control.end(&waker);
+            right
+        },
+        || serve_control(&rt, &mut port, &control, &counters, &noted),
     );
+    assert!(rt; right?);
+    assert!(rt; noted.0.load(Ordering::SeqCst));
+    Ok(())
+}
+
+/// How long a request takes beside so many connections that say nothing.
+fn time_beside<R: Net + Clock + AllocGlobal>(
+    rt: &R,
+    address: SocketAddr,
+    count: usize,
+) -> io::Result<Duration> {
+    let mut idle = Vec::new(rt.alloc());
+    for _ in 0..count {
+        idle.push(TcpStream::connect(rt, address)?)?;
+    }
+    let begin = Instant::now(rt)?;
+    reply_to(rt, address, HEALTH)?;
+    begin.elapsed(rt)
+}
+
+#[test]
+fn answers_beside_idle_connections(rt: HostRuntime) -> Result<(), Fail> {
+    let mut port = Port::bind(&rt, "127.0.0.1:0", None)?;
+    let (address, waker) = (port.local_addr()?, port.waker()?);
+    let counters = nothing_counted(rt.alloc())?;
+    let control = Control::new();
+    let noted = Noted(AtomicBool::new(false));
+    let (times, ()) = join(
+        &rt,
+        || {
+            let times = (
+                time_beside(&rt, address, 50),
+                time_beside(&rt, address, 200),
+            );
+            control.end(&waker);
+            times
+        },
+        || serve_control(&rt, &mut port, &control, &counters, &noted),
+    );
+    let limit = Duration::from_secs(1);
+    assert!(rt; times.0? < limit);
+    assert!(rt; times.1? < limit);
+    Ok(())
+}
+
+/// Where a Unix socket is listened at.
+const SOCKET: &str = "unix:control.sock";
+
+/// Whether a Unix socket is its owner's alone, is reached whatever the host, and stops the server.
+fn is_right_at_socket<R>(rt: &R) -> io::Result<bool>
+where
+    R: Net<Listener = TcpListener, Stream = TcpStream> + Files + AllocGlobal,
+{
+    let mode = fs::symlink_metadata(rt, "control.sock")?
+        .permissions()
+        .mode();
+    let mut stream = UnixStream::connect(rt, "control.sock")?;
+    stream.write_all(b"GET /healthz HTTP/1.1\r\nhost: any\r\n\r\n")?;
+    let mut reply = Vec::new(rt.alloc());
+    stream.read_to_end(&mut reply)?;
+    let is_taken = Port::bind(rt, SOCKET, None).is_err();
+    Ok(
+        mode & 0o777 == 0o600
+            && reply.starts_with(b"HTTP/1.1 503 ")
+            && is_taken
+            && stop(rt, SOCKET)?,
+    )
+}
+
+#[test]
+fn listens_at_a_socket(rt: HostRuntime) -> Result<(), Fail> {
+    let abandoned = UnixListener::bind(&rt, "control.sock")?;
+    drop(abandoned);
+    let mut port = Port::bind(&rt, SOCKET, None)?;
+    let waker = port.waker()?;
+    let counters = nothing_counted(rt.alloc())?;
+    let control = Control::new();
+    let noted = Noted(AtomicBool::new(false));
+    let (right, ()) = join(
+        &rt,
+        || {
+            let right = is_right_at_socket(&rt);
+            control.end(&waker);
+            right
+        },
+        || serve_control(&rt, &mut port, &control, &counters, &noted),
+    );
+    fs::remove_file(&rt, "control.sock")?;
     assert!(rt; right?);
     assert!(rt; noted.0.load(Ordering::SeqCst));
     Ok(())
@@ -93,6 +301,55 @@ fn answers_and_stops(rt: HostRuntime) -> Result<(), Fail> {
 fn has_line(alloc: Global, counters: &Counters, line: &str) -> Result<bool, Fail> {
     let text = metrics(alloc, &counters.lines(alloc)?)?;
     Ok(text.lines().any(|found| found == line))
+}
+
+/// What is told of a server that has counted nothing.
+const NOTHING_COUNTED: &str = "\
+# HELP ruffletuff_connections connections that are open\n\
+# TYPE ruffletuff_connections gauge\n\
+ruffletuff_connections 0\n\
+# HELP ruffletuff_requests_total requests answered, by kind and class of status\n\
+# TYPE ruffletuff_requests_total counter\n\
+ruffletuff_requests_total{call=\"read\",status=\"2xx\"} 0\n\
+ruffletuff_requests_total{call=\"read\",status=\"4xx\"} 0\n\
+ruffletuff_requests_total{call=\"read\",status=\"5xx\"} 0\n\
+ruffletuff_requests_total{call=\"change\",status=\"2xx\"} 0\n\
+ruffletuff_requests_total{call=\"change\",status=\"4xx\"} 0\n\
+ruffletuff_requests_total{call=\"change\",status=\"5xx\"} 0\n\
+ruffletuff_requests_total{call=\"publish\",status=\"2xx\"} 0\n\
+ruffletuff_requests_total{call=\"publish\",status=\"4xx\"} 0\n\
+ruffletuff_requests_total{call=\"publish\",status=\"5xx\"} 0\n\
+# HELP ruffletuff_journal_bytes bytes of the journal\n\
+# TYPE ruffletuff_journal_bytes gauge\n\
+ruffletuff_journal_bytes 0\n\
+# HELP ruffletuff_syncs_total how often the journal was synced\n\
+# TYPE ruffletuff_syncs_total counter\n\
+ruffletuff_syncs_total 0\n\
+# HELP ruffletuff_pending_replies replies on their way: asked for, not yet told\n\
+# TYPE ruffletuff_pending_replies gauge\n\
+ruffletuff_pending_replies 0\n\
+# HELP ruffletuff_revision publications: those in the journal at the start, and those told since\n\
+# TYPE ruffletuff_revision gauge\n\
+ruffletuff_revision 0\n\
+# HELP ruffletuff_answer_milliseconds milliseconds from when a request's turn came to its answer\n\
+# TYPE ruffletuff_answer_milliseconds histogram\n\
+ruffletuff_answer_milliseconds_bucket{le=\"5\"} 0\n\
+ruffletuff_answer_milliseconds_bucket{le=\"10\"} 0\n\
+ruffletuff_answer_milliseconds_bucket{le=\"25\"} 0\n\
+ruffletuff_answer_milliseconds_bucket{le=\"100\"} 0\n\
+ruffletuff_answer_milliseconds_bucket{le=\"250\"} 0\n\
+ruffletuff_answer_milliseconds_bucket{le=\"1000\"} 0\n\
+ruffletuff_answer_milliseconds_bucket{le=\"+Inf\"} 0\n\
+ruffletuff_answer_milliseconds_sum 0\n\
+ruffletuff_answer_milliseconds_count 0\n\
+";
+
+#[test]
+fn tells_each_line(rt: HostRuntime) -> Result<(), Fail> {
+    let counters = nothing_counted(rt.alloc())?;
+    let text = metrics(rt.alloc(), &counters.lines(rt.alloc())?)?;
+    assert_eq!(rt; text.as_str(), NOTHING_COUNTED);
+    Ok(())
 }
 
 #[test]

@@ -1,6 +1,7 @@
-//! A book with one growth refused. A book of many against a plain list is asked by a script (`tests/replays.py`).
+//! A book: with one growth refused, and what it shares and keeps. A book of many against a plain list is asked by a script (`tests/replays.py`).
 
 use crate::square::{device, instant, position, word, words};
+use mds_exchanges::REPORT_FIRST;
 use mds_fleet::{Book, BookFault, Report, Taken};
 use mds_match::Words;
 use std::alloc::Global;
@@ -82,4 +83,24 @@ fn shares_words(rt: HostRuntime) {
     // Three vehicles, and the book for those to come.
     assert!(rt; Arc::strong_count(&vehicle.make) == 4);
     assert!(rt; Arc::strong_count(&vehicle.condition) == 4);
+}
+
+/// A text is read alike by the scratch that a book keeps, as often as one comes, and behind one that is no JSON; and so is one
+/// that is too long for that scratch.
+#[test]
+fn reads_by_what_it_keeps(rt: HostRuntime) {
+    let alloc = rt.alloc();
+    let mut book = Book::new(alloc, DEVICES);
+    let mut text = Vec::new(alloc);
+    text.extend_from_slice(REPORT_FIRST.body.as_bytes())
+        .expect(&rt, "memory");
+    for spaces in [0, 10, 5_000] {
+        for _ in 0..spaces {
+            text.push(b' ').expect(&rt, "memory");
+        }
+        let report = book.read_report(&text).expect(&rt, "a report");
+        assert!(rt; report.vehicle_type() == word(&rt, "scooter"));
+        assert!(rt; report.timestamp == instant(&rt, 2000));
+        assert!(rt; book.read_report(b"{").is_err());
+    }
 }

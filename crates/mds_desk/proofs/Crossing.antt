@@ -12,6 +12,7 @@ use Rattle.mds_text.proofs.moment.Moment.TheSendSync as moment
 use Rattle.mds_policy.proofs.policy.Policy.TheSendSync as policy
 use Rattle.mds_policy.specs.contracts.policy.Policy as Policy
 use Rattle.mds_geography.proofs.geography.Geography.TheSendSync as geography
+use Rattle.mds_reading.proofs.source.KeptScratch.TheSendSync as scratch
 use Rattle.mds_drafts.specs.contracts.draft.Draft as Draft
 use Rattle.mds_drafts.specs.contracts.drafts.Drafts as Drafts
 use Rattle.mds_catalog.proofs.entries.Entry.TheSendSync as entry
@@ -98,7 +99,11 @@ draft_send =
     variants_send Draft.enum ((search (sendable, crosses) depth 20, tt), ((search (sendable, crosses) depth 20, tt), tt))
 
 pub drafts_send : IsSend Drafts.the_row
-drafts_send = let s = draft_send in declared_send Drafts.the_type (search (sendable, crosses) depth 20, (search (sendable, crosses) depth 20, (search (sendable, crosses) depth 20, tt)))
+drafts_send =
+    let s = draft_send in
+    let r = scratch.the_send in
+    declared_send Drafts.the_type
+    (search (sendable, crosses) depth 20, (search (sendable, crosses) depth 20, (search (sendable, crosses) depth 20, (r, tt))))
 
 pub blank_send : IsSend Blank.the_row
 blank_send = declared_send Blank.the_type (start.the_send, (catalogue_send, (catalogue_send, (catalogue_send, tt))))

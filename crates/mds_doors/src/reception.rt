@@ -6,17 +6,15 @@ ghost use Rattle.mds_limits.specs.Asker.{asker_of};
 ghost use Rattle.mds_doors.specs.Arrived.{arrived_of};
 
 use crate::moments::Moments;
-use bytes::Bytes;
 use futures::future::{Ready, ready};
-use http::Response;
 use http::request::Parts;
-use http_body_util::Full;
 use mds_catalog::Catalogue;
 use mds_connections::{Answers, Taken};
 use mds_hall::{Arrived, Hall, Named, respond, token};
 use mds_limits::{Arrival, Asker};
+use mds_responses::HttpResult;
 use mds_verdict::Evaluator;
-use std::alloc::{AllocError, Global};
+use std::alloc::Global;
 use std::sync::Wait;
 
 /// A hall, what judges its vehicles, and the clock that gives each request its moment.
@@ -31,7 +29,7 @@ pub struct Reception<K: Named, R, E, M> {
 
 impl<K: Named, R: Wait + Drop, E: Evaluator<Catalogue> + Drop, M: Moments> Answers
     for Reception<K, R, E, M> {
-    type Reply = Ready<Result<Response<Full<Bytes>>, AllocError>>;
+    type Reply = Ready<HttpResult>;
 
     ghost may_answer = { E.may_judge };
 
@@ -41,11 +39,7 @@ impl<K: Named, R: Wait + Drop, E: Evaluator<Catalogue> + Drop, M: Moments> Answe
         Asker::of(self.hall.asker(token(&parts.headers)))
     }
 
-    fn answer(
-        &self,
-        parts: &Parts,
-        taken: Taken,
-    ) -> Ready<Result<Response<Full<Bytes>>, AllocError>>
+    fn answer(&self, parts: &Parts, taken: Taken) -> Ready<HttpResult>
         requires { E.may_judge }
         ensures { IsSome result.0 }
     {

@@ -6,7 +6,8 @@ ghost use Rattle.mds_text.specs.declared.draft_kind.DraftKind.TheVariants as kin
 use crate::draft::Draft;
 use mds_catalog::Batch;
 use mds_geography::Geography;
-use mds_policy::Policy;
+use mds_policy::{Policy, PolicyFault};
+use mds_reading::KeptScratch;
 use mds_text::{DraftKind, Id};
 use std::alloc::{AllocError, Global};
 use std::sync::Arc;
@@ -42,6 +43,7 @@ pub struct Drafts {
     items: Vec<Draft>,
     policy_count: usize,
     geography_count: usize,
+    reading: KeptScratch,
     ghost policies_counted: { policy_count ≡ count_of (drafts_in items.items) kinds.Policy },
     ghost geographies_counted: { geography_count ≡ count_of (drafts_in items.items) kinds.Geography },
 }
@@ -49,7 +51,10 @@ pub struct Drafts {
 impl Drafts {
     ghost use Rattle.std.specs.Prelude.{OnOk, OnErr, IsOk, IsTrue, IsSome, ◌↔◌, option_map, is_some, position, Some, None, Ok, true};
     ghost use Rattle.std.specs.FinMap.{empty, get};
+    ghost use Rattle.mds_text.specs.Fault.{Gives};
+    ghost use Rattle.mds_policy.specs.Fault.{policy_cause};
     ghost use Rattle.mds_policy.specs.Policy.{policy_document};
+    ghost use Rattle.mds_policy.specs.Reading.{read_policy};
     ghost use Rattle.mds_geography.specs.Geography.{geography_document};
     ghost use Rattle.mds_catalog.specs.Publication.{publication_of};
     ghost use Rattle.mds_drafts.specs.Drafts.{kind_of, id_of, draft_at, with_draft, without_draft, taken_out, put_answer, AnswersPut};
@@ -64,7 +69,21 @@ impl Drafts {
             items: Vec::new(alloc),
             policy_count: 0,
             geography_count: 0,
+            reading: KeptScratch::new(),
         }
+    }
+
+    /// Reads the text of a policy as `Policy::read` does, by the scratch that is kept here for short ones. The drafts
+    /// stay as they are.
+    ///
+    /// # Errors
+    ///
+    /// As those of `Policy::read`.
+    pub fn read_policy(&mut self, alloc: Global, text: &[u8]) -> Result<Policy, PolicyFault>
+        ensures read { Gives policy_cause policy_document result (read_policy text.now) }
+        ensures drafts { drafts_of self.new ≡ drafts_of self.old }
+    {
+        Policy::read_with(alloc, &mut self.reading, text)
     }
 
     /// All drafts, in no order that says anything. Takes no memory.

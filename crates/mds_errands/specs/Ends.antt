@@ -1,8 +1,10 @@
 -- How an errand ends, and with which exit status (PROTOCOL, ruffletuff).
-use Rattle.std.specs.Prelude.{ℕ, ◌==◌, if◌then◌else◌, List, codes}
+use Rattle.std.specs.Prelude.{ℕ, ◌==◌, if◌then◌else◌}
 use Rattle.mds_errands.specs.declared.end.End.{End}
-use Rattle.mds_errands.specs.declared.end.End.TheVariants.{Done, SomeRefused, NoServer, NotPrinted, BadPlace, NoMemory, NotWritten, Barred}
+use Rattle.mds_errands.specs.declared.end.End.TheVariants.{Done, SomeRefused, NoServer, BadReply, NotPrinted, BadPlace, NoToken, NoMemory, NotWritten, Barred}
 use Rattle.mds_errands.specs.declared.end.Tally.{Tally}
+use Rattle.mds_client.specs.declared.fault.ReplyFault.{ReplyFault}
+use Rattle.mds_client.specs.declared.fault.ReplyFault.TheVariants as Reply
 
 -- all is done where nothing is refused
 abbrev pub end_of : Tally → End
@@ -11,9 +13,17 @@ end_of tally = if tally.refused == 0 then Done else SomeRefused
 abbrev pub exit_status : End → ℕ
 exit_status Done = 0
 exit_status NoServer = 1
+exit_status (BadReply fault) = 1
 exit_status NotPrinted = 1
 exit_status BadPlace = 2
+exit_status (NoToken fault) = 2
 exit_status NoMemory = 3
 exit_status NotWritten = 4
 exit_status SomeRefused = 9
 exit_status Barred = 10
+
+-- how an errand ends that has no reply
+abbrev pub end_of_fault : ReplyFault → End
+end_of_fault Reply.NoMemory = NoMemory
+end_of_fault Reply.NoConnection = NoServer
+end_of_fault fault = BadReply fault

@@ -2,6 +2,8 @@
 ghost use Rattle.std.specs.Prelude.{◌≡◌, ◌+◌, ◌-◌, ◌^◌, min};
 ghost use Rattle.mds_errands.specs.Ends.{end_of, exit_status};
 
+use crate::token::TokenFault;
+use mds_client::ReplyFault;
 use std::alloc::AllocError;
 
 /// How an errand ends.
@@ -13,10 +15,14 @@ pub enum End {
     SomeRefused,
     /// No server answers.
     NoServer,
+    /// A server's reply isn't whole, or it can't be seen whether it is.
+    BadReply(ReplyFault),
     /// Standard output can't be written.
     NotPrinted,
     /// The address or the access token is none.
     BadPlace,
+    /// The file of the access token has none.
+    NoToken(TokenFault),
     /// Memory ran out.
     NoMemory,
     /// The folder can't be made or written.
@@ -76,8 +82,8 @@ impl End {
     {
         match self {
             End::Done => 0,
-            End::NoServer | End::NotPrinted => 1,
-            End::BadPlace => 2,
+            End::NoServer | End::BadReply(_) | End::NotPrinted => 1,
+            End::BadPlace | End::NoToken(_) => 2,
             End::NoMemory => 3,
             End::NotWritten => 4,
             End::SomeRefused => 9,
@@ -90,8 +96,10 @@ impl End {
         match self {
             End::Done => "",
             End::NoServer => "no server answers",
+            End::BadReply(fault) => fault.words(),
             End::NotPrinted => "standard output can't be written",
             End::BadPlace => "the address or the access token is none",
+            End::NoToken(fault) => fault.words(),
             End::NoMemory => "memory ran out",
             End::NotWritten => "the folder can't be used",
             End::SomeRefused => "something was refused",
@@ -108,5 +116,20 @@ impl From<AllocError> for End {
 
     fn from(_: AllocError) -> End {
         End::NoMemory
+    }
+}
+
+impl From<ReplyFault> for End {
+    ghost use Rattle.std.specs.Prelude.{◌≡◌};
+    ghost use Rattle.mds_errands.specs.Ends.{end_of_fault};
+
+    ghost from_gives = { λ fault e. e ≡ end_of_fault fault };
+
+    fn from(fault: ReplyFault) -> End {
+        match fault {
+            ReplyFault::NoMemory => End::NoMemory,
+            ReplyFault::NoConnection => End::NoServer,
+            fault => End::BadReply(fault),
+        }
     }
 }

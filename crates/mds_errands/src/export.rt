@@ -4,8 +4,7 @@ use crate::end::End;
 use crate::meaning::{Meaning, meaning_of};
 use crate::sending::{answered, client_of, tell_refusal};
 use crate::told::Spot;
-use mds_client::{Call, Reply};
-use mds_command::{Destination, Export};
+use mds_client::{Call, Reply, Server};
 use mds_feeds::{features_file, geographies_file, policies_file};
 use mds_import::list_named;
 use mds_reading::read_tree;
@@ -50,13 +49,13 @@ fn ended<R: Eprint + AllocGlobal>(rt: &R, target: &str, reply: &Reply) -> Result
 ///
 /// # Errors
 ///
-/// `BadPlace`, `NoServer` where it tells nothing, `Barred`, `NoMemory`.
+/// `BadPlace`, `NoServer` where it tells nothing, `BadReply`, `Barred`, `NoMemory`.
 fn asked<R: Net + Clock + Eprint + AllocGlobal>(
     rt: &R,
-    source: &Destination<'_>,
+    server: &Server<'_>,
     target: &str,
 ) -> Result<Tree, End> {
-    let mut client = client_of(rt, source)?;
+    let mut client = client_of(rt, server)?;
     let call = Call {
         method: "GET",
         target,
@@ -113,20 +112,20 @@ fn write_all<R: Files<File = File> + AllocGlobal>(
 ///
 /// # Errors
 ///
-/// `BadPlace`, `NoServer`, `Barred`, `NotWritten`, `NotPrinted`, `NoMemory`.
-fn exported<R>(rt: &R, export: &Export<'_>) -> Result<(), End>
+/// `BadPlace`, `NoServer`, `BadReply`, `Barred`, `NotWritten`, `NotPrinted`, `NoMemory`.
+fn exported<R>(rt: &R, folder: &str, server: &Server<'_>) -> Result<(), End>
 where
     R: Net + Clock + Files<File = File> + Print + Eprint + AllocGlobal,
 {
-    let told_policies = asked(rt, &export.source, "/policies")?;
-    let told_geographies = asked(rt, &export.source, "/geographies")?;
+    let told_policies = asked(rt, server, "/policies")?;
+    let told_geographies = asked(rt, server, "/geographies")?;
     let Some(policies) = list_named(&told_policies, "policies") else {
         return Err(End::NoServer);
     };
     let Some(geographies) = list_named(&told_geographies, "geographies") else {
         return Err(End::NoServer);
     };
-    write_all(rt, export.folder, policies, geographies)?;
+    write_all(rt, folder, policies, geographies)?;
     print_counts(rt, policies.len(), geographies.len())
 }
 
@@ -145,11 +144,11 @@ fn print_counts<R: Print>(rt: &R, policies: usize, geographies: usize) -> Result
 /// Writes what is published at a server into a folder, which is made where it isn't there: its policies as a file of MDS 2.0
 /// (`policies.json`), its geographies as one (`geographies.json`) and as GeoJSON (`geographies.geojson`). On standard output
 /// stands how many of each.
-pub fn export_published<R>(rt: &R, export: &Export<'_>) -> End
+pub fn export_published<R>(rt: &R, folder: &str, server: &Server<'_>) -> End
 where
     R: Net + Clock + Files<File = File> + Print + Eprint + AllocGlobal,
 {
-    match exported(rt, export) {
+    match exported(rt, folder, server) {
         Ok(()) => End::Done,
         Err(end) => end,
     }

@@ -3,7 +3,7 @@
 use crate::dialing::{Dialer, Timed};
 use crate::end::End;
 use crate::intake::is_visible;
-use mds_client::{Dial, Heading, heading_of};
+use mds_client::{Dial, Heading, ReplyFault, body_of, heading_of};
 use std::alloc::{AllocError, AllocGlobal, Global};
 use std::io::{self, ErrorKind, Read, Write};
 use std::net::Net;
@@ -84,7 +84,7 @@ fn exchanged<S: Read + Write + Drop>(
     Ok(bytes)
 }
 
-/// The body of a reply that has one; or in words why there is none.
+/// The body of a reply that has one, and that is whole by its head; or in words why there is none.
 ///
 /// # Errors
 ///
@@ -93,18 +93,17 @@ fn body_in(alloc: Global, bytes: &[u8]) -> Result<Result<Vec<u8>, &'static str>,
     let head = match heading_of(bytes) {
         Heading::Whole(head) => head,
         Heading::Partial | Heading::Broken => {
-            return Ok(Err("its server answers what isn't HTTP"));
+            return Ok(Err(ReplyFault::InvalidHead.words()));
         }
     };
     if head.status != 200 {
-        return Ok(Err("its server doesn't give it"));
+        return Ok(Err("the server doesn't give it"));
     }
-    let body = bytes.get(head.len..).unwrap_or_default();
-    let size = head.body.unwrap_or_default();
-    if size > body.len() as u64 {
-        return Ok(Err("its server broke off"));
+    match body_of(alloc, &head, bytes.get(head.len..).unwrap_or_default()) {
+        Ok(body) => Ok(Ok(body)),
+        Err(ReplyFault::NoMemory) => Err(End::NoMemory),
+        Err(fault) => Ok(Err(fault.words())),
     }
-    Ok(Ok(Vec::from_slice(alloc, body)?))
 }
 
 /// The request for a file.
@@ -164,7 +163,7 @@ pub(crate) fn fetched<R: Net + Clock + AllocGlobal>(
         }
         Err(error) => match error.kind() {
             ErrorKind::OutOfMemory => Err(End::NoMemory),
-            _ => Ok(Err("its server doesn't answer")),
+            _ => Ok(Err("the server doesn't answer")),
         },
     }
 }

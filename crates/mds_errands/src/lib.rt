@@ -12,13 +12,16 @@ mod feed;
 mod fetching;
 mod intake;
 mod meaning;
+mod opening;
 mod policies;
 mod sending;
 mod sources;
 mod status;
+mod token;
 mod told;
 
 pub use end::{End, Tally};
 pub use errand::run_errand;
 pub use escape::escaped;
 pub use meaning::{Meaning, meaning_of};
+pub use token::TokenFault;

@@ -6,6 +6,7 @@ use crate::intake::why_unkept;
 use crate::sending::send_drafts;
 use crate::sources::{Source, read_source};
 use crate::told::{Spot, tell};
+use mds_client::Server;
 use mds_command::Import;
 use mds_import::{
     Draft, Origin, Prepared, Refused, Why, decimal_at, documents, ordered, prepare,
@@ -253,9 +254,9 @@ fn printed<R: Print>(rt: &R, import: &Import<'_>, tally: &Tally) -> End {
 }
 
 /// Sends the documents of files to a server as drafts, geographies at first and each policy behind those that it supersedes;
-/// without a destination it prints what would be sent. On standard error stands what isn't sent and why, and what of a policy
+/// without a server it prints what would be sent. On standard error stands what isn't sent and why, and what of a policy
 /// is kept and has no effect; on standard output, at the end, how many were sent and how many refused.
-pub fn import_policies<R>(rt: &R, import: &Import<'_>) -> End
+pub fn import_policies<R>(rt: &R, import: &Import<'_>, server: Option<Server<'_>>) -> End
 where
     R: Net + Clock + Files<File = File> + Print + Eprint + AllocGlobal,
 {
@@ -267,8 +268,8 @@ where
         Ok(drafts) => drafts,
         Err(_) => return End::NoMemory,
     };
-    let done = match &import.destination {
-        Some(destination) => send_drafts(rt, destination, import.files, &drafts, &mut tally),
+    let done = match server {
+        Some(server) => send_drafts(rt, &server, import.files, &drafts, &mut tally),
         None => print_drafts(rt, &drafts, &mut tally),
     };
     let end = printed(rt, import, &tally);

@@ -5,52 +5,44 @@ use crate::end::{End, Tally};
 use crate::intake::is_visible;
 use crate::meaning::{Meaning, meaning_of};
 use crate::told::{Spot, spot_at, tell, word_of};
-use mds_client::{Call, Client, Reply, Server};
-use mds_command::Destination;
+use mds_client::{Call, Client, Reply, ReplyFault, Server};
 use mds_import::{Draft, target_of};
 use std::alloc::AllocGlobal;
-use std::io::{self, Eprint, ErrorKind};
+use std::io::Eprint;
 use std::net::Net;
 use std::time::Clock;
 
 /// Behind each so many documents it is said how many are through.
 const STEP: usize = 64;
 
-/// A client of the server that a destination names.
+/// A client of a server.
 ///
 /// # Errors
 ///
 /// `BadPlace` where the address or the access token may not stand in a request.
 pub(crate) fn client_of<'a, R: Net + Clock>(
     rt: &'a R,
-    destination: &Destination<'a>,
+    server: &Server<'a>,
 ) -> Result<Client<'a, Dialer<'a, R>>, End> {
-    if !is_visible(destination.address) || !is_visible(destination.token) {
+    if !is_visible(server.host) || !is_visible(server.token) {
         return Err(End::BadPlace);
     }
     let dialer = Dialer {
         rt,
-        address: destination.address,
+        address: server.host,
     };
-    let server = Server {
-        host: destination.address,
-        token: destination.token,
-    };
-    Ok(Client::new(dialer, server))
+    Ok(Client::new(dialer, *server))
 }
 
 /// The reply, if there is one.
 ///
 /// # Errors
 ///
-/// `NoMemory`, or `NoServer` for any other error.
-pub(crate) fn answered(asked: io::Result<Reply>) -> Result<Reply, End> {
+/// `NoServer`, `BadReply`, `NoMemory`.
+pub(crate) fn answered(asked: Result<Reply, ReplyFault>) -> Result<Reply, End> {
     match asked {
         Ok(reply) => Ok(reply),
-        Err(error) => Err(match error.kind() {
-            ErrorKind::OutOfMemory => End::NoMemory,
-            _ => End::NoServer,
-        }),
+        Err(fault) => Err(End::from(fault)),
     }
 }
 
@@ -98,15 +90,15 @@ pub(crate) fn note_reply<R: Eprint + AllocGlobal>(
 ///
 /// # Errors
 ///
-/// `BadPlace`, `NoServer`, `Barred` and `NoMemory`: what stands behind isn't sent then.
+/// `BadPlace`, `NoServer`, `BadReply`, `Barred` and `NoMemory`: what stands behind isn't sent then.
 pub(crate) fn send_drafts<R: Net + Clock + Eprint + AllocGlobal>(
     rt: &R,
-    destination: &Destination<'_>,
+    server: &Server<'_>,
     files: &[String],
     drafts: &[Draft],
     tally: &mut Tally,
 ) -> Result<(), End> {
-    let mut client = client_of(rt, destination)?;
+    let mut client = client_of(rt, server)?;
     let all = drafts.len();
     for (place, draft) in drafts.iter().enumerate() {
         if place > 0 && place % STEP == 0 {

@@ -2,6 +2,7 @@
 
 use crate::end::End;
 use crate::fetching::{MOST_BYTES, TOO_LONG, fetched, link_of};
+use crate::opening::{OpenFault, open_source};
 use crate::told::{Spot, tell};
 use mds_reading::read_counted;
 use mds_text::{TextFault, Tree};
@@ -30,7 +31,7 @@ fn bytes_in<S: Read + Drop>(alloc: Global, file: S) -> Result<Result<Vec<u8>, &'
     if let Err(error) = front.read_to_end(&mut bytes) {
         return match error.kind() {
             ErrorKind::OutOfMemory => Err(End::NoMemory),
-            _ => Ok(Err("it can't be read")),
+            _ => Ok(Err(OpenFault::Unreadable.words())),
         };
     }
     if bytes.len() as u64 > MOST_BYTES {
@@ -67,9 +68,9 @@ fn bytes_of<R: Net + Clock + Files<File = File> + AllocGlobal>(
     let alloc = rt.alloc();
     match link_of(alloc, path)? {
         Some(link) => fetched(rt, &link),
-        None => match File::open(rt, path) {
+        None => match open_source(rt, path) {
             Ok(file) => bytes_in(alloc, file),
-            Err(_) => Ok(Err("it can't be read")),
+            Err(fault) => Ok(Err(fault.words())),
         },
     }
 }

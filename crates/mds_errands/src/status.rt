@@ -6,8 +6,8 @@ use crate::feed::{Known, Sheet, is_feed, is_gbfs, statuses_in, type_of, vehicle_
 use crate::sending::{answered, client_of, note_reply};
 use crate::sources::read_source;
 use crate::told::{Spot, spot_at, tell, word_of};
-use mds_client::{Call, Reply};
-use mds_command::{Destination, Import};
+use mds_client::{Call, Reply, Server};
+use mds_command::Import;
 use mds_feeds::{Meant, gbfs_meant, instant_of, mds_meant};
 use mds_import::{Origin, named};
 use mds_text::{Id, Tree};
@@ -270,15 +270,15 @@ fn note_removal<R: Eprint + AllocGlobal>(
 ///
 /// # Errors
 ///
-/// `BadPlace`, `NoServer`, `Barred`, `NoMemory`: what stands behind isn't sent then.
+/// `BadPlace`, `NoServer`, `BadReply`, `Barred`, `NoMemory`: what stands behind isn't sent then.
 fn send_all<R: Net + Clock + Eprint + AllocGlobal>(
     rt: &R,
-    destination: &Destination<'_>,
+    server: &Server<'_>,
     files: &[String],
     gathered: &Gathered,
     tally: &mut Tally,
 ) -> Result<(), End> {
-    let mut client = client_of(rt, destination)?;
+    let mut client = client_of(rt, server)?;
     for removal in &gathered.removals {
         let target = removal_target(rt.alloc(), removal.device)?;
         let call = Call {
@@ -342,9 +342,9 @@ fn printed<R: Print>(rt: &R, import: &Import<'_>, tally: &Tally) -> End {
 }
 
 /// Sends what the vehicles of files do to a server as reports, many in one request, and takes those away that aren't on the
-/// street; without a destination it prints what would be sent. On standard error stands which vehicle isn't sent or is refused,
+/// street; without a server it prints what would be sent. On standard error stands which vehicle isn't sent or is refused,
 /// and why; on standard output, at the end, how many were sent and how many refused.
-pub fn import_status<R>(rt: &R, import: &Import<'_>) -> End
+pub fn import_status<R>(rt: &R, import: &Import<'_>, server: Option<Server<'_>>) -> End
 where
     R: Net + Clock + Files<File = File> + Print + Eprint + AllocGlobal,
 {
@@ -353,8 +353,8 @@ where
         Err(end) => return end,
     };
     let mut tally = gathered.tally;
-    let done = match &import.destination {
-        Some(destination) => send_all(rt, destination, import.files, &gathered, &mut tally),
+    let done = match server {
+        Some(server) => send_all(rt, &server, import.files, &gathered, &mut tally),
         None => print_all(rt, &gathered, &mut tally),
     };
     let end = printed(rt, import, &tally);

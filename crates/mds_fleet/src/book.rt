@@ -3,6 +3,7 @@ ghost use Rattle.std.specs.Result.{result_ok};
 ghost use Rattle.std.specs.FinMap as finite;
 ghost use Rattle.std.specs.BTreeMap.{values, IsOrdered};
 ghost use Rattle.std.specs.List.Sorted.{IsStrictlySortedBy};
+ghost use Rattle.mds_text.specs.Fault.{Gives, text_cause};
 ghost use Rattle.mds_policy.specs.Policy.{policy_document};
 ghost use Rattle.mds_match.specs.Row.{row_of};
 ghost use Rattle.mds_match.specs.declared.vehicle.TheConstants.{MOST_VEHICLES};
@@ -10,13 +11,15 @@ ghost use Rattle.mds_verdict.specs.Verdict.{verdict_document, verdicts};
 ghost use Rattle.mds_kept.specs.Kept.{HasArrived, IsChanged, IsPublished, Published};
 ghost use Rattle.mds_fleet.specs.Books.{device_cmp, Take, outcome_at, report_document, reported, row_after, row_from, run_start};
 ghost use Rattle.mds_fleet.specs.Fleet.{rows_of, IsKept};
+ghost use Rattle.mds_fleet.specs.Reading.{read_report};
 
 use crate::report::Report;
 use crate::shares::Shares;
 use mds_kept::Kept;
 use mds_match::{Local, Places, Vehicle};
 use mds_policy::Policy;
-use mds_text::{Id, Moment, Token};
+use mds_reading::KeptScratch;
+use mds_text::{Id, Moment, TextFault, Token};
 use mds_verdict::RuleVerdict;
 use std::alloc::{AllocError, AllocFailed, Global};
 use std::collections::BTreeMap;
@@ -61,6 +64,7 @@ pub struct Book {
     alloc: Global,
     kept: Kept,
     shares: Shares,
+    reading: KeptScratch,
 }
 
 impl Model for Book {
@@ -104,7 +108,22 @@ impl Book {
             alloc,
             kept: Kept::new(),
             shares: Shares::new(alloc),
+            reading: KeptScratch::new(),
         }
+    }
+
+    /// Reads a report as `Report::read` does, by the scratch that the book keeps for short ones. The book stays as it is.
+    ///
+    /// # Errors
+    ///
+    /// As those of `Report::read`.
+    pub fn read_report(&mut self, text: &[u8]) -> Result<Report, TextFault>
+        ensures read { Gives text_cause report_document result (read_report text.now) }
+        ensures rows { self.new.rows ≡ self.old.rows }
+        ensures limit { self.new.limit ≡ self.old.limit }
+        ensures fits { (published : Published) → Fits published self.old → Fits published self.new }
+    {
+        Report::read_with(self.alloc, &mut self.reading, text)
     }
 
     /// Takes a report that comes at this moment. What is kept stays right for whatever is published.

@@ -1,8 +1,8 @@
 use crate::reading::report_of;
 use mds_geometry::Position;
 use mds_match::Words;
-use mds_reading::Source;
-use mds_text::{Id, Moment, TextFault, Token};
+use mds_reading::{KeptScratch, Source};
+use mds_text::{Id, Moment, TextFault, Token, Tree};
 use std::alloc::Global;
 use std::sync::Arc;
 
@@ -42,6 +42,26 @@ impl Report {
     {
         let mut source = Source::new(alloc);
         let tree = source.read(alloc, text)?;
+        report_of(alloc, &tree)
+    }
+
+    /// Reads a report as `read` does, a short one by the scratch that is kept.
+    ///
+    /// # Errors
+    ///
+    /// As those of `read`.
+    pub fn read_with(
+        alloc: Global,
+        kept: &mut KeptScratch,
+        text: &[u8],
+    ) -> Result<Report, TextFault>
+        ensures { Gives text_cause report_document result (read_report text.now) }
+    {
+        if text.len() > KeptScratch::MOST_BYTES {
+            return Report::read(alloc, text);
+        }
+        let mut unusual = Tree::Null;
+        let (tree, _quoted) = kept.read_counted(alloc, &mut unusual, text)?;
         report_of(alloc, &tree)
     }
 

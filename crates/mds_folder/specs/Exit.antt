@@ -2,14 +2,17 @@
 use Rattle.std.specs.Prelude.{ℕ}
 use Rattle.mds_entries.specs.declared.head.HeadFault.{HeadFault}
 use Rattle.mds_entries.specs.declared.head.HeadFault.TheVariants as head
-use Rattle.mds_folder.specs.declared.fault.Damage.TheVariants.{Version, NoHead}
+use Rattle.mds_records.specs.declared.journal.OpenFault.{OpenFault}
+use Rattle.mds_records.specs.declared.journal.OpenFault.TheVariants as opening
+use Rattle.mds_folder.specs.declared.fault.Damage.TheVariants.{Lost, Moved, Foreign, Unexplained, TooLong, Version, NoHead}
 use Rattle.mds_folder.specs.declared.fault.FolderFault.{FolderFault}
-use Rattle.mds_folder.specs.declared.fault.FolderFault.TheVariants.{Unusable, Locked, NoMemory, Damaged, Unfitting}
+use Rattle.mds_folder.specs.declared.fault.FolderFault.TheVariants.{Unusable, Linked, Locked, NoMemory, Damaged, Unfitting}
 
 -- 3 for want of memory, 4 for a folder that can't be used, 5 for a damaged journal, 6 for a configuration that doesn't fit it
 abbrev pub exit_status : FolderFault → ℕ
 exit_status NoMemory = 3
 exit_status Unusable = 4
+exit_status Linked = 4
 exit_status Locked = 4
 exit_status (Damaged damage) = 5
 exit_status (Unfitting unfit) = 6
@@ -19,3 +22,14 @@ abbrev pub fault_of_head : HeadFault → FolderFault
 fault_of_head (head.Version version) = Damaged (Version version)
 fault_of_head head.Malformed = Damaged NoHead
 fault_of_head head.NoMemory = NoMemory
+
+-- the fault of a journal that isn't opened: a damaged one where what it holds isn't what was written, whoever opens it
+abbrev pub fault_of_opening : OpenFault → FolderFault
+fault_of_opening (opening.Damaged said) = Damaged (Lost said)
+fault_of_opening (opening.Moved place) = Damaged (Moved place)
+fault_of_opening (opening.Foreign signature) = Damaged (Foreign signature)
+fault_of_opening (opening.Torn whole) = Damaged (Unexplained whole)
+fault_of_opening opening.NotKept = Unusable
+fault_of_opening opening.TooLong = Damaged TooLong
+fault_of_opening opening.Failed = Unusable
+fault_of_opening opening.NoMemory = NoMemory

@@ -1,3 +1,5 @@
 pub mod Exit
 pub mod Choosing
 pub mod Script
+pub mod Files
+pub mod Damages

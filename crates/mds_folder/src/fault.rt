@@ -3,7 +3,7 @@ ghost use Rattle.std.specs.Prelude.{◌≡◌};
 ghost use Rattle.mds_folder.specs.Exit.{exit_status};
 
 use mds_entries::{EntryFault, HeadFault, Unfit};
-use mds_records::{AppendFault, NotSynced, OpenFault, ReadFault};
+use mds_records::{AppendFault, NotSynced, OpenFault, ReadFault, Signature};
 use std::alloc::{AllocError, AllocFailed};
 use std::fmt;
 
@@ -12,6 +12,12 @@ use std::fmt;
 pub enum Damage {
     /// It was synced up to this byte, and isn't whole up to there.
     Lost(u64),
+    /// At this byte a mark stands that was written for another place.
+    Moved(u64),
+    /// It doesn't begin as a journal does, but with this.
+    Foreign(Signature),
+    /// From this byte on something stands that no kill of the program leaves.
+    Unexplained(u64),
     /// It is longer than a journal may be.
     TooLong,
     /// Its first record has this version, which isn't known.
@@ -27,6 +33,8 @@ pub enum Damage {
 pub enum FolderFault {
     /// It can't be made, read or written.
     Unusable,
+    /// In the place of one of its files a link stands, or something else that is no file.
+    Linked,
     /// Another program has it.
     Locked,
     /// Memory ran out.
@@ -45,7 +53,7 @@ impl FolderFault {
     {
         match self {
             FolderFault::NoMemory => 3,
-            FolderFault::Unusable | FolderFault::Locked => 4,
+            FolderFault::Unusable | FolderFault::Linked | FolderFault::Locked => 4,
             FolderFault::Damaged(_) => 5,
             FolderFault::Unfitting(_) => 6,
         }
@@ -70,11 +78,19 @@ impl<T: Drop> From<AllocFailed<T>> for FolderFault {
 }
 
 impl From<OpenFault> for FolderFault {
+    ghost use Rattle.std.specs.Prelude.{◌≡◌};
+    ghost use Rattle.mds_folder.specs.Exit.{fault_of_opening};
+
+    ghost from_gives = { λ fault e. e ≡ fault_of_opening fault };
+
     fn from(fault: OpenFault) -> FolderFault {
         match fault {
             OpenFault::Damaged(synced) => FolderFault::Damaged(Damage::Lost(synced)),
+            OpenFault::Moved(place) => FolderFault::Damaged(Damage::Moved(place)),
+            OpenFault::Foreign(signature) => FolderFault::Damaged(Damage::Foreign(signature)),
+            OpenFault::Torn(whole) => FolderFault::Damaged(Damage::Unexplained(whole)),
             OpenFault::TooLong => FolderFault::Damaged(Damage::TooLong),
-            OpenFault::Failed => FolderFault::Unusable,
+            OpenFault::NotKept | OpenFault::Failed => FolderFault::Unusable,
             OpenFault::NoMemory => FolderFault::NoMemory,
         }
     }
@@ -137,6 +153,18 @@ pub(crate) fn at(number: usize, fault: EntryFault) -> FolderFault {
     }
 }
 
+/// What a signature is, in words.
+fn found(signature: Signature) -> &'static str {
+    match signature {
+        Signature::Gzip => "data that was compressed with gzip",
+        Signature::ByteOrderMark => "a byte order mark",
+        Signature::Zeros => "zeros",
+        Signature::Records => "bytes behind which records of a journal stand",
+        Signature::Text => "a text",
+        Signature::Unknown => "other bytes",
+    }
+}
+
 impl fmt::Display for Damage {
     fn fmt<W: fmt::Write>(&self, f: &mut fmt::Formatter<W>) -> fmt::Result {
         match self {
@@ -144,6 +172,22 @@ impl fmt::Display for Damage {
                 write!(
                     f,
                     "it was synced up to byte {synced}, and isn't whole up to there"
+                )
+            }
+            Damage::Moved(place) => {
+                write!(
+                    f,
+                    "at byte {place} stands what was written for another place: bytes were put in or taken out"
+                )
+            }
+            Damage::Foreign(signature) => {
+                let found = found(*signature);
+                write!(f, "it doesn't begin as a journal does, but with {found}")
+            }
+            Damage::Unexplained(whole) => {
+                write!(
+                    f,
+                    "what stands from byte {whole} on is no record, and isn't what a kill of the program leaves"
                 )
             }
             Damage::TooLong => f.write_str("it is longer than a journal may be"),

@@ -1,42 +1,32 @@
 //! The files of a city's folder.
 
 use crate::fault::FolderFault;
+use crate::files::{lock_file, open_file, open_locked, open_to_read};
 use std::alloc::Global;
-use std::fs::{self, File, Files, TryLockError};
+use std::fs::{self, DirBuilder, File, Files, Permissions};
 use std::io::{ErrorKind, Read};
-use std::os::unix::fs::OpenOptionsExt;
+use std::os::unix::fs::{DirBuilderExt, PermissionsExt};
 
-/// Who may read and write a file of the folder: its owner alone.
-const MODE: u32 = 0o600;
+/// Who may do what in a folder that is made: its owner alone, everything.
+const FOLDER_MODE: u32 = 0o700;
 
-/// The files of a city's folder, which this program alone has until the lock is closed.
+/// The files of a city's folder, which this program alone has until the journal is closed.
 #[derive(Drop)]
 pub struct Folder {
-    /// Is locked as long as it is open. The system unlocks it where the program ends, however it does.
+    /// Is locked as long as it is open, for programs that lock this file alone.
     pub lock: File,
+    /// Is locked as long as it is open, or another handle of it by `try_clone`.
     pub journal: File,
     /// Room that is set aside for the journal.
     pub ballast: File,
 }
 
-/// A file of a folder, which is made where it isn't there.
-fn opened<R: Files<File = File>>(
-    rt: &R,
-    alloc: Global,
-    folder: &str,
-    name: &str,
-) -> Result<File, FolderFault> {
-    let path = format!(in alloc; "{folder}/{name}")?;
-    let mut how = File::options();
-    how.read(true).write(true).create(true).mode(MODE);
-    match how.open(rt, path.as_str()) {
-        Ok(file) => Ok(file),
-        Err(_) => Err(FolderFault::Unusable),
-    }
-}
-
 /// Waits until the names of a folder's files are on the disk.
-fn sync_names<R: Files<File = File>>(rt: &R, folder: &str) -> Result<(), FolderFault> {
+///
+/// # Errors
+///
+/// `Unusable` where the folder can't be opened or synced.
+pub fn sync_names<R: Files<File = File>>(rt: &R, folder: &str) -> Result<(), FolderFault> {
     let Ok(names) = File::open(rt, folder) else {
         return Err(FolderFault::Unusable);
     };
@@ -46,11 +36,27 @@ fn sync_names<R: Files<File = File>>(rt: &R, folder: &str) -> Result<(), FolderF
     }
 }
 
+/// Makes a folder that isn't there, with those above it, which its owner alone may use, whatever the process takes away
+/// from the modes of what it makes.
+fn create_folder<R: Files<File = File>>(rt: &R, folder: &str) -> Result<(), FolderFault> {
+    let mut how = DirBuilder::new();
+    how.recursive(true).mode(FOLDER_MODE);
+    if how.create(rt, folder).is_err() {
+        return Err(FolderFault::Unusable);
+    }
+    match fs::set_permissions(rt, folder, Permissions::from_mode(FOLDER_MODE)) {
+        Ok(()) => Ok(()),
+        Err(_) => Err(FolderFault::Unusable),
+    }
+}
+
 /// Makes a folder where it isn't there, and waits until its name is on the disk: each time, since a start that made it may have
 /// been killed before that. Where the folder above can't be read, nothing is waited for.
 fn make<R: Files<File = File>>(rt: &R, alloc: Global, folder: &str) -> Result<(), FolderFault> {
-    if fs::create_dir_all(rt, folder).is_err() {
-        return Err(FolderFault::Unusable);
+    match fs::metadata(rt, folder) {
+        Ok(found) if found.is_dir() => {}
+        Err(error) if error.kind() == ErrorKind::NotFound => create_folder(rt, folder)?,
+        _ => return Err(FolderFault::Unusable),
     }
     let above = format!(in alloc; "{folder}/..")?;
     if File::open(rt, above.as_str()).is_err() {
@@ -59,25 +65,29 @@ fn make<R: Files<File = File>>(rt: &R, alloc: Global, folder: &str) -> Result<()
     sync_names(rt, above.as_str())
 }
 
+/// The path of a file of a folder.
+fn path_of(alloc: Global, folder: &str, name: &str) -> Result<String, FolderFault> {
+    Ok(format!(in alloc; "{folder}/{name}")?)
+}
+
 /// The files of a city's folder, locked. The folder and the files are made where they aren't there, and their names are on the disk.
+/// No link is followed that stands in the folder. The lock is on the journal itself: whatever else is removed from the folder, no
+/// second program has it.
 ///
 /// # Errors
 ///
-/// `Unusable` where the folder or a file can't be made or opened, `Locked` where another program has it, `NoMemory`.
+/// `Unusable` where the folder or a file can't be made or opened, `Linked` where something stands in the place of a file that is none,
+/// `Locked` where another program has it, `NoMemory`.
 pub fn open_folder<R: Files<File = File>>(
     rt: &R,
     alloc: Global,
     folder: &str,
 ) -> Result<Folder, FolderFault> {
     make(rt, alloc, folder)?;
-    let lock = opened(rt, alloc, folder, "lock")?;
-    match lock.try_lock() {
-        Ok(()) => {}
-        Err(TryLockError::WouldBlock) => return Err(FolderFault::Locked),
-        Err(TryLockError::Error(_)) => return Err(FolderFault::Unusable),
-    }
-    let journal = opened(rt, alloc, folder, "journal")?;
-    let ballast = opened(rt, alloc, folder, "ballast")?;
+    let lock = open_file(rt, path_of(alloc, folder, "lock")?.as_str())?;
+    lock_file(&lock)?;
+    let journal = open_locked(rt, path_of(alloc, folder, "journal")?.as_str())?;
+    let ballast = open_file(rt, path_of(alloc, folder, "ballast")?.as_str())?;
     sync_names(rt, folder)?;
     Ok(Folder {
         lock,
@@ -90,16 +100,14 @@ pub fn open_folder<R: Files<File = File>>(
 ///
 /// # Errors
 ///
-/// `Unusable` where there is no journal or it can't be read, `NoMemory`.
+/// `Unusable` where there is no journal or it can't be read, `Linked` where what stands there is no file, `NoMemory`.
 pub fn journal_bytes<R: Files<File = File>>(
     rt: &R,
     alloc: Global,
     folder: &str,
 ) -> Result<Vec<u8>, FolderFault> {
-    let path = format!(in alloc; "{folder}/journal")?;
-    let Ok(mut file) = File::open(rt, path.as_str()) else {
-        return Err(FolderFault::Unusable);
-    };
+    let path = path_of(alloc, folder, "journal")?;
+    let mut file = open_to_read(rt, path.as_str())?;
     let mut bytes = Vec::new(alloc);
     match file.read_to_end(&mut bytes) {
         Ok(_) => Ok(bytes),

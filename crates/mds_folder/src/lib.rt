@@ -2,15 +2,21 @@
 #![tactic(auto)]
 
 mod choosing;
+mod cutting;
 mod fault;
+mod files;
 mod folder;
 mod journal;
 mod script;
 mod survey;
+#[cfg(test)]
+mod tests;
 
 pub use choosing::{Extract, told, without};
+pub use cutting::CutFiles;
 pub use fault::{Damage, FolderFault};
-pub use folder::{Folder, journal_bytes, open_folder};
+pub use files::{create_locked, lock_file};
+pub use folder::{Folder, journal_bytes, open_folder, sync_names};
 pub use journal::{begun, entries_in, suits};
 pub use script::{push_blanked, request_line};
-pub use survey::{Survey, cut_of, surveyed};
+pub use survey::{Survey, damage_of, surveyed};

@@ -1,9 +1,11 @@
 //! What a journal's bytes are, and how they end.
-ghost use Rattle.std.specs.Prelude.{◌≡◌, ◌≤◌, ◌<◌, ◌-◌, ℕ, List, map, drop, Some, None, IfOk};
+ghost use Rattle.std.specs.Prelude.{◌≡◌, ℕ, List, map, drop, IfOk};
 ghost use Rattle.mds_records.specs.Records.{Reads, extent};
-ghost use Rattle.mds_records.specs.Marks.{ending_of};
+ghost use Rattle.mds_records.specs.Endings.{ending_of};
 ghost use Rattle.mds_records.specs.Groups.{listed};
+ghost use Rattle.mds_folder.specs.Damages.{damage_of};
 
+use crate::fault::Damage;
 use mds_records::{Ending, Record, ending_of, is_plain, read};
 use std::alloc::{AllocError, Global};
 
@@ -49,14 +51,16 @@ pub fn surveyed(alloc: Global, bytes: &[u8]) -> Result<Survey, AllocError>
     })
 }
 
-/// How many bytes were cut of a file that had this length before it was opened and has that after.
-pub fn cut_of(before: u64, after: u64) -> Option<u64>
-    ensures none { before ≤ after → result ≡ None }
-    ensures some { after < before → result ≡ Some (before - after) }
+/// What is wrong with a journal that ends so behind this many whole bytes. Of what is opened only that is told which no kill of the
+/// program leaves.
+pub fn damage_of(whole: u64, ending: Ending) -> Option<Damage>
+    ensures { result ≡ damage_of whole ending }
 {
-    if after < before {
-        Some(before - after)
-    } else {
-        None
+    match ending {
+        Ending::Whole | Ending::Torn => None,
+        Ending::Unexplained => Some(Damage::Unexplained(whole)),
+        Ending::Foreign(signature) => Some(Damage::Foreign(signature)),
+        Ending::Moved(place) => Some(Damage::Moved(place)),
+        Ending::Damaged(said) => Some(Damage::Lost(said)),
     }
 }

@@ -8,13 +8,11 @@ use crate::early::{Arrived, hear};
 use crate::hall::Hall;
 use crate::named::Named;
 use crate::responding::response;
-use bytes::Bytes;
-use http::Response;
 use http::request::Parts;
-use http_body_util::Full;
 use mds_catalog::Catalogue;
 use mds_desk::{Gate, OpenGate};
 use mds_request::{Actor, Code};
+use mds_responses::HttpResult;
 use mds_shelf::Answer;
 use mds_text::Moment;
 use mds_verdict::Evaluator;
@@ -35,7 +33,7 @@ pub fn respond<K: Named, R: Wait, E: Evaluator<Catalogue>>(
     at: Option<Moment>,
     hall: &Hall<K>,
     evaluator: &E,
-) -> Result<Response<Full<Bytes>>, AllocError>
+) -> HttpResult
     requires { E.may_judge }
     ensures { IfOk result (Responds (configuration hall.now.config.value) parts.now arrived at) }
 {
@@ -65,7 +63,7 @@ pub fn respond_with<K: Named, R: Wait, G: Gate, E: Evaluator<Catalogue>>(
     hall: &Hall<K>,
     gate: &mut G,
     evaluator: &E,
-) -> Result<Response<Full<Bytes>>, AllocError>
+) -> HttpResult
     requires { E.may_judge }
     ensures { IfOk result (Responds (configuration hall.now.config.value) parts.now arrived at) }
 {

@@ -14,12 +14,10 @@ ghost use Rattle.mds_hall.specs.Turn.{Answers, DeskReplies, DeskRuns, IsDeskAt, 
 use crate::early::Heard;
 use crate::named::Named;
 use crate::turn::{told_look, told_run, told_turn, turn};
-use bytes::Bytes;
-use http::Response;
-use http_body_util::Full;
 use mds_catalog::Catalogue;
 use mds_desk::{AuthorRoom, AuthorTelling, Desk, Gate, Leave, Telling};
 use mds_request::{Code, Request};
+use mds_responses::HttpResult;
 use mds_shelf::Answer;
 use mds_snapshot::Note;
 use mds_verdict::Evaluator;
@@ -134,7 +132,7 @@ impl<K: Named> HallDesk<K> {
         note: Option<&Note<K>>,
         gate: &mut G,
         evaluator: &E,
-    ) -> Result<Response<Full<Bytes>>, AllocError>
+    ) -> HttpResult
         requires { E.may_judge }
         ensures turn { Answers (state_of self.old.desk) (option_copied note.entry) (request_heard heard.entry) result (state_of self.new.desk) }
         ensures place { self.new.place ≡ self.old.place }

@@ -9,13 +9,11 @@ ghost use Rattle.mds_hall.specs.Turn.{Answers, IsTold, TakesToldRun, TakesToldTu
 
 use crate::asked::request;
 use crate::responding::response;
-use bytes::Bytes;
-use http::Response;
 use http::request::Parts;
-use http_body_util::Full;
 use mds_catalog::Catalogue;
 use mds_desk::{Desk, Gate, Telling};
 use mds_request::{Code, Request};
+use mds_responses::HttpResult;
 use mds_shelf::Answer;
 use mds_snapshot::{Naming, Note};
 use mds_text::Moment;
@@ -103,7 +101,7 @@ pub(crate) fn turn<K: Naming, G: Gate, E: Evaluator<Catalogue>>(
     note: Option<&Note<K>>,
     gate: &mut G,
     evaluator: &E,
-) -> Result<Response<Full<Bytes>>, AllocError>
+) -> HttpResult
     requires { E.may_judge }
     ensures turn { Answers (state_of desk.old) (option_copied note.entry) (request_of request.now) result (state_of desk.new) }
     ensures same { IsSameDesk (state_of desk.old) (state_of desk.new) }
@@ -128,7 +126,7 @@ pub fn desk_turn<K: Naming, G: Gate, E: Evaluator<Catalogue>>(
     note: Option<&Note<K>>,
     gate: &mut G,
     evaluator: &E,
-) -> Result<Response<Full<Bytes>>, AllocError>
+) -> HttpResult
     requires { E.may_judge }
     ensures { Answers (state_of desk.old) (option_copied note.entry) (request_in parts.now body.now at) result (state_of desk.new) }
 {

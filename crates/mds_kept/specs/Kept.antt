@@ -1,12 +1,12 @@
 -- What is kept of an operator's vehicles between questions, and what ties it to the vehicles and to what is published.
-use Rattle.std.specs.Prelude.{◌≡◌, ◌<◌, ◌≤◌, ℕ, List, [], Bool, true, None, Some, IfSome, All, Contains, if◌then◌else◌, length, get_or, nat_lt, drop, map}
+use Rattle.std.specs.Prelude.{◌≡◌, ◌<◌, ◌≤◌, ◌*◌, ◌⊎◌, ℕ, suc, List, [], Bool, IsTrue, true, Option, None, Some, IfSome, bytes_eq, All, Contains, if◌then◌else◌, length, get_or, nat_lt, drop, map}
 use Rattle.std.specs.declared.alloc.Global.{Global}
 use Rattle.std.specs.declared.boxed.Box.{Box}
 use Rattle.std.specs.declared.cmp.Ordering.{Ordering}
 use Rattle.std.specs.BTreeMap.{BTreeMap, get, is_at, keys, values}
 use Rattle.std.specs.BTreeSet.{insert_key}
 use Rattle.std.specs.Cmp.Lexicographic.{slice_cmp}
-use Rattle.std.specs.List.{insert, remove}
+use Rattle.std.specs.List.{insert, list_any, remove}
 use Rattle.std.specs.Ordering.{nat_cmp}
 use Rattle.std.specs.Set.{remove_key}
 use Rattle.mds_geometry.specs.declared.position.Position.{Position}
@@ -19,6 +19,7 @@ use Rattle.mds_masks.specs.declared.masked.MaskedPolicy.{MaskedPolicy}
 use Rattle.mds_kept.specs.declared.kept.Column.{Column}
 use Rattle.mds_kept.specs.declared.kept.Kept.{Kept}
 use Rattle.mds_kept.specs.declared.kept.Listed.{Listed}
+use Rattle.mds_kept.specs.declared.kept.TheConstants.{MOST_MASKS}
 
 -- device ids in the order of their bytes
 abbrev pub device_cmp : List ℕ → List ℕ → Ordering
@@ -88,6 +89,16 @@ AreRows vehicles listed =
 -- what is kept, if anything, is right for these vehicles and for what is published
 abbrev pub Fits : Published → Vehicles → Kept → Type 0
 Fits published vehicles kept = IfSome kept.listed (IsListed published vehicles)
+
+-- a column of this policy is kept
+abbrev pub has_column : List Column → List ℕ → Bool
+has_column columns policy = list_any (λ column. bytes_eq column.policy policy) columns
+
+-- A column of this policy for so many vehicles has room beside what is kept: it is there, or with one more there are no more
+-- than 4,194,304 masks.
+abbrev pub HasRoom : Option Listed → List ℕ → ℕ → Type 0
+HasRoom kept policy vehicles =
+    IfSome kept (λ listed. IsTrue (has_column listed.columns.items policy) ⊎ (suc (length listed.columns.items) * vehicles ≤ MOST_MASKS))
 
 -- all that a policy's matches rest on is published for good, and these are its rules
 abbrev pub IsPublished : Published → Policy → (List ℕ → List (List (List Position))) → Type 0

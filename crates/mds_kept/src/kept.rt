@@ -1,8 +1,8 @@
 ghost use Rattle.std.specs.Prelude.{◌≡◌, ◌≤◌, ◌∷◌, ◌++◌, [], List, ℕ, true, All, IfSome, drop, length};
-ghost use Rattle.std.specs.BTreeMap.{IsOrdered, keys};
+ghost use Rattle.std.specs.BTreeMap.{IsOrdered, btree_map_len, keys};
 ghost use Rattle.mds_policy.specs.Policy.{policy_document};
 ghost use Rattle.mds_masks.specs.Masks.{IsMask};
-ghost use Rattle.mds_kept.specs.Kept.{AreKept, AreRead, AreRows, IsChanged, IsColumn, IsListed, IsSince, Published, Vehicles, device_cmp, rows_in};
+ghost use Rattle.mds_kept.specs.Kept.{AreKept, AreRead, AreRows, HasRoom, IsChanged, IsColumn, IsListed, IsSince, Published, Vehicles, device_cmp, has_column, rows_in};
 
 use crate::columns::{Columns, verdicts_by};
 use crate::places::{arrived, departed};
@@ -54,10 +54,10 @@ pub struct Kept {
 
 impl Kept {
     ghost use Rattle.std.specs.Prelude.{◌≡◌, ◌^◌, ◌<◌, List, ℕ, All, IfSome, map};
-    ghost use Rattle.std.specs.BTreeMap.{IsOrdered};
+    ghost use Rattle.std.specs.BTreeMap.{IsOrdered, btree_map_len};
     ghost use Rattle.mds_policy.specs.Policy.{policy_document};
     ghost use Rattle.mds_verdict.specs.Verdict.{verdict_document, verdicts};
-    ghost use Rattle.mds_kept.specs.Kept.{AreOwn, Fits, HasArrived, HasDeparted, IsChanged, IsPublished, MayAsk, Published, Vehicles, device_cmp, rows_in};
+    ghost use Rattle.mds_kept.specs.Kept.{AreOwn, Fits, HasArrived, HasDeparted, HasRoom, IsChanged, IsPublished, MayAsk, Published, Vehicles, device_cmp, rows_in};
 
     /// Nothing is kept. Takes no memory.
     pub fn new() -> Kept
@@ -119,8 +119,9 @@ impl Kept {
     /// The verdict on each rule of a policy, in their order, at a local time and at the moment up to which
     /// a vehicle's time in its state counts: what is kept is brought up to date and looked at alone. `None`
     /// where the policy wasn't asked about since all was dropped, where it has more than 64 rules, where
-    /// there are more than 4,194,304 vehicles or where memory ran out; then the vehicles themselves are to
-    /// be asked. So what is asked once costs no more than that, whatever it would cost to keep it.
+    /// there are more than 4,194,304 vehicles, where its masks have no room beside those that are kept, or
+    /// where memory ran out; then the vehicles themselves are to be asked. So what is asked once, or can't be
+    /// kept, costs no more than that.
     pub fn verdicts<P: Places>(
         &mut self,
         alloc: Global,
@@ -135,10 +136,14 @@ impl Kept {
         ensures exact { IfSome result (λ found. map verdict_document found.items
             ≡ verdicts (policy_document policy.now) (P.polygons places.now) (rows_in vehicles.now) local moment) }
         ensures fits { IfSome result (λ found. All (λ v. v.measure < 2 ^ 63) found.items) }
+        ensures room { IfSome result (λ found. HasRoom self.old.listed (policy_document policy.now).id (btree_map_len vehicles.now)) }
         ensures kept { (published : Published) → Fits published vehicles.now self.old →
             IsPublished published (policy_document policy.now) (P.polygons places.now) → Fits published vehicles.now self.new }
     {
         if policy.rules().len() > MOST_RULES || vehicles.len() > MOST_MASKS {
+            return None;
+        }
+        if !has_room(&self.listed, policy, vehicles) {
             return None;
         }
         if !was_asked(alloc, &mut self.asked, policy.id()) {
@@ -162,6 +167,25 @@ impl Kept {
         self.listed = Some(put_back(listed, column));
         found.ok()
     }
+}
+
+/// Whether a column of this policy is kept.
+fn has_column(columns: &[Column], policy: Id) -> bool
+    ensures { result ≡ has_column columns.now policy }
+{
+    columns.iter().any(|column| column.policy == policy)
+}
+
+/// Whether a column of this policy has room: it is kept, or with one more there are no more than
+/// 4,194,304 masks.
+fn has_room(kept: &Option<Listed>, policy: &Policy, vehicles: &BTreeMap<Id, Box<Vehicle>>) -> bool
+    ensures { result ≡ true → HasRoom kept.now (policy_document policy.now).id (btree_map_len vehicles.now) }
+{
+    let Some(listed) = kept else {
+        return true;
+    };
+    let columns = listed.columns.len().saturating_add(1);
+    has_column(&listed.columns, policy.id()) || columns.saturating_mul(vehicles.len()) <= MOST_MASKS
 }
 
 /// Whether a policy is among those that were asked about. It is from now on, if there is memory for it.
@@ -319,14 +343,13 @@ fn refreshed<P: Places>(
     })
 }
 
-/// What is kept with a column more, if there is room and memory for it.
+/// What is kept with a column more, if there is memory for it.
 fn put_back(listed: Listed, column: Column) -> Listed
     ensures { (published : Published) (vehicles : Vehicles) → IsListed published vehicles listed →
         IsColumn published vehicles listed.devices.items listed.changed.items column → IsListed published vehicles result }
 {
     let mut listed = listed;
-    let masks = (listed.columns.len() + 1).saturating_mul(listed.devices.len());
-    if masks <= MOST_MASKS && listed.columns.push(column).is_err() {
+    if listed.columns.push(column).is_err() {
         return listed;
     }
     listed

@@ -1,13 +1,10 @@
 //! A reply that is counted as it leaves.
 ghost use Rattle.std.specs.Prelude.{◌≡◌};
 
-use bytes::Bytes;
 use futures::Future;
 use futures::task::{Context, Poll};
-use http::Response;
-use http_body_util::Full;
 use mds_control::{Call, Counters, Figure};
-use std::alloc::AllocError;
+use mds_responses::HttpResult;
 use std::time::{Clock, Instant};
 
 /// The status of a success.
@@ -87,10 +84,10 @@ impl<'a, F: Future, C> MeteredReply<'a, F, C> {
 
 impl<F, C> Future for MeteredReply<'_, F, C>
 where
-    F: Future<Output = Result<Response<Full<Bytes>>, AllocError>>,
+    F: Future<Output = HttpResult>,
     C: Clock + Drop,
 {
-    type Output = Result<Response<Full<Bytes>>, AllocError>;
+    type Output = HttpResult;
 
     ghost can_poll = { λ s. F.can_poll s.reply };
 
@@ -99,7 +96,7 @@ where
     // What the reply gives.
     ghost gives = { λ s told. F.gives s.reply told };
 
-    fn poll(&mut self, cx: &mut Context<'_>) -> Poll<Result<Response<Full<Bytes>>, AllocError>> {
+    fn poll(&mut self, cx: &mut Context<'_>) -> Poll<HttpResult> {
         match self.reply.poll(cx) {
             Poll::Pending => Poll::Pending,
             Poll::Ready(Ok(response)) => {

@@ -7,9 +7,8 @@ use crate::file::{FILES, File};
 use crate::leaf::Leaf;
 use crate::response::response_of;
 use crate::told::told_of;
-use bytes::Bytes;
-use http::{HeaderMap, Response};
-use http_body_util::Full;
+use http::HeaderMap;
+use mds_responses::HttpResult;
 use std::alloc::{AllocError, Global};
 
 /// The page's files, each with its tag.
@@ -66,7 +65,7 @@ impl Page {
         method: &[u8],
         path: &[u8],
         headers: &HeaderMap,
-    ) -> Option<Result<Response<Full<Bytes>>, AllocError>>
+    ) -> Option<HttpResult>
         ensures { Tells method.now path.now headers.now result }
     {
         let leaf = self.leaf_at(path)?;

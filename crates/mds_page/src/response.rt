@@ -1,7 +1,6 @@
 //! The responses that tell it.
 ghost use Rattle.std.specs.Prelude.{◌≡◌, IfOk, OnOk, ◌++◌, [], map};
 ghost use Rattle.http_header.specs.FieldValue.{plain_value};
-ghost use Rattle.http_header.specs.HeaderMap.{insert};
 ghost use Rattle.mds_page.specs.Response.{Says, field, fields_of, version_of};
 ghost use Rattle.mds_page.specs.declared.file.File.{File};
 ghost use Rattle.mds_page.specs.declared.told.Told.TheVariants.{Whole, Unchanged, WrongMethod};
@@ -13,24 +12,15 @@ use http::header::{
     ALLOW, CACHE_CONTROL, CONTENT_SECURITY_POLICY, CONTENT_TYPE, ETAG, REFERRER_POLICY,
     X_CONTENT_TYPE_OPTIONS,
 };
-use http::{HeaderMap, HeaderName, HeaderValue, Response, StatusCode};
+use http::{HeaderMap, HeaderValue, Response, StatusCode};
 use http_body_util::Full;
+use mds_responses::{HttpResult, json_response, set_field, with_field};
 use std::alloc::{AllocError, Global};
 
 /// What a browser may load for the page: what comes from the same origin.
 const POLICY: &str = "default-src 'none'; script-src 'self'; worker-src 'self'; style-src 'self'; \
     img-src 'self' data:; connect-src 'self'; form-action 'none'; base-uri 'none'; \
     frame-ancestors 'none'";
-
-/// Sets a field.
-fn put(headers: &mut HeaderMap, name: HeaderName, value: HeaderValue) -> Result<(), AllocError>
-    ensures { OnOk result (headers.new ≡ insert headers.old name value) }
-{
-    match headers.insert(name, value) {
-        Ok(_) => Ok(()),
-        Err(_) => Err(AllocError),
-    }
-}
 
 /// Sets what tells the version of a file: a cache asks whether it is still the same.
 fn put_version(alloc: Global, headers: &mut HeaderMap, tag: &[u8]) -> Result<(), AllocError>
@@ -40,8 +30,8 @@ fn put_version(alloc: Global, headers: &mut HeaderMap, tag: &[u8]) -> Result<(),
     let Ok(tag) = HeaderValue::from_bytes(alloc, tag) else {
         return Err(AllocError);
     };
-    put(headers, ETAG, tag)?;
-    put(headers, CACHE_CONTROL, HeaderValue::from_static("no-cache"))
+    set_field(headers, ETAG, tag)?;
+    set_field(headers, CACHE_CONTROL, HeaderValue::from_static("no-cache"))
 }
 
 /// Sets what tells a file's type, and what a browser may do with it.
@@ -50,18 +40,18 @@ fn put_type(headers: &mut HeaderMap, leaf: &Leaf) -> Result<(), AllocError>
     ensures { OnOk result (headers.new ≡ map field (fields_of Whole leaf.now.file)) }
 {
     let media_type = HeaderValue::from_static(leaf.file.media_type());
-    put(headers, CONTENT_TYPE, media_type)?;
-    put(
+    set_field(headers, CONTENT_TYPE, media_type)?;
+    set_field(
         headers,
         X_CONTENT_TYPE_OPTIONS,
         HeaderValue::from_static("nosniff"),
     )?;
-    put(
+    set_field(
         headers,
         REFERRER_POLICY,
         HeaderValue::from_static("no-referrer"),
     )?;
-    put(
+    set_field(
         headers,
         CONTENT_SECURITY_POLICY,
         HeaderValue::from_static(POLICY),
@@ -69,7 +59,7 @@ fn put_type(headers: &mut HeaderMap, leaf: &Leaf) -> Result<(), AllocError>
 }
 
 /// The file.
-fn whole(alloc: Global, leaf: &Leaf) -> Result<Response<Full<Bytes>>, AllocError>
+fn whole(alloc: Global, leaf: &Leaf) -> HttpResult
     ensures { IfOk result (Says Whole leaf.now.file) }
 {
     let text = Bytes::from_static(leaf.file.text().as_bytes());
@@ -80,7 +70,7 @@ fn whole(alloc: Global, leaf: &Leaf) -> Result<Response<Full<Bytes>>, AllocError
 }
 
 /// That the asker has the file as it is.
-fn unchanged(alloc: Global, leaf: &Leaf) -> Result<Response<Full<Bytes>>, AllocError>
+fn unchanged(alloc: Global, leaf: &Leaf) -> HttpResult
     ensures { IfOk result (Says Unchanged leaf.now.file) }
 {
     let mut response = Response::new(alloc, Full::new(Bytes::from_static(b"")));
@@ -90,17 +80,12 @@ fn unchanged(alloc: Global, leaf: &Leaf) -> Result<Response<Full<Bytes>>, AllocE
 }
 
 /// That a file is only to be read.
-fn wrong_method(alloc: Global) -> Result<Response<Full<Bytes>>, AllocError>
+fn wrong_method(alloc: Global) -> HttpResult
     ensures { (file : File) → IfOk result (Says WrongMethod file) }
 {
     let body = Bytes::from_static(b"{\"error\":\"method\"}");
-    let mut response = Response::new(alloc, Full::new(body));
-    *response.status_mut() = StatusCode::METHOD_NOT_ALLOWED;
-    let json = HeaderValue::from_static("application/json");
-    put(response.headers_mut(), CONTENT_TYPE, json)?;
-    let reading = HeaderValue::from_static("GET, HEAD");
-    put(response.headers_mut(), ALLOW, reading)?;
-    Ok(response)
+    let response = json_response(alloc, StatusCode::METHOD_NOT_ALLOWED, body)?;
+    with_field(response, ALLOW, HeaderValue::from_static("GET, HEAD"))
 }
 
 /// The response that tells this of a file.
@@ -108,11 +93,7 @@ fn wrong_method(alloc: Global) -> Result<Response<Full<Bytes>>, AllocError>
 /// # Errors
 ///
 /// Memory ran out.
-pub(crate) fn response_of(
-    alloc: Global,
-    told: Told,
-    leaf: &Leaf,
-) -> Result<Response<Full<Bytes>>, AllocError>
+pub(crate) fn response_of(alloc: Global, told: Told, leaf: &Leaf) -> HttpResult
     ensures { IfOk result (Says told leaf.now.file) }
 {
     match told {

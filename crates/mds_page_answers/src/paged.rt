@@ -7,18 +7,16 @@ ghost use Rattle.mds_page.specs.File.{path_of};
 ghost use Rattle.mds_page.specs.Response.{IsNoFile, Tells};
 ghost use Rattle.mds_page.specs.declared.file.File.{File};
 
-use bytes::Bytes;
 use futures::future::{Either, Ready, ready};
-use http::Response;
 use http::request::Parts;
-use http_body_util::Full;
 use mds_connections::{Answers, Taken};
 use mds_limits::Asker;
 use mds_page::Page;
-use std::alloc::{AllocError, Global};
+use mds_responses::HttpResult;
+use std::alloc::Global;
 
 /// What the page tells at once.
-type Told = Ready<Result<Response<Full<Bytes>>, AllocError>>;
+type Told = Ready<HttpResult>;
 
 /// What answers requests, with the page before it. A request for a file of the page is a stranger's, and is told of the file:
 /// nothing else is asked. Any other is answered as if there were no page.

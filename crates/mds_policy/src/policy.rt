@@ -2,7 +2,7 @@ use crate::fault::PolicyFault;
 use crate::reading::policy_of;
 use crate::rule::Rule;
 use crate::served::dated;
-use mds_reading::{Source, read_tree};
+use mds_reading::{KeptScratch, Source, read_tree};
 use mds_text::{Id, Moment, Tree};
 use std::alloc::{AllocError, Global};
 
@@ -37,6 +37,30 @@ impl Policy {
     {
         let mut source = Source::new(alloc);
         let (tree, quoted) = source.read_counted(alloc, text)?;
+        if quoted > 0 {
+            return Err(PolicyFault::Decimal);
+        }
+        policy_of(alloc, text, &tree)
+    }
+
+    /// Reads the text of a policy as `read` does, a short one by the scratch that is kept.
+    ///
+    /// # Errors
+    ///
+    /// As those of `read`.
+    #[tactic(auto, unfolding(crate::specs::Reading::read_policy))]
+    pub fn read_with(
+        alloc: Global,
+        kept: &mut KeptScratch,
+        text: &[u8],
+    ) -> Result<Policy, PolicyFault>
+        ensures { Gives policy_cause policy_document result (read_policy text.now) }
+    {
+        if text.len() > KeptScratch::MOST_BYTES {
+            return Policy::read(alloc, text);
+        }
+        let mut unusual = Tree::Null;
+        let (tree, quoted) = kept.read_counted(alloc, &mut unusual, text)?;
         if quoted > 0 {
             return Err(PolicyFault::Decimal);
         }

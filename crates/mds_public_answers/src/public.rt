@@ -8,20 +8,18 @@ ghost use Rattle.mds_public_answers.specs.Told.{IsTold, IsToldTo};
 
 use crate::shown::Shows;
 use crate::window::Window;
-use bytes::Bytes;
 use futures::future::{Either, Ready, ready};
-use http::Response;
 use http::request::Parts;
-use http_body_util::Full;
 use mds_connections::{Answers, Taken};
 use mds_hall::Named;
 use mds_limits::Asker;
 use mds_public::Asked;
-use std::alloc::{AllocError, Global};
+use mds_responses::HttpResult;
+use std::alloc::Global;
 use std::sync::Wait;
 
 /// What is told at once.
-type Told = Ready<Result<Response<Full<Bytes>>, AllocError>>;
+type Told = Ready<HttpResult>;
 
 /// What answers requests, and before it, where there is a window, what everyone is told. A request for that is a stranger's, and
 /// nothing else is asked. Any other is answered as if there were no window.
@@ -46,12 +44,7 @@ fn asked(parts: &Parts) -> Option<Asked>
 
 impl<K: Named, A: Shows<K>, R: Wait> Public<K, A, R> {
     /// The response to a request for this.
-    fn respond(
-        &self,
-        window: &Window<K>,
-        asked: Asked,
-        parts: &Parts,
-    ) -> Result<Response<Full<Bytes>>, AllocError>
+    fn respond(&self, window: &Window<K>, asked: Asked, parts: &Parts) -> HttpResult
         ensures { IfOk result (IsTold K.configuration asked parts.now) }
     {
         match window.latest(&self.rt, self.alloc, &self.answers) {
@@ -61,7 +54,7 @@ impl<K: Named, A: Shows<K>, R: Wait> Public<K, A, R> {
     }
 
     /// What is told to a request; nothing, where it isn't one for what everyone is told.
-    fn told(&self, parts: &Parts) -> Option<Result<Response<Full<Bytes>>, AllocError>>
+    fn told(&self, parts: &Parts) -> Option<HttpResult>
         ensures { IsToldTo K.configuration self.now.window parts.now result }
     {
         let Some(window) = &self.window else {

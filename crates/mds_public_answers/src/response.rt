@@ -1,28 +1,18 @@
 //! The responses that tell it.
 ghost use Rattle.std.specs.Prelude.{◌≡◌, [], map, IfOk, OnOk, Ok, Err};
-ghost use Rattle.http_header.specs.HeaderMap.{insert};
 ghost use Rattle.mds_public.specs.declared.refusal.Refusal.TheVariants.{Method};
 ghost use Rattle.mds_public_answers.specs.Response.{Says, common_fields, field, fields_of, refusal_status, refusal_text};
 
 use bytes::Bytes;
 use http::header::{ACCESS_CONTROL_ALLOW_ORIGIN, ALLOW, CACHE_CONTROL, CONTENT_TYPE};
-use http::{HeaderMap, HeaderName, HeaderValue, Response, StatusCode};
+use http::{HeaderMap, HeaderValue, Response, StatusCode};
 use http_body_util::Full;
 use mds_public::Refusal;
+use mds_responses::{HttpResult, set_field};
 use std::alloc::{AllocError, Global};
 
 /// The type of every response, with its version.
 const MEDIA_TYPE: &str = "application/vnd.mds+json;version=2.0";
-
-/// Sets a field.
-fn put(headers: &mut HeaderMap, name: HeaderName, value: HeaderValue) -> Result<(), AllocError>
-    ensures { OnOk result (headers.new ≡ insert headers.old name value) }
-{
-    match headers.insert(name, value) {
-        Ok(_) => Ok(()),
-        Err(_) => Err(AllocError),
-    }
-}
 
 /// Sets the fields of every response.
 fn put_common(headers: &mut HeaderMap) -> Result<(), AllocError>
@@ -31,9 +21,9 @@ fn put_common(headers: &mut HeaderMap) -> Result<(), AllocError>
 {
     let no_cache = HeaderValue::from_static("no-cache");
     let any_origin = HeaderValue::from_static("*");
-    put(headers, CONTENT_TYPE, HeaderValue::from_static(MEDIA_TYPE))?;
-    put(headers, CACHE_CONTROL, no_cache)?;
-    put(headers, ACCESS_CONTROL_ALLOW_ORIGIN, any_origin)
+    set_field(headers, CONTENT_TYPE, HeaderValue::from_static(MEDIA_TYPE))?;
+    set_field(headers, CACHE_CONTROL, no_cache)?;
+    set_field(headers, ACCESS_CONTROL_ALLOW_ORIGIN, any_origin)
 }
 
 /// The status of a refusal.
@@ -65,7 +55,7 @@ fn text_of(refusal: Refusal) -> &'static str
 }
 
 /// The response with this body.
-fn found(alloc: Global, body: Bytes) -> Result<Response<Full<Bytes>>, AllocError>
+fn found(alloc: Global, body: Bytes) -> HttpResult
     ensures { IfOk result (Says (Ok body)) }
 {
     let mut response = Response::new(alloc, Full::new(body));
@@ -74,7 +64,7 @@ fn found(alloc: Global, body: Bytes) -> Result<Response<Full<Bytes>>, AllocError
 }
 
 /// The response that says a refusal.
-fn refused(alloc: Global, refusal: Refusal) -> Result<Response<Full<Bytes>>, AllocError>
+fn refused(alloc: Global, refusal: Refusal) -> HttpResult
     ensures { IfOk result (Says (Err refusal)) }
 {
     let body = Bytes::from_static(text_of(refusal).as_bytes());
@@ -83,7 +73,7 @@ fn refused(alloc: Global, refusal: Refusal) -> Result<Response<Full<Bytes>>, All
     put_common(response.headers_mut())?;
     if refusal == Refusal::Method {
         let reading = HeaderValue::from_static("GET, HEAD");
-        put(response.headers_mut(), ALLOW, reading)?;
+        set_field(response.headers_mut(), ALLOW, reading)?;
     }
     Ok(response)
 }
@@ -93,10 +83,7 @@ fn refused(alloc: Global, refusal: Refusal) -> Result<Response<Full<Bytes>>, All
 /// # Errors
 ///
 /// Memory ran out.
-pub fn response_of(
-    alloc: Global,
-    answer: Result<Bytes, Refusal>,
-) -> Result<Response<Full<Bytes>>, AllocError>
+pub fn response_of(alloc: Global, answer: Result<Bytes, Refusal>) -> HttpResult
     ensures { IfOk result (Says answer) }
 {
     match answer {

@@ -4,12 +4,10 @@ ghost use Rattle.mds_public_answers.specs.Response.{query_of};
 ghost use Rattle.mds_public_answers.specs.Told.{IsFace, IsTold};
 
 use crate::response::response_of;
-use bytes::Bytes;
-use http::Response;
 use http::request::Parts;
-use http_body_util::Full;
 use mds_hall::Named;
 use mds_public::{Asked, Denied, Face};
+use mds_responses::HttpResult;
 use mds_snapshot::Note;
 use std::alloc::{AllocError, Global};
 
@@ -81,12 +79,7 @@ impl<K: Named> Shown<K> {
     /// # Errors
     ///
     /// Memory ran out.
-    pub fn respond(
-        &self,
-        alloc: Global,
-        asked: Asked,
-        parts: &Parts,
-    ) -> Result<Response<Full<Bytes>>, AllocError>
+    pub fn respond(&self, alloc: Global, asked: Asked, parts: &Parts) -> HttpResult
         ensures { IfOk result (IsTold K.configuration asked parts.now) }
     {
         let method = parts.method.as_str().as_bytes();

@@ -23,4 +23,4 @@ pub use fields::{
 };
 pub use node::{Node, NodeMember};
 pub use read::{read_counted, read_tree};
-pub use source::Source;
+pub use source::{KeptScratch, Source};

@@ -10,7 +10,7 @@ use crate::own::lend;
 use crate::stop::Stop;
 use json::Scratch;
 use mds_text::{TextFault, Tree};
-use std::alloc::Global;
+use std::alloc::{AllocError, Global};
 
 /// What the nodes of a text lend from beside the text: its strings with escapes, and the tree of a text
 /// that is unusual.
@@ -55,14 +55,77 @@ impl Source {
         ensures quoted { IfOk result (λ r. r.1 ≡ quoted_count bytes.now) }
     {
         let Source { scratch, tree } = self;
-        match read_direct(alloc, { scratch }, bytes) {
-            Ok(read) => Ok(read),
-            Err(Stop::NoMemory) => Err(TextFault::NoMemory),
-            Err(Stop::Unusual) => {
-                let (read, quoted) = mds_text::read_counted(alloc, bytes)?;
-                *tree = read;
-                Ok((lend(alloc, tree)?, quoted))
-            }
+        read_over(alloc, scratch, tree, bytes)
+    }
+}
+
+/// Reads a text over a scratch, into a tree that lends from the text, the scratch and, where the text is unusual, `tree`.
+fn read_over<'a>(
+    alloc: Global,
+    scratch: &'a mut Scratch<Global>,
+    tree: &'a mut Tree,
+    bytes: &'a [u8],
+) -> Result<(Node<'a>, u64), TextFault>
+    ensures tree { Gives text_cause (λ r. node_view r.0) result (read_text bytes.now) }
+    ensures quoted { IfOk result (λ r. r.1 ≡ quoted_count bytes.now) }
+{
+    match read_direct(alloc, { scratch }, bytes) {
+        Ok(read) => Ok(read),
+        Err(Stop::NoMemory) => Err(TextFault::NoMemory),
+        Err(Stop::Unusual) => {
+            let (read, quoted) = mds_text::read_counted(alloc, bytes)?;
+            *tree = read;
+            Ok((lend(alloc, tree)?, quoted))
         }
+    }
+}
+
+/// What is kept from text to text, so that a short text is read without making an index of 16 KiB anew.
+#[derive(Drop)]
+pub struct KeptScratch {
+    scratch: Option<Box<Scratch<Global>>>,
+}
+
+impl KeptScratch {
+    /// The most bytes of a text that is read by what is kept: a longer one would leave as much behind.
+    pub const MOST_BYTES: usize = 4_096;
+
+    /// Nothing kept yet. Takes no memory.
+    pub fn new() -> KeptScratch {
+        KeptScratch { scratch: None }
+    }
+
+    /// The scratch, made by the first call.
+    ///
+    /// # Errors
+    ///
+    /// Memory ran out.
+    fn scratch(&mut self, alloc: Global) -> Result<&mut Scratch<Global>, AllocError> {
+        if self.scratch.is_none() {
+            self.scratch = Some(Box::new(alloc, Scratch::new(alloc))?);
+        }
+        match &mut self.scratch {
+            Some(scratch) => Ok(&mut **scratch),
+            None => Err(AllocError),
+        }
+    }
+
+    /// Reads a text as `Source::read_counted` does, into a tree that lends from what is kept, and from `tree` where the text is
+    /// unusual.
+    ///
+    /// # Errors
+    ///
+    /// As those of `Source::read`.
+    pub fn read_counted<'a>(
+        &'a mut self,
+        alloc: Global,
+        tree: &'a mut Tree,
+        bytes: &'a [u8],
+    ) -> Result<(Node<'a>, u64), TextFault>
+        ensures tree { Gives text_cause (λ r. node_view r.0) result (read_text bytes.now) }
+        ensures quoted { IfOk result (λ r. r.1 ≡ quoted_count bytes.now) }
+    {
+        let scratch = self.scratch(alloc)?;
+        read_over(alloc, scratch, tree, bytes)
     }
 }

@@ -5,3 +5,4 @@ pub mod Joined
 pub mod Listed
 pub mod Marked
 pub mod Seals
+pub mod Endings

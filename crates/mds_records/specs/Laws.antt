@@ -1,10 +1,11 @@
 -- What is read of a file that was cut short, torn or filled with zeros, and how such a file ends.
-use Rattle.std.specs.Prelude.{◌≡◌, ◌≢◌, ℕ, ◌+◌, ◌^◌, ◌<◌, ◌≤◌, List, [], ◌∷◌, ◌++◌, length, take, drop, replicate, Some, None}
+use Rattle.std.specs.Prelude.{◌≡◌, ◌≢◌, ℕ, ◌+◌, ◌^◌, ◌<◌, ◌≤◌, List, [], ◌∷◌, ◌++◌, length, take, drop, replicate, true, false, Some, None}
 use Rattle.std.specs.List.{AllByRecursion}
 use Rattle.mds_records.specs.Sum.{sum_over, sums_over}
 use Rattle.mds_records.specs.Records.{Fits, Reads, written, extent, first_at}
-use Rattle.mds_records.specs.Marks.{mark_of, said_at, ending_of}
-use Rattle.mds_records.specs.declared.marks.Ending.TheVariants.{Damaged}
+use Rattle.mds_records.specs.Marks.{mark_of, claim_at}
+use Rattle.mds_records.specs.Endings.{beginning, ending_of, is_opened}
+use Rattle.mds_records.specs.declared.ending.Ending.TheVariants.{Damaged}
 
 -- the list begins with these
 abbrev pub IsFrontOf : List (List ℕ) → List (List ℕ) → Type 0
@@ -47,21 +48,35 @@ CutsNothingSynced =
     (before : ℕ) (synced found : List (List ℕ)) (tail : List ℕ) → AllByRecursion Fits synced
     → Reads before (written before synced ++ tail) found → extent synced ≤ extent found
 
--- Wherever behind the whole records a mark stands that says that the file was synced beyond them, the file ends as damaged.
+-- Wherever behind whole records a mark stands, whatever position it was written for, that says that the file was synced beyond them, the
+-- file ends as damaged.
 abbrev pub FindsDamage : Type 0
 FindsDamage =
-    (whole synced : ℕ) (front rest : List ℕ) → whole + length front < 2 ^ 64 → synced < 2 ^ 64 → whole < synced
-    → (said : ℕ) × (ending_of whole (front ++ (mark_of (whole + length front) synced ++ rest)) ≡ Damaged said) × (synced ≤ said)
+    (whole own synced : ℕ) (front rest : List ℕ) → own < 2 ^ 64 → synced < 2 ^ 64 → 0 < whole → whole < synced
+    → (said : ℕ) × (ending_of whole (front ++ (mark_of own synced ++ rest)) ≡ Damaged said) × (synced ≤ said)
 
--- each mark among these bytes, which stand at this position, says at most this
+-- Where a mark stands behind whole records that was written for another place, the file isn't opened.
+abbrev pub RefusesWhatWasMoved : Type 0
+RefusesWhatWasMoved =
+    (whole own synced : ℕ) (front rest : List ℕ) → own < 2 ^ 64 → synced < 2 ^ 64 → 0 < whole → own ≢ whole + length front
+    → is_opened (ending_of whole (front ++ (mark_of own synced ++ rest))) ≡ false
+
+-- A file without a whole record is opened only if all of its bytes are the first of those with which each journal begins.
+abbrev pub OpensNothingForeign : Type 0
+OpensNothingForeign =
+    (bytes : List ℕ) → is_opened (ending_of 0 bytes) ≡ true → (rest : List ℕ) × (beginning ≡ bytes ++ rest)
+
+-- each mark among these bytes, which stand at this position, was written for its place, and says at most this
 abbrev pub SayAtMost : ℕ → ℕ → List ℕ → Type 0
 SayAtMost most position bytes =
-    (front rest : List ℕ) (said : ℕ) → bytes ≡ front ++ rest → said_at (position + length front) rest ≡ Some said → said ≤ most
+    (front rest : List ℕ) (claim : ℕ × ℕ) → bytes ≡ front ++ rest → claim_at rest ≡ Some claim
+    → (claim.0 ≡ position + length front) × (claim.1 ≤ most)
 
--- Where what was synced stays, and no mark behind the whole records says more than that it was synced, no damage is told.
-abbrev pub TellsNoFalseDamage : Type 0
-TellsNoFalseDamage =
-    (before : ℕ) (synced found : List (List ℕ)) (tail : List ℕ) (said : ℕ) → AllByRecursion Fits synced
-    → Reads before (written before synced ++ tail) found
+-- Where what was synced stays, with a text of ours at least, and each mark behind the whole records stands in its place and says no more
+-- than that, the file is opened: as after each crash, whatever it left of what was being written.
+abbrev pub OpensWhatACrashLeaves : Type 0
+OpensWhatACrashLeaves =
+    (before : ℕ) (synced found : List (List ℕ)) (tail : List ℕ) → AllByRecursion Fits synced
+    → Reads before (written before synced ++ tail) found → length beginning < extent found
     → SayAtMost (extent synced) (extent found) (drop (extent found) (written before synced ++ tail))
-    → ending_of (extent found) (drop (extent found) (written before synced ++ tail)) ≢ Damaged said
+    → is_opened (ending_of (extent found) (drop (extent found) (written before synced ++ tail))) ≡ true

@@ -1,6 +1,8 @@
 pub mod Sum
 pub mod Records
 pub mod Marks
+pub mod Endings
 pub mod Groups
 pub mod Laws
 pub mod Seals
+pub mod Openings

@@ -1,17 +1,20 @@
 //! A log in one file of records.
-ghost use Rattle.std.specs.Prelude.{◌≡◌, ◌≤◌, ◌↔◌, ℕ, List, length, map, take, drop, IfOk, OnOk, IsErrOf};
-ghost use Rattle.mds_records.specs.Records.{Reads};
-ghost use Rattle.mds_records.specs.Marks.{ending_of};
+ghost use Rattle.std.specs.Prelude.{◌≡◌, ◌⊎◌, ◌≤◌, ℕ, List, length, map, take, drop, true, false, Some, None, IfOk, OnOk, IsErrOf};
+ghost use Rattle.mds_records.specs.Sum.{sums_over};
+ghost use Rattle.mds_records.specs.Records.{Reads, extent};
+ghost use Rattle.mds_records.specs.Endings.{ending_of, is_opened, IsCut};
 ghost use Rattle.mds_records.specs.Groups.{MayBeOf, listed};
+ghost use Rattle.mds_records.specs.Openings.{refusal_of};
 ghost use Rattle.mds_records.specs.declared.journal.TheConstants.{MOST_POSITION};
-ghost use Rattle.mds_records.specs.declared.marks.Ending.TheVariants.{Damaged};
 
+use crate::aside::Aside;
+use crate::ending::{Cut, Ending, ending_of};
 use crate::group::{are_taken, group_of, is_plain};
 use crate::log::{AppendFault, Log, NotSynced, ReadFault};
-use crate::marks::{Ending, ending_of};
 use crate::medium::{Medium, MediumFault};
 use crate::reading::{Record, read};
 use crate::seal::{Seal, Sealed};
+use crate::signature::Signature;
 use std::alloc::{AllocError, Global};
 
 /// The furthest position at which a group may begin: 2^62.
@@ -23,6 +26,15 @@ pub enum OpenFault {
     /// A mark behind the whole records says that the file was synced up to this position, which is beyond them: what
     /// was synced is lost.
     Damaged(u64),
+    /// At this byte a mark stands that was written for another place: bytes were put in or taken out, or are another
+    /// journal's.
+    Moved(u64),
+    /// The file doesn't begin as a journal does, but with this.
+    Foreign(Signature),
+    /// Behind this position something stands that isn't whole, where there is nothing to keep it in.
+    Torn(u64),
+    /// What is to be cut couldn't be kept: nothing was cut.
+    NotKept,
     /// The file is longer than a journal may be.
     TooLong,
     /// The medium failed.
@@ -46,6 +58,19 @@ pub struct Journal<M: Medium> {
     count: u64,
     /// Whether an append or a sync failed.
     is_broken: bool,
+    /// What was cut when it was opened.
+    cut: Option<Cut>,
+}
+
+/// What is whole of a journal's bytes.
+#[derive(Drop)]
+struct Front {
+    /// Where the whole records end.
+    whole: usize,
+    /// The sum there.
+    sum: u64,
+    /// How many texts they are that are no marks.
+    count: u64,
 }
 
 impl From<AllocError> for OpenFault {
@@ -98,52 +123,155 @@ fn plain_count(records: &[Record<'_>]) -> usize
     count
 }
 
-/// Cuts what stands behind the whole records, where the file isn't damaged.
-fn cut_tail<M: Medium>(medium: &mut M, whole: usize, bytes: &[u8]) -> Result<(), OpenFault>
+/// What is whole of a journal's bytes.
+fn front_of(alloc: Global, bytes: &[u8]) -> Result<Front, AllocError>
+    ensures { IfOk result (λ front. (texts : List (List ℕ)) × Reads 0 bytes.now texts × (front.whole ≡ extent texts)
+        × (front.sum ≡ sums_over 0 texts) × (front.count ≡ length (listed texts)) × (front.whole ≤ length bytes.now)) }
+{
+    let found = read(alloc, 0, bytes)?;
+    Ok(Front {
+        whole: found.whole,
+        sum: found.sum,
+        count: plain_count(&found.records) as u64,
+    })
+}
+
+/// Why a journal that ends so isn't opened.
+fn refusal_of(ending: Ending) -> Option<OpenFault>
+    ensures { result ≡ refusal_of ending }
+{
+    match ending {
+        Ending::Whole | Ending::Torn | Ending::Unexplained => None,
+        Ending::Foreign(signature) => Some(OpenFault::Foreign(signature)),
+        Ending::Moved(place) => Some(OpenFault::Moved(place)),
+        Ending::Damaged(said) => Some(OpenFault::Damaged(said)),
+    }
+}
+
+/// Keeps what stands behind the whole records, and cuts it then, where the file is a journal and isn't damaged. Tells
+/// what was cut.
+fn cut_tail<M: Medium, A: Aside>(
+    medium: &mut M,
+    aside: &mut A,
+    whole: usize,
+    bytes: &[u8],
+) -> Result<Option<Cut>, OpenFault>
     requires within { whole ≤ length bytes.now }
     requires short { length bytes.now ≤ MOST_POSITION }
     requires held { M.holds medium.old bytes.now }
     ensures cut { OnOk result (M.holds medium.new (take whole bytes.now)) }
-    ensures damaged { (said : ℕ) → IsErrOf result (OpenFault.Damaged said) ↔ (ending_of whole (drop whole bytes.now) ≡ Damaged said) }
+    ensures told { IfOk result (λ cut. IsCut (A.has_kept aside.new) cut whole (drop whole bytes.now)) }
+    ensures opened { OnOk result (refusal_of (ending_of whole (drop whole bytes.now)) ≡ None) }
+    ensures kept_first { M.holds medium.new bytes.now ⊎ A.has_kept aside.new whole (drop whole bytes.now) }
+    ensures refused { (fault : OpenFault) → refusal_of (ending_of whole (drop whole bytes.now)) ≡ Some fault → IsErrOf result fault }
 {
-    match ending_of(whole as u64, &bytes[whole..]) {
-        Ending::Whole => Ok(()),
-        Ending::Torn => match medium.cut(whole as u64) {
-            Ok(()) => Ok(()),
-            Err(_) => Err(OpenFault::Failed),
-        },
-        Ending::Damaged(said) => Err(OpenFault::Damaged(said)),
+    let behind = &bytes[whole..];
+    if let Some(fault) = refusal_of(ending_of(whole as u64, behind)) {
+        return Err(fault);
     }
+    if behind.is_empty() {
+        return Ok(None);
+    }
+    let Ok(()) = aside.keep(whole as u64, behind) else {
+        return Err(OpenFault::NotKept);
+    };
+    let Ok(()) = medium.cut(whole as u64) else {
+        return Err(OpenFault::Failed);
+    };
+    Ok(Some(Cut {
+        from: whole as u64,
+        count: behind.len() as u64,
+    }))
+}
+
+/// All bytes of a medium.
+fn bytes_in<M: Medium>(alloc: Global, medium: &mut M) -> Result<Vec<u8>, OpenFault>
+    ensures bytes { IfOk result (λ v. M.holds medium.new v.items) }
+    ensures before { IfOk result (λ v. M.holds medium.old v.items) }
+    ensures short { IfOk result (λ v. length v.items ≤ MOST_POSITION) }
+{
+    let bytes = medium.read(alloc)?;
+    if bytes.len() as u64 > MOST_POSITION {
+        return Err(OpenFault::TooLong);
+    }
+    Ok(bytes)
 }
 
 impl<M: Medium> Journal<M> {
-    /// Opens a journal: of a torn file it cuts what stands behind the whole records, and it refuses a damaged one.
+    /// Opens a journal: what stands behind the whole records is kept, and then cut. A file that is no journal, and one
+    /// that is damaged, is refused, and stays as it is.
     ///
     /// # Errors
     ///
-    /// The file is damaged or too long, the medium failed, or memory ran out.
-    pub fn open(alloc: Global, medium: M) -> Result<Journal<M>, OpenFault>
-        ensures list { IfOk result (λ journal. (bytes : List ℕ) × (texts : List (List ℕ)) × Reads 0 bytes texts
+    /// The file is no journal, damaged or too long, what is to be cut couldn't be kept, the medium failed, or memory ran
+    /// out.
+    pub fn recover<A: Aside>(
+        alloc: Global,
+        medium: M,
+        aside: &mut A,
+    ) -> Result<Journal<M>, OpenFault>
+        ensures list { IfOk result (λ journal. (bytes : List ℕ) × (texts : List (List ℕ)) × M.holds medium bytes × Reads 0 bytes texts
+            × (is_opened (ending_of (extent texts) (drop (extent texts) bytes)) ≡ true)
+            × IsCut (A.has_kept aside.new) journal.cut (extent texts) (drop (extent texts) bytes)
             × MayBeOf (M.holds journal.medium) journal.is_broken journal.position journal.sum journal.count (listed texts)) }
         ensures synced { IfOk result (λ journal. M.is_synced journal.medium) }
     {
         let mut medium = medium;
-        let bytes = medium.read(alloc)?;
-        if bytes.len() as u64 > MOST_POSITION {
-            return Err(OpenFault::TooLong);
-        }
-        let found = read(alloc, 0, &bytes)?;
-        cut_tail(&mut medium, found.whole, &bytes)?;
+        let bytes = bytes_in(alloc, &mut medium)?;
+        let front = front_of(alloc, &bytes)?;
+        let cut = cut_tail(&mut medium, aside, front.whole, &bytes)?;
         medium.sync()?;
-        Ok(Journal {
+        Ok(Journal::of(alloc, medium, &front, cut))
+    }
+
+    /// Opens a journal behind whose whole records nothing stands.
+    ///
+    /// # Errors
+    ///
+    /// Something stands there (`Torn`), or as [`Journal::recover`].
+    pub fn open(alloc: Global, medium: M) -> Result<Journal<M>, OpenFault>
+        ensures list { IfOk result (λ journal. (bytes : List ℕ) × (texts : List (List ℕ)) × M.holds medium bytes × Reads 0 bytes texts
+            × (length bytes ≡ extent texts)
+            × MayBeOf (M.holds journal.medium) journal.is_broken journal.position journal.sum journal.count (listed texts)) }
+        ensures synced { IfOk result (λ journal. M.is_synced journal.medium) }
+    {
+        let mut medium = medium;
+        let bytes = bytes_in(alloc, &mut medium)?;
+        let front = front_of(alloc, &bytes)?;
+        if let Some(fault) = refusal_of(ending_of(front.whole as u64, &bytes[front.whole..])) {
+            return Err(fault);
+        }
+        if front.whole < bytes.len() {
+            return Err(OpenFault::Torn(front.whole as u64));
+        }
+        medium.sync()?;
+        Ok(Journal::of(alloc, medium, &front, None))
+    }
+
+    /// The journal of these whole records.
+    fn of(alloc: Global, medium: M, front: &Front, cut: Option<Cut>) -> Journal<M>
+        ensures medium { result.medium ≡ medium }
+        ensures front { (result.position ≡ front.now.whole) × (result.sum ≡ front.now.sum) × (result.count ≡ front.now.count) }
+        ensures cut { result.cut ≡ cut }
+        ensures unbroken { result.is_broken ≡ false }
+    {
+        Journal {
             alloc,
             medium,
-            position: found.whole as u64,
-            sum: found.sum,
-            synced: found.whole as u64,
-            count: plain_count(&found.records) as u64,
+            position: front.whole as u64,
+            sum: front.sum,
+            synced: front.whole as u64,
+            count: front.count,
             is_broken: false,
-        })
+            cut,
+        }
+    }
+
+    /// What was cut when the journal was opened; none, where it was whole.
+    pub fn cut(&self) -> Option<Cut>
+        ensures { result ≡ self.now.cut }
+    {
+        self.cut
     }
 }
 

@@ -2,6 +2,8 @@
 //! first place where no whole record stands.
 #![tactic(auto)]
 
+mod aside;
+mod ending;
 mod file;
 mod group;
 mod journal;
@@ -14,18 +16,22 @@ mod numbers;
 mod reading;
 mod record;
 mod seal;
+mod signature;
 mod sum;
 #[cfg(test)]
 mod tests;
 
+pub use aside::{Aside, MemoryAside};
+pub use ending::{Cut, Ending, ending_of};
 pub use file::Stored;
 pub use group::{Group, are_taken, group_of, is_plain};
 pub use journal::{Journal, OpenFault};
 pub use log::{AppendFault, Log, NotSynced, ReadFault};
-pub use marks::{Ending, MARK, ending_of, push_mark};
+pub use marks::{MARK, push_mark};
 pub use medium::{Medium, MediumFault, medium_fault};
 pub use memory::Memory;
 pub use reading::{Reading, Record, read};
 pub use record::{HEAD, MOST_TEXT, fits, push};
 pub use seal::{Seal, Sealed, texts_between};
+pub use signature::Signature;
 pub use sum::sum_over;

@@ -1,8 +1,8 @@
 //! Marks: texts that say how far the file was synced, so that a torn tail can be told from damage.
-ghost use Rattle.std.specs.Prelude.{◌≡◌, ◌+◌, ◌^◌, ◌<◌, ◌++◌, length, IfOk, OnOk, OnErr};
+ghost use Rattle.std.specs.Prelude.{◌≡◌, ◌+◌, ◌^◌, ◌<◌, ◌++◌, length, IfOk, OnOk, OnErr, option_map};
 ghost use Rattle.mds_records.specs.Sum.{sum_over};
 ghost use Rattle.mds_records.specs.Records.{record_of};
-ghost use Rattle.mds_records.specs.Marks.{mark_head, mark_of, said_by, said_at, furthest_said, ending_of};
+ghost use Rattle.mds_records.specs.Marks.{mark_head, mark_of, claim_by, claim_at, said_by, is_moved, further, furthest_said, first_moved};
 ghost use Rattle.mds_records.specs.declared.record.TheConstants.{HEAD};
 
 use crate::numbers::number;
@@ -16,18 +16,6 @@ pub const MARK: usize = 32;
 
 /// The word with which a mark begins. No UTF-8 text has its first byte.
 const WORD: [u8; 8] = *b"\xffsynced:";
-
-/// How a file ends, behind its whole records.
-#[derive(Clone, Copy, Debug, PartialEq, Eq)]
-pub enum Ending {
-    /// Nothing stands behind them.
-    Whole,
-    /// Other bytes do, and no mark behind says that the file was synced beyond them: what was being written may be cut.
-    Torn,
-    /// A mark behind them says that the file was synced up to this position, which is beyond them: what was synced is
-    /// lost.
-    Damaged(u64),
-}
 
 /// What a mark's sum goes over: its word, where it stands, and how far the file was synced.
 #[tactic(auto, unfolding(crate::specs::Marks::mark_head))]
@@ -74,63 +62,102 @@ pub fn push_mark(
     push(alloc, bytes, before, &mark)
 }
 
-/// How far a mark of this head and of this sum, which stands at this position, says that the file was synced.
-#[tactic(auto, unfolding(crate::specs::Marks::said_by))]
-fn said_by(position: u64, head: &[u8], claimed: u64) -> Option<u64>
+/// What a mark says.
+#[derive(Clone, Copy)]
+struct Claim {
+    /// The position for which it was written.
+    position: u64,
+    /// How far the file was synced then.
+    synced: u64,
+}
+
+/// What a mark of this head and of this sum says.
+#[tactic(auto, unfolding(crate::specs::Marks::claim_by))]
+fn claim_by(head: &[u8], claimed: u64) -> Option<Claim>
     requires { length head.now ≡ 24 }
-    ensures { result ≡ said_by position head.now claimed }
+    ensures { option_map (λ c. (c.position, c.synced)) result ≡ claim_by head.now claimed }
 {
     let (word, places) = head.split_at(8);
     let (own, synced) = places.split_at(8);
-    if word != WORD.as_slice() || number(own) != position || claimed != sum_over(0, head) {
+    if word != WORD.as_slice() || claimed != sum_over(0, head) {
         return None;
     }
-    Some(number(synced))
+    Some(Claim {
+        position: number(own),
+        synced: number(synced),
+    })
 }
 
-/// How far the mark in front of bytes at this position says that the file was synced.
-#[tactic(auto, unfolding(crate::specs::Marks::said_at))]
-fn said(position: u64, bytes: &[u8]) -> Option<u64>
-    ensures { result ≡ said_at position bytes.now }
+/// What the mark in front of bytes says, wherever they stand.
+#[tactic(auto, unfolding(crate::specs::Marks::claim_at))]
+fn claim_at(bytes: &[u8]) -> Option<Claim>
+    ensures { option_map (λ c. (c.position, c.synced)) result ≡ claim_at bytes.now }
 {
     if bytes.len() < MARK {
         return None;
     }
     let (head, rest) = bytes.split_at(24);
     let (claimed, _) = rest.split_at(8);
-    said_by(position, head, number(claimed))
+    claim_by(head, number(claimed))
 }
 
-/// The furthest that any mark among bytes at this position says; 0 without a mark.
-fn furthest(position: u64, bytes: &[u8]) -> u64
-    requires { position + length bytes.now < 2 ^ 64 }
-    ensures { result ≡ furthest_said position bytes.now }
+/// How far the mark in front of bytes says that the file was synced.
+fn said_at(bytes: &[u8]) -> Option<u64>
+    ensures { result ≡ said_by (claim_at bytes.now) }
 {
-    let mut most = 0;
-    let mut at = position;
+    match claim_at(bytes) {
+        Some(claim) => Some(claim.synced),
+        None => None,
+    }
+}
+
+/// Whether the mark in front of bytes at this position was written for another.
+fn is_moved(position: u64, bytes: &[u8]) -> bool
+    ensures { result ≡ is_moved position (claim_at bytes.now) }
+{
+    match claim_at(bytes) {
+        Some(claim) => claim.position != position,
+        None => false,
+    }
+}
+
+/// The further of two places.
+fn further(said: Option<u64>, other: Option<u64>) -> Option<u64>
+    ensures { result ≡ further said other }
+{
+    match (said, other) {
+        (Some(said), Some(other)) => Some(said.max(other)),
+        (Some(said), None) => Some(said),
+        (None, other) => other,
+    }
+}
+
+/// The furthest that any mark among bytes says, at whatever place it stands; none without a mark.
+pub(crate) fn furthest_said(bytes: &[u8]) -> Option<u64>
+    ensures { result ≡ furthest_said bytes.now }
+{
+    let mut most = None;
     let mut rest = bytes;
     while let Some((_, behind)) = rest.split_first() {
-        if let Some(told) = said(at, rest) {
-            most = most.max(told);
-        }
-        at += 1;
+        most = further(most, said_at(rest));
         rest = behind;
     }
     most
 }
 
-/// How a file ends whose whole records end at the position `whole`, with these bytes behind them.
-pub fn ending_of(whole: u64, behind: &[u8]) -> Ending
-    requires { whole + length behind.now < 2 ^ 64 }
-    ensures { result ≡ ending_of whole behind.now }
+/// The first place among bytes at this position with a mark that was written for another.
+pub(crate) fn first_moved(position: u64, bytes: &[u8]) -> Option<u64>
+    requires { position + length bytes.now < 2 ^ 64 }
+    ensures { result ≡ first_moved position bytes.now }
 {
-    if behind.is_empty() {
-        return Ending::Whole;
+    let mut at = position;
+    let mut rest = bytes;
+    while let Some((_, behind)) = rest.split_first() {
+        if is_moved(at, rest) {
+            return Some(at);
+        }
+        at += 1;
+        rest = behind;
     }
-    let furthest = furthest(whole, behind);
-    if furthest > whole {
-        Ending::Damaged(furthest)
-    } else {
-        Ending::Torn
-    }
+    None
 }

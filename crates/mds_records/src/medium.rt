@@ -43,6 +43,7 @@ pub trait Medium: Drop {
     /// All its bytes.
     fn read(&mut self, alloc: Global) -> Result<Vec<u8>, MediumFault>
         ensures bytes { IfOk result (λ v. holds self.new v.items) }
+        ensures before { IfOk result (λ v. holds self.old v.items) }
         ensures unchanged { (bytes : List ℕ) → holds self.old bytes → holds self.new bytes };
 
     /// Adds bytes at its end. After an error it is unknown what it holds.

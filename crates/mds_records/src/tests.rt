@@ -1,11 +1,13 @@
 //! Tests. The expected bytes come from another program's SipHash-1-3 with both keys 0.
+use crate::aside::MemoryAside;
+use crate::ending::{Cut, Ending, ending_of};
 use crate::group::{are_taken, group_of};
 use crate::journal::{Journal, OpenFault};
 use crate::log::{AppendFault, Log};
-use crate::marks::{Ending, ending_of};
 use crate::memory::Memory;
 use crate::reading::read;
 use crate::record::push;
+use crate::signature::Signature;
 use std::alloc::{AllocError, Global};
 
 const FIRST: &[u8] = &[0, 0, 0, 3, 37, 19, 247, 30, 17, 226, 15, 101, 111, 110, 101];
@@ -88,9 +90,39 @@ fn changed_files_are_read(rt: HostRuntime) {
 #[test]
 fn endings_are_told(rt: HostRuntime) {
     assert!(rt; ending_of(0, &[]) == Ending::Whole);
-    assert!(rt; ending_of(0, FIRST) == Ending::Torn);
-    // The mark says that nothing was synced, so it tells no damage before it.
-    assert!(rt; ending_of(0, MARKED) == Ending::Torn);
+    assert!(rt; ending_of(0, &MARKED[..43]) == Ending::Torn);
+    // The mark was written for the beginning of a file.
+    assert!(rt; ending_of(59, MARKED) == Ending::Moved(71));
+    assert!(rt; ending_of(59, &MARKED[..43]) == Ending::Torn);
+    assert!(rt; ending_of(59, b"\0") == Ending::Torn);
+    assert!(rt; ending_of(59, b"other") == Ending::Unexplained);
+    assert!(rt; ending_of(44, b"other") == Ending::Foreign(Signature::Text));
+    // The first record is whole, and its sum is another behind other records.
+    assert!(rt; ending_of(59, FIRST) == Ending::Unexplained);
+}
+
+#[test]
+fn foreign_files_are_told(rt: HostRuntime) {
+    let told = |bytes: &[u8]| match ending_of(0, bytes) {
+        Ending::Foreign(signature) => Some(signature),
+        _ => None,
+    };
+    assert!(rt; told(b"\x1f\x8b\x08") == Some(Signature::Gzip));
+    assert!(rt; told(b"\xef\xbb\xbf{}") == Some(Signature::ByteOrderMark));
+    assert!(rt; told(&[0; 64]) == Some(Signature::Zeros));
+    assert!(rt; told(&MARKED[1..]) == Some(Signature::Records));
+    assert!(rt; told(b"2024-01-01 started\r\n\xff") == Some(Signature::Text));
+    assert!(rt; told(b"\x7fELF") == Some(Signature::Unknown));
+    assert!(rt; ending_of(0, b"text").is_opened() == false);
+}
+
+/// Memory for what is cut.
+fn aside(alloc: Global, is_answering: bool) -> MemoryAside {
+    MemoryAside {
+        from: 0,
+        bytes: Vec::new(alloc),
+        is_answering,
+    }
 }
 
 /// A journal of two groups, of which the first was synced before the second; so many calls are answered.
@@ -135,9 +167,51 @@ fn torn_journals_are_cut(rt: HostRuntime) {
         .into_medium();
     // The first group has 59 bytes, the mark of the second 44, its text 16, of which one is lost.
     medium.bytes.truncate(118);
-    let mut journal = Journal::open(rt.alloc(), medium).expect(&rt, "a journal");
+    let behind = Vec::from_slice(rt.alloc(), &medium.bytes[103..]).expect(&rt, "memory");
+    let mut aside = aside(rt.alloc(), true);
+    let mut journal = Journal::recover(rt.alloc(), medium, &mut aside).expect(&rt, "a journal");
+    assert!(rt;
+        journal.cut()
+            == Some(Cut {
+                from: 103,
+                count: 15
+            })
+    );
+    assert!(rt; aside.from == 103 && aside.bytes == behind);
     assert!(rt; journal.sync() == Ok(1));
     assert!(rt; journal.into_medium().bytes.len() == 103);
+}
+
+#[test]
+fn what_is_not_kept_is_not_cut(rt: HostRuntime) {
+    let mut medium = journal_of_two(rt.alloc(), 10)
+        .expect(&rt, "a journal")
+        .into_medium();
+    medium.bytes.truncate(118);
+    let mut none = aside(rt.alloc(), false);
+    let fault = Journal::recover(rt.alloc(), medium, &mut none).err();
+    assert!(rt; fault == Some(OpenFault::NotKept));
+}
+
+#[test]
+fn torn_journals_are_not_opened(rt: HostRuntime) {
+    let mut medium = journal_of_two(rt.alloc(), 10)
+        .expect(&rt, "a journal")
+        .into_medium();
+    medium.bytes.truncate(118);
+    let fault = Journal::open(rt.alloc(), medium).err();
+    assert!(rt; fault == Some(OpenFault::Torn(103)));
+}
+
+#[test]
+fn shortened_journals_are_refused(rt: HostRuntime) {
+    let mut medium = journal_of_two(rt.alloc(), 10)
+        .expect(&rt, "a journal")
+        .into_medium();
+    // Of the first text one byte is taken out, so that the mark of the second group stands elsewhere.
+    let _ = medium.bytes.remove(57);
+    let fault = Journal::open(rt.alloc(), medium).err();
+    assert!(rt; fault == Some(OpenFault::Damaged(59)));
 }
 
 #[test]

@@ -4,16 +4,12 @@ use crate::fault::ThinFault;
 use crate::front::emptied;
 use crate::place::{Place, thin_at};
 use crate::thinning::{Counts, Old};
-use mds_folder::{Folder, FolderFault, open_folder};
+use mds_folder::{CutFiles, Folder, FolderFault, create_locked, open_folder, sync_names};
 use mds_records::{Journal, Log, Stored};
 use mds_text::Moment;
 use std::alloc::Global;
 use std::fs::{self, File, Files};
-use std::os::unix::fs::OpenOptionsExt;
 use std::sync::Wait;
-
-/// Who may read and write a file of the folder: its owner alone.
-const MODE: u32 = 0o600;
 
 /// A city's folder, whose journal is to be replaced by who has its lock.
 #[derive(Drop)]
@@ -21,32 +17,17 @@ struct Locked<'a, 'b, R: Files<File = File>> {
     rt: &'a R,
     alloc: Global,
     folder: &'b str,
-    /// Is locked as long as it is open.
-    lock: File,
+    /// Are locked as long as they are open: the folder's lock, and its journal.
+    locks: (File, File),
+    /// Another handle of the thinned journal, which is locked as long as it is open: who opens the journal finds a locked file
+    /// before it is renamed and after.
+    thinned: Option<File>,
 }
 
-/// A file beside the journal, cut to nothing.
-fn beside<R: Files<File = File>>(rt: &R, alloc: Global, folder: &str) -> Result<File, FolderFault> {
-    let path = format!(in alloc; "{folder}/journal.thinned")?;
-    let mut how = File::options();
-    how.read(true)
-        .write(true)
-        .create(true)
-        .truncate(true)
-        .mode(MODE);
-    match how.open(rt, path.as_str()) {
+/// Another handle of a file.
+fn again(file: &File) -> Result<File, FolderFault> {
+    match file.try_clone() {
         Ok(file) => Ok(file),
-        Err(_) => Err(FolderFault::Unusable),
-    }
-}
-
-/// Waits until the names of a folder's files are on the disk.
-fn sync_names<R: Files<File = File>>(rt: &R, folder: &str) -> Result<(), FolderFault> {
-    let Ok(names) = File::open(rt, folder) else {
-        return Err(FolderFault::Unusable);
-    };
-    match names.sync_all() {
-        Ok(()) => Ok(()),
         Err(_) => Err(FolderFault::Unusable),
     }
 }
@@ -68,7 +49,9 @@ impl<R: Files<File = File>> Place<Journal<Stored<File>>> for Locked<'_, '_, R> {
     ghost is_replaced = { λ _. ⊤ };
 
     fn beside(&mut self) -> Result<Journal<Stored<File>>, FolderFault> {
-        let file = beside(self.rt, self.alloc, self.folder)?;
+        let path = format!(in self.alloc; "{}/journal.thinned", self.folder)?;
+        let file = create_locked(self.rt, path.as_str())?;
+        self.thinned = Some(again(&file)?);
         match Journal::open(self.alloc, Stored::new(file)) {
             Ok(log) => emptied(log),
             Err(fault) => Err(FolderFault::from(fault)),
@@ -81,9 +64,15 @@ impl<R: Files<File = File>> Place<Journal<Stored<File>>> for Locked<'_, '_, R> {
     }
 }
 
-/// The texts of a journal in a file.
-fn texts_in(alloc: Global, file: File) -> Result<Vec<Vec<u8>>, FolderFault> {
-    let mut log = match Journal::open(alloc, Stored::new(file)) {
+/// The texts of a folder's journal. What is cut off it is kept.
+fn texts_in<R: Files<File = File>>(
+    rt: &R,
+    alloc: Global,
+    folder: &str,
+    file: File,
+) -> Result<Vec<Vec<u8>>, FolderFault> {
+    let mut aside = CutFiles::new(rt, alloc, folder)?;
+    let mut log = match Journal::recover(alloc, Stored::new(file), &mut aside) {
         Ok(log) => log,
         Err(fault) => return Err(FolderFault::from(fault)),
     };
@@ -93,9 +82,10 @@ fn texts_in(alloc: Global, file: File) -> Result<Vec<Vec<u8>>, FolderFault> {
     }
 }
 
-/// Thins the journal of a city's folder, which no server may have meanwhile: takes the folder's lock, reads the journal,
-/// writes the thinned one to `journal.thinned` beside it, syncs that, starts a server from each and compares what they answer
-/// at this moment, renames it over the journal and syncs the folder. The configuration is its text, as `Config::read` reads it.
+/// Thins the journal of a city's folder, which no server may have meanwhile: takes the folder's lock, reads the journal (what
+/// of it isn't whole is kept beside it, and cut), writes the thinned one to `journal.thinned` beside it, syncs that, starts a
+/// server from each and compares what they answer at this moment, renames it over the journal and syncs the folder. The
+/// configuration is its text, as `Config::read` reads it.
 ///
 /// # Errors
 ///
@@ -113,7 +103,8 @@ pub fn thin_folder<R: Wait + Files<File = File>>(
         journal,
         ballast: _ballast,
     } = open_folder(rt, alloc, folder)?;
-    let texts = texts_in(alloc, journal)?;
+    let held = again(&journal)?;
+    let texts = texts_in(rt, alloc, folder, journal)?;
     let old = Old {
         config,
         texts: &texts,
@@ -123,7 +114,8 @@ pub fn thin_folder<R: Wait + Files<File = File>>(
         rt,
         alloc,
         folder,
-        lock,
+        locks: (lock, held),
+        thinned: None,
     };
     thin_at::<Locked<'_, '_, R>, Journal<Stored<File>>, R>(rt, alloc, &mut place, &old)
 }

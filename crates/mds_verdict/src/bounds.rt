@@ -17,8 +17,10 @@ pub(crate) fn adds(kind: Kind, bounds: Bounds, moment: Moment, vehicle: &Vehicle
     }
 }
 
-/// Whether a number lies within the bounds times the unit.
-pub(crate) fn within(bounds: Bounds, unit: u64, value: u64) -> bool
+/// Whether a number lies within a rule's bounds, each of which counts as many units as it says (MDS 2.0, Policy, Rule:
+/// `minimum`, `maximum`, `inclusive_minimum`, `inclusive_maximum`). The unit is 1 for counts, `millis` of a rule's unit
+/// for times.
+pub fn within(bounds: Bounds, unit: u64, value: u64) -> bool
     requires { unit ≤ 86400000 }
     ensures { result ≡ within bounds unit value }
 {
@@ -63,7 +65,8 @@ fn times(bound: u32, unit: u64) -> u64
     u64::from(bound) * unit
 }
 
-fn millis(unit: TimeUnit) -> u64
+/// How many milliseconds one unit of time has (MDS 2.0, Policy, Rule Units).
+pub fn millis(unit: TimeUnit) -> u64
     ensures value { result ≡ millis unit }
     ensures most { result ≤ 86400000 }
 {

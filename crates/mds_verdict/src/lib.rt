@@ -9,6 +9,7 @@ mod report;
 mod tally;
 mod verdict;
 
+pub use bounds::{millis, within};
 pub use evaluator::{Evaluator, Plain};
 pub use report::report_tree;
 pub use tally::Tally;

@@ -20,7 +20,6 @@ use crate::published::{geographies, geography, policies, policy};
 use mds_catalog::{Batch, Catalogue};
 use mds_drafts::{Draft, Drafts, PublishList, Put};
 use mds_geography::Geography;
-use mds_policy::Policy;
 use mds_request::{AuthorCall, Code, Reply, Request};
 use mds_text::{DraftKind, Id, Tree};
 use std::alloc::{AllocError, Global};
@@ -49,12 +48,18 @@ fn put_body(put: Put) -> &'static [u8]
 }
 
 /// The document that a text is, as a draft.
-fn document(alloc: Global, kind: DraftKind, text: &[u8]) -> Result<Draft, Denied>
-    ensures { Meets draft_document result (document_of kind text.now) }
+fn document(
+    alloc: Global,
+    drafts: &mut Drafts,
+    kind: DraftKind,
+    text: &[u8],
+) -> Result<Draft, Denied>
+    ensures read { Meets draft_document result (document_of kind text.now) }
+    ensures drafts { drafts_of drafts.new ≡ drafts_of drafts.old }
 {
     match kind {
         DraftKind::Policy => {
-            let policy = Policy::read(alloc, text)?;
+            let policy = drafts.read_policy(alloc, text)?;
             Ok(Draft::Policy(Arc::new(alloc, policy)?))
         }
         DraftKind::Geography => {
@@ -75,7 +80,7 @@ fn put_draft(
     ensures answer { Meets (λ r. (r, drafts_of drafts.new)) result (put_draft (drafts_of drafts.old) kind id text.now) }
     ensures refused { OnErr result (drafts_of drafts.new ≡ drafts_of drafts.old) }
 {
-    let draft = document(alloc, kind, text)?;
+    let draft = document(alloc, drafts, kind, text)?;
     if draft.id() != id {
         return Err(Denied::Refused(Code::IdMismatch));
     }

@@ -21,7 +21,7 @@ use crate::compliance::{compliance, policy_compliance};
 use crate::denied::Denied;
 use crate::published::{geographies, geography, policies, policy};
 use mds_catalog::Catalogue;
-use mds_fleet::{Book, Report, Taken};
+use mds_fleet::{Book, Taken};
 use mds_request::{Code, Config, Operator, OperatorCall, Reply, Request};
 use mds_text::Id;
 use mds_verdict::Evaluator;
@@ -48,7 +48,7 @@ fn report(alloc: Global, book: &mut Book, request: &Request<'_>) -> Result<Reply
     ensures limit { book.new.limit ≡ book.old.limit }
     ensures fits { (published : Published) → Fits published book.old → Fits published book.new }
 {
-    let report = Report::read(alloc, request.body)?;
+    let report = book.read_report(request.body)?;
     let body = room(alloc)?;
     let taken = book.report(report, request.at)?;
     Ok(in_room(body, taken_body(taken)))

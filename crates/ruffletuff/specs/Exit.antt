@@ -50,6 +50,7 @@ cause_message (causes.Refused status) = if status == 503 then out_of_memory else
 abbrev pub folder_message : FolderFault → List ℕ
 folder_message faults.NoMemory = out_of_memory
 folder_message faults.Unusable = codes "ruffletuff: the folder can't be used"
+folder_message faults.Linked = codes "ruffletuff: a file of the folder is a link, or none"
 folder_message faults.Locked = codes "ruffletuff: another program has the folder"
 folder_message (faults.Damaged damage) = codes "ruffletuff: the journal is damaged, or of another version"
 folder_message (faults.Unfitting unfit) = does_not_fit

@@ -1,5 +1,7 @@
+pub mod Checks
 pub mod Ends
 pub mod Exit
+pub mod Full
 pub mod Progress
 pub mod Script
 pub mod Starting

@@ -1,27 +1,28 @@
 -- The file, folder or address at which a fault is.
 use Rattle.std.specs.Prelude.{ℕ, List, Option, Some, None}
-use Rattle.mds_command.specs.Asked.{Request, serve, check, audit, thin, stop}
+use Rattle.mds_command.specs.Asked.{Request, serve, check, check_config, audit, thin, stop}
 use Rattle.ruffletuff.specs.declared.ending.Ending.{Ending}
 use Rattle.ruffletuff.specs.declared.ending.Ending.TheVariants.{Misconfigured, NoListener, NoControl, NotStopped, Folder, Refused, NotKept, NotThinned, Differs}
 
 abbrev pub config_of : Request → Option (List ℕ)
-config_of (serve config state listen control dropped thin_at) = Some config
+config_of (serve config state listen control control_host dropped thin_at) = Some config
 config_of (audit folder config until operator) = Some config
 config_of (thin folder config) = Some config
+config_of (check_config config) = Some config
 config_of asked = None
 
 abbrev pub listener_of : Request → Option (List ℕ)
-listener_of (serve config state listen control dropped thin_at) = Some listen
+listener_of (serve config state listen control control_host dropped thin_at) = Some listen
 listener_of asked = None
 
 -- the address of the control port, to serve it or to stop its server
 abbrev pub control_of : Request → Option (List ℕ)
-control_of (serve config state listen control dropped thin_at) = control
+control_of (serve config state listen control control_host dropped thin_at) = control
 control_of (stop address) = Some address
 control_of asked = None
 
 abbrev pub folder_of : Request → Option (List ℕ)
-folder_of (serve config state listen control dropped thin_at) = Some state
+folder_of (serve config state listen control control_host dropped thin_at) = Some state
 folder_of (check folder) = Some folder
 folder_of (audit folder config until operator) = Some folder
 folder_of (thin folder config) = Some folder

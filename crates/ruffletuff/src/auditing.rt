@@ -7,7 +7,7 @@ ghost use Rattle.mds_request.specs.Configuration.{configuration};
 ghost use Rattle.ruffletuff.specs.Script.{IsLineOf};
 ghost use Rattle.ruffletuff.specs.Starting.{behind_head};
 
-use crate::checking::intact;
+use crate::checking::startable;
 use crate::configuration::{configuration_in, configuration_text};
 use crate::ending::Ending;
 use mds_command::Audit;
@@ -158,7 +158,7 @@ pub fn audit<R: Files<File = File> + Print + AllocGlobal>(
     let text = configuration_text(rt, alloc, asked.config)?;
     let bytes = journal_bytes(rt, alloc, asked.folder)?;
     let survey = surveyed(alloc, &bytes)?;
-    intact(survey.ending)?;
+    startable(survey.whole, survey.ending)?;
     let extract = Extract {
         until: asked.until,
         operator: asked.operator,

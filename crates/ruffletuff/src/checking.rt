@@ -1,11 +1,13 @@
 //! How a folder's journal ends, for who looks at it alone.
-ghost use Rattle.std.specs.Prelude.{◌≡◌, ◌≢◌, ℕ, List, IfOk, OnOk, IsErrOf, length};
-ghost use Rattle.mds_records.specs.declared.marks.Ending.TheVariants.{Damaged};
+ghost use Rattle.std.specs.Prelude.{◌≡◌, IsTrue, false, Ok};
+ghost use Rattle.mds_records.specs.Endings.{is_opened};
+ghost use Rattle.mds_folder.specs.Damages.{damage_of};
+ghost use Rattle.ruffletuff.specs.Checks.{refused_for};
 
 use crate::auditing::behind_head;
 use crate::ending::Ending;
 use mds_entries::read_head;
-use mds_folder::{Damage, FolderFault, Survey, entries_in, journal_bytes, surveyed};
+use mds_folder::{FolderFault, Survey, damage_of, entries_in, journal_bytes, surveyed};
 use mds_records::Ending as Ends;
 use std::alloc::{AllocGlobal, Global};
 use std::fs::{File, Files};
@@ -18,23 +20,39 @@ fn end_of(ending: Ends) -> &'static str {
         Ends::Whole => "whole",
         Ends::Torn =>
             "torn: what stands behind them wasn't synced, and is cut when the city is served",
-        Ends::Damaged(_) => "damaged",
+        Ends::Unexplained => "and what stands behind them isn't what a kill leaves",
+        Ends::Foreign(_) => "no journal",
+        Ends::Moved(_) | Ends::Damaged(_) => "damaged",
     }
 }
 
-/// Whether a journal is whole up to where it was synced.
+/// Whether a journal that ends so behind this many whole bytes ends as one that was written and perhaps killed.
 ///
 /// # Errors
 ///
-/// `Folder` with how far it was synced, where it isn't.
-pub fn intact(ending: Ends) -> Result<(), Ending>
-    ensures intact { OnOk result ((said : ℕ) → ending ≢ Damaged said) }
-    ensures damaged { (said : ℕ) → ending ≡ Damaged said → result ≡ Err (Ending.Folder (FolderFault.Damaged (Damage.Lost said))) }
+/// `Folder` with what is wrong.
+fn intact(whole: u64, ending: Ends) -> Result<(), Ending>
+    ensures { result ≡ refused_for (damage_of whole ending) }
 {
-    match ending {
-        Ends::Whole | Ends::Torn => Ok(()),
-        Ends::Damaged(synced) => Err(Ending::Folder(FolderFault::Damaged(Damage::Lost(synced)))),
+    match damage_of(whole, ending) {
+        None => Ok(()),
+        Some(damage) => Err(Ending::Folder(FolderFault::Damaged(damage))),
     }
+}
+
+/// Whether a journal that ends so behind this many whole bytes is one that a server starts from.
+///
+/// # Errors
+///
+/// `Folder` with what is wrong.
+pub fn startable(whole: u64, ending: Ends) -> Result<(), Ending>
+    ensures started { IsTrue (is_opened ending) → result ≡ Ok tt }
+    ensures refused { is_opened ending ≡ false → result ≡ refused_for (damage_of whole ending) }
+{
+    if ending.is_opened() {
+        return Ok(());
+    }
+    intact(whole, ending)
 }
 
 /// Whether a text is a head.
@@ -71,7 +89,8 @@ fn readable(alloc: Global, texts: &[Vec<u8>]) -> Result<(), Ending> {
 ///
 /// # Errors
 ///
-/// `Folder` where the journal can't be read, or with where it is damaged or of another version; `NoMemory`.
+/// `Folder` where the journal can't be read, or with where it is damaged, no journal or of another version, or that nothing explains
+/// what stands behind its records; `NoMemory`.
 pub fn check<R: Files<File = File> + Print + AllocGlobal>(
     rt: &R,
     folder: &str,
@@ -88,7 +107,7 @@ pub fn check<R: Files<File = File> + Print + AllocGlobal>(
         "{records} records, {whole} bytes, {behind} behind them, {}",
         end_of(ending)
     );
-    intact(ending)?;
+    intact(whole, ending)?;
     readable(rt.alloc(), &texts)?;
     match printed {
         Ok(()) => Ok(()),

@@ -5,21 +5,22 @@ ghost use Rattle.mds_app.specs.Badges.{badges_view, read_badges};
 ghost use Rattle.mds_request.specs.Configuration.{configuration, read_configuration};
 
 use crate::ending::Ending;
+use crate::source::Source;
 use mds_app::Badges;
 use mds_diagnosis::Detail;
 use mds_lines::LINE_LIMIT;
 use mds_request::{Config, ConfigFault};
 use mds_text::TextFault;
-use std::alloc::Global;
+use std::alloc::{AllocGlobal, Global};
 use std::fs::{File, Files};
-use std::io::{ErrorKind, Read};
+use std::io::{Eprint, ErrorKind, Read};
 
 /// The text of a source, as a configuration may be long.
 ///
 /// # Errors
 ///
 /// `Misconfigured` where it can't be read or is longer than a line of a script may be, `NoMemory`.
-fn text_in<S: Read + Drop>(alloc: Global, source: S) -> Result<Vec<u8>, Ending>
+pub fn text_in<S: Read + Drop>(alloc: Global, source: S) -> Result<Vec<u8>, Ending>
     ensures { IfOk result (λ text. length text.items ≤ LINE_LIMIT) }
 {
     let mut text = Vec::new(alloc);
@@ -30,28 +31,54 @@ fn text_in<S: Read + Drop>(alloc: Global, source: S) -> Result<Vec<u8>, Ending>
             _ => Ending::Misconfigured(Detail::Unreadable),
         });
     }
+    limited(text)
+}
+
+/// A text that is no longer than a configuration may be.
+///
+/// # Errors
+///
+/// `Misconfigured` where it is longer.
+pub fn limited(text: Vec<u8>) -> Result<Vec<u8>, Ending>
+    ensures { IfOk result (λ text. length text.items ≤ LINE_LIMIT) }
+{
     if text.len() > LINE_LIMIT {
         return Err(Ending::Misconfigured(Detail::TooLong));
     }
     Ok(text)
 }
 
-/// The text of a configuration's file.
+/// The text of a configuration's file, with the rule in the place of its zone's name.
 ///
 /// # Errors
 ///
 /// `Misconfigured` where it can't be read or is longer than a line of a script may be, `NoMemory`.
-pub fn configuration_text<R: Files<File = File>>(
+pub fn configuration_text<R: Files<File = File> + AllocGlobal>(
     rt: &R,
     alloc: Global,
     path: &str,
 ) -> Result<Vec<u8>, Ending>
     ensures { IfOk result (λ text. length text.items ≤ LINE_LIMIT) }
 {
-    match File::open(rt, path) {
-        Ok(file) => text_in(alloc, file),
-        Err(_) => Err(Ending::Misconfigured(Detail::Unreadable)),
-    }
+    let source = Source::read(rt, path)?;
+    source.resolve(alloc)
+}
+
+/// The same, where a server starts. What nobody reads in it is said on standard error.
+///
+/// # Errors
+///
+/// `Misconfigured` where it can't be read or is longer than a line of a script may be, `NoMemory`.
+pub fn told_text<R: Files<File = File> + Eprint + AllocGlobal>(
+    rt: &R,
+    alloc: Global,
+    path: &str,
+) -> Result<Vec<u8>, Ending>
+    ensures { IfOk result (λ text. length text.items ≤ LINE_LIMIT) }
+{
+    let source = Source::read(rt, path)?;
+    source.tell(rt, path, true)?;
+    source.resolve(alloc)
 }
 
 /// The configuration that a text is. Line ends in it are no matter.

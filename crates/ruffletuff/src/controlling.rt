@@ -6,12 +6,12 @@ use crate::errand::{Errand, beside};
 use crate::folders::Folders;
 use crate::opening::{Given, serve_city};
 use mds_command::Service;
-use mds_control::{Stop, serve_control};
+use mds_control::{Port, PortWaker, Stop, serve_control};
 use mds_doors::Closing;
 use std::alloc::AllocGlobal;
 use std::fs::{File, Files};
 use std::io::{Eprint, Print};
-use std::net::{Net, SocketAddr, TcpListener, TcpStream};
+use std::net::{Net, TcpListener, TcpStream};
 use std::random::RandomSource;
 use std::sync::Wait;
 use std::thread::Threads;
@@ -33,7 +33,7 @@ impl Stop for Stopping<'_> {
 #[derive(Drop)]
 struct Controlling<'a, R> {
     rt: R,
-    listener: TcpListener,
+    port: Port,
     board: Board<'a>,
 }
 
@@ -41,17 +41,12 @@ impl<R: Clock + AllocGlobal + Drop> Errand for Controlling<'_, R> {
     type Outcome = ();
 
     fn run(self) {
-        let board = self.board;
+        let Controlling { rt, port, board } = self;
+        let mut port = port;
         let stopping = Stopping {
             closing: board.closing,
         };
-        serve_control(
-            &self.rt,
-            &self.listener,
-            board.control,
-            board.counters,
-            &stopping,
-        );
+        serve_control(&rt, &mut port, board.control, board.counters, &stopping);
     }
 }
 
@@ -61,16 +56,13 @@ struct Controlled<'a> {
     service: &'a Service<'a>,
     given: Given<'a>,
     board: Board<'a>,
-    /// The control port's.
-    address: SocketAddr,
+    /// Ends the control port.
+    waker: PortWaker,
 }
 
-/// Serves a city, and ends the control port behind it.
-///
-/// # Errors
-///
-/// As the server ends.
-fn serve_and_end<R>(rt: &R, controlled: Controlled<'_>) -> Result<(), Ending>
+/// Serves a city, and ends the control port behind it. Gives how the server ended, and what wakes the port: a waker that is closed
+/// before the port has woken wakes nobody.
+fn serve_and_end<R>(rt: &R, controlled: Controlled<'_>) -> (Result<(), Ending>, PortWaker)
 where
     R: Wait
         + Threads
@@ -91,11 +83,11 @@ where
         service,
         given,
         board,
-        address,
+        waker,
     } = controlled;
     let served = serve_city(rt, service, given, board);
-    board.control.end(rt, address);
-    served
+    board.control.end(&waker);
+    (served, waker)
 }
 
 /// Serves a city with a control port at this address, from before its folder is opened until the server has ended.
@@ -126,23 +118,23 @@ where
         + Copy
         + Drop,
 {
-    let Ok(listener) = TcpListener::bind(rt, address) else {
+    let Ok(port) = Port::bind(rt, address, service.control_host) else {
         return Err(Ending::NoControl);
     };
-    let Ok(address) = listener.local_addr() else {
+    let Ok(waker) = port.waker() else {
         return Err(Ending::NoControl);
     };
     let controlling = Controlling {
         rt: *rt,
-        listener,
+        port,
         board,
     };
     let controlled = Controlled {
         service,
         given,
         board,
-        address,
+        waker,
     };
-    let ((), served) = beside(rt, controlling, move || serve_and_end(rt, controlled));
+    let ((), (served, _waker)) = beside(rt, controlling, move || serve_and_end(rt, controlled));
     served
 }

@@ -10,12 +10,14 @@ use mds_meter::{Metered, MeteredReply};
 use mds_public::Face;
 use mds_public_answers::{Everyone, Shows};
 use mds_records::Log;
+use mds_refusals::{Guide, GuidedReply};
 use mds_snapshot::Note;
 use std::alloc::AllocError;
 use std::sync::Wait;
 use std::time::Clock;
 
-/// What answers, with what it answers counted. Of a city it shows everyone what is published.
+/// What answers, with what it answers counted, and its refusals saying what RFC 9110 has them say: a 401 the scheme of its
+/// credentials, a 405 the methods of its target. Of a city it shows everyone what is published.
 #[derive(Drop)]
 pub struct Counted<'a, A, C> {
     /// What answers, counted.
@@ -23,7 +25,7 @@ pub struct Counted<'a, A, C> {
 }
 
 impl<'a, A: Answers, C: Clock + Copy + Drop> Answers for Counted<'a, A, C> {
-    type Reply = MeteredReply<'a, A::Reply, C>;
+    type Reply = GuidedReply<MeteredReply<'a, A::Reply, C>>;
 
     ghost may_answer = { A.may_answer };
 
@@ -31,8 +33,9 @@ impl<'a, A: Answers, C: Clock + Copy + Drop> Answers for Counted<'a, A, C> {
         self.metered.asker(parts)
     }
 
-    fn answer(&self, parts: &Parts, taken: Taken) -> MeteredReply<'a, A::Reply, C> {
-        self.metered.answer(parts, taken)
+    fn answer(&self, parts: &Parts, taken: Taken) -> GuidedReply<MeteredReply<'a, A::Reply, C>> {
+        let guide = Guide::of(parts.uri.path());
+        GuidedReply::new(self.metered.answer(parts, taken), guide)
     }
 }
 

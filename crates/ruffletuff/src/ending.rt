@@ -67,6 +67,7 @@ fn folder_message(fault: &FolderFault) -> &'static str
     match fault {
         FolderFault::NoMemory => "ruffletuff: memory ran out",
         FolderFault::Unusable => "ruffletuff: the folder can't be used",
+        FolderFault::Linked => "ruffletuff: a file of the folder is a link, or none",
         FolderFault::Locked => "ruffletuff: another program has the folder",
         FolderFault::Damaged(_) => "ruffletuff: the journal is damaged, or of another version",
         FolderFault::Unfitting(_) => "ruffletuff: the configuration doesn't fit the journal",

@@ -16,7 +16,7 @@ pub trait Folders {
     /// The system's.
     fn open(&self, path: &str) -> io::Result<File>;
 
-    /// Opens a file to read and write it, cut to nothing, and made where it isn't there.
+    /// Makes a file to read and write it. What has its name, a link too, is removed before.
     ///
     /// # Errors
     ///
@@ -44,12 +44,10 @@ impl Folders for HostRuntime {
     }
 
     fn make(&self, path: &str) -> io::Result<File> {
+        // Where nothing has the name, there is nothing to remove.
+        let _ = fs::remove_file(self, path);
         let mut how = File::options();
-        how.read(true)
-            .write(true)
-            .create(true)
-            .truncate(true)
-            .mode(MODE);
+        how.read(true).write(true).create_new(true).mode(MODE);
         how.open(self, path)
     }
 

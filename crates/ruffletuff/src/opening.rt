@@ -9,6 +9,7 @@ use crate::board::Board;
 use crate::ending::Ending;
 use crate::errand::beside;
 use crate::folders::Folders;
+use crate::room::ReportedRoom;
 use crate::serving::{Stage, kept};
 use crate::standing::{Filed, Standing, Table};
 use crate::starting::{left_out, started};
@@ -19,9 +20,9 @@ use mds_commit::{Ballast, Opened, Space};
 use mds_control::{Counters, Figure};
 use mds_desk::{AuthorRoom, Desk};
 use mds_doors::Queues;
-use mds_folder::{Folder, FolderFault, begun, cut_of, open_folder};
+use mds_folder::{CutFiles, Folder, FolderFault, begun, open_folder};
 use mds_hall::{Hall, Named};
-use mds_records::{Journal, Log, Sealed, Stored};
+use mds_records::{Cut, Journal, Log, Sealed, Stored};
 use mds_request::Config;
 use mds_rolling::{Beside, Meeting, Pace, Rolling};
 use mds_snapshot::{Blank, prepare};
@@ -45,20 +46,18 @@ pub fn journal_length<R: Files<File = File> + AllocGlobal>(rt: &R, folder: &str)
     Some(metadata.len())
 }
 
-/// Counts the bytes of a folder's journal, and says how many were cut of what it had before.
-fn count_bytes<R: Files<File = File> + AllocGlobal + Eprint>(
-    rt: &R,
-    folder: &str,
-    before: Option<u64>,
-    counters: &Counters,
-) {
-    let (Some(before), Some(after)) = (before, journal_length(rt, folder)) else {
-        return;
-    };
-    counters.set(Figure::JournalBytes, after);
-    if let Some(cut) = cut_of(before, after) {
+/// Counts the bytes of a folder's journal.
+fn count_bytes<R: Files<File = File> + AllocGlobal>(rt: &R, folder: &str, counters: &Counters) {
+    if let Some(length) = journal_length(rt, folder) {
+        counters.set(Figure::JournalBytes, length);
+    }
+}
+
+/// Says what was cut off a journal.
+fn tell_cut<R: Eprint>(rt: &R, cut: Option<Cut>) {
+    if let Some(Cut { from, count }) = cut {
         let _ = eprintln!(rt;
-            "ruffletuff: {cut} bytes that weren't synced are cut off the journal"
+            "ruffletuff: {count} bytes that weren't synced, from byte {from} on, are cut off the journal, and kept in a new journal.cut"
         );
     }
 }
@@ -263,15 +262,17 @@ where
         journal,
         ballast,
     } = opening;
-    let before = journal_length(rt, state);
-    let log = match Journal::open(alloc, Stored::new(journal)) {
-        Ok(log) => log,
-        Err(fault) => return Err(Ending::Folder(FolderFault::from(fault))),
-    };
-    count_bytes(rt, state, before, board.counters);
+    // What was set aside is given back first, so that on a full disk there is room for what is cut.
     let Ok(space) = Ballast::new(ballast) else {
         return Err(Ending::Folder(FolderFault::Unusable));
     };
+    let mut aside = CutFiles::new(*rt, alloc, state)?;
+    let log = match Journal::recover(alloc, Stored::new(journal), &mut aside) {
+        Ok(log) => log,
+        Err(fault) => return Err(Ending::Folder(FolderFault::from(fault))),
+    };
+    tell_cut(rt, log.cut());
+    count_bytes(rt, state, board.counters);
     let dropped = left_out(alloc, dropped)?;
     let stage = Stage {
         listen,
@@ -280,7 +281,14 @@ where
         threads: threads_for(rt, &config),
         board,
     };
-    rolling(rt, log, beside, space, config, stage)
+    rolling(
+        rt,
+        log,
+        beside,
+        ReportedRoom::new(*rt, space),
+        config,
+        stage,
+    )
 }
 
 /// Starts the server of a log again whose file is exchanged from now on by what stands beside it, and serves it.

@@ -6,15 +6,16 @@ use crate::arguments::read_words;
 use crate::auditing::audit;
 use crate::board::Board;
 use crate::checking::check;
-use crate::configuration::{configuration_in, configuration_text};
+use crate::configuration::{configuration_in, told_text};
 use crate::controlling::serve_controlled;
 use crate::counting::counters_of;
 use crate::ending::Ending;
 use crate::folders::Folders;
 use crate::opening::{Given, serve_city};
+use crate::source::Source;
 use crate::thinning::thin;
 use crate::words::{tell, tell_usage};
-use mds_command::{Asked, HELP, Service, VERSION, asked_by};
+use mds_command::{Asked, COMMIT, HELP, Service, VERSION, asked_by, version_line};
 use mds_control::{Control, stop};
 use mds_doors::Closing;
 use mds_errands::run_errand;
@@ -22,6 +23,7 @@ use std::alloc::AllocGlobal;
 use std::env::Env;
 use std::fs::{File, Files};
 use std::io::{Eprint, Print};
+use std::mem::drop;
 use std::net::{Net, TcpListener, TcpStream};
 use std::random::RandomSource;
 use std::sync::{Arc, Wait};
@@ -98,6 +100,7 @@ where
         Asked::Version => said_version(rt),
         Asked::Serve(service) => serve(rt, service),
         Asked::Check(folder) => check(rt, *folder),
+        Asked::CheckConfig(path) => check_configuration(rt, *path),
         Asked::Audit(extract) => audit(rt, extract),
         Asked::Thin(thinning) => thin(rt, thinning),
         Asked::Stop(address) => stopped(rt, *address),
@@ -125,12 +128,29 @@ fn printed<R: Print>(rt: &R, text: &str) -> Result<(), Ending> {
 ///
 /// # Errors
 ///
-/// `NotPrinted`.
-fn said_version<R: Print>(rt: &R) -> Result<(), Ending> {
-    match println!(rt; "ruffletuff {VERSION}") {
+/// `NotPrinted`, `NoMemory`.
+fn said_version<R: Print + AllocGlobal>(rt: &R) -> Result<(), Ending> {
+    let line = version_line(rt.alloc(), VERSION, COMMIT)?;
+    match println!(rt; "{line}") {
         Ok(()) => Ok(()),
         Err(_) => Err(Ending::NotPrinted),
     }
+}
+
+/// Says that a file is a configuration.
+///
+/// # Errors
+///
+/// `Misconfigured` with what is wrong, where it is none; `NotPrinted`, `NoMemory`.
+fn check_configuration<R: Files<File = File> + Print + Eprint + AllocGlobal>(
+    rt: &R,
+    path: &str,
+) -> Result<(), Ending> {
+    let source = Source::read(rt, path)?;
+    source.tell(rt, path, false)?;
+    let text = source.resolve(rt.alloc())?;
+    drop(configuration_in(rt.alloc(), &text)?);
+    printed(rt, "a configuration\n")
 }
 
 /// Stops the server whose control port is at this address.
@@ -138,7 +158,7 @@ fn said_version<R: Print>(rt: &R) -> Result<(), Ending> {
 /// # Errors
 ///
 /// `NotStopped` where nothing there says that it stops.
-fn stopped<R: Net>(rt: &R, address: &str) -> Result<(), Ending> {
+fn stopped<R: Net + AllocGlobal>(rt: &R, address: &str) -> Result<(), Ending> {
     match stop(rt, address) {
         Ok(true) => Ok(()),
         Ok(false) | Err(_) => Err(Ending::NotStopped),
@@ -167,7 +187,7 @@ where
         + Copy
         + Drop,
 {
-    let text = configuration_text(rt, rt.alloc(), service.config)?;
+    let text = told_text(rt, rt.alloc(), service.config)?;
     let config = configuration_in(rt.alloc(), &text)?;
     let closing = Closing::new(rt.alloc())?;
     let control = Control::new();

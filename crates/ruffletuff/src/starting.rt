@@ -9,17 +9,21 @@ ghost use Rattle.ruffletuff.specs.Starting.{HasHead, IsStartedFrom, is_publicati
 
 use crate::ending::Ending;
 use crate::progress::Told;
+use mds_configuration::Limits;
 use mds_control::{Counters, Figure};
 use mds_desk::{AuthorRoom, Desk};
 use mds_entries::{Asker, Entry};
 use mds_folder::{Damage, FolderFault, entries_in, suits, without};
-use mds_recovery::start_again;
+use mds_recovery::{Cause, StartFault, start_again};
 use mds_request::{Config, Verb};
 use mds_snapshot::{Blank, Naming};
 use mds_text::Id;
 use std::alloc::{AllocError, AllocGlobal, Global};
 use std::io::Eprint;
 use std::sync::Wait;
+
+/// The status of a report for which the fleet is full (409).
+const CONFLICT: u16 = 409;
 
 /// The operators that are left out: the one that is named, or none.
 pub fn left_out(alloc: Global, dropped: Option<Id>) -> Result<Vec<Id>, AllocError>
@@ -106,6 +110,27 @@ pub fn started<K: Naming, R: Wait + Eprint + AllocGlobal + Copy>(
     answered(rt, config, blank, &entries, counters)
 }
 
+/// The operator whose report isn't answered again since its fleet is full, where that is the fault.
+fn full_fleet(entries: &[Entry<'_>], fault: &StartFault) -> Option<Id> {
+    let StartFault::Stopped(stopped) = fault else {
+        return None;
+    };
+    if stopped.cause != Cause::Refused(CONFLICT) {
+        return None;
+    }
+    match entries.get(stopped.entry)?.asker {
+        Asker::Operator(id) => Some(id),
+        Asker::Author => None,
+    }
+}
+
+/// Says that the limit of an operator is too low.
+fn tell_limit<R: Eprint + AllocGlobal>(rt: &R, limits: &Limits, id: Id) {
+    if let Ok(Some(told)) = limits.too_low(rt.alloc(), id) {
+        let _ = eprintln!(rt; "{told}");
+    }
+}
+
 /// The author's room and the desks that answer these entries again.
 ///
 /// # Errors
@@ -122,9 +147,15 @@ fn answered<K: Naming, R: Wait + Eprint + AllocGlobal + Copy>(
     ensures { IfOk result (λ r. IsStartedAgain (configuration config) (map entry_of entries.now) (server_of r.0 r.1.items)) }
 {
     counters.set(Figure::Revision, publications(entries) as u64);
+    let limits = Limits::of(rt.alloc(), &config)?;
     let mut progress = Told(*rt);
     match start_again::<K, R, Told<R>>(rt, rt.alloc(), config, blank, entries, &mut progress) {
         Ok(started) => Ok(started),
-        Err(fault) => Err(Ending::from(fault)),
+        Err(fault) => {
+            if let Some(id) = full_fleet(entries, &fault) {
+                tell_limit(rt, &limits, id);
+            }
+            Err(Ending::from(fault))
+        }
     }
 }

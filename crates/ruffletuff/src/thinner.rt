@@ -4,7 +4,7 @@ use crate::errand::Errand;
 use crate::folders::Folders;
 use crate::standing::{Filed, Table};
 use crate::thinning::moment;
-use mds_folder::FolderFault;
+use mds_folder::{FolderFault, lock_file};
 use mds_records::{Journal, Seal, Stored};
 use mds_rolling::{CatchFault, Shorter, is_little};
 use mds_thinning::{Found, Front, ThinFault, emptied, thin_front};
@@ -84,11 +84,15 @@ impl<R: Folders + Wait + Clock + AllocGlobal + Eprint + Copy> Thinner<'_, R> {
         }
     }
 
-    /// The file of the shorter journal, cut to nothing.
+    /// The file of the shorter journal, cut to nothing. It is locked before it gets the journal's name, so that whoever opens
+    /// the journal finds a locked file.
     fn beside(&self) -> Result<File, ThinFault> {
         let path = self.path("journal.thinned")?;
-        match self.rt.make(path.as_str()) {
-            Ok(file) => Ok(file),
+        let Ok(file) = self.rt.make(path.as_str()) else {
+            return Err(ThinFault::NotWritten);
+        };
+        match lock_file(&file) {
+            Ok(()) => Ok(file),
             Err(_) => Err(ThinFault::NotWritten),
         }
     }

@@ -19,6 +19,7 @@ fn config_of<'a>(asked: &Asked<'a>) -> Option<&'a str>
         Asked::Serve(service) => Some(service.config),
         Asked::Audit(audit) => Some(audit.config),
         Asked::Thin(thinning) => Some(thinning.config),
+        Asked::CheckConfig(config) => Some(*config),
         _ => None,
     }
 }

@@ -29,14 +29,6 @@ function newId() {
   return map.idOf(bytes);
 }
 
-/** A request of the author, which the journal of this visit keeps where it is carried out. */
-async function send(method, target, body) {
-  const text = typeof body === "string" ? body.replace(/\s*[\r\n]+\s*/g, " ").trim() : body && JSON.stringify(body);
-  const told = await ask(method, target, text);
-  state.journal.push(`${method} /${target}${text ? ` ${text}` : ""}`);
-  return told;
-}
-
 // --- Drafts -------------------------------------------------------------------------------------------------------------
 
 /** The drafts of these kinds and identifiers that are still there. */
@@ -97,21 +89,12 @@ function showDrafts() {
   const publishing = el("div", { className: "actions" },
     el("button", { type: "button", className: "primary", id: "publish", onclick: () => publish().catch(fail) }, "Publish…"));
   $("drafts").replaceChildren(...(state.drafts.length
-    ? [el("table", {}, el("tbody", {}, state.drafts.map(draftRow))), publishing] : [el("p", { className: "small" }, note)]),
-  ...(state.journal.length ? [journalLink()] : []));
-}
-
-let journalUrl = "";
-/** A link that saves what this visit changed, in the form that a city publishes again by. */
-function journalLink() {
-  URL.revokeObjectURL(journalUrl);
-  journalUrl = URL.createObjectURL(new Blob([`${state.journal.join("\n")}\n`], { type: "text/plain" }));
-  return el("a", { href: journalUrl, download: "journal" }, `Save the journal of this visit (${state.journal.length} lines)`);
+    ? [el("table", {}, el("tbody", {}, state.drafts.map(draftRow))), publishing] : [el("p", { className: "small" }, note)]));
 }
 
 async function drop(draft) {
   try {
-    await send("DELETE", `drafts/${draft.kind}/${draft.id}`);
+    await ask("DELETE", `drafts/${draft.kind}/${draft.id}`);
     forget([draft.id]);
     await refresh();
     say(`The draft “${draft.document.name}” is dropped.`);
@@ -131,7 +114,7 @@ async function publish() {
     el("ul", {}, chosen.map((it) => el("li", {}, `${it.document.name} (${KINDS[it.kind]})`))));
   if (!isSure) return;
   const ids = (kind) => chosen.filter((it) => it.kind === kind).map((it) => it.id);
-  const told = await send("POST", "publish", { geographies: ids("geographies"), policies: ids("policies") });
+  const told = await ask("POST", "publish", { geographies: ids("geographies"), policies: ids("policies") });
   forget(chosen.map((it) => it.id));
   await refresh();
   say(`Published ${state.clock.when(told.published_date)}, revision ${told.revision}.`);
@@ -144,7 +127,7 @@ export async function withdraw(policy) {
       + "What it took the place of stays superseded."));
   if (!isSure) return;
   try {
-    const told = await send("POST", "publish", { withdraw: [policy.policy_id] });
+    const told = await ask("POST", "publish", { withdraw: [policy.policy_id] });
     rememberWithdrawal(policy.policy_id, told.published_date);
     await refresh();
     say(`“${policy.name}” is withdrawn.`);
@@ -320,7 +303,7 @@ async function savePolicy(event) {
     const text = isByHand() ? P.json.value : JSON.stringify(written()), document = JSON.parse(text);
     if (!document?.policy_id) throw new Error("The document has no policy_id.");
     if (!isByHand() && !many(P.where).length) throw new Error("Choose where it holds: a rule without a place catches nothing.");
-    await send("PUT", `drafts/policies/${document.policy_id}`, text);
+    await ask("PUT", `drafts/policies/${document.policy_id}`, text);
     await kept("policies", document.policy_id);
   } catch (fault) {
     fail(faultOf(fault, "The document"));
@@ -395,7 +378,7 @@ async function savePlace(event) {
     if (G.description.value) head.description = G.description.value;
     // The coordinates go on as they were written.
     const text = `${JSON.stringify(head).slice(0, -1)},"geography_json":${geoJsonOf(G.geojson.value)}}`;
-    await send("PUT", `drafts/geographies/${id}`, text);
+    await ask("PUT", `drafts/geographies/${id}`, text);
     await kept("geographies", id);
   } catch (fault) {
     fail(faultOf(fault, "The place"));

@@ -35,7 +35,7 @@ body > header {
   display: flex; gap: .3rem 1rem; align-items: center; flex-wrap: wrap; padding: .5rem 1rem;
   background: var(--card); border-bottom: 1px solid var(--line);
 }
-body > header p { margin: 0; color: var(--dim); flex: 1; }
+body > header p { margin: 0; color: var(--dim); flex: 1 1 9rem; }
 body > header .actions { margin: 0 0 0 auto; }
 .skip { position: absolute; left: -999px; }
 .skip:focus { left: .5rem; top: .5rem; background: var(--card); padding: .5rem; z-index: 9; }
@@ -154,7 +154,8 @@ dd { margin: 0; }
 article details { font-size: .9rem; }
 article summary { cursor: pointer; }
 pre { max-height: 16rem; overflow: auto; font: 12px/1.4 ui-monospace, monospace; margin: .3rem 0; }
-table { width: 100%; border-collapse: collapse; font-size: .9rem; }
+table { width: 100%; table-layout: fixed; border-collapse: collapse; font-size: .9rem; }
+td:first-child { width: 42%; }
 td { text-align: left; vertical-align: top; padding: .25rem .3rem; border-top: 1px solid var(--line); }
 dialog {
   background: var(--card); color: var(--ink); border: 1px solid var(--line); border-radius: 12px; max-width: min(30rem, 94vw);

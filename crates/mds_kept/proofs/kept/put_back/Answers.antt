@@ -1,20 +1,15 @@
 use Rattle.std.proofs.Common.{◌≡◌, ◌++◌, ◌∷◌, [], rules}
 use Rattle.std.proofs.lemmas.List.Elements.{All-push}
 use Rattle.mds_kept.specs.Kept.{IsColumn}
-use Rattle.mds_kept.proofs.kept.put_back.Goals.{else-masks-le-MOST_MASKS-via-then-masks-le-MOST_MASKS+else-is_err, else-masks-le-MOST_MASKS-via-else-masks-le-MOST_MASKS}
 use Rattle.mds_kept.proofs.kept.put_back.Goals as goal
 
 pub returns : goal.returns
 returns c published vehicles is column =
     let kept = IsColumn published vehicles c.args.listed.devices.items c.args.listed.changed.items in
-    elim c.else-masks-le-MOST_MASKS.branch [
-      | else-masks-le-MOST_MASKS-via-then-masks-le-MOST_MASKS+else-is_err w ↦
-          let more : w.push.new.self.items ≡ c.args.listed.columns.items ++ c.args.column ∷ [] = search rules in
-          rw w.listed-is (record {
-            devices = is.devices;
-            seen = is.seen;
-            sinces = is.sinces;
-            columns = rw more (All-push kept c.args.listed.columns.items c.args.column is.columns column);
-          })
-      | else-masks-le-MOST_MASKS-via-else-masks-le-MOST_MASKS w ↦ rw w.listed-is is
-    ]
+    let more : c.push.new.self.items ≡ c.args.listed.columns.items ++ c.args.column ∷ [] = search rules in
+    record {
+      devices = is.devices;
+      seen = is.seen;
+      sinces = is.sinces;
+      columns = rw more (All-push kept c.args.listed.columns.items c.args.column is.columns column);
+    }

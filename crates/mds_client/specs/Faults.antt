@@ -1,0 +1,27 @@
+-- Why there is no reply.
+use Rattle.std.specs.Prelude.{Bool, true, false}
+use Rattle.std_io.specs.declared.io.kind.ErrorKind.{ErrorKind}
+use Rattle.std_io.specs.declared.io.kind.ErrorKind.TheVariants.{OutOfMemory, UnexpectedEof}
+use Rattle.http1.specs.declared.framing.FramingError.{FramingError}
+use Rattle.http1.specs.declared.framing.FramingError.TheVariants.{InvalidContentLength, LengthAndEncoding}
+use Rattle.mds_client.specs.declared.fault.ReplyFault.{ReplyFault}
+use Rattle.mds_client.specs.declared.fault.ReplyFault.TheVariants.{NoMemory, NoConnection, Incomplete, InvalidHead, InvalidLength, LengthAndCoding, UnknownCoding}
+
+-- another try may have a reply: the connection failed, or no head came over it
+abbrev pub is_passing : ReplyFault → Bool
+is_passing NoConnection = true
+is_passing Incomplete = true
+is_passing InvalidHead = true
+is_passing fault = false
+
+-- what an error of a connection says of the reply
+abbrev pub fault_of_kind : ErrorKind → ReplyFault
+fault_of_kind OutOfMemory = NoMemory
+fault_of_kind UnexpectedEof = Incomplete
+fault_of_kind kind = NoConnection
+
+-- why the fields of a head don't say where the body ends (RFC 9112, section 6.3)
+abbrev pub fault_of_framing : FramingError → ReplyFault
+fault_of_framing InvalidContentLength = InvalidLength
+fault_of_framing LengthAndEncoding = LengthAndCoding
+fault_of_framing error = UnknownCoding

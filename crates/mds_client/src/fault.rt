@@ -1,0 +1,126 @@
+//! Why there is no reply.
+ghost use Rattle.std.specs.Prelude.{◌≡◌};
+ghost use Rattle.mds_client.specs.Faults.{is_passing};
+
+use http1::ReadError;
+use http1::framing::FramingError;
+use std::alloc::AllocError;
+use std::io::{self, ErrorKind};
+
+/// Why there is no reply.
+#[derive(Clone, Copy, Debug, PartialEq, Eq)]
+pub enum ReplyFault {
+    /// Memory ran out.
+    NoMemory,
+    /// No connection is had, or it breaks.
+    NoConnection,
+    /// The connection ends before the reply does.
+    Incomplete,
+    /// What comes has no head of HTTP/1.1 (RFC 9112, sections 4 and 5).
+    InvalidHead,
+    /// A `content-length` is no number of decimal digits below 2^64, or two of them differ (RFC 9112, section 6.3).
+    InvalidLength,
+    /// There are both a `content-length` and a `transfer-encoding` (RFC 9112, section 6.3).
+    LengthAndCoding,
+    /// A `transfer-encoding` isn't undone here (RFC 9112, section 6.1).
+    UnknownCoding,
+    /// A chunk, or what stands behind the last one, isn't as it has to be (RFC 9112, section 7.1).
+    InvalidChunk,
+    /// The head doesn't say where the body ends, so that it can't be seen whether it is whole (RFC 9112, section 6.3).
+    NoLength,
+    /// The body is longer than is taken.
+    TooLong,
+}
+
+impl ReplyFault {
+    /// Whether the same request may have a reply when it is sent again: whatever the head of a reply says is final.
+    pub fn is_passing(self) -> bool
+        ensures { result ≡ is_passing self }
+    {
+        match self {
+            ReplyFault::NoConnection | ReplyFault::Incomplete | ReplyFault::InvalidHead => true,
+            ReplyFault::NoMemory
+            | ReplyFault::InvalidLength
+            | ReplyFault::LengthAndCoding
+            | ReplyFault::UnknownCoding
+            | ReplyFault::InvalidChunk
+            | ReplyFault::NoLength
+            | ReplyFault::TooLong => false,
+        }
+    }
+
+    /// In words.
+    pub fn words(self) -> &'static str {
+        match self {
+            ReplyFault::NoMemory => "memory ran out",
+            ReplyFault::NoConnection => "the server can't be reached",
+            ReplyFault::Incomplete => "the server broke off",
+            ReplyFault::InvalidHead => "the server answers what isn't HTTP",
+            ReplyFault::InvalidLength => "the server answers with a content-length that is none",
+            ReplyFault::LengthAndCoding => {
+                "the server answers with both a content-length and a transfer-encoding"
+            }
+            ReplyFault::UnknownCoding => {
+                "the server answers in a transfer-encoding that isn't read"
+            }
+            ReplyFault::InvalidChunk => "the server answers with a chunk that is none",
+            ReplyFault::NoLength => "the server answers without a content-length",
+            ReplyFault::TooLong => "the server answers with more than is read",
+        }
+    }
+}
+
+impl From<AllocError> for ReplyFault {
+    ghost use Rattle.std.specs.Prelude.{◌≡◌};
+    ghost use Rattle.mds_client.specs.declared.fault.ReplyFault.TheVariants.{NoMemory};
+
+    ghost from_gives = { λ _ fault. fault ≡ NoMemory };
+
+    fn from(_: AllocError) -> ReplyFault {
+        ReplyFault::NoMemory
+    }
+}
+
+impl From<io::Error> for ReplyFault {
+    ghost use Rattle.std.specs.Prelude.{◌≡◌};
+    ghost use Rattle.std_io.specs.IoError.{error_kind};
+    ghost use Rattle.mds_client.specs.Faults.{fault_of_kind};
+
+    ghost from_gives = { λ error fault. fault ≡ fault_of_kind (error_kind error) };
+
+    fn from(error: io::Error) -> ReplyFault {
+        match error.kind() {
+            ErrorKind::OutOfMemory => ReplyFault::NoMemory,
+            ErrorKind::UnexpectedEof => ReplyFault::Incomplete,
+            _ => ReplyFault::NoConnection,
+        }
+    }
+}
+
+impl From<FramingError> for ReplyFault {
+    ghost use Rattle.std.specs.Prelude.{◌≡◌};
+    ghost use Rattle.mds_client.specs.Faults.{fault_of_framing};
+
+    ghost from_gives = { λ error fault. fault ≡ fault_of_framing error };
+
+    fn from(error: FramingError) -> ReplyFault {
+        match error {
+            FramingError::InvalidContentLength => ReplyFault::InvalidLength,
+            FramingError::LengthAndEncoding => ReplyFault::LengthAndCoding,
+            FramingError::InvalidTransferEncoding
+            | FramingError::UnexpectedTransferEncoding
+            | FramingError::ConnectWithContent => ReplyFault::UnknownCoding,
+        }
+    }
+}
+
+impl From<ReadError> for ReplyFault {
+    ghost use Rattle.std.specs.Prelude.{◌≡◌};
+    ghost use Rattle.mds_client.specs.declared.fault.ReplyFault.TheVariants.{InvalidChunk};
+
+    ghost from_gives = { λ _ fault. fault ≡ InvalidChunk };
+
+    fn from(_: ReadError) -> ReplyFault {
+        ReplyFault::InvalidChunk
+    }
+}

@@ -1,0 +1,80 @@
+//! What the words of a command line ask for, and what is said of the version.
+use crate::{Asked, Errand, TokenSource, asked_by, version_line};
+use std::alloc::{AllocError, AllocGlobal};
+use std::test::Fail;
+
+/// The words of a line, between spaces.
+fn words_in<R: AllocGlobal>(rt: &R, line: &str) -> Result<Vec<String>, AllocError> {
+    let mut words = Vec::new(rt.alloc());
+    for word in line.split(' ') {
+        words.push(String::from_str(rt.alloc(), word)?)?;
+    }
+    Ok(words)
+}
+
+/// Where an errand's access token stands.
+fn token_in<'a>(asked: &Asked<'a>) -> Option<TokenSource<'a>> {
+    match asked {
+        Asked::Errand(Errand::Policies(import)) => match import.destination {
+            Some(destination) => Some(destination.token),
+            None => None,
+        },
+        Asked::Errand(Errand::Published(export)) => Some(export.source.token),
+        _ => None,
+    }
+}
+
+#[test]
+fn says_its_version(rt: HostRuntime) -> Result<(), Fail> {
+    let line = version_line(rt.alloc(), "1.2.0", "")?;
+    assert!(rt; line.as_str() == "ruffletuff 1.2.0");
+    let line = version_line(rt.alloc(), "1.2.0", "cd2989f")?;
+    assert!(rt; line.as_str() == "ruffletuff 1.2.0 (cd2989f)");
+    Ok(())
+}
+
+#[test]
+fn takes_a_name_of_the_control_port(rt: HostRuntime) -> Result<(), Fail> {
+    let line = "serve --config c --state s --listen l --control a --control-host ops.example";
+    match asked_by(&words_in(&rt, line)?) {
+        Some(Asked::Serve(service)) => {
+            assert!(rt; service.control == Some("a"));
+            assert!(rt; service.control_host == Some("ops.example"));
+        }
+        _ => assert!(rt; false),
+    }
+    let line = "serve --config c --state s --listen l --control-host ops.example";
+    assert!(rt; asked_by(&words_in(&rt, line)?).is_none());
+    Ok(())
+}
+
+#[test]
+fn checks_a_configuration(rt: HostRuntime) -> Result<(), Fail> {
+    let words = words_in(&rt, "check --config city.json")?;
+    assert!(rt; matches!(asked_by(&words), Some(Asked::CheckConfig("city.json"))));
+    let words = words_in(&rt, "check city")?;
+    assert!(rt; matches!(asked_by(&words), Some(Asked::Check("city"))));
+    for line in ["check --config", "check city more", "check --config a b"] {
+        assert!(rt; asked_by(&words_in(&rt, line)?).is_none());
+    }
+    Ok(())
+}
+
+#[test]
+fn takes_a_token_from_one_place(rt: HostRuntime) -> Result<(), Fail> {
+    let words = words_in(&rt, "import policies a.json --to here --token city")?;
+    match &asked_by(&words) {
+        Some(asked) => {
+            assert!(rt; matches!(token_in(asked), Some(TokenSource::Argument("city"))));
+        }
+        None => assert!(rt; false),
+    }
+    let words = words_in(&rt, "export folder --token-file - --from here")?;
+    match &asked_by(&words) {
+        Some(asked) => assert!(rt; matches!(token_in(asked), Some(TokenSource::File("-")))),
+        None => assert!(rt; false),
+    }
+    let line = "import policies a.json --to here --token city --token-file t";
+    assert!(rt; asked_by(&words_in(&rt, line)?).is_none());
+    Ok(())
+}

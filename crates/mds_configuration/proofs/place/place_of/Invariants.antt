@@ -1,0 +1,12 @@
+use Rattle.std.proofs.Common.{◌≡◌, ◌+◌, ◌≤◌, drop, take, min, length}
+use Rattle.mds_configuration.specs.Places.{place_at, place_behind}
+use Rattle.mds_configuration.proofs.place.place_of.Given as goal
+
+-- what is left leads to where the whole leads, and neither count is beyond the bytes
+abbrev pub invariant-loop-byte : goal.invariant-loop-byte
+invariant-loop-byte l =
+    record {
+      rest : place_behind (record { line = l.line; column = l.column }) (drop l.byte-index (take (min l.fn.offset (length l.fn.text)) l.fn.text)) ≡ place_at l.fn.text l.fn.offset;
+      line : l.line ≤ l.byte-index + 1;
+      column : l.column ≤ l.byte-index + 1;
+    }

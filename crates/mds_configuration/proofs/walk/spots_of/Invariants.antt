@@ -1,0 +1,12 @@
+use Rattle.std.proofs.Common.{◌≡◌, ◌≤◌, ◌++◌, map, drop}
+use Rattle.mds_configuration.specs.Spots.{seen, spots_from, start}
+use Rattle.mds_configuration.proofs.walk.spots_of.Given as goal
+
+-- what was found and what is left are the whole, and neither count is beyond the lexemes
+abbrev pub invariant-loop-place : goal.invariant-loop-place
+invariant-loop-place l =
+    record {
+      whole : map seen l.spots.items ++ spots_from l.fn.text l.walk (drop l.place l.fn.marks) ≡ spots_from l.fn.text start l.fn.marks;
+      depth : l.walk.depth ≤ l.place;
+      number : l.walk.place ≤ l.place;
+    }

@@ -1,0 +1,12 @@
+use Rattle.std.proofs.Common.{◌≡◌, ◌+◌, drop}
+use Rattle.mds_configuration.specs.Pieces.{piece}
+use Rattle.mds_configuration.specs.Zoning.{ended, written_end}
+use Rattle.mds_configuration.proofs.zoning.written_end.Given as goal
+
+-- what is left ends where the whole does
+abbrev pub invariant-loop-byte : goal.invariant-loop-byte
+invariant-loop-byte l =
+    record {
+      rest : ended l.at l.end (drop l.byte-index (piece l.fn.text l.fn.value.from l.fn.value.to)) ≡ written_end l.fn.text l.fn.value;
+      place : l.at ≡ l.fn.value.from + l.byte-index;
+    }

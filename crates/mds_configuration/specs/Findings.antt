@@ -1,0 +1,101 @@
+-- What is found in a configuration's text, in the order of the text.
+use Rattle.std.specs.Prelude.{ℕ, List, [], ◌∷◌, ◌++◌, Bool, true, false, ◌==◌, if◌then◌else◌, Option, Some, None, option_to_list, option_map, string_bytes}
+use Rattle.mds_diagnosis.specs.Diagnosis.{wrong_in}
+use Rattle.mds_diagnosis.specs.declared.wrong.Wrong.{Wrong}
+use Rattle.mds_diagnosis.specs.declared.wrong.Wrong.TheVariants as wrong
+use Rattle.mds_configuration.specs.declared.finding.Finding.{Finding}
+use Rattle.mds_configuration.specs.declared.finding.What.{What}
+use Rattle.mds_configuration.specs.declared.finding.What.TheVariants as what
+use Rattle.mds_configuration.specs.declared.marks.Mark.{Mark}
+use Rattle.mds_configuration.specs.declared.members.Known.TheVariants.{Zone}
+use Rattle.mds_configuration.specs.declared.paths.Path.{Path}
+use Rattle.mds_configuration.specs.declared.paths.Path.TheVariants.{Member}
+use Rattle.mds_configuration.specs.declared.place.Place.{Place}
+use Rattle.mds_configuration.specs.declared.gathering.Located.{Located}
+use Rattle.mds_configuration.specs.declared.spots.Value.{Value}
+use Rattle.mds_configuration.specs.declared.zoning.Zoned.{Zoned}
+use Rattle.mds_configuration.specs.declared.zoning.Zoned.TheVariants.{Fault}
+use Rattle.mds_configuration.specs.Grammar.{fault_from, fresh}
+use Rattle.mds_configuration.specs.Marks.{marks_of}
+use Rattle.mds_configuration.specs.Members.{warning}
+use Rattle.mds_configuration.specs.Paths.{last_meant, path_text, spot_text, wrong_path}
+use Rattle.mds_configuration.specs.Places.{place_at}
+use Rattle.mds_configuration.specs.Spots.{Seen, spots_from, start}
+use Rattle.mds_configuration.specs.Zoning.{stand_in}
+
+-- what a `Finding` says
+pub record Told : Type 0 where
+  pub place : Place
+  pub member : List ℕ
+  pub what : What
+
+abbrev pub told : Finding → Told
+told f = record { place = f.place; member = string_bytes f.member; what = f.what }
+
+-- an error, and which value it is of: that of its path
+abbrev pub located : List Seen → Path → What → Located
+located spots path what = record { value = last_meant path None spots; path = path; what = what }
+
+abbrev pub wrong_located : List Seen → Option Wrong → Option Located
+wrong_located spots None = None
+wrong_located spots (Some w) = Some (located spots (wrong_path w) (what.Wrong w))
+
+abbrev pub zone_located : List Seen → Zoned → Option Located
+zone_located spots (Fault fault) = Some (located spots (Member Zone) (what.Zone fault))
+zone_located spots other = None
+
+-- an error that is of no value stands at the beginning
+abbrev pub begins_at : Option ℕ → Option Value → Bool
+begins_at None None = true
+begins_at None (Some value) = false
+begins_at (Some from) None = false
+begins_at (Some from) (Some value) = from == value.from
+
+-- the error, where it is of the value that begins here
+abbrev pub error_here : List ℕ → Option ℕ → ℕ → Option Located → List Told
+error_here bytes here offset None = []
+error_here bytes here offset (Some l) =
+    if begins_at here l.value then record { place = place_at bytes offset; member = path_text l.path; what = l.what } ∷ [] else []
+
+abbrev pub warning_here : List ℕ → Seen → List Told
+warning_here bytes spot = option_to_list (option_map (λ w. record { place = place_at bytes spot.at; member = spot_text spot; what = w }) (warning bytes spot))
+
+-- both errors, and the warning, of what stands here
+abbrev pub found_here : List ℕ → Option Located → Option Located → Seen → List Told
+found_here bytes wrong zone spot =
+    error_here bytes (Some spot.value.from) spot.value.from wrong ++ error_here bytes (Some spot.value.from) spot.value.from zone ++ warning_here bytes spot
+
+abbrev pub found_from : List ℕ → Option Located → Option Located → List Seen → List Told
+found_from bytes wrong faulty [] = []
+found_from bytes wrong faulty (s ∷ ss) = found_here bytes wrong faulty s ++ found_from bytes wrong faulty ss
+
+abbrev pub first_at : List Mark → ℕ
+first_at [] = 0
+first_at (m ∷ ms) = m.at
+
+abbrev pub is_json : Option Wrong → Bool
+is_json (Some wrong.Json) = false
+is_json other = true
+
+-- of a text that is no JSON its members mean nothing
+abbrev pub spots_if : Bool → List ℕ → List Mark → List Seen
+spots_if true bytes marks = spots_from bytes start marks
+spots_if false bytes marks = []
+
+-- where an error stands that is of no value: at the fault of a text that is no JSON, and else where the text begins
+abbrev pub begin_of : Bool → List ℕ → List Mark → ℕ
+begin_of true bytes marks = first_at marks
+begin_of false bytes marks = fault_from bytes fresh marks
+
+abbrev pub found_among : List ℕ → ℕ → Option Located → Option Located → List Seen → List Told
+found_among bytes begin wrong zone spots =
+    error_here bytes None begin wrong ++ error_here bytes None begin zone ++ found_from bytes wrong zone spots
+
+abbrev pub found_in : List ℕ → List Mark → Zoned → Option Wrong → List Told
+found_in bytes marks zoned wrong =
+    let spots = spots_if (is_json wrong) bytes marks in
+    found_among bytes (begin_of (is_json wrong) bytes marks) (wrong_located spots wrong) (zone_located spots zoned) spots
+
+-- what is found in a text, where its zone goes by this
+abbrev pub findings : List ℕ → Zoned → List Told
+findings bytes zoned = found_in bytes (marks_of bytes) zoned (wrong_in (stand_in bytes zoned))

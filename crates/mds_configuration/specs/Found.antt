@@ -1,0 +1,8 @@
+-- A member that is read, by its name.
+use Rattle.std.specs.Prelude.{ℕ, List, Option, bytes_eq, find}
+use Rattle.mds_configuration.specs.declared.members.Known.{Known}
+use Rattle.mds_configuration.specs.Names.{name_of}
+
+-- the one of these with this name
+abbrev pub find_known : List ℕ → List Known → Option Known
+find_known name members = find (λ k. bytes_eq name (name_of k)) members

@@ -1,0 +1,14 @@
+pub mod Findings
+pub mod Found
+pub mod Grammar
+pub mod Limits
+pub mod Marks
+pub mod Members
+pub mod Names
+pub mod Nearest
+pub mod Paths
+pub mod Pieces
+pub mod Places
+pub mod Spots
+pub mod Wording
+pub mod Zoning

@@ -1,0 +1,212 @@
+//! What is found in a configuration's text.
+ghost use Rattle.std.specs.Prelude.{◌≡◌, ◌++◌, None, IfOk, OnOk, map, option_map};
+ghost use Rattle.mds_configuration.specs.Findings.{begin_of, begins_at, error_here, findings, first_at, found_from, found_here, is_json, located, spots_if, told, warning_here, wrong_located, zone_located};
+ghost use Rattle.mds_configuration.specs.Spots.{seen};
+
+use crate::finding::{Finding, What};
+use crate::grammar::fault_at;
+use crate::marks::{Mark, marks_of};
+use crate::members::Known;
+use crate::paths::{Path, last_meant, path_text, spot_text, wrong_path};
+use crate::place::place_of;
+use crate::spots::{Spot, Value};
+use crate::walk::spots_of;
+use crate::warning::warning;
+use crate::zoning::{Zoned, stand_in};
+use mds_diagnosis::{Wrong, diagnose};
+use std::alloc::{AllocError, Global};
+
+/// An error, and the value that it is of, or none.
+#[derive(Clone, Copy, Debug, PartialEq, Eq)]
+pub(crate) struct Located {
+    pub(crate) value: Option<Value>,
+    pub(crate) path: Path,
+    pub(crate) what: What,
+}
+
+fn locate(spots: &[Spot], path: Path, what: What) -> Located
+    ensures { result ≡ located (map seen spots.now) path what }
+{
+    Located {
+        value: last_meant(path, spots),
+        path,
+        what,
+    }
+}
+
+/// What is wrong with a configuration.
+fn wrong_located(spots: &[Spot], wrong: Option<Wrong>) -> Option<Located>
+    ensures { result ≡ wrong_located (map seen spots.now) wrong }
+{
+    match wrong {
+        Some(wrong) => Some(locate(spots, wrong_path(wrong), What::Wrong(wrong))),
+        None => None,
+    }
+}
+
+/// Why its zone's name stands for no rule.
+fn zone_located(spots: &[Spot], zoned: &Zoned) -> Option<Located>
+    ensures { result ≡ zone_located (map seen spots.now) zoned.now }
+{
+    match zoned {
+        Zoned::Fault(fault) => Some(locate(spots, Path::Member(Known::Zone), What::Zone(*fault))),
+        Zoned::Plain | Zoned::Rule(_) => None,
+    }
+}
+
+/// Whether a value, if any, begins here.
+fn begins_at(here: Option<usize>, value: Option<Value>) -> bool
+    ensures { result ≡ begins_at here value }
+{
+    match (here, value) {
+        (None, None) => true,
+        (Some(from), Some(value)) => from == value.from,
+        _ => false,
+    }
+}
+
+/// Adds the error, where it is of the value that begins here.
+fn add_error(
+    findings: &mut Vec<Finding>,
+    alloc: Global,
+    text: &[u8],
+    here: Option<usize>,
+    offset: usize,
+    error: Option<Located>,
+) -> Result<(), AllocError>
+    ensures { OnOk result (map told findings.new.items ≡ map told findings.old.items ++ error_here text.now here offset error) }
+{
+    let Some(error) = error else {
+        return Ok(());
+    };
+    if begins_at(here, error.value) {
+        findings.push(Finding {
+            place: place_of(text, offset),
+            member: path_text(alloc, error.path)?,
+            what: error.what,
+        })?;
+    }
+    Ok(())
+}
+
+/// Adds what is told of a member.
+fn add_warning(
+    findings: &mut Vec<Finding>,
+    alloc: Global,
+    text: &[u8],
+    spot: &Spot,
+) -> Result<(), AllocError>
+    ensures { OnOk result (map told findings.new.items ≡ map told findings.old.items ++ warning_here text.now (seen spot.now)) }
+{
+    if let Some(what) = warning(alloc, text, spot)? {
+        findings.push(Finding {
+            place: place_of(text, spot.at),
+            member: spot_text(alloc, spot)?,
+            what,
+        })?;
+    }
+    Ok(())
+}
+
+/// What may be wrong with a text.
+#[derive(Clone, Copy)]
+struct Errors {
+    wrong: Option<Located>,
+    zone: Option<Located>,
+}
+
+/// Adds both errors and the warning of what stands here.
+fn add_found(
+    findings: &mut Vec<Finding>,
+    alloc: Global,
+    text: &[u8],
+    errors: Errors,
+    spot: &Spot,
+) -> Result<(), AllocError>
+    ensures { OnOk result (map told findings.new.items ≡ map told findings.old.items ++ found_here text.now errors.wrong errors.zone (seen spot.now)) }
+{
+    let from = spot.value.from;
+    add_error(findings, alloc, text, Some(from), from, errors.wrong)?;
+    add_error(findings, alloc, text, Some(from), from, errors.zone)?;
+    add_warning(findings, alloc, text, spot)
+}
+
+/// Adds what is found at each of these.
+fn add_each(
+    findings: &mut Vec<Finding>,
+    alloc: Global,
+    text: &[u8],
+    errors: Errors,
+    spots: &[Spot],
+) -> Result<(), AllocError>
+    ensures { OnOk result (map told findings.new.items ≡ map told findings.old.items ++ found_from text.now errors.wrong errors.zone (map seen spots.now)) }
+{
+    for spot in spots {
+        add_found(findings, alloc, text, errors, spot)?;
+    }
+    Ok(())
+}
+
+fn is_json(wrong: Option<Wrong>) -> bool
+    ensures { result ≡ is_json wrong }
+{
+    !matches!(wrong, Some(Wrong::Json))
+}
+
+/// The members of a text, which mean nothing where it is no JSON.
+fn spots_if(
+    alloc: Global,
+    is_json: bool,
+    text: &[u8],
+    marks: &[Mark],
+) -> Result<Vec<Spot>, AllocError>
+    ensures { IfOk result (λ spots. map seen spots.items ≡ spots_if is_json text.now marks.now) }
+{
+    if is_json {
+        spots_of(alloc, text, marks)
+    } else {
+        Ok(Vec::new(alloc))
+    }
+}
+
+/// Where an error stands that is of no value.
+fn begin_of(alloc: Global, is_json: bool, text: &[u8], marks: &[Mark]) -> Result<usize, AllocError>
+    ensures { IfOk result (λ at. at ≡ begin_of is_json text.now marks.now) }
+{
+    if !is_json {
+        return fault_at(alloc, text, marks);
+    }
+    match marks {
+        [first, ..] => Ok(first.at),
+        [] => Ok(0),
+    }
+}
+
+/// What is found in a configuration's text, in the order of the text: the first error, as `mds_diagnosis::diagnose` names it, where
+/// the member stands or the object that lacks it, with the fault of the zone's name; and of each member that nobody reads, or not as
+/// it stands there, a warning. A text that is no JSON has nothing but the place where it stops being so.
+///
+/// `zoned` says how the zone goes: what `named_zone` finds, with what `mds_zones::rule_in` makes of its file.
+///
+/// # Errors
+///
+/// Memory ran out.
+pub fn review(alloc: Global, text: &[u8], zoned: &Zoned) -> Result<Vec<Finding>, AllocError>
+    ensures { IfOk result (λ found. map told found.items ≡ findings text.now zoned.now) }
+{
+    let read = stand_in(alloc, text, zoned)?;
+    let wrong = diagnose(alloc, &read)?;
+    let is_json = is_json(wrong);
+    let marks = marks_of(alloc, text)?;
+    let spots = spots_if(alloc, is_json, text, &marks)?;
+    let begin = begin_of(alloc, is_json, text, &marks)?;
+    let errors = Errors {
+        wrong: wrong_located(&spots, wrong),
+        zone: zone_located(&spots, zoned),
+    };
+    let mut findings = Vec::new(alloc);
+    add_error(&mut findings, alloc, text, None, begin, errors.wrong)?;
+    add_error(&mut findings, alloc, text, None, begin, errors.zone)?;
+    add_each(&mut findings, alloc, text, errors, &spots)?;
+    Ok(findings)
+}

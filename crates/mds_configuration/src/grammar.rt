@@ -1,0 +1,203 @@
+//! Where a text stops being JSON.
+ghost use Rattle.std.specs.Prelude.{◌≡◌, ◌∷◌, ◌<◌, ◌≤◌, length, drop, Some, None, IfOk, MatchBool, vec_len};
+ghost use Rattle.mds_configuration.specs.Grammar.{acted, acted_by, action, colon_action, fault_from, first_within, fresh, is_sound, list_action, list_more, more_action, name_action, object_action, object_more, standing, step, value_action};
+
+use crate::marks::{Mark, Sign};
+use crate::spots::piece;
+use mds_text::{TextFault, read_tree};
+use std::alloc::{AllocError, Global};
+
+/// The most brackets that are open (`mds_text::read_tree`).
+const MOST_LEVELS: usize = 127;
+
+/// What is open.
+#[derive(Clone, Copy, Debug, PartialEq, Eq)]
+pub(crate) enum Bracket {
+    Object,
+    List,
+}
+
+/// What is expected.
+#[derive(Clone, Copy, Debug, PartialEq, Eq)]
+pub(crate) enum Next {
+    Value,
+    /// A list's first entry, or its end.
+    ValueOrEnd,
+    Name,
+    /// An object's first name, or its end.
+    NameOrEnd,
+    Colon,
+    /// A comma, or the end of what is open; nothing where nothing is.
+    More,
+}
+
+/// What a lexeme does.
+#[derive(Clone, Copy, Debug, PartialEq, Eq)]
+pub(crate) enum Action {
+    Open(Bracket),
+    Close,
+    /// It is a whole value.
+    Whole,
+    /// This is expected behind it.
+    Then(Next),
+}
+
+/// What is expected, and the open brackets, the innermost first.
+#[derive(Drop)]
+pub(crate) struct Stand {
+    pub(crate) next: Next,
+    pub(crate) brackets: Vec<Bracket>,
+}
+
+fn value_action(sign: Sign) -> Option<Action>
+    ensures { result ≡ value_action sign }
+{
+    match sign {
+        Sign::OpenObject => Some(Action::Open(Bracket::Object)),
+        Sign::OpenList => Some(Action::Open(Bracket::List)),
+        Sign::Text | Sign::Truth | Sign::Null | Sign::Number => Some(Action::Whole),
+        Sign::CloseObject | Sign::CloseList | Sign::Colon | Sign::Comma => None,
+    }
+}
+
+fn name_action(sign: Sign) -> Option<Action>
+    ensures { result ≡ name_action sign }
+{
+    match sign {
+        Sign::Text => Some(Action::Then(Next::Colon)),
+        _ => None,
+    }
+}
+
+/// Behind a value within a bracket.
+fn more_action(brackets: &[Bracket], sign: Sign) -> Option<Action>
+    ensures { result ≡ more_action brackets.now sign }
+{
+    match (brackets, sign) {
+        ([Bracket::Object, ..], Sign::Comma) => Some(Action::Then(Next::Name)),
+        ([Bracket::Object, ..], Sign::CloseObject) => Some(Action::Close),
+        ([Bracket::List, ..], Sign::Comma) => Some(Action::Then(Next::Value)),
+        ([Bracket::List, ..], Sign::CloseList) => Some(Action::Close),
+        _ => None,
+    }
+}
+
+/// What a lexeme does where it may stand.
+fn action_of(next: Next, brackets: &[Bracket], sign: Sign) -> Option<Action>
+    ensures { result ≡ action next brackets.now sign }
+{
+    match next {
+        Next::Value => value_action(sign),
+        Next::ValueOrEnd => match sign {
+            Sign::CloseList => Some(Action::Close),
+            other => value_action(other),
+        },
+        Next::Name => name_action(sign),
+        Next::NameOrEnd => match sign {
+            Sign::CloseObject => Some(Action::Close),
+            other => name_action(other),
+        },
+        Next::Colon => match sign {
+            Sign::Colon => Some(Action::Then(Next::Value)),
+            _ => None,
+        },
+        Next::More => more_action(brackets, sign),
+    }
+}
+
+/// What may stand first behind a bracket.
+fn first_within(bracket: Bracket) -> Next
+    ensures { result ≡ first_within bracket }
+{
+    match bracket {
+        Bracket::Object => Next::NameOrEnd,
+        Bracket::List => Next::ValueOrEnd,
+    }
+}
+
+/// Whether a lexeme that has bytes of its own is JSON by itself.
+fn is_sound(alloc: Global, written: &[u8], sign: Sign) -> Result<bool, AllocError>
+    ensures { IfOk result (λ is. is ≡ is_sound written.now sign) }
+{
+    match sign {
+        Sign::Text | Sign::Truth | Sign::Null | Sign::Number => match read_tree(alloc, written) {
+            Ok(_) => Ok(true),
+            Err(TextFault::NoMemory) => Err(AllocError),
+            Err(_) => Ok(false),
+        },
+        _ => Ok(true),
+    }
+}
+
+impl Stand {
+    /// Before the first lexeme.
+    fn new(alloc: Global) -> Stand
+        ensures { standing result ≡ fresh }
+    {
+        Stand {
+            next: Next::Value,
+            brackets: Vec::new(alloc),
+        }
+    }
+
+    /// Goes on as a lexeme does, where that many brackets may be open.
+    fn act(&mut self, action: Action) -> Result<bool, AllocError>
+        ensures { IfOk result (λ goes. MatchBool goes (acted (standing self.old) action ≡ Some (standing self.new)) (acted (standing self.old) action ≡ None)) }
+    {
+        match action {
+            Action::Open(bracket) => {
+                if self.brackets.len() >= MOST_LEVELS {
+                    return Ok(false);
+                }
+                self.brackets.insert(0, bracket)?;
+                self.next = first_within(bracket);
+            }
+            Action::Close => {
+                if !self.brackets.is_empty() {
+                    self.brackets.remove(0);
+                }
+                self.next = Next::More;
+            }
+            Action::Whole => self.next = Next::More,
+            Action::Then(next) => self.next = next,
+        }
+        Ok(true)
+    }
+
+    /// Goes on behind the lexeme at the front, if it may stand there.
+    fn step(&mut self, alloc: Global, text: &[u8], marks: &[Mark]) -> Result<bool, AllocError>
+        ensures { IfOk result (λ goes. MatchBool goes (step text.now (standing self.old) marks.now ≡ Some (standing self.new)) (step text.now (standing self.old) marks.now ≡ None)) }
+    {
+        let [first, behind @ ..] = marks else {
+            return Ok(false);
+        };
+        let to = match behind {
+            [next, ..] => next.at,
+            [] => text.len(),
+        };
+        if !is_sound(alloc, piece(text, first.at, to), first.sign)? {
+            return Ok(false);
+        }
+        match action_of(self.next, self.brackets.as_slice(), first.sign) {
+            Some(action) => self.act(action),
+            None => Ok(false),
+        }
+    }
+}
+
+/// Where the first lexeme stands that can't stand there, in bytes; the text's length where each can.
+///
+/// # Errors
+///
+/// Memory ran out.
+pub(crate) fn fault_at(alloc: Global, text: &[u8], marks: &[Mark]) -> Result<usize, AllocError>
+    ensures { IfOk result (λ at. at ≡ fault_from text.now fresh marks.now) }
+{
+    let mut stand = Stand::new(alloc);
+    for (place, mark) in marks.iter().enumerate() {
+        if !stand.step(alloc, text, &marks[place..])? {
+            return Ok(mark.at);
+        }
+    }
+    Ok(text.len())
+}

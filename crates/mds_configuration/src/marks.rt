@@ -1,0 +1,143 @@
+//! Where the lexemes of a JSON text begin.
+ghost use Rattle.std.specs.Prelude.{◌≡◌, ◌≤◌, length, map, IfOk};
+ghost use Rattle.mds_configuration.specs.Marks.{begun, begun_outside, is_space, mark_at, marks_of, mode_after, mode_outside, structural, word_sign};
+
+use std::alloc::{AllocError, Global};
+
+/// What begins at a byte (RFC 8259, section 2).
+#[derive(Clone, Copy, Debug, PartialEq, Eq)]
+pub(crate) enum Sign {
+    OpenObject,
+    CloseObject,
+    OpenList,
+    CloseList,
+    Colon,
+    Comma,
+    /// A string.
+    Text,
+    /// `true` or `false`.
+    Truth,
+    Null,
+    Number,
+}
+
+/// Where a lexeme begins, in bytes from 0.
+#[derive(Clone, Copy, Debug, PartialEq, Eq)]
+pub(crate) struct Mark {
+    pub(crate) at: usize,
+    pub(crate) sign: Sign,
+}
+
+/// Within what a text stands.
+#[derive(Clone, Copy, Debug, PartialEq, Eq)]
+pub(crate) enum Mode {
+    /// Between two lexemes.
+    Between,
+    /// A literal name or a number.
+    Word,
+    /// A string.
+    Quoted,
+    /// A string, behind a backslash.
+    Escaped,
+}
+
+pub(crate) fn is_space(byte: u8) -> bool
+    ensures { result ≡ is_space byte }
+{
+    byte == b' ' || byte == b'\t' || byte == b'\n' || byte == b'\r'
+}
+
+/// The structural character or the string that a byte begins.
+fn structural(byte: u8) -> Option<Sign>
+    ensures { result ≡ structural byte }
+{
+    match byte {
+        b'{' => Some(Sign::OpenObject),
+        b'}' => Some(Sign::CloseObject),
+        b'[' => Some(Sign::OpenList),
+        b']' => Some(Sign::CloseList),
+        b':' => Some(Sign::Colon),
+        b',' => Some(Sign::Comma),
+        b'"' => Some(Sign::Text),
+        _ => None,
+    }
+}
+
+/// The literal name or the number that begins with a byte.
+fn word_sign(byte: u8) -> Sign
+    ensures { result ≡ word_sign byte }
+{
+    match byte {
+        b't' | b'f' => Sign::Truth,
+        b'n' => Sign::Null,
+        _ => Sign::Number,
+    }
+}
+
+/// What begins at a byte outside of a string; whether a word goes on there.
+fn begun_outside(goes_on: bool, byte: u8) -> Option<Sign>
+    ensures { result ≡ begun_outside goes_on byte (structural byte) }
+{
+    match structural(byte) {
+        Some(sign) => Some(sign),
+        None if is_space(byte) || goes_on => None,
+        None => Some(word_sign(byte)),
+    }
+}
+
+/// What begins at a byte.
+fn begun(mode: Mode, byte: u8) -> Option<Sign>
+    ensures { result ≡ begun mode byte }
+{
+    match mode {
+        Mode::Between => begun_outside(false, byte),
+        Mode::Word => begun_outside(true, byte),
+        Mode::Quoted | Mode::Escaped => None,
+    }
+}
+
+/// Within what a text stands behind a byte outside of a string.
+fn mode_outside(byte: u8) -> Mode
+    ensures { result ≡ mode_outside byte (structural byte) }
+{
+    match structural(byte) {
+        Some(Sign::Text) => Mode::Quoted,
+        Some(_) => Mode::Between,
+        None if is_space(byte) => Mode::Between,
+        None => Mode::Word,
+    }
+}
+
+/// Within what a text stands behind a byte.
+fn mode_after(mode: Mode, byte: u8) -> Mode
+    ensures { result ≡ mode_after mode byte }
+{
+    match mode {
+        Mode::Between | Mode::Word => mode_outside(byte),
+        Mode::Quoted => match byte {
+            b'"' => Mode::Between,
+            b'\\' => Mode::Escaped,
+            _ => Mode::Quoted,
+        },
+        Mode::Escaped => Mode::Quoted,
+    }
+}
+
+/// The lexemes of a text.
+///
+/// # Errors
+///
+/// Memory ran out.
+pub(crate) fn marks_of(alloc: Global, text: &[u8]) -> Result<Vec<Mark>, AllocError>
+    ensures { IfOk result (λ marks. marks.items ≡ marks_of text.now) }
+{
+    let mut marks = Vec::new(alloc);
+    let mut mode = Mode::Between;
+    for (at, byte) in text.iter().enumerate() {
+        if let Some(sign) = begun(mode, *byte) {
+            marks.push(Mark { at, sign })?;
+        }
+        mode = mode_after(mode, *byte);
+    }
+    Ok(marks)
+}

@@ -1,0 +1,97 @@
+//! Which name was meant.
+ghost use Rattle.std.specs.Prelude.{◌≡◌, IfOk};
+ghost use Rattle.std.specs.Str.{chars};
+ghost use Rattle.mds_configuration.specs.Nearest.{edits_to, hint, is_nearer, most_edits, nearer, nearest, nearest_from};
+
+use crate::members::{Known, known_of, others_of};
+use crate::spots::Owner;
+use std::alloc::{AllocError, Global};
+use strsim::osa_distance;
+
+/// The most bytes of a name that is compared with those that are known.
+const MOST_COMPARED: usize = 64;
+
+/// Which member may have been meant.
+#[derive(Clone, Copy, Debug, PartialEq, Eq)]
+pub enum Hint {
+    /// None has a name like that.
+    Nothing,
+    /// This one, which is read in the same object.
+    Here(Known),
+    /// This one, which is read in the other object.
+    Elsewhere(Known),
+}
+
+/// A known name, and how many edits lead to it.
+#[derive(Clone, Copy, Debug, PartialEq, Eq)]
+struct Near {
+    known: Known,
+    edits: usize,
+}
+
+/// How many edits at the most lead from a name to the one that was meant: a third of it, and one at least.
+fn most_edits(name: &str) -> usize
+    ensures { result ≡ most_edits name.now }
+{
+    name.len().max(3) / 3
+}
+
+fn is_nearer(edits: usize, best: Option<Near>) -> bool
+    ensures { result ≡ is_nearer edits best }
+{
+    match best {
+        None => true,
+        Some(near) => edits < near.edits,
+    }
+}
+
+/// The nearer one of the nearest so far and a known one.
+fn nearer(
+    alloc: Global,
+    name: &str,
+    best: Option<Near>,
+    known: Known,
+) -> Result<Option<Near>, AllocError>
+    ensures { IfOk result (λ near. near ≡ nearer name.now best known) }
+{
+    let edits = osa_distance(alloc, name, known.name())?;
+    if edits <= most_edits(name) && is_nearer(edits, best) {
+        Ok(Some(Near { known, edits }))
+    } else {
+        Ok(best)
+    }
+}
+
+/// The nearest of these to a name; none for a long name.
+fn nearest(alloc: Global, name: &str, members: &[Known]) -> Result<Option<Known>, AllocError>
+    ensures { IfOk result (λ known. known ≡ nearest name.now members.now) }
+{
+    if name.len() > MOST_COMPARED {
+        return Ok(None);
+    }
+    let mut best = None;
+    for known in members {
+        best = nearer(alloc, name, best, *known)?;
+    }
+    match best {
+        Some(near) => Ok(Some(near.known)),
+        None => Ok(None),
+    }
+}
+
+/// Which member may have been meant by a name that an object has.
+///
+/// # Errors
+///
+/// Memory ran out.
+pub(crate) fn hint_for(alloc: Global, owner: Owner, name: &str) -> Result<Hint, AllocError>
+    ensures { IfOk result (λ found. found ≡ hint owner name.now) }
+{
+    if let Some(known) = nearest(alloc, name, known_of(owner))? {
+        return Ok(Hint::Here(known));
+    }
+    match nearest(alloc, name, others_of(owner))? {
+        Some(known) => Ok(Hint::Elsewhere(known)),
+        None => Ok(Hint::Nothing),
+    }
+}

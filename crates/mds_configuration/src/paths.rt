@@ -1,0 +1,185 @@
+//! Which member a fault is of, and where that stands.
+ghost use Rattle.std.specs.Prelude.{◌≡◌, ◌++◌, None, IfOk, OnOk, ◌<◌, map, string_bytes};
+ghost use Rattle.mds_configuration.specs.Names.{name_of};
+ghost use Rattle.mds_configuration.specs.Paths.{flaw_path, is_document, is_meant, is_nameless, is_operator, key_member, last_meant, names_or_is, operator_text, path_text, shown, shown_byte, spot_text, wrong_path};
+ghost use Rattle.mds_configuration.specs.Spots.{has_name, seen};
+
+use crate::members::Known;
+use crate::spots::{Owner, Spot, Value};
+use mds_diagnosis::{Flaw, Key, Wrong};
+use std::alloc::{AllocError, Global};
+
+/// What an error is of.
+#[derive(Clone, Copy, Debug, PartialEq, Eq)]
+pub(crate) enum Path {
+    /// The whole text.
+    Document,
+    /// A member of the configuration.
+    Member(Known),
+    /// The operator at this place.
+    Operator(usize),
+    /// A member of the operator at this place.
+    OfOperator(usize, Known),
+}
+
+fn flaw_path(place: usize, flaw: Flaw) -> Path
+    ensures { result ≡ flaw_path place flaw }
+{
+    match flaw {
+        Flaw::Entry => Path::Operator(place),
+        Flaw::Id => Path::OfOperator(place, Known::Id),
+        Flaw::Limit | Flaw::LimitRange => Path::OfOperator(place, Known::Limit),
+        Flaw::Token => Path::OfOperator(place, Known::Token),
+    }
+}
+
+fn key_member(key: Key) -> Known
+    ensures { result ≡ key_member key }
+{
+    match key {
+        Key::Id => Known::Id,
+        Key::Token => Known::Token,
+    }
+}
+
+/// What is wrong is of this; of two that are alike, of the second.
+pub(crate) fn wrong_path(wrong: Wrong) -> Path
+    ensures { result ≡ wrong_path wrong }
+{
+    match wrong {
+        Wrong::Json | Wrong::Document => Path::Document,
+        Wrong::Author => Path::Member(Known::Author),
+        Wrong::Operators | Wrong::TooManyOperators => Path::Member(Known::Operators),
+        Wrong::Operator(place, flaw) => flaw_path(place, flaw),
+        Wrong::Zone => Path::Member(Known::Zone),
+        Wrong::Alike(key, _, second) => Path::OfOperator(second, key_member(key)),
+        Wrong::AuthorsToken(place) => Path::OfOperator(place, Known::Token),
+    }
+}
+
+fn is_operator(place: usize, owner: Owner) -> bool
+    ensures { result ≡ is_operator place owner }
+{
+    match owner {
+        Owner::Document => false,
+        Owner::Operator(own) => place == own,
+    }
+}
+
+/// A member with this name.
+fn has_name(known: Known, spot: &Spot) -> bool
+    ensures { result ≡ has_name (name_of known) (seen spot.now).name }
+{
+    match &spot.name {
+        Some(own) => known.name() == own.as_str(),
+        None => false,
+    }
+}
+
+/// An operator itself, or its member with this name.
+fn names_or_is(known: Known, spot: &Spot) -> bool
+    ensures { result ≡ names_or_is (name_of known) (seen spot.now).name }
+{
+    match &spot.name {
+        Some(own) => known.name() == own.as_str(),
+        None => true,
+    }
+}
+
+/// Whether a member, or an operator that may lack it, stands for a path.
+fn is_meant(path: Path, spot: &Spot) -> bool
+    ensures { result ≡ is_meant path (seen spot.now) }
+{
+    match path {
+        Path::Document => false,
+        Path::Member(known) => spot.owner == Owner::Document && has_name(known, spot),
+        Path::Operator(place) => is_operator(place, spot.owner) && spot.name.is_none(),
+        Path::OfOperator(place, known) => {
+            is_operator(place, spot.owner) && names_or_is(known, spot)
+        }
+    }
+}
+
+/// The last value that stands for a path.
+pub(crate) fn last_meant(path: Path, spots: &[Spot]) -> Option<Value>
+    ensures { result ≡ last_meant path None (map seen spots.now) }
+{
+    let mut found = None;
+    for spot in spots {
+        if is_meant(path, spot) {
+            found = Some(spot.value);
+        }
+    }
+    found
+}
+
+/// A byte of printable ASCII, or a question mark in the place of any other.
+fn shown_byte(byte: u8) -> u8
+    ensures value { result ≡ shown_byte byte }
+    ensures ascii { result < 128 }
+{
+    if 32 <= byte && byte <= 126 {
+        byte
+    } else {
+        b'?'
+    }
+}
+
+/// Adds a name as it is shown.
+fn add_shown(text: &mut String, name: &str) -> Result<(), AllocError>
+    ensures { OnOk result (string_bytes text.new ≡ string_bytes text.old ++ shown name.now) }
+{
+    for byte in name.as_bytes() {
+        text.push(char::from(shown_byte(*byte)))?;
+    }
+    Ok(())
+}
+
+/// An operator by its place.
+pub(crate) fn operator_text(alloc: Global, place: usize) -> Result<String, AllocError>
+    ensures { IfOk result (λ text. string_bytes text ≡ operator_text place) }
+{
+    format!(in alloc; "operators[{place}]")
+}
+
+/// A path as it is shown.
+///
+/// # Errors
+///
+/// Memory ran out.
+pub(crate) fn path_text(alloc: Global, path: Path) -> Result<String, AllocError>
+    ensures { IfOk result (λ text. string_bytes text ≡ path_text path) }
+{
+    match path {
+        Path::Document => Ok(String::new(alloc)),
+        Path::Member(known) => String::from_str(alloc, known.name()),
+        Path::Operator(place) => operator_text(alloc, place),
+        Path::OfOperator(place, known) => {
+            let mut text = operator_text(alloc, place)?;
+            text.push_str(".")?;
+            text.push_str(known.name())?;
+            Ok(text)
+        }
+    }
+}
+
+/// A member by its path, an operator by its place.
+///
+/// # Errors
+///
+/// Memory ran out.
+pub(crate) fn spot_text(alloc: Global, spot: &Spot) -> Result<String, AllocError>
+    ensures { IfOk result (λ text. string_bytes text ≡ spot_text (seen spot.now)) }
+{
+    let mut text = match spot.owner {
+        Owner::Document => String::new(alloc),
+        Owner::Operator(place) => operator_text(alloc, place)?,
+    };
+    if let Some(name) = &spot.name {
+        if spot.owner != Owner::Document {
+            text.push_str(".")?;
+        }
+        add_shown(&mut text, name.as_str())?;
+    }
+    Ok(text)
+}

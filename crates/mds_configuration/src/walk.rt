@@ -1,0 +1,189 @@
+//! From lexemes to the members that they make.
+ghost use Rattle.std.specs.Prelude.{◌≡◌, ◌+◌, ◌++◌, ◌<◌, ◌≤◌, ◌^◌, map, length, option_map, option_to_list, IfOk, OnOk};
+ghost use Rattle.mds_configuration.specs.Spots.{begins_value, entry_from, is_colon, is_in_list, is_list, is_text, lists_operators, member_from, next_at, seen, spot_in, spots_from, start, value_at, walk_after};
+
+use crate::marks::{Mark, Sign};
+use crate::spots::{Owner, Spot, Value, piece, unquoted};
+use std::alloc::{AllocError, Global};
+
+/// Where a walk over lexemes stands.
+#[derive(Clone, Copy, Debug, PartialEq, Eq)]
+pub(crate) struct Walk {
+    /// How many brackets are open.
+    pub(crate) depth: usize,
+    /// Whether the second of them is that of the operators' list.
+    pub(crate) listed: bool,
+    /// The operator's place.
+    pub(crate) place: usize,
+}
+
+fn begins_value(sign: Sign) -> bool
+    ensures { result ≡ begins_value sign }
+{
+    match sign {
+        Sign::OpenObject | Sign::OpenList | Sign::Text => true,
+        Sign::Truth | Sign::Null | Sign::Number => true,
+        Sign::CloseObject | Sign::CloseList | Sign::Colon | Sign::Comma => false,
+    }
+}
+
+/// The value whose first lexeme this is, with those behind it, in a text that ends there.
+fn value_at(end: usize, first: Mark, behind: &[Mark]) -> Value
+    ensures { result ≡ value_at end first behind.now }
+{
+    let to = match behind {
+        [next, ..] => next.at,
+        [] => end,
+    };
+    Value {
+        from: first.at,
+        to,
+        sign: first.sign,
+    }
+}
+
+/// The member at the front: a string, a colon and a value.
+fn member_from(
+    alloc: Global,
+    text: &[u8],
+    owner: Owner,
+    marks: &[Mark],
+) -> Result<Option<Spot>, AllocError>
+    ensures { IfOk result (λ spot. option_map seen spot ≡ member_from text.now owner marks.now) }
+{
+    let [name, colon, first, behind @ ..] = marks else {
+        return Ok(None);
+    };
+    if name.sign != Sign::Text || colon.sign != Sign::Colon {
+        return Ok(None);
+    }
+    let written = piece(text, name.at, colon.at);
+    Ok(Some(Spot {
+        owner,
+        name: Some(unquoted(alloc, written)?),
+        at: name.at,
+        value: value_at(text.len(), *first, behind),
+    }))
+}
+
+/// The entry of the operators' list at the front.
+fn entry_from(text: &[u8], place: usize, marks: &[Mark]) -> Option<Spot>
+    ensures { option_map seen result ≡ entry_from text.now place marks.now }
+{
+    match marks {
+        [first, behind @ ..] if begins_value(first.sign) => Some(Spot {
+            owner: Owner::Operator(place),
+            name: None,
+            at: first.at,
+            value: value_at(text.len(), *first, behind),
+        }),
+        _ => None,
+    }
+}
+
+impl Walk {
+    /// Within the operators' list, and in none of its entries.
+    fn is_in_list(self) -> bool
+        ensures { result ≡ is_in_list self }
+    {
+        self.listed && self.depth == 2
+    }
+
+    /// What stands at the front.
+    fn spot_in(self, alloc: Global, text: &[u8], marks: &[Mark]) -> Result<Option<Spot>, AllocError>
+        ensures { IfOk result (λ spot. option_map seen spot ≡ spot_in text.now self marks.now) }
+    {
+        if self.depth == 1 {
+            member_from(alloc, text, Owner::Document, marks)
+        } else if self.is_in_list() {
+            Ok(entry_from(text, self.place, marks))
+        } else if self.listed && self.depth == 3 {
+            member_from(alloc, text, Owner::Operator(self.place), marks)
+        } else {
+            Ok(None)
+        }
+    }
+
+    /// The walk behind a lexeme.
+    fn after(self, sign: Sign, spot: &Option<Spot>) -> Walk
+        requires depth { self.depth + 1 < 2 ^ 64 }
+        requires place { self.place + 1 < 2 ^ 64 }
+        ensures value { result ≡ walk_after self sign (option_map seen spot.now) }
+        ensures depth { result.depth ≤ self.depth + 1 }
+        ensures place { result.place ≤ self.place + 1 }
+    {
+        let Walk {
+            depth,
+            listed,
+            place,
+        } = self;
+        match sign {
+            Sign::OpenObject | Sign::OpenList => Walk {
+                depth: depth + 1,
+                listed,
+                place,
+            },
+            Sign::CloseObject | Sign::CloseList => Walk {
+                depth: depth.saturating_sub(1),
+                listed: listed && 2 < depth,
+                place,
+            },
+            Sign::Comma if self.is_in_list() => Walk {
+                depth,
+                listed,
+                place: place + 1,
+            },
+            Sign::Text if depth == 1 => Walk {
+                depth,
+                listed: lists_operators(spot),
+                place: 0,
+            },
+            _ => self,
+        }
+    }
+}
+
+/// Whether the operators' list begins behind this.
+fn lists_operators(spot: &Option<Spot>) -> bool
+    ensures { result ≡ lists_operators (option_map seen spot.now) }
+{
+    match spot {
+        Some(spot) => match &spot.name {
+            Some(name) => name.as_str() == "operators" && spot.value.sign == Sign::OpenList,
+            None => false,
+        },
+        None => false,
+    }
+}
+
+/// Adds what was found, if anything was.
+fn add_spot(spots: &mut Vec<Spot>, spot: Option<Spot>) -> Result<(), AllocError>
+    ensures { OnOk result (map seen spots.new.items ≡ map seen spots.old.items ++ option_to_list (option_map seen spot)) }
+{
+    if let Some(spot) = spot {
+        spots.push(spot)?;
+    }
+    Ok(())
+}
+
+/// The members of a text with these lexemes, and its operators.
+///
+/// # Errors
+///
+/// Memory ran out.
+pub(crate) fn spots_of(alloc: Global, text: &[u8], marks: &[Mark]) -> Result<Vec<Spot>, AllocError>
+    ensures { IfOk result (λ spots. map seen spots.items ≡ spots_from text.now start marks.now) }
+{
+    let mut spots = Vec::new(alloc);
+    let mut walk = Walk {
+        depth: 0,
+        listed: false,
+        place: 0,
+    };
+    for (place, mark) in marks.iter().enumerate() {
+        let spot = walk.spot_in(alloc, text, &marks[place..])?;
+        walk = walk.after(mark.sign, &spot);
+        add_spot(&mut spots, spot)?;
+    }
+    Ok(spots)
+}

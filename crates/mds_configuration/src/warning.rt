@@ -1,0 +1,78 @@
+//! What is told of a member that nobody reads, or not as it stands there.
+ghost use Rattle.std.specs.Prelude.{◌≡◌, IfOk, length, option_map, string_bytes};
+ghost use Rattle.mds_configuration.specs.Found.{find_known};
+ghost use Rattle.mds_configuration.specs.Names.{known_of};
+ghost use Rattle.mds_configuration.specs.Members.{is_name, is_truth, warning, warning_named, warning_of};
+ghost use Rattle.mds_configuration.specs.Spots.{seen};
+
+use crate::finding::What;
+use crate::marks::Sign;
+use crate::members::{Known, MOST_NAME, find_known, known_of};
+use crate::nearest::hint_for;
+use crate::spots::{Owner, Spot, Value, piece, unquoted};
+use std::alloc::{AllocError, Global};
+
+/// `true`, `false`, or null, which counts as absent.
+fn is_truth(sign: Sign) -> bool
+    ensures { result ≡ is_truth sign }
+{
+    sign == Sign::Truth || sign == Sign::Null
+}
+
+/// A text of at most `MOST_NAME` bytes, or null, which counts as absent.
+fn is_name(alloc: Global, text: &[u8], value: Value) -> Result<bool, AllocError>
+    ensures { IfOk result (λ is. is ≡ is_name text.now value value.sign) }
+{
+    match value.sign {
+        Sign::Text => {
+            let name = unquoted(alloc, piece(text, value.from, value.to))?;
+            Ok(name.len() <= MOST_NAME)
+        }
+        Sign::Null => Ok(true),
+        _ => Ok(false),
+    }
+}
+
+/// What is told of a member with this name and value.
+fn warning_of(
+    alloc: Global,
+    text: &[u8],
+    owner: Owner,
+    name: &str,
+    value: Value,
+) -> Result<Option<What>, AllocError>
+    ensures { IfOk result (λ told. told ≡ warning_of text.now owner name.now value (find_known name.now (known_of owner))) }
+{
+    match find_known(known_of(owner), name) {
+        None => Ok(Some(What::Unread(hint_for(alloc, owner, name)?))),
+        Some(Known::Public) => {
+            if is_truth(value.sign) {
+                Ok(None)
+            } else {
+                Ok(Some(What::NoTruth))
+            }
+        }
+        Some(Known::Name) => {
+            if is_name(alloc, text, value)? {
+                Ok(None)
+            } else {
+                Ok(Some(What::NoName))
+            }
+        }
+        Some(_) => Ok(None),
+    }
+}
+
+/// What is told of a member.
+///
+/// # Errors
+///
+/// Memory ran out.
+pub(crate) fn warning(alloc: Global, text: &[u8], spot: &Spot) -> Result<Option<What>, AllocError>
+    ensures { IfOk result (λ told. told ≡ warning text.now (seen spot.now)) }
+{
+    match &spot.name {
+        Some(name) => warning_of(alloc, text, spot.owner, name.as_str(), spot.value),
+        None => Ok(None),
+    }
+}

@@ -1,0 +1,128 @@
+//! The name of a zone in a configuration, and the rule in its place.
+ghost use Rattle.std.specs.Prelude.{◌≡◌, ◌++◌, ◌∷◌, [], IfOk, codes, option_map, vec_len};
+ghost use Rattle.std.specs.Result.{is_ok};
+ghost use Rattle.mds_match.specs.Zone.{zone_of};
+ghost use Rattle.mds_configuration.specs.Zoning.{ended, name_in, named_zone, replaced, stand_in, with_rule, with_zone, written_end, zone_value};
+
+use crate::marks::{Sign, is_space, marks_of};
+use crate::members::Known;
+use crate::paths::{Path, last_meant};
+use crate::spots::{Value, piece, unquoted};
+use crate::walk::spots_of;
+use mds_match::Zone;
+use mds_zones::{ZoneFault, ZoneName, ZoneRule};
+use std::alloc::{AllocError, Global};
+
+/// How the zone of a configuration goes.
+#[derive(Drop)]
+pub enum Zoned {
+    /// By the text that stands there.
+    Plain,
+    /// By a name that stands for this rule.
+    Rule(ZoneRule),
+    /// By a name that stands for none.
+    Fault(ZoneFault),
+}
+
+/// The value of the configuration's member `zone`.
+fn zone_value(alloc: Global, text: &[u8]) -> Result<Option<Value>, AllocError>
+    ensures { IfOk result (λ value. value ≡ zone_value text.now) }
+{
+    let marks = marks_of(alloc, text)?;
+    let spots = spots_of(alloc, text, &marks)?;
+    Ok(last_meant(Path::Member(Known::Zone), &spots))
+}
+
+/// Whether a text is a zone by itself.
+fn is_zone(text: &str) -> bool
+    ensures { result ≡ is_ok (zone_of text.now) }
+{
+    Zone::read(text).is_ok()
+}
+
+/// The name by which a configuration's zone goes: its member `zone`, where that is a text which is no zone by itself, and which may
+/// be the name of one. Of a text that is no JSON it says nothing.
+///
+/// # Errors
+///
+/// Memory ran out.
+pub fn named_zone(alloc: Global, text: &[u8]) -> Result<Option<ZoneName>, AllocError>
+    ensures { IfOk result (λ name. option_map (λ n. n) name ≡ named_zone text.now) }
+{
+    let Some(value) = zone_value(alloc, text)? else {
+        return Ok(None);
+    };
+    if value.sign != Sign::Text {
+        return Ok(None);
+    }
+    let name = unquoted(alloc, piece(text, value.from, value.to))?;
+    if is_zone(name.as_str()) {
+        return Ok(None);
+    }
+    ZoneName::read(alloc, name.as_str())
+}
+
+/// Behind the last byte of a value that isn't white space.
+fn written_end(text: &[u8], value: Value) -> usize
+    ensures { result ≡ written_end text.now value }
+{
+    let mut at = value.from;
+    let mut end = value.from;
+    for byte in piece(text, value.from, value.to) {
+        at += 1;
+        if !is_space(*byte) {
+            end = at;
+        }
+    }
+    end
+}
+
+/// The text with another string in the place of a value.
+fn replaced(alloc: Global, text: &[u8], value: Value, rule: &str) -> Result<Vec<u8>, AllocError>
+    ensures { IfOk result (λ new. new.items ≡ replaced text.now value rule.now) }
+{
+    let mut new = Vec::new(alloc);
+    new.extend_from_slice(piece(text, 0, value.from))?;
+    new.push(b'"')?;
+    new.extend_from_slice(rule.as_bytes())?;
+    new.push(b'"')?;
+    new.extend_from_slice(piece(text, written_end(text, value), text.len()))?;
+    Ok(new)
+}
+
+/// The text with a string in the place of its zone.
+fn with_text(alloc: Global, text: &[u8], rule: &str) -> Result<Vec<u8>, AllocError>
+    ensures { IfOk result (λ new. new.items ≡ with_zone text.now rule.now) }
+{
+    match zone_value(alloc, text)? {
+        Some(value) if value.sign == Sign::Text => replaced(alloc, text, value, rule),
+        _ => Vec::from_slice(alloc, text),
+    }
+}
+
+/// The configuration with this rule in the place of its zone's name: all else is as it was, byte for byte. A text without a member
+/// `zone` that is a string stays as it is.
+///
+/// # Errors
+///
+/// Memory ran out.
+pub fn with_zone(alloc: Global, text: &[u8], rule: &ZoneRule) -> Result<Vec<u8>, AllocError>
+    ensures { IfOk result (λ new. new.items ≡ with_zone text.now rule.now) }
+{
+    with_text(alloc, text, rule.as_str())
+}
+
+/// The text that is read; where the name stands for no rule, any zone keeps its place.
+///
+/// # Errors
+///
+/// Memory ran out.
+pub(crate) fn stand_in(alloc: Global, text: &[u8], zoned: &Zoned) -> Result<Vec<u8>, AllocError>
+    ensures { IfOk result (λ new. new.items ≡ stand_in text.now zoned.now) }
+{
+    match zoned {
+        Zoned::Plain => Vec::from_slice(alloc, text),
+        Zoned::Rule(rule) => with_zone(alloc, text, rule),
+        Zoned::Fault(_) => with_text(alloc, text, "Z"),
+    }
+}

@@ -1,0 +1,41 @@
+-- What is answered to a request's head (RFC 9112, sections 2 to 5), by httparse's grammar.
+use Rattle.std.specs.Prelude.{◌≡◌, ℕ, ◌||◌, map, List, Bool, nat_lt, if◌then◌else◌, Option, Some, None}
+use Rattle.httparse.specs.Grammar.{RequestHead, ReadsRequest, HasNoRequest}
+use Rattle.httparse.specs.Spans.{name_and_value, RequestOverflows}
+use Rattle.mds_control.specs.Admission.{admission_of}
+use Rattle.mds_control.specs.Pages.{answer_of}
+use Rattle.mds_control.specs.declared.admission.Admission.{Admission}
+use Rattle.mds_control.specs.declared.admission.Admission.TheVariants.{Admitted, Malformed, Forbidden}
+use Rattle.mds_control.specs.declared.hosts.Hosts.{Hosts}
+use Rattle.mds_control.specs.declared.pages.Answer.{Answer}
+use Rattle.mds_control.specs.declared.pages.Answer.TheVariants as answers
+use Rattle.mds_control.specs.declared.request.Heading.{Heading}
+use Rattle.mds_control.specs.declared.request.Heading.TheVariants.{Whole, Partial, Broken}
+use Rattle.mds_control.specs.declared.request.TheConstants.{MOST_FIELDS, MOST_OF_HEAD}
+
+-- only who is let in is answered what was asked
+abbrev pub answer_if : Admission → Answer → Answer
+answer_if Admitted asked = asked
+answer_if Malformed asked = answers.Unread
+answer_if Forbidden asked = answers.Forbidden
+
+abbrev pub answer_to : Hosts → Bool → RequestHead → Answer
+answer_to hosts serves head =
+    answer_if (admission_of hosts head.minor (map name_and_value head.fields)) (answer_of head.method head.target serves)
+
+-- the bytes begin with a head that is answered so
+abbrev pub IsAnswered : List ℕ → Hosts → Bool → Answer → Type 0
+IsAnswered bytes hosts serves answer =
+    (head : RequestHead) × (rest : List ℕ) × ReadsRequest bytes head rest × (answer ≡ answer_to hosts serves head)
+
+-- a head at the front of the bytes, none yet, or none that they can begin with and that has no more fields than are read
+abbrev pub HeadingOf : List ℕ → Hosts → Bool → Heading → Type 0
+HeadingOf bytes hosts serves (Whole answer) = IsAnswered bytes hosts serves answer
+HeadingOf bytes hosts serves Partial = HasNoRequest bytes
+HeadingOf bytes hosts serves Broken = RequestOverflows MOST_FIELDS bytes
+
+-- the answer that is due: none yet, while more of a head may come
+abbrev pub due_of : Heading → ℕ → Bool → Option Answer
+due_of (Whole answer) count is_over = Some answer
+due_of Broken count is_over = Some answers.Unread
+due_of Partial count is_over = if is_over || nat_lt MOST_OF_HEAD count then Some answers.Unread else None

@@ -1,0 +1,164 @@
+//! A connection of the control port, whose calls don't wait.
+use crate::control::{Server, Stop};
+use crate::counters::Counters;
+use crate::hosts::Hosts;
+use crate::lines::metrics;
+use crate::pages::Answer;
+use crate::request::{MOST_OF_HEAD, answer_due, heading_of};
+use std::alloc::{AllocError, AllocGlobal, Global};
+use std::io::{self, ErrorKind, Read, Write};
+use std::time::{Clock, Duration, Instant};
+
+/// Within how many seconds a head has to come, and then its answer to be taken.
+const LIMIT_SECONDS: u64 = 5;
+
+/// Whether a connection goes on.
+#[derive(Clone, Copy, PartialEq, Eq)]
+pub(crate) enum Turn {
+    /// Its bytes are waited for, or room for its answer.
+    Waits,
+    /// Its request is answered.
+    Ends,
+}
+
+/// An answer on its way.
+#[derive(Drop)]
+struct Reply {
+    text: String,
+    /// How many of its bytes are written.
+    written: usize,
+}
+
+/// A connection, of which one request is answered.
+#[derive(Drop)]
+pub(crate) struct Connection<C> {
+    stream: C,
+    hosts: Hosts,
+    head: Vec<u8>,
+    /// None, until the head has come.
+    reply: Option<Reply>,
+    /// When it was accepted, and then when its head had come.
+    since: Instant,
+}
+
+impl Reply {
+    /// Writes as much as is taken.
+    ///
+    /// # Errors
+    ///
+    /// The connection's.
+    fn write_to<C: Write>(&mut self, stream: &mut C) -> io::Result<Turn> {
+        for _ in 0..=self.text.len() {
+            let rest = self.text.as_bytes().get(self.written..).unwrap_or_default();
+            if rest.is_empty() {
+                return Ok(Turn::Ends);
+            }
+            match stream.write(rest) {
+                Ok(0) => return Err(ErrorKind::WriteZero.into()),
+                Ok(count) => self.written = self.written.saturating_add(count),
+                Err(error) if error.kind() == ErrorKind::WouldBlock => return Ok(Turn::Waits),
+                Err(error) => return Err(error),
+            }
+        }
+        Ok(Turn::Ends)
+    }
+}
+
+impl<C: Read + Write> Connection<C> {
+    /// A connection that was just accepted, which may name these hosts.
+    ///
+    /// # Errors
+    ///
+    /// The clock's.
+    pub(crate) fn new<R>(rt: &R, stream: C, hosts: Hosts) -> io::Result<Connection<C>>
+    where
+        R: Clock + AllocGlobal,
+        C: Drop,
+    {
+        Ok(Connection {
+            stream,
+            hosts,
+            head: Vec::new(rt.alloc()),
+            reply: None,
+            since: Instant::now(rt)?,
+        })
+    }
+
+    /// Reads what has come, and tells the answer if one is due.
+    ///
+    /// # Errors
+    ///
+    /// The connection's, or memory ran out.
+    fn read_head(&mut self, serves: bool) -> io::Result<Option<Answer>> {
+        let mut part = [0u8; 512];
+        for _ in 0..=MOST_OF_HEAD {
+            let count = match self.stream.read(&mut part) {
+                Ok(count) => count,
+                Err(error) if error.kind() == ErrorKind::WouldBlock => return Ok(None),
+                Err(error) => return Err(error),
+            };
+            self.head
+                .extend_from_slice(part.get(..count).unwrap_or_default())?;
+            let heading = heading_of(&self.head, &self.hosts, serves);
+            let answer = answer_due(heading, self.head.len(), count == 0);
+            if answer.is_some() {
+                return Ok(answer);
+            }
+        }
+        Ok(None)
+    }
+
+    /// Goes on as far as its bytes do.
+    ///
+    /// # Errors
+    ///
+    /// `TimedOut` where its time is over, the connection's, or memory ran out.
+    pub(crate) fn advance<R, S>(&mut self, rt: &R, server: &Server<'_, S>) -> io::Result<Turn>
+    where
+        R: Clock + AllocGlobal,
+        S: Stop,
+    {
+        if self.since.elapsed(rt)? >= Duration::from_secs(LIMIT_SECONDS) {
+            return Err(ErrorKind::TimedOut.into());
+        }
+        if self.reply.is_none()
+            && let Some(answer) = self.read_head(server.control.is_serving())?
+        {
+            let body = body(rt.alloc(), answer, server.counters)?;
+            let text = reply_text(rt.alloc(), answer.status(), &body)?;
+            self.reply = Some(Reply { text, written: 0 });
+            self.since = Instant::now(rt)?;
+            if answer == Answer::Stops {
+                server.control.stops();
+                server.stop.stop();
+            }
+        }
+        match &mut self.reply {
+            Some(reply) => reply.write_to(&mut self.stream),
+            None => Ok(Turn::Waits),
+        }
+    }
+}
+
+/// What stands in the reply.
+fn body(alloc: Global, answer: Answer, counters: &Counters) -> Result<String, AllocError> {
+    let text = match answer {
+        Answer::Metrics => return metrics(alloc, &counters.lines(alloc)?),
+        Answer::Healthy => "ok\n",
+        Answer::Unready => "not ready\n",
+        Answer::Stops => "stopping\n",
+        Answer::Unread => "bad request\n",
+        Answer::Forbidden => "forbidden\n",
+        Answer::NotFound => "not found\n",
+        Answer::NotAllowed => "method not allowed\n",
+    };
+    String::from_str(alloc, text)
+}
+
+/// A reply with this status and body, behind which the connection is closed (RFC 9112, section 9.6).
+fn reply_text(alloc: Global, status: u16, body: &str) -> Result<String, AllocError> {
+    let length = body.len();
+    format!(in alloc;
+        "HTTP/1.1 {status} \r\ncontent-type: text/plain; charset=utf-8\r\ncontent-length: {length}\r\nconnection: close\r\n\r\n{body}"
+    )
+}

@@ -1,0 +1,62 @@
+//! How far a server is, as its control port is told.
+use crate::counters::Counters;
+use crate::port::PortWaker;
+use std::sync::atomic::{AtomicBool, Ordering};
+
+/// What stops a server.
+pub trait Stop {
+    /// The server stops from now on: it accepts nothing more, and what has begun is answered.
+    fn stop(&self);
+}
+
+/// How far a server is.
+#[derive(Drop)]
+pub struct Control {
+    serves: AtomicBool,
+    stops: AtomicBool,
+    has_ended: AtomicBool,
+}
+
+/// The server that a control port is of.
+#[derive(Drop)]
+pub(crate) struct Server<'a, S> {
+    pub(crate) control: &'a Control,
+    pub(crate) counters: &'a Counters,
+    pub(crate) stop: &'a S,
+}
+
+impl Control {
+    /// A server that doesn't serve yet.
+    pub const fn new() -> Control {
+        Control {
+            serves: AtomicBool::new(false),
+            stops: AtomicBool::new(false),
+            has_ended: AtomicBool::new(false),
+        }
+    }
+
+    /// The server serves from now on.
+    pub fn serves(&self) {
+        self.serves.store(true, Ordering::SeqCst);
+    }
+
+    /// The server stops from now on, whoever began it.
+    pub fn stops(&self) {
+        self.stops.store(true, Ordering::SeqCst);
+    }
+
+    pub(crate) fn is_serving(&self) -> bool {
+        self.serves.load(Ordering::SeqCst) && !self.stops.load(Ordering::SeqCst)
+    }
+
+    pub(crate) fn has_ended(&self) -> bool {
+        self.has_ended.load(Ordering::SeqCst)
+    }
+
+    /// The server has ended, and its control port ends too, which this wakes.
+    pub fn end(&self, port: &PortWaker) {
+        self.stops();
+        self.has_ended.store(true, Ordering::SeqCst);
+        port.wake();
+    }
+}

@@ -1,0 +1,68 @@
+//! A request's head, and what is answered to it.
+ghost use Rattle.std.specs.Prelude.{◌≡◌};
+ghost use Rattle.mds_control.specs.Requests.{answer_if, HeadingOf, due_of};
+
+use crate::admission::{Admission, admission_of};
+use crate::hosts::Hosts;
+use crate::pages::{Answer, answer_for};
+use httparse::Status;
+use httparse::spans::{EMPTY_HEADER_SPAN, parse_request};
+
+/// The most fields of a head.
+const MOST_FIELDS: usize = 64;
+
+/// The most bytes of a head.
+pub(crate) const MOST_OF_HEAD: usize = 8192;
+
+/// What the bytes that have come begin with.
+#[derive(Clone, Copy, Debug, PartialEq, Eq)]
+pub enum Heading {
+    /// A head, and what is answered to it.
+    Whole(Answer),
+    /// No whole head yet.
+    Partial,
+    /// What becomes none, or has more than 64 fields.
+    Broken,
+}
+
+/// What is answered where this is asked by who is let in.
+fn answer_if(admission: Admission, asked: Answer) -> Answer
+    ensures { result ≡ answer_if admission asked }
+{
+    match admission {
+        Admission::Admitted => asked,
+        Admission::Malformed => Answer::Unread,
+        Admission::Forbidden => Answer::Forbidden,
+    }
+}
+
+/// What is answered to the head that bytes begin with (RFC 9112, sections 3 and 5), at a port that goes by these hosts, of a
+/// server that serves or doesn't. A line may end by a line feed alone (section 2.2).
+pub fn heading_of(bytes: &[u8], hosts: &Hosts, serves: bool) -> Heading
+    ensures { HeadingOf bytes.now hosts.now serves result }
+{
+    let mut headers = [EMPTY_HEADER_SPAN; MOST_FIELDS];
+    match parse_request(bytes, &mut headers) {
+        Ok(Status::Complete(found)) => {
+            let headers = &headers[..found.headers];
+            let asked = answer_for(found.method.of(bytes), found.path.of(bytes), serves);
+            let admission = admission_of(hosts, found.version, bytes, headers);
+            Heading::Whole(answer_if(admission, asked))
+        }
+        Ok(Status::Partial) => Heading::Partial,
+        Err(_) => Heading::Broken,
+    }
+}
+
+/// The answer that is due to what so many bytes begin with, of which no more come or some may; none, while the rest of a head
+/// may come.
+pub fn answer_due(heading: Heading, count: usize, is_over: bool) -> Option<Answer>
+    ensures { result ≡ due_of heading count is_over }
+{
+    match heading {
+        Heading::Whole(answer) => Some(answer),
+        Heading::Broken => Some(Answer::Unread),
+        Heading::Partial if is_over || count > MOST_OF_HEAD => Some(Answer::Unread),
+        Heading::Partial => None,
+    }
+}

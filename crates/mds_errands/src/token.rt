@@ -1,0 +1,163 @@
+//! The access token of who asks.
+ghost use Rattle.std.specs.Prelude.{◌≡◌, MatchResult, Ok, Err};
+ghost use Rattle.mds_errands.specs.Tokens.{without_line_end, token_in};
+
+use crate::end::End;
+use crate::opening::{OpenFault, open_source};
+use mds_client::Server;
+use mds_command::{Destination, TokenSource};
+use std::alloc::{AllocGlobal, Global};
+use std::fs::{File, Files};
+use std::io::{ErrorKind, Read};
+use std::str::from_utf8;
+
+/// The most bytes of an access token.
+const MOST_TOKEN: usize = 64;
+
+/// As many bytes of its file are read: of an access token, of a line end, and one more.
+const MOST_READ: u64 = 67;
+
+/// Why a file has no access token.
+#[derive(Clone, Copy, Debug, PartialEq, Eq)]
+pub enum TokenFault {
+    /// It is a FIFO, a socket, a device or a folder.
+    NotRegular,
+    /// It can't be read.
+    Unreadable,
+    /// It has nothing in front of its line end.
+    Empty,
+    /// It has more than 64 bytes in front of its line end.
+    TooLong,
+}
+
+impl TokenFault {
+    /// In words.
+    pub fn words(self) -> &'static str {
+        match self {
+            TokenFault::NotRegular => "the access token's file isn't a regular file",
+            TokenFault::Unreadable => "the access token's file can't be read",
+            TokenFault::Empty => "the access token's file is empty",
+            TokenFault::TooLong => "the access token's file has more than 64 bytes",
+        }
+    }
+}
+
+/// Bytes without one line end, of LF or of CR and LF, behind them.
+fn without_line_end(bytes: &[u8]) -> &[u8]
+    ensures { result.now ≡ without_line_end bytes.now }
+{
+    if let Some(front) = bytes.strip_suffix(b"\r\n".as_slice()) {
+        return front;
+    }
+    match bytes.strip_suffix(b"\n".as_slice()) {
+        Some(front) => front,
+        None => bytes,
+    }
+}
+
+/// The access token that the bytes of a file are.
+///
+/// # Errors
+///
+/// `Empty`, `TooLong`.
+fn token_in(bytes: &[u8]) -> Result<&[u8], TokenFault>
+    ensures { MatchResult result
+        (λ token. token_in bytes.now ≡ Ok token.now)
+        (λ fault. token_in bytes.now ≡ Err fault) }
+{
+    let token = without_line_end(bytes);
+    if token.is_empty() {
+        Err(TokenFault::Empty)
+    } else if token.len() > MOST_TOKEN {
+        Err(TokenFault::TooLong)
+    } else {
+        Ok(token)
+    }
+}
+
+/// The first bytes of a file.
+///
+/// # Errors
+///
+/// `NoToken` where they can't be read, `NoMemory`.
+fn front_of<S: Read + Drop>(alloc: Global, file: S) -> Result<Vec<u8>, End> {
+    let mut bytes = Vec::new(alloc);
+    let mut front = file.take(MOST_READ);
+    match front.read_to_end(&mut bytes) {
+        Ok(_) => Ok(bytes),
+        Err(error) => Err(match error.kind() {
+            ErrorKind::OutOfMemory => End::NoMemory,
+            _ => End::NoToken(TokenFault::Unreadable),
+        }),
+    }
+}
+
+/// The access token of a file.
+///
+/// # Errors
+///
+/// `NoToken`, `BadPlace` where it isn't UTF-8, `NoMemory`.
+fn read_token<R: Files<File = File> + AllocGlobal>(rt: &R, path: &str) -> Result<String, End> {
+    let file = match open_source(rt, path) {
+        Ok(file) => file,
+        Err(OpenFault::NotRegular) => return Err(End::NoToken(TokenFault::NotRegular)),
+        Err(OpenFault::Unreadable) => return Err(End::NoToken(TokenFault::Unreadable)),
+    };
+    let bytes = front_of(rt.alloc(), file)?;
+    match token_in(&bytes) {
+        Ok(token) => match from_utf8(token) {
+            Ok(token) => Ok(String::from_str(rt.alloc(), token)?),
+            Err(_) => Err(End::BadPlace),
+        },
+        Err(fault) => Err(End::NoToken(fault)),
+    }
+}
+
+/// The access token that stands there.
+///
+/// # Errors
+///
+/// As `read_token`.
+fn token_from<R: Files<File = File> + AllocGlobal>(
+    rt: &R,
+    source: TokenSource<'_>,
+) -> Result<String, End> {
+    match source {
+        TokenSource::Argument(token) => Ok(String::from_str(rt.alloc(), token)?),
+        TokenSource::File(path) => read_token(rt, path),
+    }
+}
+
+/// The access token by which a server is asked; an empty text, where none is.
+///
+/// # Errors
+///
+/// As `read_token`.
+pub(crate) fn token_for<R: Files<File = File> + AllocGlobal>(
+    rt: &R,
+    destination: Option<Destination<'_>>,
+) -> Result<String, End> {
+    match destination {
+        Some(destination) => token_from(rt, destination.token),
+        None => Ok(String::new(rt.alloc())),
+    }
+}
+
+/// The server of a destination, as it is asked by this access token.
+pub(crate) fn server_of<'a>(destination: Destination<'a>, token: &'a str) -> Server<'a> {
+    Server {
+        host: destination.address,
+        token,
+    }
+}
+
+/// The server of a destination, if there is one.
+pub(crate) fn server_for<'a>(
+    destination: Option<Destination<'a>>,
+    token: &'a str,
+) -> Option<Server<'a>> {
+    match destination {
+        Some(destination) => Some(server_of(destination, token)),
+        None => None,
+    }
+}

@@ -1,0 +1,15 @@
+-- What is wrong with a journal that ends so.
+use Rattle.std.specs.Prelude.{ℕ, Option, Some, None}
+use Rattle.mds_records.specs.declared.ending.Ending.{Ending}
+use Rattle.mds_records.specs.declared.ending.Ending.TheVariants as ends
+use Rattle.mds_folder.specs.declared.fault.Damage.{Damage}
+use Rattle.mds_folder.specs.declared.fault.Damage.TheVariants.{Lost, Moved, Foreign, Unexplained}
+
+-- nothing where it is whole, or torn as the program leaves it when it is killed; also what is opened, and cut then, but isn't explained so
+abbrev pub damage_of : ℕ → Ending → Option Damage
+damage_of whole ends.Whole = None
+damage_of whole ends.Torn = None
+damage_of whole ends.Unexplained = Some (Unexplained whole)
+damage_of whole (ends.Foreign signature) = Some (Foreign signature)
+damage_of whole (ends.Moved place) = Some (Moved place)
+damage_of whole (ends.Damaged said) = Some (Lost said)

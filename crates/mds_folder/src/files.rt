@@ -1,0 +1,209 @@
+//! Files of a folder, opened by their names without following a link.
+ghost use Rattle.std.specs.Prelude.{◌≡◌};
+ghost use Rattle.mds_folder.specs.Files.{owner_of};
+
+use crate::fault::FolderFault;
+use std::fs::{self, File, Files, Metadata, TryLockError};
+use std::io::ErrorKind;
+use std::os::unix::fs::{MetadataExt, OpenOptionsExt};
+
+/// Who may read and write a file of the folder: its owner alone.
+const MODE: u32 = 0o600;
+
+/// How often a file is opened again whose name was given to another meanwhile.
+const ATTEMPTS: u32 = 16;
+
+/// By what the system tells a file from others: its device, and its number there.
+#[derive(Clone, Copy, Debug, PartialEq, Eq)]
+pub(crate) struct Identity {
+    pub(crate) device: u64,
+    pub(crate) number: u64,
+}
+
+/// What stands at a name.
+#[derive(Clone, Copy, Debug, PartialEq, Eq)]
+pub(crate) enum Entry {
+    /// Nothing.
+    Nothing,
+    /// A file.
+    File(Identity),
+    /// A link, or something else that is no file.
+    Other,
+}
+
+/// Whose a name is by which a file was opened.
+#[derive(Clone, Copy, Debug, PartialEq, Eq)]
+pub(crate) enum Owner {
+    /// It is that file's.
+    Opened,
+    /// It is another file's by now, or nothing's.
+    Another,
+    /// It is no file's.
+    NoFile,
+}
+
+/// Whose a name is at which this stands, by which a file was opened.
+pub(crate) fn owner_of(opened: Identity, entry: Entry) -> Owner
+    ensures { result ≡ owner_of opened entry }
+{
+    match entry {
+        Entry::Nothing => Owner::Another,
+        Entry::File(found) if found == opened => Owner::Opened,
+        Entry::File(_) => Owner::Another,
+        Entry::Other => Owner::NoFile,
+    }
+}
+
+/// By what the system tells the file of this metadata.
+fn identity_of(metadata: &Metadata) -> Identity {
+    Identity {
+        device: metadata.dev(),
+        number: metadata.ino(),
+    }
+}
+
+/// What stands at a path, of which the last name isn't followed where it is a link.
+fn entry_at<R: Files<File = File>>(rt: &R, path: &str) -> Result<Entry, FolderFault> {
+    match fs::symlink_metadata(rt, path) {
+        Ok(metadata) if metadata.is_file() => Ok(Entry::File(identity_of(&metadata))),
+        Ok(_) => Ok(Entry::Other),
+        Err(error) if error.kind() == ErrorKind::NotFound => Ok(Entry::Nothing),
+        Err(_) => Err(FolderFault::Unusable),
+    }
+}
+
+/// Whether a path still names the file that was opened by it.
+///
+/// # Errors
+///
+/// `Linked` where it names no file, `Unusable` where that can't be seen.
+fn is_named<R: Files<File = File>>(rt: &R, path: &str, file: &File) -> Result<bool, FolderFault> {
+    let Ok(metadata) = file.metadata() else {
+        return Err(FolderFault::Unusable);
+    };
+    match owner_of(identity_of(&metadata), entry_at(rt, path)?) {
+        Owner::Opened => Ok(true),
+        Owner::Another => Ok(false),
+        Owner::NoFile => Err(FolderFault::Linked),
+    }
+}
+
+/// The file at a path, which is made where nothing stands there; none, where the path came to name another meanwhile.
+fn opened_once<R: Files<File = File>>(rt: &R, path: &str) -> Result<Option<File>, FolderFault> {
+    let is_new = match entry_at(rt, path)? {
+        Entry::Nothing => true,
+        Entry::File(_) => false,
+        Entry::Other => return Err(FolderFault::Linked),
+    };
+    let mut how = File::options();
+    how.read(true).write(true).create_new(is_new).mode(MODE);
+    match how.open(rt, path) {
+        Ok(file) if is_named(rt, path, &file)? => Ok(Some(file)),
+        Ok(_) => Ok(None),
+        Err(error) if error.kind() == ErrorKind::NotFound && !is_new => Ok(None),
+        Err(error) if error.kind() == ErrorKind::AlreadyExists => Ok(None),
+        Err(_) => Err(FolderFault::Unusable),
+    }
+}
+
+/// The file at a path, to read and write it. It is made where nothing stands there.
+///
+/// # Errors
+///
+/// `Linked` where something stands there that is no file, `Unusable` where it can't be made or opened.
+pub(crate) fn open_file<R: Files<File = File>>(rt: &R, path: &str) -> Result<File, FolderFault> {
+    for _ in 0..ATTEMPTS {
+        if let Some(file) = opened_once(rt, path)? {
+            return Ok(file);
+        }
+    }
+    Err(FolderFault::Unusable)
+}
+
+/// Locks a file as long as it is open. The system unlocks it where the program ends, however it does.
+///
+/// # Errors
+///
+/// `Locked` where another program has locked it, `Unusable` where the system can't tell.
+pub fn lock_file(file: &File) -> Result<(), FolderFault> {
+    match file.try_lock() {
+        Ok(()) => Ok(()),
+        Err(TryLockError::WouldBlock) => Err(FolderFault::Locked),
+        Err(TryLockError::Error(_)) => Err(FolderFault::Unusable),
+    }
+}
+
+/// The file at a path, as `open_file` gives it, locked: the path named it when it was locked already, so that who opens the path then
+/// finds a locked file.
+///
+/// # Errors
+///
+/// As `open_file`, and `Locked` where another program has it.
+pub(crate) fn open_locked<R: Files<File = File>>(rt: &R, path: &str) -> Result<File, FolderFault> {
+    for _ in 0..ATTEMPTS {
+        let Some(file) = opened_once(rt, path)? else {
+            continue;
+        };
+        lock_file(&file)?;
+        if is_named(rt, path, &file)? {
+            return Ok(file);
+        }
+    }
+    Err(FolderFault::Locked)
+}
+
+/// The file at a path, to read it alone.
+///
+/// # Errors
+///
+/// `Linked` where something stands there that is no file, `Unusable` where it can't be opened.
+pub(crate) fn open_to_read<R: Files<File = File>>(rt: &R, path: &str) -> Result<File, FolderFault> {
+    for _ in 0..ATTEMPTS {
+        if entry_at(rt, path)? == Entry::Other {
+            return Err(FolderFault::Linked);
+        }
+        let Ok(file) = File::open(rt, path) else {
+            return Err(FolderFault::Unusable);
+        };
+        if is_named(rt, path, &file)? {
+            return Ok(file);
+        }
+    }
+    Err(FolderFault::Unusable)
+}
+
+/// A new file at a path, to read and write it; none, where something stands there.
+///
+/// # Errors
+///
+/// `Unusable` where it can't be made.
+pub(crate) fn open_new<R: Files<File = File>>(
+    rt: &R,
+    path: &str,
+) -> Result<Option<File>, FolderFault> {
+    let mut how = File::options();
+    how.read(true).write(true).create_new(true).mode(MODE);
+    match how.open(rt, path) {
+        Ok(file) => Ok(Some(file)),
+        Err(error) if error.kind() == ErrorKind::AlreadyExists => Ok(None),
+        Err(_) => Err(FolderFault::Unusable),
+    }
+}
+
+/// A new file at a path, locked, to read and write it. What stood there is removed: a link itself, and not what it leads to.
+///
+/// # Errors
+///
+/// `Unusable` where it can't be made, `Locked` where another program has it.
+pub fn create_locked<R: Files<File = File>>(rt: &R, path: &str) -> Result<File, FolderFault> {
+    match fs::remove_file(rt, path) {
+        Ok(()) => {}
+        Err(error) if error.kind() == ErrorKind::NotFound => {}
+        Err(_) => return Err(FolderFault::Unusable),
+    }
+    let Some(file) = open_new(rt, path)? else {
+        return Err(FolderFault::Unusable);
+    };
+    lock_file(&file)?;
+    Ok(file)
+}

@@ -1,0 +1,15 @@
+-- Why a journal isn't opened, by how its file ends.
+use Rattle.std.specs.Prelude.{Option, Some, None}
+use Rattle.mds_records.specs.declared.ending.Ending.{Ending}
+use Rattle.mds_records.specs.declared.ending.Ending.TheVariants.{Whole, Torn, Unexplained, Foreign, Moved, Damaged}
+use Rattle.mds_records.specs.declared.journal.OpenFault.{OpenFault}
+use Rattle.mds_records.specs.declared.journal.OpenFault.TheVariants as fault
+
+-- none, where it is opened
+abbrev pub refusal_of : Ending → Option OpenFault
+refusal_of Whole = None
+refusal_of Torn = None
+refusal_of Unexplained = None
+refusal_of (Foreign signature) = Some (fault.Foreign signature)
+refusal_of (Moved place) = Some (fault.Moved place)
+refusal_of (Damaged said) = Some (fault.Damaged said)

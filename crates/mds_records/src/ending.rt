@@ -1,0 +1,116 @@
+//! How a file ends behind its whole records.
+ghost use Rattle.std.specs.Prelude.{◌≡◌, ◌+◌, ◌^◌, ◌<◌, ◌≤◌, length};
+ghost use Rattle.mds_records.specs.Endings.{is_torn_record, is_short_of, unexplained, without_records, ending_of, is_opened};
+
+use crate::marks::{first_moved, furthest_said};
+use crate::record::{HEAD, MOST_TEXT};
+use crate::signature::{Signature, signature_of};
+
+/// What each journal begins with: the record of the mark of its first group.
+const BEGINNING: [u8; 44] = [
+    0, 0, 0, 32, 130, 165, 51, 246, 22, 181, 93, 151, 255, 115, 121, 110, 99, 101, 100, 58, 0, 0,
+    0, 0, 0, 0, 0, 12, 0, 0, 0, 0, 0, 0, 0, 0, 152, 3, 180, 189, 217, 174, 131, 34,
+];
+
+/// How a file ends, behind its whole records.
+#[derive(Clone, Copy, Debug, PartialEq, Eq)]
+pub enum Ending {
+    /// Nothing stands behind them.
+    Whole,
+    /// The beginning of one record, of which the end is missing: what a crash leaves of a group that was being written.
+    Torn,
+    /// Bytes that such a crash doesn't leave, and no mark among them says that what was synced is lost. A loss of power
+    /// may leave them, where parts of what was being written came to the disk.
+    Unexplained,
+    /// The file doesn't begin as a journal does, but with this.
+    Foreign(Signature),
+    /// At this byte a mark stands that was written for another place: bytes were put in or taken out, or are another
+    /// journal's.
+    Moved(u64),
+    /// A mark behind them says that the file was synced up to this position, which is beyond them: what was synced is
+    /// lost.
+    Damaged(u64),
+}
+
+/// What was cut off a file.
+#[derive(Clone, Copy, Debug, PartialEq, Eq)]
+pub struct Cut {
+    /// The position from which on it stood.
+    pub from: u64,
+    /// How many bytes it had.
+    pub count: u64,
+}
+
+impl Ending {
+    /// Whether a journal that ends so is opened: it is a journal, and nothing that was synced is known to be lost.
+    pub fn is_opened(self) -> bool
+        ensures { result ≡ is_opened self }
+    {
+        match self {
+            Ending::Whole | Ending::Torn | Ending::Unexplained => true,
+            Ending::Foreign(_) | Ending::Moved(_) | Ending::Damaged(_) => false,
+        }
+    }
+}
+
+/// Whether a record of a text of this size has more bytes than these.
+fn is_short_of(size: usize, bytes: &[u8]) -> bool
+    requires { size < 2 ^ 32 }
+    ensures { result ≡ is_short_of size bytes.now }
+{
+    0 < size && size <= MOST_TEXT && bytes.len() < HEAD + size
+}
+
+/// Whether bytes are the beginning of one record, of which the end is missing.
+#[tactic(auto, unfolding(crate::specs::Endings::is_torn_record))]
+fn is_torn_record(bytes: &[u8]) -> bool
+    ensures { result ≡ is_torn_record bytes.now }
+{
+    if bytes.len() < 4 {
+        return bytes.starts_with(b"\0");
+    }
+    let (size, _) = bytes.split_at(4);
+    let size = u32::from_be_bytes([size[0], size[1], size[2], size[3]]);
+    is_short_of(size as usize, bytes)
+}
+
+/// How a file ends with bytes that nothing explains.
+fn unexplained(whole: u64, behind: &[u8]) -> Ending
+    ensures { result ≡ unexplained whole behind.now }
+{
+    if whole > BEGINNING.len() as u64 {
+        Ending::Unexplained
+    } else {
+        Ending::Foreign(signature_of(behind))
+    }
+}
+
+/// How a file ends that has no whole record, but these bytes.
+fn without_records(bytes: &[u8]) -> Ending
+    ensures { result ≡ without_records bytes.now }
+{
+    if BEGINNING.starts_with(bytes) {
+        Ending::Torn
+    } else {
+        Ending::Foreign(signature_of(bytes))
+    }
+}
+
+/// How a file ends whose whole records end at the position `whole`, with these bytes behind them.
+pub fn ending_of(whole: u64, behind: &[u8]) -> Ending
+    requires { whole + length behind.now < 2 ^ 64 }
+    ensures { result ≡ ending_of whole behind.now }
+{
+    if behind.is_empty() {
+        return Ending::Whole;
+    }
+    if whole == 0 {
+        return without_records(behind);
+    }
+    match (furthest_said(behind), first_moved(whole, behind)) {
+        (None, _) if is_torn_record(behind) => Ending::Torn,
+        (Some(said), _) if said > whole => Ending::Damaged(said),
+        (Some(_), Some(place)) => Ending::Moved(place),
+        _ => unexplained(whole, behind),
+    }
+}

@@ -1,0 +1,9 @@
+use Rattle.std.proofs.Common.{◌∷◌, [], ◌∙◌, ap, sym}
+use Rattle.mds_request.specs.Call.{all_some}
+use Rattle.mds_refusals.specs.Methods.{methods_at}
+use Rattle.mds_refusals.proofs.methods.at_three.Goals as goal
+
+pub returns-in-drafts-default : goal.returns-in-drafts-default
+returns-in-drafts-default c =
+    c.in_drafts.ensures
+    ∙ ap (λ first. methods_at (all_some (first ∷ c.args.second.now ∷ c.args.third.now ∷ []))) (sym c.in-drafts-default.is-drafts-0)

@@ -1,0 +1,18 @@
+use Rattle.std.proofs.Common.{◌∷◌, ◌∙◌, ap, sym, None, Some, arith}
+use Rattle.std.proofs.lemmas.Str.Pattern.{split_once_first}
+use Rattle.mds_request.specs.Call.{all_some}
+use Rattle.mds_refusals.specs.Methods.{methods_at}
+use Rattle.mds_refusals.proofs.Cuts.{whole, around, too_long}
+use Rattle.mds_refusals.proofs.methods.behind_two.Goals as goal
+
+pub returns-in-None : goal.returns-in-None
+returns-in-None c =
+    let none = split_once_first 47 c.args.rest.now None c.in-None.ensures.cases (omega arith) in
+    c.at_three.ensures
+    ∙ ap (λ parts. methods_at (all_some (c.args.first.now ∷ c.args.second.now ∷ parts))) (sym (whole c.args.rest.now none))
+
+pub returns-in-Some : goal.returns-in-Some
+returns-in-Some c =
+    let cut = split_once_first 47 c.args.rest.now (Some c.in-Some.field-0) c.in-Some.ensures.cases (omega arith) in
+    too_long c.args.first.now c.args.second.now c.in-Some.field-0.0.now c.in-Some.field-0.1.now
+    ∙ ap (λ parts. methods_at (all_some (c.args.first.now ∷ c.args.second.now ∷ parts))) (sym (around c.args.rest.now _ _ cut.0 cut.1 cut.2))

@@ -1,0 +1,24 @@
+//! What a request's refusal has to name.
+ghost use Rattle.std.specs.Prelude.{◌≡◌, option_map};
+ghost use Rattle.mds_request.specs.Call.{segments_in};
+ghost use Rattle.mds_refusals.specs.Methods.{methods_at, text_of};
+
+use crate::methods::{Methods, methods_of};
+
+/// What a refusal of a request names, by the request's path.
+#[derive(Clone, Copy, Debug, PartialEq, Eq)]
+pub struct Guide {
+    /// The methods of the path; none, where no call has it.
+    pub methods: Option<Methods>,
+}
+
+impl Guide {
+    /// The guide for requests with this path, without its query.
+    pub fn of(path: &str) -> Guide
+        ensures { option_map text_of result.methods ≡ methods_at (segments_in path.now) }
+    {
+        Guide {
+            methods: methods_of(path),
+        }
+    }
+}

@@ -1,0 +1,45 @@
+//! A reply whose refusals name what they have to.
+ghost use Rattle.std.specs.Prelude.{◌≡◌};
+ghost use Rattle.mds_refusals.specs.Guided.{Follows};
+
+use crate::guide::Guide;
+use crate::response::guided;
+use futures::Future;
+use futures::task::{Context, Poll};
+use mds_responses::HttpResult;
+
+/// A reply on its way, whose response names what its refusal has to.
+#[derive(Drop)]
+pub struct GuidedReply<F> {
+    reply: F,
+    guide: Guide,
+}
+
+impl<F: Future> GuidedReply<F> {
+    /// This reply, to a request with that guide.
+    pub fn new(reply: F, guide: Guide) -> GuidedReply<F>
+        ensures reply { result.reply ≡ reply }
+        ensures guide { result.guide ≡ guide }
+    {
+        GuidedReply { reply, guide }
+    }
+}
+
+impl<F: Future<Output = HttpResult>> Future for GuidedReply<F> {
+    type Output = HttpResult;
+
+    ghost can_poll = { λ s. F.can_poll s.reply };
+
+    ghost needs = { λ s source. F.needs s.reply source };
+
+    // What the reply gives, guided.
+    ghost gives = { λ s told. (given : _) × F.gives s.reply given × Follows s.guide.methods given told };
+
+    fn poll(&mut self, cx: &mut Context<'_>) -> Poll<HttpResult> {
+        match self.reply.poll(cx) {
+            Poll::Pending => Poll::Pending,
+            Poll::Ready(Ok(response)) => Poll::Ready(guided(response, self.guide)),
+            Poll::Ready(Err(fault)) => Poll::Ready(Err(fault)),
+        }
+    }
+}

@@ -1,0 +1,48 @@
+//! Fields of responses.
+ghost use Rattle.std.specs.Prelude.{◌≡◌, IfOk, OnErr, OnOk};
+ghost use Rattle.http_header.specs.HeaderMap.{insert};
+ghost use Rattle.mds_responses.specs.Field.{HasField};
+
+use bytes::Bytes;
+use http::{HeaderMap, HeaderName, HeaderValue, Response};
+use http_body_util::Full;
+use std::alloc::AllocError;
+
+/// A response whose body is there as one piece, or that there was no memory for it.
+pub type HttpResult = Result<Response<Full<Bytes>>, AllocError>;
+
+/// Sets a field to a value, in place of all that it had (RFC 9110, section 5).
+///
+/// # Errors
+///
+/// Memory ran out, and the fields are as they were.
+pub fn set_field(
+    headers: &mut HeaderMap,
+    name: HeaderName,
+    value: HeaderValue,
+) -> Result<(), AllocError>
+    ensures set { OnOk result (headers.new ≡ insert headers.old name value) }
+    ensures refused { OnErr result (headers.new ≡ headers.old) }
+{
+    match headers.insert(name, value) {
+        Ok(_) => Ok(()),
+        Err(_) => Err(AllocError),
+    }
+}
+
+/// The same response, with a field set to a value.
+///
+/// # Errors
+///
+/// Memory ran out.
+pub fn with_field(
+    response: Response<Full<Bytes>>,
+    name: HeaderName,
+    value: HeaderValue,
+) -> HttpResult
+    ensures { IfOk result (HasField name value response) }
+{
+    let mut response = response;
+    set_field(response.headers_mut(), name, value)?;
+    Ok(response)
+}

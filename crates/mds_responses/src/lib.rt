@@ -1,0 +1,8 @@
+//! What responses are made of: a field more, and a status with a body of JSON.
+#![tactic(auto)]
+
+mod fields;
+mod json;
+
+pub use fields::{HttpResult, set_field, with_field};
+pub use json::json_response;

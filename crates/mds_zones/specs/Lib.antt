@@ -1,0 +1,3 @@
+pub mod Footer
+pub mod Names
+pub mod Wording

@@ -1,0 +1,18 @@
+-- What is told of a zone that goes by a name.
+use Rattle.std.specs.Prelude.{ℕ, List, ◌++◌, codes}
+use Rattle.mds_zones.specs.declared.fault.ZoneFault.{ZoneFault}
+use Rattle.mds_zones.specs.declared.fault.ZoneFault.TheVariants.{Unreadable, NoTzif, FirstVersion, NoFooter, NoRule, NoText, NoMemory}
+use Rattle.mds_zones.specs.Names.{path_of}
+
+-- which rule a name stands for, and by which file
+abbrev pub zone_wording : List ℕ → List ℕ → List ℕ
+zone_wording name rule = codes "zone " ++ name ++ codes " is " ++ rule ++ codes " by " ++ path_of name
+
+abbrev pub fault_wording : ZoneFault → List ℕ
+fault_wording Unreadable = codes "can't be read"
+fault_wording NoTzif = codes "is no TZif file (RFC 9636)"
+fault_wording FirstVersion = codes "is a TZif file of version 1, which has no footer"
+fault_wording NoFooter = codes "is a TZif file without a footer"
+fault_wording NoRule = codes "has an empty footer, so no rule is in force"
+fault_wording NoText = codes "has a footer that is no rule"
+fault_wording NoMemory = codes "needs more memory than there is"

@@ -1,0 +1,18 @@
+//! Time zones that go by a name, as `America/New_York`: which texts are names, where the file of one is, and the rule of POSIX's TZ
+//! variable in its footer (RFC 9636).
+#![tactic(auto)]
+
+mod fault;
+mod footer;
+mod name;
+mod rule;
+mod told;
+
+pub use fault::ZoneFault;
+pub use footer::rule_in;
+pub use name::{MOST_NAME, ZoneName};
+pub use rule::ZoneRule;
+pub use told::zone_told;
+
+#[cfg(test)]
+mod tests;

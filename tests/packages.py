@@ -1,0 +1,77 @@
+"""What tests want that a fresh machine may not have: Python's modules and programs of Debian's packages.
+
+A test whose packages are missing is left out: it prints 'left out: WHAT: apt-get install PACKAGE..', and its last line counts it: 'N
+passed, M failed, K skipped'. With GATE=1, as in the merge gate, it has failed instead.
+"""
+
+import os
+import re
+import shutil
+import subprocess
+import sys
+
+PACKAGES = {
+    "yaml": "python3-yaml",
+    "jsonschema": "python3-jsonschema",
+    "node": "nodejs",
+    "chromium": "chromium",
+    "nginx": "nginx",
+    "openssl": "openssl",
+    "curl": "curl",
+    "tzdata": "tzdata",
+}
+# What has to be there of a module that an old package lacks.
+PROBES = {"jsonschema": "jsonschema.Draft202012Validator"}
+SECONDS = 30
+COUNT = re.compile(r"^(\d+) passed, (\d+) failed(?:, (\d+) skipped)?$", re.M)
+LEFT_OUT = re.compile(r"^left out: (.*): apt-get install (.*)$", re.M)
+
+
+def count(passed, failed, skipped=0):
+    """The last line of a test."""
+    return f"{passed} passed, {failed} failed" + (f", {skipped} skipped" if skipped else "")
+
+
+def leave_out(what, *names):
+    """Says what is left out for want of these modules or programs; how many passed, failed and were skipped by that."""
+    fails = os.environ.get("GATE") == "1"
+    print(f"{'failed' if fails else 'left out'}: {what}: apt-get install {' '.join(PACKAGES[it] for it in names)}", flush=True)
+    return (0, 1, 0) if fails else (0, 0, 1)
+
+
+def end_without(what, *names):
+    """Ends a test that can't be done without these modules or programs."""
+    counts = leave_out(what, *names)
+    print(count(*counts))
+    sys.exit(counts[1])
+
+
+def program(name):
+    """Where a program is, or None. One of those for root is looked for beside the PATH too."""
+    return shutil.which(name, path=f"{os.environ.get('PATH', os.defpath)}:/usr/sbin:/sbin")
+
+
+def has(python, modules):
+    """Whether a Python has these modules, each as new as it has to be."""
+    probe = "\n".join([f"import {', '.join(modules)}", *(PROBES[it] for it in modules if it in PROBES)])
+    try:
+        ran = subprocess.run([python, "-c", probe], cwd="/", stderr=subprocess.DEVNULL, timeout=SECONDS, check=False)
+    except (OSError, subprocess.TimeoutExpired):
+        return False
+    return ran.returncode == 0
+
+
+def pythons():
+    """This Python, each python3 of the PATH, and Debian's, which its packages belong to."""
+    folders = os.environ.get("PATH", os.defpath).split(os.pathsep)
+    found = [sys.executable, *(os.path.join(it, "python3") for it in folders), "/usr/bin/python3"]
+    return list(dict.fromkeys(it for it in found if os.access(it, os.X_OK)))
+
+
+def need_modules(what, *modules):
+    """Goes on in the first Python that has these modules, this one where it has them. Where none has, the test ends here."""
+    python = next((it for it in pythons() if has(it, modules)), None)
+    if python is None:
+        end_without(what, *(it for it in modules if not has(sys.executable, [it])))
+    if python != sys.executable:
+        os.execv(python, [python, "-B", *sys.argv])
