@@ -559,8 +559,11 @@ def is_refused_in_a_file(program, given, status, said):
     with tempfile.TemporaryDirectory() as room:
         city = City(program, room, given)
         wanted = f"ruffletuff: the configuration is wrong: {city.file}\n{said.partition(chr(10))[2]}\n".encode()
-        if (found := city.refused()) != (status, b"", wanted):
-            yield f"ends with {found}, not {(status, wanted)}"
+        *found, err = city.refused()
+        # What stands in the file before that is told with its place (config.py).
+        said = b"".join(it for it in err.splitlines(keepends=True) if not it.startswith(f"{city.file}:".encode()))
+        if (*found, said) != (status, b"", wanted):
+            yield f"ends with {(*found, err)}, not {(status, wanted)}"
         if os.path.exists(city.folder):
             yield "its folder is made"
 
