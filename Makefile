@@ -20,7 +20,7 @@
 .PHONY: demo test prove edits build server plain serve try test-web shots openapi bench bench-journal stress dist dist-try help
 
 # What each takes where nothing is built, on a machine that does nothing else.
-TEST_TIME := about 12 minutes on two processors
+TEST_TIME := about 15 minutes on two processors
 PROVE_TIME := an hour and more on four processors, two on two
 EDITS_TIME := about four hours
 BUILD_TIME := about 40 minutes
