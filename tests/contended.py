@@ -16,11 +16,9 @@ import itertools
 import random
 import sys
 import tempfile
-import threading
-import time
 
 from kept import City, replayed, split
-from kills import LOAD_SECONDS, OPERATOR, POLICY, RULE, SQUARE, Asker, main
+from kills import LOAD_SECONDS, OPERATOR, POLICY, RULE, SQUARE, Asker, ask_until_killed, main
 from wire import AUTHOR, FIRST, identifier
 
 CONNECTIONS, AUTHORS = 8, 2
@@ -96,17 +94,6 @@ class Life:
         self.askers = [Reporter(it, seconds, seed) for it in range(CONNECTIONS)] + [Author(it, names, seed) for it in range(AUTHORS)]
         self.lines, self.asked = [], 0
 
-    def load(self, server, seconds):
-        """All ask, until the server is killed."""
-        asking = [threading.Thread(target=it.ask_all, args=(server.port,), daemon=True) for it in self.askers]
-        for it in asking:
-            it.start()
-        time.sleep(seconds)
-        server.stop()
-        for it in asking:
-            it.join()
-        self.asked += sum(len(it.answered) for it in self.askers)
-
     def faults(self):
         """What is wrong after a restart."""
         first, lines = self.city.audit()
@@ -147,7 +134,7 @@ def lives(tried, program, kills, replay, seed):
             publish_square(server)
             life.lines = life.city.audit()[1]
             for number in range(before, min(before + KILLS_OF_A_FOLDER, kills)):
-                life.load(server, choice.uniform(0.02, LOAD_SECONDS))
+                life.asked += ask_until_killed(life.askers, server, choice.uniform(0.02, LOAD_SECONDS))
                 server = stack.enter_context(life.city.serve())
                 tried.one(f"kill {number + 1}", life.faults())
             asked, kept = asked + life.asked, kept + len(life.lines)

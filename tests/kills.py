@@ -148,6 +148,18 @@ def numbers(name, texts):
         yield from map(int, re.findall(rf'"{name}":(\d+)', text))
 
 
+def ask_until_killed(askers, server, seconds):
+    """All of them ask, until the server is killed; how many requests were answered."""
+    asking = [threading.Thread(target=it.ask_all, args=(server.port,), daemon=True) for it in askers]
+    for it in asking:
+        it.start()
+    time.sleep(seconds)
+    server.stop()
+    for it in asking:
+        it.join()
+    return sum(len(it.answered) for it in askers)
+
+
 class Life:
     """A city that is killed and started again, with who asks it."""
 
@@ -164,14 +176,7 @@ class Life:
 
     def load(self, server, seconds):
         """All ask, until the server is killed."""
-        asking = [threading.Thread(target=it.ask_all, args=(server.port,), daemon=True) for it in (*self.keepers(), self.watcher)]
-        for it in asking:
-            it.start()
-        time.sleep(seconds)
-        server.stop()
-        for it in asking:
-            it.join()
-        self.asked += sum(len(it.answered) for it in (*self.keepers(), self.watcher))
+        self.asked += ask_until_killed((*self.keepers(), self.watcher), server, seconds)
 
     def faults(self, server):
         """What is wrong after a restart."""
