@@ -81,6 +81,8 @@ not_done code.NoGeography = refl
 not_done code.NoPredecessor = refl
 not_done code.NotPublished = refl
 not_done code.CatalogFull = refl
+not_done code.Busy = refl
+not_done code.NoRoom = refl
 not_done code.NoMemory = refl
 
 -- ---- maps without some keys

@@ -1,7 +1,7 @@
 -- The codes of refusals, with their statuses (RFC 9110, section 15) and bodies.
 use Rattle.std.specs.Prelude.{ℕ, List, ◌++◌, codes}
 use Rattle.mds_request.specs.declared.code.Code.{Code}
-use Rattle.mds_request.specs.declared.code.Code.TheVariants.{BadLine, Clock, BadBody, NoSnapshot, TooLarge, Token, NoRoute, Method, Role, BadId, BadJson, Decimal, BadField, BadNumber, OutOfRange, TooManyRules, TooManyPoints, RingShort, RingOpen, IdMismatch, Future, Stale, FleetFull, DraftsFull, NoDraft, NotFound, Empty, Published, NoGeography, NoPredecessor, NotPublished, CatalogFull, NoMemory}
+use Rattle.mds_request.specs.declared.code.Code.TheVariants.{BadLine, Clock, BadBody, NoSnapshot, TooLarge, Token, NoRoute, Method, Role, BadId, BadJson, Decimal, BadField, BadNumber, OutOfRange, TooManyRules, TooManyPoints, RingShort, RingOpen, IdMismatch, Future, Stale, FleetFull, DraftsFull, NoDraft, NotFound, Empty, Published, NoGeography, NoPredecessor, NotPublished, CatalogFull, Busy, NoRoom, NoMemory}
 
 -- the status and the name of each refusal
 abbrev pub told : Code → ℕ × List ℕ
@@ -37,6 +37,8 @@ told NoGeography = (409, codes "no_geography")
 told NoPredecessor = (409, codes "no_predecessor")
 told NotPublished = (409, codes "not_published")
 told CatalogFull = (409, codes "catalog_full")
+told Busy = (503, codes "busy")
+told NoRoom = (503, codes "no_room")
 told NoMemory = (503, codes "no_memory")
 
 abbrev pub status_of : Code → ℕ

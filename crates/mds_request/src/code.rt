@@ -65,6 +65,10 @@ pub enum Code {
     NotPublished,
     /// The batch doesn't fit the limits of the catalogue.
     CatalogFull,
+    /// Too much of the one who asks waits: for a server that lets requests wait.
+    Busy,
+    /// The disk has no room for a record of the request: for a server that keeps a journal.
+    NoRoom,
     /// Memory ran out, and nothing has changed.
     NoMemory,
 }
@@ -92,7 +96,7 @@ impl Code {
             | Code::NotPublished
             | Code::CatalogFull => 409,
             Code::TooLarge => 413,
-            Code::Clock | Code::NoSnapshot | Code::NoMemory => 503,
+            Code::Clock | Code::NoSnapshot | Code::Busy | Code::NoRoom | Code::NoMemory => 503,
             Code::BadLine
             | Code::BadBody
             | Code::BadId
@@ -147,6 +151,8 @@ impl Code {
             Code::NoPredecessor => b"{\"error\":\"no_predecessor\"}",
             Code::NotPublished => b"{\"error\":\"not_published\"}",
             Code::CatalogFull => b"{\"error\":\"catalog_full\"}",
+            Code::Busy => b"{\"error\":\"busy\"}",
+            Code::NoRoom => b"{\"error\":\"no_room\"}",
             Code::NoMemory => b"{\"error\":\"no_memory\"}",
         }
     }
