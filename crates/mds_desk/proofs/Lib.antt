@@ -2,6 +2,8 @@ mod Joining
 pub mod Crossing
 pub mod Desks
 pub mod Made
+pub mod Resolved
+pub mod RoomTurning
 pub mod Routing
 pub mod Running
 mod Shelving

@@ -8,6 +8,7 @@ use Rattle.mds_fleet.specs.Books.{Rows}
 use Rattle.mds_request.specs.Configuration.{Configuration, Operator, configuration}
 use Rattle.mds_request.specs.Request.{Request}
 use Rattle.mds_request.specs.Reply.{Reply, refused}
+use Rattle.mds_request.specs.declared.code.Code.{Code}
 use Rattle.mds_request.specs.declared.code.Code.TheVariants.{NoMemory, NoSnapshot}
 use Rattle.mds_fronts.specs.Desks.{desk_does, IsTurn, IsRun}
 use Rattle.mds_snapshot.specs.declared.history.Naming.{Ghosts}
@@ -42,6 +43,12 @@ abbrev pub IsAnsweredAt : DeskState → Request → Reply → DeskState → Oper
 IsAnsweredAt d request reply next operator =
     let does = desk_does d.configuration d.place operator next.known d.rows request in
     ((reply ≡ does.0) × (next.rows ≡ does.1)) ⊎ ((reply ≡ refused NoMemory) × (next.rows ≡ d.rows))
+
+-- the desk at this place refuses the request by this code, at any front and whatever its rows are
+abbrev pub IsRefusedAt : Configuration → ℕ → Request → Code → Type 0
+IsRefusedAt configuration place request code =
+    (operator : Operator) (front : List Publication) (rows : Rows)
+    → desk_does configuration place operator front rows request ≡ (refused code, rows)
 
 -- A desk takes one turn, at the front that it knows afterwards. Want of a snapshot is told only by a desk that saw nothing
 -- new: it is as it was.

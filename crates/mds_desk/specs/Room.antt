@@ -1,14 +1,15 @@
 -- What the author's room holds, and what becomes of it.
-use Rattle.std.specs.Prelude.{◌≡◌, ◌⊎◌, List, [], ◌∷◌, ◌++◌, Bool, true, false, Option, Some, None, IfSome}
+use Rattle.std.specs.Prelude.{◌≡◌, ◌⊎◌, List, [], ◌∷◌, ◌++◌, Bool, true, false, Option, Some, None, IfSome, Err}
 use Rattle.mds_catalog.specs.Publication.{Publication}
 use Rattle.mds_drafts.specs.Drafts.{Drafts}
 use Rattle.mds_drafts.specs.Shelf.{drafts_of}
 use Rattle.mds_request.specs.Configuration.{Configuration, configuration}
 use Rattle.mds_request.specs.Request.{Request}
 use Rattle.mds_request.specs.Reply.{Reply, refused}
+use Rattle.mds_request.specs.declared.code.Code.{Code}
 use Rattle.mds_request.specs.declared.code.Code.TheVariants.{NoMemory}
 use Rattle.mds_machine.specs.Step.{new_state}
-use Rattle.mds_fronts.specs.Room.{IsRoomTurn}
+use Rattle.mds_fronts.specs.Room.{IsRoomTurn, room_does}
 use Rattle.mds_desk.specs.declared.author.AuthorRoom.{AuthorRoom}
 
 -- the author's room between two requests
@@ -31,6 +32,10 @@ room_of r =
 
 abbrev pub held_in : RoomState → Drafts × List Publication
 held_in r = (r.drafts, r.publications)
+
+-- the room refuses the request by this code, whatever it has
+abbrev pub IsRefusedInRoom : Configuration → Request → Code → Type 0
+IsRefusedInRoom configuration request code = (held : Drafts × List Publication) → room_does configuration held request ≡ Err code
 
 -- A note comes exactly where one publication more stands, and it is of the list then.
 abbrev pub IsNoted : List Publication → Option (List Publication) → List Publication → Type 0

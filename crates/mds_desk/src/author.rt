@@ -3,7 +3,7 @@ ghost use Rattle.std.specs.Prelude.{◌≡◌, ◌⊎◌};
 
 use crate::desk::Desk;
 use crate::leave::{Always, Leave};
-use crate::operator::refusal_of_another;
+use crate::resolving::refusal_of_another;
 use crate::telling::AuthorTelling;
 use mds_drafts::Drafts;
 use mds_request::{Actor, AuthorCall, Call, Code, Config, Request, Routes, read_call};
@@ -25,10 +25,12 @@ pub struct AuthorRoom<K: Naming> {
 }
 
 impl<K: Naming> AuthorRoom<K> {
-    ghost use Rattle.std.specs.Prelude.{[], true, false, None, IfOk, IfSome, IsSome, MatchBool};
+    ghost use Rattle.std.specs.Prelude.{[], true, false, None, Err, IfErr, IfOk, IfSome, IsSome, MatchBool, Ok};
     ghost use mathlib.Core.List.{IsPrefix};
+    ghost use Rattle.mds_request.specs.Call.{call_of};
     ghost use Rattle.mds_request.specs.Configuration.{configuration};
     ghost use Rattle.mds_request.specs.Request.{request_of};
+    ghost use Rattle.mds_request.specs.declared.call.Call.TheVariants.{Author as ByAuthor};
     ghost use Rattle.mds_request.specs.Reply.{refused};
     ghost use Rattle.mds_request.specs.declared.code.Code.TheVariants.{NoMemory};
     ghost use Rattle.mds_snapshot.specs.Publishing.{IsShorterFront};
@@ -36,7 +38,7 @@ impl<K: Naming> AuthorRoom<K> {
     ghost use Rattle.mds_machine.specs.Author.{author_does};
     ghost use Rattle.mds_shelf.specs.Ready.{AnswersAuthor};
     ghost use Rattle.mds_desk.specs.Desk.{state_of};
-    ghost use Rattle.mds_desk.specs.Room.{room_of, new_room, held_in, IsNoted, TakesRoomTurn};
+    ghost use Rattle.mds_desk.specs.Room.{room_of, new_room, held_in, IsNoted, IsRefusedInRoom, TakesRoomTurn};
 
     /// The room over this publisher and shelf, without a draft.
     pub(crate) fn new(
@@ -85,47 +87,63 @@ impl<K: Naming> AuthorRoom<K> {
         ensures given { IfSome result.1 (λ list. L.given leave.new) }
         ensures asked { (leave.new ≡ leave.old) ⊎ (IsSome result.1 ⊎ (result.0 ≡ refused NoMemory)) }
     {
-        match self.config.actor(request.token) {
-            Actor::Author => match read_call(&self.routes, &self.config, request) {
-                Ok(Call::Author(call)) => self.called(rt, &call, request, leave),
-                Ok(Call::Operator(_, _)) => (Answer::from(Code::Role), None),
-                Err(code) => (Answer::from(code), None),
-            },
-            _ => {
-                let code = refusal_of_another(&self.routes, &self.config, request);
-                (Answer::from(code), None)
-            }
+        match self.call(request) {
+            Ok(call) => self.carry_out(rt, request, &call, leave),
+            Err(code) => (Answer::from(code), None),
         }
     }
 
-    /// Answers a call of the author: with the body that lies ready for it, or by carrying it out.
-    fn called<R: Wait, L: Leave>(
+    /// What the author calls for.
+    ///
+    /// # Errors
+    ///
+    /// The request is refused: one of the author by the table of calls, any other by `TooLarge` or `Token`.
+    fn call(&self, request: &Request<'_>) -> Result<AuthorCall, Code>
+        ensures calls { IfOk result (λ call. call_of (room_of self.now).configuration (request_of request.now) ≡ Ok (ByAuthor call)) }
+        ensures refused { IfErr result (IsRefusedInRoom (room_of self.now).configuration (request_of request.now)) }
+    {
+        match read_call(&self.routes, &self.config, request) {
+            Ok(Call::Author(call)) => Ok(call),
+            Ok(Call::Operator(_, _)) => Err(Code::Token),
+            Err(code) => Err(self.refusal(request, code)),
+        }
+    }
+
+    /// The refusal here of a request that the table of calls refuses by this code.
+    fn refusal(&self, request: &Request<'_>, code: Code) -> Code
+        requires { call_of (room_of self.now).configuration (request_of request.now) ≡ Err code }
+        ensures { IsRefusedInRoom (room_of self.now).configuration (request_of request.now) result }
+    {
+        match self.config.actor(request.token) {
+            Actor::Author => code,
+            _ => refusal_of_another(code),
+        }
+    }
+
+    /// Carries out a call of the author, the one that the request is: with the body that lies ready for it, or
+    /// anew. Leave is asked as `answer_with` does, and the reply and the note are as its are.
+    pub fn carry_out<R: Wait, L: Leave>(
         &mut self,
         rt: &R,
-        call: &AuthorCall,
         request: &Request<'_>,
+        call: &AuthorCall,
         leave: &mut L,
     ) -> (Answer, Option<Note<K>>)
-        ensures same { (room_of self.new).configuration ≡ (room_of self.old).configuration }
-        ensures answer { Gives (Unit {0}) (held_in (room_of self.old))
-            (author_does (room_of self.old).drafts (room_of self.old).publications call.now (request_of request.now)) result.0 (held_in (room_of self.new)) }
-        ensures noted { IsNoted (room_of self.old).publications result.1 (room_of self.new).publications }
-        ensures stays_closed { (room_of self.old).is_open ≡ false → ((room_of self.new).is_open ≡ false) × (result.1 ≡ None) }
-        ensures stays_open { (room_of self.old).is_open ≡ true → ((room_of self.new).is_open ≡ true) ⊎ (result.0 ≡ refused NoMemory) }
-        ensures open_noted { IfSome result.1 (λ list. (room_of self.new).is_open ≡ true) }
+        requires resolved { call_of (room_of self.old).configuration (request_of request.now) ≡ Ok (ByAuthor call.now) }
+        ensures turn { TakesRoomTurn (room_of self.old) (request_of request.now) result.0 result.1 (room_of self.new) }
         ensures given { IfSome result.1 (λ list. L.given leave.new) }
         ensures asked { (leave.new ≡ leave.old) ⊎ (IsSome result.1 ⊎ (result.0 ≡ refused NoMemory)) }
     {
         let asked = ready_for_author(self.publisher.catalogue(), call);
         match self.shelf.find(&asked, &self.publisher.note()) {
             Some(body) => (Answer::ready(body), None),
-            None => self.carried_out(rt, asked, call, request, leave),
+            None => self.perform(rt, asked, call, request, leave),
         }
     }
 
-    /// Carries a call of the author out. The drafts of a publication are taken out after it. A reply to what
-    /// was asked of the published documents lies ready from then on, until the next publication.
-    fn carried_out<R: Wait, L: Leave>(
+    /// Carries out a call for which no body lies ready. The drafts of a publication are taken out after it. A
+    /// reply to what was asked of the published documents lies ready from then on, until the next publication.
+    fn perform<R: Wait, L: Leave>(
         &mut self,
         rt: &R,
         asked: Option<Ready>,
@@ -189,6 +207,15 @@ impl<K: Naming> AuthorRoom<K> {
         ensures { IfOk result (λ c. configuration c.value ≡ (room_of self.now).configuration) }
     {
         Arc::try_clone(&self.config)
+    }
+
+    /// A share of the table of routes.
+    ///
+    /// # Errors
+    ///
+    /// No further share could be made.
+    pub fn routes(&self) -> Result<Arc<Routes>, AllocError> {
+        Arc::try_clone(&self.routes)
     }
 
     /// Whether all that a desk of the same opening knows is published here; if not, the desk knows all that

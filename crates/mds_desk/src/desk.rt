@@ -1,19 +1,21 @@
 //! An operator's own place.
-ghost use Rattle.std.specs.Prelude.{◌≡◌, ◌⊎◌, IfErr, IfOk, Some, option_map, slice_get};
+ghost use Rattle.std.specs.Prelude.{◌≡◌, ◌⊎◌, IfErr, IfOk, Ok, Some, option_map, slice_get};
 ghost use Rattle.std.specs.FinMap.{len};
 ghost use Rattle.mds_fleet.specs.Fleet.{Fits};
+ghost use Rattle.mds_request.specs.Call.{call_of};
 ghost use Rattle.mds_request.specs.Configuration.{configuration};
+ghost use Rattle.mds_request.specs.declared.call.Call.TheVariants.{Operator as OperatorAt};
 ghost use Rattle.mds_request.specs.declared.code.Code.TheVariants.{NoMemory, NoSnapshot};
 ghost use Rattle.mds_world.specs.Lasting.{fits_prop, lasting_in};
 
 use crate::gate::Gate;
-use crate::operator::answered;
+use crate::operator::answer_call;
 use crate::seat::Seat;
 use crate::telling::Telling;
 use core::mem::replace_with;
 use mds_catalog::Catalogue;
 use mds_fleet::Book;
-use mds_request::{Code, Request};
+use mds_request::{Code, OperatorCall, Request};
 use mds_shelf::Answer;
 use mds_snapshot::{Look, Naming, Note, Pane};
 use mds_verdict::Evaluator;
@@ -69,13 +71,11 @@ impl<K: Naming> Desk<K> {
         &self.pane
     }
 
-    /// Answers a request, and carries it out, from one look at what is published: publications that begin
-    /// with all that this desk has seen or learnt.
+    /// Answers a request: reads its call and carries it out (`carry_out`), or gives the first refusal.
     ///
-    /// For a request of this desk's operator the reply is the success or the first refusal that applies at
-    /// that front; for any other it is `too_large` or `token`, and the vehicles stay. Where memory runs out
-    /// or nothing is shown, which is so once the author's room is finished, the reply is 503 and the
-    /// vehicles stay.
+    /// For a request of this desk's operator the reply is the success or the first refusal that applies; for
+    /// any other it is `too_large` or `token`, and the vehicles stay. What the table of calls refuses is
+    /// answered without a look at what is published.
     pub fn answer<G: Gate, E: Evaluator<Catalogue>>(
         &mut self,
         request: &Request<'_>,
@@ -85,10 +85,35 @@ impl<K: Naming> Desk<K> {
         requires { E.may_judge }
         ensures { TakesTurn (state_of self.old) (request_of request.now) result (state_of self.new) }
     {
+        match self.seat.call(request) {
+            Ok(call) => self.carry_out(request, &call, gate, evaluator),
+            Err(code) => Answer::from(code),
+        }
+    }
+
+    /// Carries out a call of this desk's operator, the one that the request is, from one look at what is
+    /// published: publications that begin with all that this desk has seen or learnt.
+    ///
+    /// The reply is the success or the first refusal that applies at that front. Where memory runs out or
+    /// nothing is shown, which is so once the author's room is finished, the reply is 503 and the vehicles
+    /// stay.
+    pub fn carry_out<G: Gate, E: Evaluator<Catalogue>>(
+        &mut self,
+        request: &Request<'_>,
+        call: &OperatorCall,
+        gate: &mut G,
+        evaluator: &E,
+    ) -> Answer
+        requires judge { E.may_judge }
+        requires resolved { call_of (state_of self.old).configuration (request_of request.now) ≡ Ok (OperatorAt (state_of self.old).place call.now) }
+        ensures { TakesTurn (state_of self.old) (request_of request.now) result (state_of self.new) }
+    {
         replace_with(
             self,
-            (request, gate, evaluator),
-            |desk, (request, gate, evaluator)| desk.answering(request, gate, evaluator),
+            (request, call, gate, evaluator),
+            |desk, (request, call, gate, evaluator)| {
+                desk.take_turn(request, call, gate, evaluator)
+            },
         )
     }
 
@@ -168,13 +193,15 @@ impl<K: Naming> Desk<K> {
         }
     }
 
-    fn answering<G: Gate, E: Evaluator<Catalogue>>(
+    fn take_turn<G: Gate, E: Evaluator<Catalogue>>(
         self,
         request: &Request<'_>,
+        call: &OperatorCall,
         gate: &mut G,
         evaluator: &E,
     ) -> (Desk<K>, Answer)
-        requires { E.may_judge }
+        requires judge { E.may_judge }
+        requires resolved { call_of (state_of self).configuration (request_of request.now) ≡ Ok (OperatorAt (state_of self).place call.now) }
         ensures { TakesTurn (state_of self) (request_of request.now) result.1 (state_of result.0) }
     {
         let Self {
@@ -185,7 +212,7 @@ impl<K: Naming> Desk<K> {
         match pane.look() {
             Ok(look) => {
                 gate.held();
-                let answer = answered(&seat, &mut book, &look, request, evaluator);
+                let answer = answer_call(&seat, &mut book, &look, call, request, evaluator);
                 let desk = Desk {
                     seat,
                     book,

@@ -9,6 +9,7 @@ mod gate;
 pub mod laws;
 mod leave;
 mod operator;
+mod resolving;
 mod seat;
 mod telling;
 

@@ -1,39 +1,24 @@
 //! What an operator is answered, over its own book and a front of what is published alone.
-ghost use Rattle.std.specs.Prelude.{◌≡◌, ◌⊎◌, IfSome, Some, option_map, slice_get};
+ghost use Rattle.std.specs.Prelude.{◌≡◌, IfSome, Some, option_map, slice_get};
 ghost use Rattle.mds_fleet.specs.Fleet.{Fits};
-ghost use Rattle.mds_request.specs.Call.{call_of};
 ghost use Rattle.mds_request.specs.Configuration.{configuration};
 ghost use Rattle.mds_request.specs.Request.{request_of};
-ghost use Rattle.mds_request.specs.Reply.{refused};
-ghost use Rattle.mds_request.specs.declared.code.Code.TheVariants.{NoMemory};
 ghost use Rattle.mds_machine.specs.Answer.{Gives};
-ghost use Rattle.mds_machine.specs.Meaning.{own_step};
 ghost use Rattle.mds_machine.specs.Operator.{operator_does};
-ghost use Rattle.mds_fronts.specs.Desks.{refusal_of, desk_does};
 ghost use Rattle.mds_world.specs.Lasting.{lasting_in};
 
 use crate::seat::Seat;
 use mds_catalog::Catalogue;
 use mds_fleet::Book;
-use mds_request::{Actor, Call, Code, Config, OperatorCall, Request, Routes, read_call};
+use mds_request::{OperatorCall, Request};
 use mds_shelf::{Answer, ready_for_operator};
 use mds_snapshot::{Look, Naming};
 use mds_verdict::Evaluator;
 use mds_world::operator_step;
 
-/// The refusal of a request that carries another's access token: too large a body comes first.
-pub(crate) fn refusal_of_another(routes: &Routes, config: &Config, request: &Request<'_>) -> Code
-    ensures { result ≡ refusal_of (call_of (configuration config.now) (request_of request.now)) }
-{
-    match read_call(routes, config, request) {
-        Err(Code::TooLarge) => Code::TooLarge,
-        _ => Code::Token,
-    }
-}
-
 /// Answers the operator's own call: with the body that lies ready for it, or with a reply of its own, which
 /// lies ready from then on where it tells what is published.
-fn called<K: Naming, E: Evaluator<Catalogue>>(
+pub(crate) fn answer_call<K: Naming, E: Evaluator<Catalogue>>(
     seat: &Seat<K>,
     book: &mut Book,
     look: &Look<K>,
@@ -68,53 +53,4 @@ fn called<K: Naming, E: Evaluator<Catalogue>>(
         evaluator,
     );
     seat.shelf.answer(seat.alloc, asked, &note, reply)
-}
-
-/// Answers the operator's own request.
-fn own<K: Naming, E: Evaluator<Catalogue>>(
-    seat: &Seat<K>,
-    book: &mut Book,
-    look: &Look<K>,
-    request: &Request<'_>,
-    evaluator: &E,
-) -> Answer
-    requires ready { E.may_judge }
-    requires limit { Some book.old.limit
-        ≡ option_map (λ o. o.limit) (slice_get (configuration seat.now.config.value).operators seat.now.place) }
-    requires fits { Fits (lasting_in look.now) book.old }
-    ensures answer { IfSome (slice_get (configuration seat.now.config.value).operators seat.now.place) (λ o.
-        let own = own_step (configuration seat.now.config.value) o look.now book.old.rows (request_of request.now) in
-        ((result ≡ own.0) × (book.new.rows ≡ own.1)) ⊎ ((result ≡ refused NoMemory) × (book.new.rows ≡ book.old.rows))) }
-    ensures limit { book.new.limit ≡ book.old.limit }
-    ensures fits { Fits (lasting_in look.now) book.new }
-{
-    match read_call(&seat.routes, &seat.config, request) {
-        Ok(Call::Operator(_, call)) => called(seat, book, look, &call, request, evaluator),
-        Ok(Call::Author(_)) => Answer::from(Code::Role),
-        Err(code) => Answer::from(code),
-    }
-}
-
-/// Answers a request at the desk of the operator at this seat.
-pub(crate) fn answered<K: Naming, E: Evaluator<Catalogue>>(
-    seat: &Seat<K>,
-    book: &mut Book,
-    look: &Look<K>,
-    request: &Request<'_>,
-    evaluator: &E,
-) -> Answer
-    requires ready { E.may_judge }
-    requires limit { Some book.old.limit
-        ≡ option_map (λ o. o.limit) (slice_get (configuration seat.now.config.value).operators seat.now.place) }
-    requires fits { Fits (lasting_in look.now) book.old }
-    ensures answer { IfSome (slice_get (configuration seat.now.config.value).operators seat.now.place) (λ o.
-        let does = desk_does (configuration seat.now.config.value) seat.now.place o look.now book.old.rows (request_of request.now) in
-        ((result ≡ does.0) × (book.new.rows ≡ does.1)) ⊎ ((result ≡ refused NoMemory) × (book.new.rows ≡ book.old.rows))) }
-    ensures limit { book.new.limit ≡ book.old.limit }
-    ensures fits { Fits (lasting_in look.now) book.new }
-{
-    match seat.config.actor(request.token) {
-        Actor::Operator(asker) if asker == seat.place => own(seat, book, look, request, evaluator),
-        _ => Answer::from(refusal_of_another(&seat.routes, &seat.config, request)),
-    }
 }

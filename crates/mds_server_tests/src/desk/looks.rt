@@ -108,3 +108,40 @@ fn a_publication_between_looks(rt: HostRuntime) -> Result<(), Fail> {
     assert!(rt; stage(&rt, rt.alloc(), &PublicationBetween)?);
     Ok(())
 }
+
+/// No call has this target.
+const NOWHERE: &Exchange = &Exchange {
+    at: 1000,
+    token: "alfa",
+    verb: Verb::Get,
+    target: "/nowhere",
+    body: "",
+    success: "",
+};
+
+struct WithoutALook;
+
+impl Scene for WithoutALook {
+    fn play<K: Naming, R: Wait + Abort>(
+        &self,
+        rt: &R,
+        _alloc: Global,
+        _room: &mut AuthorRoom<K>,
+        alfa: &mut Desk<K>,
+        _bravo: &mut Desk<K>,
+    ) -> Result<bool, AllocError> {
+        let nowhere = request(moment(rt, NOWHERE), NOWHERE);
+        let mut gate = Counting { looks: 0 };
+        let reply = alfa.answer(&nowhere, &mut gate, &Plain);
+        assert_refused(rt, &reply, 404, r#"{"error":"no_route"}"#);
+        gate.assert_counted(rt, 0);
+        Ok(true)
+    }
+}
+
+/// What the table of calls refuses needs no look at what is published.
+#[test]
+fn refuses_without_a_look(rt: HostRuntime) -> Result<(), Fail> {
+    assert!(rt; stage(&rt, rt.alloc(), &WithoutALook)?);
+    Ok(())
+}

@@ -1,4 +1,4 @@
-use Rattle.std.proofs.Common.{◌≡◌, ◌<◌, Some, option_map, slice_get, length, map, arith, ap, ◌∙◌, sym}
+use Rattle.std.proofs.Common.{◌<◌, Some, option_map, slice_get, length, map, arith, ap, ◌∙◌, sym}
 use Rattle.std.proofs.lemmas.Option.{slice_get-map, slice_get-get_or}
 use Rattle.std.proofs.lemmas.List.{length-map}
 use Rattle.mds_request.specs.Configuration.{operator}

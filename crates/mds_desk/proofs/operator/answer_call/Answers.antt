@@ -10,7 +10,7 @@ use Rattle.mds_machine.specs.Operator.{operator_does}
 use Rattle.mds_shelf.specs.Ready.{AnswersOperator, IsFound, IsReplyTo}
 use Rattle.mds_world.specs.Lasting.{lasting_in}
 use Rattle.mds_desk.proofs.Shelving.{operator_found, operator_laid, operator_told}
-use Rattle.mds_desk.proofs.operator.called.Goals as goal
+use Rattle.mds_desk.proofs.operator.answer_call.Goals as goal
 
 pub returns-in-Some : goal.returns-in-Some
 returns-in-Some g c =

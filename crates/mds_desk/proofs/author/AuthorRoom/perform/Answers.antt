@@ -5,7 +5,7 @@ use Rattle.mds_machine.specs.Answer.{Gives}
 use Rattle.mds_machine.specs.Author.{author_does}
 use Rattle.mds_shelf.specs.Ready.{IsReplyTo}
 use Rattle.mds_desk.proofs.Shelving.{author_laid, author_told}
-use Rattle.mds_desk.proofs.author.AuthorRoom.carried_out.Goals as goal
+use Rattle.mds_desk.proofs.author.AuthorRoom.perform.Goals as goal
 
 pub answer-requires : goal.answer-requires
 answer-requires g c =

@@ -1,0 +1,25 @@
+use mathlib.Core.List.{IsPrefix}
+use Rattle.std.proofs.Common.{◌≡◌, sym, subst}
+use Rattle.mds_request.specs.Configuration.{configuration}
+use Rattle.mds_request.specs.Request.{request_of}
+use Rattle.mds_world.proofs.Lasting.{fits_front}
+use Rattle.mds_desk.proofs.Turning.{looked, not_looked}
+use Rattle.mds_desk.proofs.desk.Desk.take_turn.Goals as goal
+
+-- what the book keeps stays right for a front that begins with all that is known
+pub answer_call-answer-requires-clause-fits : goal.answer_call-answer-requires-clause-fits
+answer_call-answer-requires-clause-fits g c = fits_front c.args.self.pane c.in-Ok.look c.args.self.book c.in-Ok.ensures c.args.self.fits
+
+pub returns-in-Ok : goal.returns-in-Ok
+returns-in-Ok g c =
+    let d = c.args.self in
+    let left : c.leave.result ≡ c.in-Ok.look = cc in
+    looked (configuration d.seat.config.value) d.seat.place d.pane d.book.rows (request_of c.args.request.now) c.args.call.now c.requires.resolved c.in-Ok.look c.leave.result
+    c.answer_call-answer.result c.answer_call-answer.new.book.rows
+    (subst (IsPrefix d.pane) (sym left) c.in-Ok.ensures) (sym left) c.answer_call-answer.ensures.answer
+
+-- nothing is shown: the desk is as it was
+pub returns-in-Err : goal.returns-in-Err
+returns-in-Err g c =
+    let d = c.args.self in
+    not_looked (configuration d.seat.config.value) d.seat.place d.pane d.book.rows (request_of c.args.request.now) c.in-Err.none.pane c.from.result c.in-Err.ensures c.from.ensures
