@@ -44,6 +44,13 @@ one_front mine other both n m len len' p q is =
     let same : n ≡ m = grind (arith, nat_tests) in
     prefix_whole mine other (prefix_shorter mine other both p q (omega arith)) (omega arith)
 
+-- of two beginnings of one list the one that isn't longer begins the other
+pub front_of : {A : Type 0} (mine other both : List A) (n m : ℕ) → n ≡ length mine → m ≡ length other → IsPrefix mine both → IsPrefix other both
+    → nat_le n m ≡ true → IsPrefix mine other
+front_of mine other both n m len len' p q is =
+    let least : n ≤ m = grind (arith, nat_tests) in
+    prefix_shorter mine other both p q (omega (arith, len, len', least))
+
 -- what was seen is within what was taken of a list that was seen, or is longer
 pub within : {A : Type 0} (mine log both : List A) (n m : ℕ) → n ≡ length mine → m ≤ length log → IsPrefix mine both → IsPrefix log both
     → (b : Bool) → nat_le n m ≡ b → MatchBool b (IsPrefix mine (take m log)) (length (take m log) < length mine)

@@ -2,3 +2,4 @@ mod Choosing
 pub mod Fronts
 pub mod Words
 pub mod Held
+pub mod Sharing

@@ -3,3 +3,5 @@ pub mod History
 pub mod Waiting
 pub mod Durable
 pub mod Places
+pub mod Shares
+pub mod Tables

@@ -3,13 +3,15 @@ ghost use Rattle.std.specs.Prelude.{◌≡◌, ◌+◌, ◌≤◌, ◌<◌, ◌+
 ghost use mathlib.Core.List.{IsPrefix};
 ghost use Rattle.mds_records.specs.Groups.{is_taken};
 ghost use Rattle.mds_commit.specs.Durable.{chosen};
+ghost use Rattle.mds_commit.specs.Tables.{bytes_in, holding};
 ghost use Rattle.mds_commit.specs.declared.deciding.TheConstants.{MOST_TEXTS};
 ghost use Rattle.mds_commit.specs.declared.backlog.TheConstants.{BESIDE};
 ghost use Rattle.mds_commit.specs.declared.room.TheConstants.{STEP};
 
-use crate::deciding::{MOST_TEXTS, Round, may_all_wait, may_wait, next_round};
+use crate::deciding::{MOST_TEXTS, MOST_TEXTS_OF_ONE, Round, Usage, next_round};
 use crate::history::{Ledger, Naming, Stamp};
 use crate::room::{Room, STEP};
+use crate::shares::Shares;
 use crate::space::{NoRoom, Space};
 use mds_records::{Log, fits, is_plain};
 use std::alloc::{AllocError, Global};
@@ -24,9 +26,10 @@ const BESIDE: u64 = 56;
 pub enum ReserveFault {
     /// The disk has no room for its record.
     NoRoom,
-    /// As many texts wait to be written as may.
+    /// The share of who asks is used up, or less than one place is left for each other.
     Crowded,
-    /// No log takes it: it is empty, too long, or begins as a mark does.
+    /// No log takes it, since it is empty, too long, or begins as a mark does; or all of them are more than is ever
+    /// reserved at once.
     Untaken,
     /// The flusher is to stop, or has stopped.
     Stopping,
@@ -42,12 +45,16 @@ impl From<NoRoom> for ReserveFault {
 
 /// A text, and the place that is held for its record. It is appended or given back, and can't be let go.
 pub struct Place {
+    /// Who asks.
+    pub asker: usize,
     pub text: Vec<u8>,
     pub ghost taken: { is_taken text.items ≡ true },
 }
 
 /// Texts, and the places that are held for their records. They are appended or given back together, and can't be let go.
 pub struct Places {
+    /// Who asks.
+    pub asker: usize,
     pub texts: Vec<Vec<u8>>,
 }
 
@@ -81,27 +88,25 @@ impl<K: Naming, L: Log> Model for Queue<K, L> {
 pub(crate) struct Backlog<K: Naming, L: Log, S: Space> {
     queue: Queue<K, L>,
     room: Room<S>,
-    /// How many places are held for texts that aren't appended yet.
-    held: usize,
-    /// The bytes of the texts that wait.
-    waiting: u64,
+    /// What waits of each who asks, and what places are held for.
+    shares: Shares,
     /// Whether no further place is given.
     is_stopping: bool,
-    ghost waiting_is: { waiting ≤ room.used },
-    ghost few: { held ≤ MOST_TEXTS },
+    ghost used: { room.used ≡ bytes_in shares.each.items },
 }
 
 impl Place {
-    /// The place for a text.
+    /// The place for a text of this asker.
     ///
     /// # Errors
     ///
     /// No log takes the text.
-    fn new(text: Vec<u8>) -> Result<Place, ReserveFault>
-        ensures { IfOk result (λ place. place.text ≡ text) }
+    fn new(asker: usize, text: Vec<u8>) -> Result<Place, ReserveFault>
+        ensures text { IfOk result (λ place. place.text ≡ text) }
+        ensures asker { IfOk result (λ place. place.asker ≡ asker) }
     {
         if fits(&text) && is_plain(&text) {
-            Ok(Place { text })
+            Ok(Place { asker, text })
         } else {
             Err(ReserveFault::Untaken)
         }
@@ -189,10 +194,13 @@ impl<K: Naming, L: Log> Queue<K, L> {
 ///
 /// # Errors
 ///
-/// A log doesn't take one of them, or all of them take more than is set aside at once.
+/// A log doesn't take one of them, or all of them are more than is ever reserved at once.
 fn bytes_of_all(texts: &[Vec<u8>]) -> Result<u64, ReserveFault>
     ensures { IfOk result (λ bytes. bytes ≤ STEP) }
 {
+    if texts.len() > MOST_TEXTS_OF_ONE {
+        return Err(ReserveFault::Untaken);
+    }
     let mut bytes = 0;
     for text in texts {
         if !fits(text) || !is_plain(text) {
@@ -200,7 +208,7 @@ fn bytes_of_all(texts: &[Vec<u8>]) -> Result<u64, ReserveFault>
         }
         bytes += text.len() as u64 + BESIDE;
         if bytes > STEP {
-            return Err(ReserveFault::Crowded);
+            return Err(ReserveFault::Untaken);
         }
     }
     Ok(bytes)
@@ -218,7 +226,7 @@ fn first_flag(flags: &[bool]) -> (bool, &[bool])
 }
 
 impl<K: Naming, L: Log, S: Space> Backlog<K, L, S> {
-    /// Nothing waits.
+    /// Nothing waits, of so many who ask.
     ///
     /// # Errors
     ///
@@ -227,6 +235,7 @@ impl<K: Naming, L: Log, S: Space> Backlog<K, L, S> {
         alloc: Global,
         nothing: &Stamp<K, L>,
         space: S,
+        askers: usize,
     ) -> Result<Backlog<K, L, S>, AllocError>
         requires { S.aside space ≡ 0 }
         ensures { IfOk result (λ b. (b.queue.taken ≡ nothing.now) × (b.queue.appended ≡ nothing.now)) }
@@ -234,40 +243,59 @@ impl<K: Naming, L: Log, S: Space> Backlog<K, L, S> {
         Ok(Backlog {
             queue: Queue::new(alloc, nothing)?,
             room: Room::new(space),
-            held: 0,
-            waiting: 0,
+            shares: Shares::new(alloc, askers)?,
             is_stopping: false,
         })
     }
 
-    /// Holds a place for a text.
+    /// Whether so much more may be reserved for this asker now.
+    pub(crate) fn has_share(&self, asker: usize, more: Usage) -> bool {
+        self.shares.has_share(asker, more)
+    }
+
+    /// Holds places for so much more of this asker.
+    ///
+    /// # Errors
+    ///
+    /// Its share is used up, or the disk has no room. Nothing is held then.
+    fn hold_more(&mut self, asker: usize, more: Usage) -> Result<(), ReserveFault>
+        requires { more.bytes ≤ STEP }
+        ensures held { OnOk result (self.new.shares.each.items ≡ holding self.old.shares.each.items asker more) }
+        ensures unchanged { OnErr result ((self.new.shares ≡ self.old.shares) × (self.new.room.used ≡ self.old.room.used)) }
+        ensures queue { self.new.queue ≡ self.old.queue }
+    {
+        if !self.shares.has_share(asker, more) {
+            return Err(ReserveFault::Crowded);
+        }
+        self.room.take(more.bytes)?;
+        self.shares.hold(asker, more);
+        Ok(())
+    }
+
+    /// Holds a place for a text of this asker.
     ///
     /// # Errors
     ///
     /// See [`ReserveFault`]. Nothing is held then, and nothing has changed for others.
-    pub(crate) fn hold(&mut self, text: Vec<u8>) -> Result<Place, ReserveFault>
+    pub(crate) fn hold(&mut self, asker: usize, text: Vec<u8>) -> Result<Place, ReserveFault>
         ensures place { IfOk result (λ place. place.text ≡ text) }
-        ensures held { OnOk result (self.new.held ≡ self.old.held + 1) }
-        ensures room { OnErr result ((self.new.held ≡ self.old.held) × (self.new.room.used ≡ self.old.room.used)) }
+        ensures asker { IfOk result (λ place. place.asker ≡ asker) }
+        ensures held { OnOk result (self.new.shares.each.items ≡ holding self.old.shares.each.items asker (record { texts = 1; bytes = vec_len text + BESIDE })) }
+        ensures unchanged { OnErr result ((self.new.shares ≡ self.old.shares) × (self.new.room.used ≡ self.old.room.used)) }
         ensures queue { self.new.queue ≡ self.old.queue }
-        ensures waiting { self.new.waiting ≡ self.old.waiting }
     {
         if self.is_stopping {
             return Err(ReserveFault::Stopping);
         }
-        let place = Place::new(text)?;
-        let waiting = self.queue.len();
+        let place = Place::new(asker, text)?;
         let bytes = place.bytes();
-        if waiting > MOST_TEXTS || !may_wait(waiting + self.held, self.room.used, bytes) {
-            let Place { text: _ } = place;
-            return Err(ReserveFault::Crowded);
+        match self.hold_more(asker, Usage { texts: 1, bytes }) {
+            Ok(()) => Ok(place),
+            Err(fault) => {
+                let Place { asker: _, text: _ } = place;
+                Err(fault)
+            }
         }
-        if self.room.take(bytes).is_err() {
-            let Place { text: _ } = place;
-            return Err(ReserveFault::NoRoom);
-        }
-        self.held += 1;
-        Ok(place)
     }
 
     /// Gives a place back.
@@ -275,9 +303,8 @@ impl<K: Naming, L: Log, S: Space> Backlog<K, L, S> {
         ensures queue { self.new.queue ≡ self.old.queue }
     {
         let bytes = place.bytes();
-        let Place { text: _ } = place;
-        if self.held > 0 && bytes <= self.room.used - self.waiting {
-            self.held -= 1;
+        let Place { asker, text: _ } = place;
+        if self.shares.release(asker, bytes) {
             self.room.give_back(bytes);
         }
     }
@@ -289,51 +316,54 @@ impl<K: Naming, L: Log, S: Space> Backlog<K, L, S> {
         ensures taken { self.new.queue.taken ≡ self.old.queue.taken }
     {
         let bytes = place.bytes();
-        let Place { text } = place;
-        if self.held == 0 || bytes > self.room.used - self.waiting {
+        let Place { asker, text } = place;
+        if !self.shares.append(asker, bytes) {
             return None;
         }
-        let stamp = self.queue.push(ledger, text)?;
-        self.held -= 1;
-        self.waiting += bytes;
-        Some(stamp)
+        self.queue.push(ledger, text)
     }
 
-    /// Holds a place for each of the texts.
+    /// Holds a place for each of the texts of this asker.
     ///
     /// # Errors
     ///
     /// See [`ReserveFault`]. Nothing is held then, and nothing has changed for others.
-    pub(crate) fn hold_all(&mut self, texts: Vec<Vec<u8>>) -> Result<Places, ReserveFault>
+    pub(crate) fn hold_all(
+        &mut self,
+        asker: usize,
+        texts: Vec<Vec<u8>>,
+    ) -> Result<Places, ReserveFault>
         ensures places { IfOk result (λ places. places.texts ≡ texts) }
-        ensures held { OnOk result (self.new.held ≡ self.old.held + vec_len texts) }
-        ensures room { OnErr result ((self.new.held ≡ self.old.held) × (self.new.room.used ≡ self.old.room.used)) }
+        ensures asker { IfOk result (λ places. places.asker ≡ asker) }
+        ensures unchanged { OnErr result ((self.new.shares ≡ self.old.shares) × (self.new.room.used ≡ self.old.room.used)) }
         ensures queue { self.new.queue ≡ self.old.queue }
-        ensures waiting { self.new.waiting ≡ self.old.waiting }
     {
         if self.is_stopping {
             return Err(ReserveFault::Stopping);
         }
         let bytes = bytes_of_all(&texts)?;
-        let waiting = self.queue.len();
-        if waiting > MOST_TEXTS
-            || !may_all_wait(waiting + self.held, self.room.used, texts.len(), bytes)
-        {
-            return Err(ReserveFault::Crowded);
-        }
-        self.room.take(bytes)?;
-        self.held += texts.len();
-        Ok(Places { texts })
+        let more = Usage {
+            texts: texts.len(),
+            bytes,
+        };
+        self.hold_more(asker, more)?;
+        Ok(Places { asker, texts })
     }
 
     /// Appends a text that a place is held for, where it is kept, and else gives the place back. Says whether it did.
-    fn settle_one(&mut self, ledger: &Ledger<K, L>, text: Vec<u8>, is_kept: bool) -> bool
+    fn settle_one(
+        &mut self,
+        ledger: &Ledger<K, L>,
+        asker: usize,
+        text: Vec<u8>,
+        is_kept: bool,
+    ) -> bool
         ensures appended { result ≡ true
             → self.new.queue.appended ≡ self.old.queue.appended ++ (if is_kept then text.items ∷ [] else []) }
         ensures taken { self.new.queue.taken ≡ self.old.queue.taken }
     {
         // A place was held for it, so a log takes it.
-        let Ok(place) = Place::new(text) else {
+        let Ok(place) = Place::new(asker, text) else {
             return false;
         };
         if is_kept {
@@ -356,13 +386,13 @@ impl<K: Naming, L: Log, S: Space> Backlog<K, L, S> {
         ensures stamp { IfSome result (λ stamp. self.new.queue.appended ≡ stamp) }
         ensures taken { self.new.queue.taken ≡ self.old.queue.taken }
     {
-        let Places { texts } = places;
+        let Places { asker, texts } = places;
         let mut is_settled = true;
         let mut rest = kept;
         for text in texts {
             let (is_kept, others) = first_flag(rest);
             rest = others;
-            let settles = self.settle_one(ledger, text, is_kept);
+            let settles = self.settle_one(ledger, asker, text, is_kept);
             is_settled = is_settled & settles;
         }
         if is_settled {
@@ -374,7 +404,7 @@ impl<K: Naming, L: Log, S: Space> Backlog<K, L, S> {
 
     /// What the flusher does next.
     pub(crate) fn round(&self) -> Round {
-        next_round(self.queue.len(), self.held, self.is_stopping)
+        next_round(self.queue.len(), self.shares.held(), self.is_stopping)
     }
 
     /// Moves all that waits into a group: see [`Queue::take`]. The room that is set aside for it is given back, since it
@@ -392,8 +422,8 @@ impl<K: Naming, L: Log, S: Space> Backlog<K, L, S> {
         ensures unchanged { IfNone result (group.new.items ≡ []) }
     {
         let stamp = self.queue.take(group, taken)?;
-        self.room.give_back(self.waiting);
-        self.waiting = 0;
+        let bytes = self.shares.take();
+        self.room.give_back(bytes);
         Some(stamp)
     }
 

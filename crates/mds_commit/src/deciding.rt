@@ -2,13 +2,33 @@
 ghost use Rattle.std.specs.Prelude.{◌≡◌, ◌+◌, ◌<◌, ◌≤◌, true, false, IsTrue, ◌↔◌};
 ghost use Rattle.mds_commit.specs.declared.deciding.Round.TheVariants as rounds;
 ghost use Rattle.mds_commit.specs.declared.deciding.Telling.TheVariants as tellings;
-ghost use Rattle.mds_commit.specs.declared.deciding.TheConstants.{MOST_TEXTS, MOST_BYTES};
+ghost use Rattle.mds_commit.specs.Shares.{MayReserve};
 
 /// The most texts that wait to be written, with those that places are held for.
 pub const MOST_TEXTS: usize = 16_384;
 
 /// The most bytes that these take in the log.
 pub const MOST_BYTES: u64 = 33_554_432;
+
+/// The most of these texts that are of one who asks.
+pub const MOST_TEXTS_OF_ONE: usize = 4_096;
+
+/// The most bytes that these take in the log.
+pub const MOST_BYTES_OF_ONE: u64 = 8_388_608;
+
+/// How many bytes are left for each who has nothing, beside a place for one text.
+pub const LEAST_BYTES: u64 = 65_536;
+
+/// For how many who ask as much can be left.
+pub const MOST_ASKERS: usize = 512;
+
+/// What waits to be written of one who asks, or of all, with what places are held for.
+#[derive(Clone, Copy, Debug, PartialEq, Eq)]
+pub struct Usage {
+    pub texts: usize,
+    /// What the records of these texts take in the log.
+    pub bytes: u64,
+}
 
 /// Whether a reply may leave.
 #[derive(Clone, Copy, Debug, PartialEq, Eq)]
@@ -61,19 +81,26 @@ pub fn next_round(waiting: usize, held: usize, is_stopping: bool) -> Round
     }
 }
 
-/// Whether a further text of so many bytes in the log may wait, beside so many texts of so many bytes.
-pub fn may_wait(texts: usize, bytes: u64, more: u64) -> bool
-    ensures { IsTrue result ↔ ((texts < MOST_TEXTS) × (bytes + more ≤ MOST_BYTES)) }
+/// Whether so much fits beside what is there.
+fn fits(there: u64, more: u64, most: u64) -> bool
+    ensures { IsTrue result ↔ (there + more ≤ most) }
 {
-    texts < MOST_TEXTS && bytes <= MOST_BYTES && more <= MOST_BYTES - bytes
+    there <= most && more <= most - there
 }
 
-/// Whether so many further texts, of so many bytes in the log in all, may wait, beside so many texts of so many bytes.
-pub fn may_all_wait(texts: usize, bytes: u64, more_texts: usize, more: u64) -> bool
-    ensures { IsTrue result ↔ ((texts + more_texts ≤ MOST_TEXTS) × (bytes + more ≤ MOST_BYTES)) }
+/// Whether so much more may be reserved for one who asks, beside what it has itself and what all have, it among them,
+/// where so many others have nothing: it stays within its share, and one place is left for each of those.
+pub fn may_reserve(own: Usage, all: Usage, without: usize, more: Usage) -> bool
+    ensures { IsTrue result ↔ MayReserve own all without more }
 {
-    more_texts <= MOST_TEXTS
-        && texts <= MOST_TEXTS - more_texts
-        && bytes <= MOST_BYTES
-        && more <= MOST_BYTES - bytes
+    if without > MOST_ASKERS {
+        return false;
+    }
+    let texts_left = (MOST_TEXTS - without) as u64;
+    let bytes_left = MOST_BYTES - without as u64 * LEAST_BYTES;
+    let more_texts = more.texts as u64;
+    fits(own.texts as u64, more_texts, MOST_TEXTS_OF_ONE as u64)
+        && fits(own.bytes, more.bytes, MOST_BYTES_OF_ONE)
+        && fits(all.texts as u64, more_texts, texts_left)
+        && fits(all.bytes, more.bytes, bytes_left)
 }

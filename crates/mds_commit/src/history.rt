@@ -264,6 +264,15 @@ impl<K: Naming, L: Log> Stamp<K, L> {
         self.count == other.count
     }
 
+    /// Whether the other has these texts first.
+    pub fn begins(&self, other: &Stamp<K, L>) -> bool
+        ensures { result ≡ true → IsPrefix self.now other.now }
+    {
+        let mut both = self.seen.again();
+        both.learn(&other.seen);
+        self.count <= other.count
+    }
+
     /// All that was appended since. It waits for nobody.
     pub fn later(&self, ledger: &Ledger<K, L>) -> Stamp<K, L>
         ensures { IsPrefix self.now result }

@@ -6,7 +6,7 @@ ghost use Rattle.mds_commit.specs.declared.deciding.TheConstants.{MOST_TEXTS};
 ghost use Rattle.mds_commit.specs.declared.deciding.Telling.TheVariants as tellings;
 
 use crate::backlog::{Backlog, Place, Places, ReserveFault};
-use crate::deciding::{Round, Telling, may_tell};
+use crate::deciding::{Round, Telling, Usage, may_tell};
 use crate::flusher::{FlushFault, Flusher};
 use crate::history::{Ledger, Naming, Opened, Stamp};
 use crate::space::Space;
@@ -46,7 +46,8 @@ pub struct Keeper<K: Naming, L: Log, S: Space> {
     has_failed: AtomicBool,
 }
 
-/// Begins to serve over a log, behind what it has: what all share, the flusher, and the stamp of nothing.
+/// Begins to serve over a log, behind what it has: what all share, the flusher, and the stamp of nothing. Who asks is a
+/// number below `askers`, and of so many at most [`MOST_ASKERS`](crate::MOST_ASKERS) have a share of what may wait.
 ///
 /// # Errors
 ///
@@ -56,6 +57,7 @@ pub fn open<K: Naming, L: Log, S: Space>(
     opened: Opened<L>,
     log: L,
     space: S,
+    askers: usize,
 ) -> Result<(Keeper<K, L, S>, Flusher<K, L>, Stamp<K, L>), AllocError>
     requires book { opened.seen.book ≡ K.book }
     requires listed { (first : List (List ℕ)) × L.may_be log first }
@@ -67,7 +69,7 @@ pub fn open<K: Naming, L: Log, S: Space>(
     let flusher = Flusher::new(alloc, log, position, &nothing)?;
     let keeper = Keeper {
         ledger,
-        backlog: Mutex::new(Backlog::new(alloc, &nothing, space)?),
+        backlog: Mutex::new(Backlog::new(alloc, &nothing, space, askers)?),
         more: Condvar::new(),
         synced: Condvar::new(),
         told: Arc::new(alloc, Notify::new(alloc)?)?,
@@ -77,19 +79,24 @@ pub fn open<K: Naming, L: Log, S: Space>(
 }
 
 impl<K: Naming, L: Log, S: Space> Keeper<K, L, S> {
-    /// Holds a place for the text of a request's record, before the request is carried out. The place is given to
-    /// [`Keeper::append`] where the request is kept, and else to [`Keeper::release`].
+    /// Holds a place for the text of the record of this asker's request, before the request is carried out. The place is
+    /// given to [`Keeper::append`] where the request is kept, and else to [`Keeper::release`].
     ///
     /// # Errors
     ///
     /// There is no place: see [`ReserveFault`]. Nothing has changed.
-    pub fn reserve<R: Wait>(&self, rt: &R, text: Vec<u8>) -> Result<Place, ReserveFault>
+    pub fn reserve<R: Wait>(
+        &self,
+        rt: &R,
+        asker: usize,
+        text: Vec<u8>,
+    ) -> Result<Place, ReserveFault>
         ensures { IfOk result (λ place. place.text ≡ text) }
     {
         if self.has_failed.load(Ordering::SeqCst) {
             return Err(ReserveFault::Failed);
         }
-        self.backlog.lock(rt).hold(text)
+        self.backlog.lock(rt).hold(asker, text)
     }
 
     /// Gives a place back, of a request that isn't kept.
@@ -120,19 +127,29 @@ impl<K: Naming, L: Log, S: Space> Keeper<K, L, S> {
         }
     }
 
-    /// Holds a place for each of these texts, before the requests are carried out whose records they are. The places are
-    /// given to [`Keeper::settle`], or to [`Keeper::release_all`] where none of the requests is carried out.
+    /// Holds a place for each of these texts of one asker, before the requests are carried out whose records they are. The
+    /// places are given to [`Keeper::settle`], or to [`Keeper::release_all`] where none of the requests is carried out.
     ///
     /// # Errors
     ///
     /// There aren't as many places: see [`ReserveFault`]. Nothing has changed.
-    pub fn reserve_all<R: Wait>(&self, rt: &R, texts: Vec<Vec<u8>>) -> Result<Places, ReserveFault>
+    pub fn reserve_all<R: Wait>(
+        &self,
+        rt: &R,
+        asker: usize,
+        texts: Vec<Vec<u8>>,
+    ) -> Result<Places, ReserveFault>
         ensures { IfOk result (λ places. places.texts ≡ texts) }
     {
         if self.has_failed.load(Ordering::SeqCst) {
             return Err(ReserveFault::Failed);
         }
-        self.backlog.lock(rt).hold_all(texts)
+        self.backlog.lock(rt).hold_all(asker, texts)
+    }
+
+    /// Whether so much more may be reserved for this asker now. It reserves nothing.
+    pub fn has_share<R: Wait>(&self, rt: &R, asker: usize, more: Usage) -> bool {
+        self.backlog.lock(rt).has_share(asker, more)
     }
 
     /// Gives all of these places back.
@@ -142,7 +159,8 @@ impl<K: Naming, L: Log, S: Space> Keeper<K, L, S> {
     }
 
     /// Appends the records of those requests that are kept, by a flag for each, in their order and with nothing between,
-    /// and gives the places of the others back. Gives the stamp of all that was appended by then. It waits for no sync.
+    /// and gives the places of the others back. Gives the stamp of all that was appended by then, which has all that a
+    /// stamp has that was known before. It waits for no sync.
     ///
     /// # Errors
     ///
@@ -150,18 +168,21 @@ impl<K: Naming, L: Log, S: Space> Keeper<K, L, S> {
     pub fn settle<R: Wait>(
         &self,
         rt: &R,
+        known: &Stamp<K, L>,
         places: Places,
         kept: &[bool],
     ) -> Result<Stamp<K, L>, NotTold>
-        ensures { IfOk result (λ stamp. AreLast (chosen kept.now (map (λ v. v.items) places.texts.items)) stamp) }
+        ensures last { IfOk result (λ stamp. AreLast (chosen kept.now (map (λ v. v.items) places.texts.items)) stamp) }
+        ensures known { IfOk result (λ stamp. IsPrefix known.now stamp) }
     {
         let settled = self.backlog.lock(rt).settle(&self.ledger, places, kept);
         match settled {
-            Some(stamp) => {
+            // Under the lock it is all that was appended, so what was known before begins it.
+            Some(stamp) if known.begins(&stamp) => {
                 self.more.notify_one();
                 Ok(stamp)
             }
-            None => {
+            _ => {
                 self.fail(rt);
                 Err(NotTold::Failed)
             }

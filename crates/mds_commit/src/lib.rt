@@ -10,12 +10,14 @@ mod keeper;
 pub mod laws;
 mod room;
 mod settling;
+mod shares;
 mod space;
 
 pub use backlog::{Place, Places, ReserveFault};
 pub use ballast::Ballast;
 pub use deciding::{
-    MOST_BYTES, MOST_TEXTS, Round, Telling, may_all_wait, may_tell, may_wait, next_round,
+    LEAST_BYTES, MOST_ASKERS, MOST_BYTES, MOST_BYTES_OF_ONE, MOST_TEXTS, MOST_TEXTS_OF_ONE, Round,
+    Telling, Usage, may_reserve, may_tell, next_round,
 };
 pub use flusher::{FlushFault, Flusher};
 pub use history::{Ledger, Naming, Opened, Stamp, Synced};

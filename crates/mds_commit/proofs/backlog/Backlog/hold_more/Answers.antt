@@ -1,0 +1,11 @@
+use Rattle.std.proofs.Common.{arith}
+use Rattle.mds_commit.specs.Tables.{holding}
+use Rattle.mds_commit.proofs.Sharing.{bytes_held, bytes_in_le}
+use Rattle.mds_commit.proofs.backlog.Backlog.hold_more.Goals as goal
+
+pub take-requires-clause-bounded : goal.take-requires-clause-bounded
+take-requires-clause-bounded g c =
+    let each = c.args.self.now.shares.each.items in
+    let known = c.has_share.ensures.known c.if-not-has_share.false in
+    let shared = c.has_share.ensures.shared c.if-not-has_share.false in
+    omega (arith, c.args.self.now.used, bytes_held each c.args.asker c.args.more known, bytes_in_le (holding each c.args.asker c.args.more) shared)

@@ -1,0 +1,11 @@
+use Rattle.std.proofs.Common.{◌≡◌, ◌+◌, ◌++◌, map, take, drop, length}
+use Rattle.mds_commit.specs.Tables.{bytes_in, untaken}
+use Rattle.mds_commit.proofs.shares.Shares.take.Given as goal
+
+-- what was taken so far, and what each has then
+abbrev pub invariant-loop-asker : goal.invariant-loop-asker
+invariant-loop-asker l = record {
+  bytes : l.bytes + bytes_in l.self.each.items ≡ bytes_in l.fn.self.each.items;
+  taken : l.self.each.items ≡ map untaken (take l.asker l.fn.self.each.items) ++ drop l.asker l.fn.self.each.items;
+  askers : length l.self.each.items ≡ length l.fn.self.each.items;
+}

@@ -1,0 +1,12 @@
+use Rattle.std.proofs.Common.{◌≡◌, ◌+◌, ◌*◌, map, sum_by, take}
+use Rattle.mds_commit.specs.Shares.{texts_kept, bytes_kept}
+use Rattle.mds_commit.specs.Tables.{usage_of}
+use Rattle.mds_commit.specs.declared.deciding.TheConstants.{LEAST_BYTES}
+use Rattle.mds_commit.proofs.shares.counted.Given as goal
+
+-- what is kept for those that were counted
+abbrev pub invariant-loop-share : goal.invariant-loop-share
+invariant-loop-share l = record {
+  texts : l.all.texts + l.without ≡ sum_by texts_kept (map usage_of (take l.share-index l.shares));
+  bytes : l.all.bytes + l.without * LEAST_BYTES ≡ sum_by bytes_kept (map usage_of (take l.share-index l.shares));
+}
