@@ -15,10 +15,10 @@ pub use arrival::{Arrival, End, Piece};
 pub use asker::Asker;
 pub use length::is_long;
 pub use limits::{
-    ACCEPT_PAUSE_MILLIS, BODY_SECONDS, HEAD_SECONDS, IDLE_SECONDS, LEAST_TAKEN, MOST_CONNECTIONS,
-    MOST_HELD, MOST_HELD_BY_ALL, MOST_OF_ASKER, MOST_PAST, MOST_SHORT, MOST_STRANGERS,
-    MOST_WAITING, PASSING_SECONDS, SLOW_SECONDS, SMALL_BODY, TAKING_SECONDS, limits_of_bodies,
-    limits_of_connections, limits_of_times,
+    ACCEPT_PAUSE_MILLIS, BODY_SECONDS, CROWDED_PAUSE_MILLIS, HEAD_SECONDS, IDLE_SECONDS,
+    LEAST_TAKEN, MOST_CONNECTIONS, MOST_HELD, MOST_HELD_BY_ALL, MOST_OF_ASKER, MOST_PAST,
+    MOST_SHORT, MOST_STRANGERS, MOST_WAITING, PASSING_SECONDS, SLOW_SECONDS, SMALL_BODY,
+    TAKING_SECONDS, limits_of_bodies, limits_of_connections, limits_of_times,
 };
 pub use moment::moment_of;
 pub use seat::{Decision, seat_for};

@@ -36,6 +36,9 @@ pub const LEAST_TAKEN: u64 = 16_384;
 /// How long no connection is accepted after one couldn't be.
 pub const ACCEPT_PAUSE_MILLIS: u64 = 20;
 
+/// How long a request pauses that was crowded, before it is asked again.
+pub const CROWDED_PAUSE_MILLIS: u64 = 10;
+
 /// The most short answers that one who asks is given at once.
 pub const MOST_SHORT: u32 = 4_096;
 
@@ -65,7 +68,8 @@ pub fn limits_of_connections()
 {}
 
 /// A head has 10 seconds, a body 30, or 2 where it is read past for a busy server, an idle connection 60; nothing of a reply is taken for at most 30, and 16 KiB a
-/// second of it after 120. No connection is accepted for 20 milliseconds after one that couldn't be.
+/// second of it after 120. No connection is accepted for 20 milliseconds after one that couldn't be, and a request that was crowded
+/// isn't asked again for 10.
 pub fn limits_of_times()
     ensures head { HEAD_SECONDS ≡ 10 }
     ensures body { BODY_SECONDS ≡ 30 }
@@ -75,6 +79,7 @@ pub fn limits_of_times()
     ensures slow { SLOW_SECONDS ≡ 120 }
     ensures least { LEAST_TAKEN ≡ 16384 }
     ensures pause { ACCEPT_PAUSE_MILLIS ≡ 20 }
+    ensures crowded { CROWDED_PAUSE_MILLIS ≡ 10 }
 {}
 
 /// A body has at most a mebibyte, and one more is read past; bodies that wait have 64 of one who asks and 256 of all.
