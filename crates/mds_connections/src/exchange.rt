@@ -1,18 +1,19 @@
 //! A request on its way: its body is taken in within its limit and its time, then the request waits for its turn, and then
 //! it is answered.
-ghost use Rattle.std.specs.Prelude.{◌≡◌, None, IfSome, IfOk};
+ghost use Rattle.std.specs.Prelude.{◌≡◌, ◌+◌, ◌≤◌, None, IfSome, IfOk, IsSome};
 ghost use Rattle.futures.specs.Task.{Covers, Keeps};
 ghost use Rattle.futures.specs.Poll.{IfReady, OnPending};
 ghost use Rattle.tokio.specs.Locks.{CanAcquire};
 ghost use Rattle.mds_connections.specs.Busy.{SaysBusy};
 ghost use Rattle.mds_connections.specs.declared.seats.Admittance.TheVariants.{Busy};
 
+use crate::house::Crowded;
 use crate::intake::{Intake, Taken};
 use crate::replies::{busy, finished};
 use crate::seats::Admittance;
 use crate::sits::Sits;
-use futures::Future;
 use futures::task::{Context, Poll};
+use futures::{Future, ready};
 use http::request::Parts;
 use hyper::body::Incoming;
 use mds_limits::{Arrival, Asker, BODY_SECONDS, PASSING_SECONDS, is_long};
@@ -22,6 +23,9 @@ use std::alloc::AllocError;
 use tokio::sync::AcquireOwned;
 use tokio::time::Sleep;
 
+/// How often a request that is crowded pauses at most, before it is told that the server is busy: some five seconds.
+const MOST_PAUSES: u32 = 500;
+
 /// The future of an answer.
 #[derive(Drop)]
 pub struct Exchange<P, F, I> {
@@ -30,11 +34,12 @@ pub struct Exchange<P, F, I> {
     parts: Parts,
     /// What still comes.
     body: Option<Intake<I>>,
+    /// When the body is late; once it has arrived, when a pause is over.
     deadline: Option<Sleep>,
-    /// The body, once it has arrived.
-    taken: Option<Taken>,
-    /// How it arrived.
-    arrival: Arrival,
+    /// The body, once it has arrived, and until the reply is on its way.
+    taken: Taken,
+    /// How often the request has paused because it was crowded.
+    pauses: u32,
     /// What the request waits for behind its body.
     turn: Option<AcquireOwned>,
     /// The reply, once its turn is over.
@@ -58,8 +63,8 @@ impl<P: Sits, I: Drop> Exchange<P, P::Reply, I> {
             parts,
             body: Some(body),
             deadline: None,
-            taken: None,
-            arrival: Arrival::Whole,
+            taken: Taken::nothing(Arrival::Whole),
+            pauses: 0,
             turn: None,
             reply: None,
         }
@@ -91,32 +96,64 @@ impl<P: Sits, I: Drop> Exchange<P, P::Reply, I> {
         ensures reply { self.new.reply ≡ self.old.reply }
     {
         self.body = None;
-        let takes_long = takes_long(&self.parts, &taken);
+        self.taken = taken;
+        self.queue(asker);
+    }
+
+    /// The request waits for its turn, at the end of this asker's queue.
+    fn queue(&mut self, asker: Asker)
+        ensures admittance { self.new.admittance ≡ self.old.admittance }
+        ensures turn { IfSome self.new.turn CanAcquire }
+        ensures reply { self.new.reply ≡ self.old.reply }
+    {
+        self.deadline = None;
+        let takes_long = takes_long(&self.parts, &self.taken);
         self.turn = match &self.sitting {
             Some(sitting) => sitting.place(asker, takes_long),
             None => None,
         };
-        self.taken = Some(taken);
     }
 
-    /// Answers the request. Its place in the queue is given back with its turn.
-    fn answer(&mut self, taken: Taken)
+    /// Waits until the pause is over of a request that was crowded. It is in this asker's queue again then.
+    fn rest(&mut self, asker: Asker, cx: &mut Context<'_>) -> Poll<()>
+        requires turn { IfSome self.old.turn CanAcquire }
+        ensures admittance { self.new.admittance ≡ self.old.admittance }
+        ensures turn { IfSome self.new.turn CanAcquire }
+        ensures reply { self.new.reply ≡ self.old.reply }
+        ensures registered { OnPending result (Covers cx.new (λ _. ⊥)) }
+        ensures kept { Keeps cx.old cx.new }
+    {
+        if let Some(pause) = &mut self.deadline {
+            if pause.poll(cx).is_pending() {
+                return Poll::Pending;
+            }
+            self.queue(asker);
+        }
+        Poll::Ready(())
+    }
+
+    /// Asks for the answer to the request. Its place in the queue is given back with its turn.
+    ///
+    /// # Errors
+    ///
+    /// The share of who asks is used up: nothing was asked.
+    fn ask(&mut self) -> Result<(), Crowded>
         requires ready { P.may_answer }
         ensures admittance { self.new.admittance ≡ self.old.admittance }
         ensures turn { self.new.turn ≡ None }
-        ensures reply { IfSome self.new.reply P.Reply.can_poll }
+        ensures reply { IfSome self.old.reply P.Reply.can_poll → IfSome self.new.reply P.Reply.can_poll }
     {
-        self.arrival = taken.arrival;
-        let takes_long = takes_long(&self.parts, &taken);
-        self.reply = match &self.sitting {
-            Some(sitting) => Some(sitting.answer(&self.parts, taken, takes_long)),
-            None => None,
-        };
         self.turn = None;
+        let takes_long = takes_long(&self.parts, &self.taken);
+        if let Some(sitting) = &self.sitting {
+            self.reply = Some(sitting.answer(&self.parts, &self.taken, takes_long)?);
+        }
+        self.taken = Taken::nothing(self.taken.arrival);
+        Ok(())
     }
 
-    /// Waits for the turn of a request whose body arrived so, and answers it then.
-    fn take_turn(&mut self, taken: Taken, cx: &mut Context<'_>) -> Poll<()>
+    /// Waits for the turn of a request whose body has arrived, and asks for its answer then.
+    fn take_turn(&mut self, cx: &mut Context<'_>) -> Poll<Result<(), Crowded>>
         requires turn { IfSome self.old.turn CanAcquire }
         requires ready { P.may_answer }
         ensures admittance { self.new.admittance ≡ self.old.admittance }
@@ -126,18 +163,52 @@ impl<P: Sits, I: Drop> Exchange<P, P::Reply, I> {
         ensures kept { Keeps cx.old cx.new }
     {
         let Some(turn) = &mut self.turn else {
-            self.answer(taken);
-            return Poll::Ready(());
+            return Poll::Ready(self.ask());
         };
         match turn.poll(cx) {
-            Poll::Pending => {
-                self.taken = Some(taken);
-                return Poll::Pending;
+            Poll::Pending => Poll::Pending,
+            Poll::Ready(Ok(_permit)) => Poll::Ready(self.ask()),
+            Poll::Ready(Err(_)) => {
+                self.taken = Taken::nothing(Arrival::NoMemory);
+                Poll::Ready(self.ask())
             }
-            Poll::Ready(Ok(_permit)) => self.answer(taken),
-            Poll::Ready(Err(_)) => self.answer(Taken::nothing(Arrival::NoMemory)),
         }
-        Poll::Ready(())
+    }
+
+    /// Lets a request pause that was crowded; the server is busy, where it has paused as often as it may.
+    fn pause(&mut self, cx: &mut Context<'_>) -> Poll<HttpResult>
+        ensures says { IfReady result (λ r. IfOk r SaysBusy) }
+        ensures admittance { self.new.admittance ≡ self.old.admittance }
+        ensures turn { self.new.turn ≡ self.old.turn }
+        ensures reply { self.new.reply ≡ self.old.reply }
+        ensures registered { OnPending result (Covers cx.new (λ _. ⊥)) }
+        ensures kept { Keeps cx.old cx.new }
+    {
+        let Some(mut pause) = self.next_pause() else {
+            return Poll::Ready(self.refuse());
+        };
+        let is_over = pause.poll(cx).is_ready();
+        self.deadline = Some(pause);
+        if is_over {
+            cx.yield_now()
+        } else {
+            Poll::Pending
+        }
+    }
+
+    /// One more pause; none, where the request has paused as often as it may, or there is no timer for it.
+    fn next_pause(&mut self) -> Option<Sleep>
+        ensures admittance { self.new.admittance ≡ self.old.admittance }
+        ensures turn { self.new.turn ≡ self.old.turn }
+        ensures reply { self.new.reply ≡ self.old.reply }
+        ensures spent { MOST_PAUSES ≤ self.old.pauses → result ≡ None }
+        ensures counted { IsSome result → self.new.pauses ≡ self.old.pauses + 1 }
+    {
+        if self.pauses >= MOST_PAUSES {
+            return None;
+        }
+        self.pauses += 1;
+        self.sitting.as_ref()?.pause()
     }
 
     /// Waits until the reply may be told.
@@ -165,10 +236,11 @@ impl<P: Sits, I: Drop> Exchange<P, P::Reply, I> {
 
     /// The reply as it is sent.
     fn finish(&self, told: HttpResult) -> HttpResult {
-        finished(told?, self.arrival)
+        finished(told?, self.taken.arrival)
     }
 
-    /// Takes the body in, waits for the turn of this asker, answers, and waits until the reply may be told.
+    /// Takes the body in, waits for the turn of this asker, answers, and waits until the reply may be told. A request that is
+    /// crowded pauses, queues again, and is asked again.
     fn proceed(&mut self, asker: Asker, cx: &mut Context<'_>) -> Poll<HttpResult>
         requires turn { IfSome self.old.turn CanAcquire }
         requires reply { IfSome self.old.reply P.Reply.can_poll }
@@ -188,10 +260,11 @@ impl<P: Sits, I: Drop> Exchange<P, P::Reply, I> {
                 Poll::Pending => return Poll::Pending,
             }
         }
-        if let Some(taken) = self.taken.take()
-            && self.take_turn(taken, cx).is_pending()
-        {
-            return Poll::Pending;
+        if self.reply.is_none() {
+            ready!(self.rest(asker, cx));
+            if let Err(Crowded) = ready!(self.take_turn(cx)) {
+                return self.pause(cx);
+            }
         }
         self.tell(cx)
     }

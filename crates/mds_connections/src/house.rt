@@ -10,9 +10,13 @@ use std::alloc::Global;
 use std::sync::Mutex;
 use tokio::time::Handle;
 
+/// The share of who asks is used up: nothing was asked, and the request may be asked again.
+#[derive(Clone, Copy, Debug, PartialEq, Eq)]
+pub struct Crowded;
+
 /// Answers requests whose bodies have arrived.
 pub trait Answers: Drop {
-    ghost use Rattle.std.specs.Prelude.{⊤};
+    ghost use Rattle.std.specs.Prelude.{⊤, IfOk};
 
     /// What it takes to answer: nothing, or threads that may share what answers.
     ghost may_answer: { Type 0 } = { ⊤ };
@@ -23,10 +27,14 @@ pub trait Answers: Drop {
     /// The response, when it may be told. Where there was no memory for it, it is an error.
     type Reply: Future<Output = HttpResult>;
 
-    /// The response on its way.
-    fn answer(&self, parts: &Parts, taken: Taken) -> Self::Reply
+    /// The response on its way. The request and its body are lent, so that it can be asked again.
+    ///
+    /// # Errors
+    ///
+    /// The share of who asks is used up: nothing was asked.
+    fn answer(&self, parts: &Parts, taken: &Taken) -> Result<Self::Reply, Crowded>
         requires ready { may_answer }
-        ensures { Self.Reply.can_poll result };
+        ensures { IfOk result Self.Reply.can_poll };
 }
 
 /// What all connections share.

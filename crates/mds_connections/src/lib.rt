@@ -20,7 +20,7 @@ mod watch;
 
 pub use admission::Admission;
 pub use ending::{Closed, Closing};
-pub use house::{Answers, House};
+pub use house::{Answers, Crowded, House};
 pub use intake::Taken;
 pub use queues::Queues;
 pub use replies::{busy, closing, finished};

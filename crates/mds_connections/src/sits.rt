@@ -1,4 +1,5 @@
 //! What a connection has of its server.
+use crate::house::Crowded;
 use crate::intake::Taken;
 use crate::seats::Admittance;
 use futures::Future;
@@ -13,7 +14,7 @@ use tokio::time::Sleep;
 /// What a connection has of its house, or who lets connections in. The types of a connection's own hold it as a parameter:
 /// the proof of what serves them goes over all that stands in a type, and so over nothing of a house.
 pub trait Sits: Drop {
-    ghost use Rattle.std.specs.Prelude.{⊤, IfSome};
+    ghost use Rattle.std.specs.Prelude.{⊤, IfOk, IfSome};
     ghost use Rattle.tokio.specs.Locks.{CanAcquire};
 
     /// A reply on its way: what it says is known, and it may still wait, with no place in a queue, until it may be told.
@@ -37,6 +38,9 @@ pub trait Sits: Drop {
 
     /// A time of so many seconds that begins now; none, where the clock can't be read or memory is refused.
     fn sleep(&self, seconds: u64) -> Option<Sleep>;
+
+    /// The pause of a request that was crowded, which begins now; none, where the clock can't be read or memory is refused.
+    fn pause(&self) -> Option<Sleep>;
 
     /// The time; none, where the clock can't be read.
     fn now(&self) -> Option<Instant>;
@@ -69,9 +73,13 @@ pub trait Sits: Drop {
         ensures { IfSome result CanAcquire };
 
     /// The reply to the request whose body was taken in.
-    fn answer(&self, parts: &Parts, taken: Taken, takes_long: bool) -> Self::Reply
+    ///
+    /// # Errors
+    ///
+    /// The share of who asks is used up: nothing was asked.
+    fn answer(&self, parts: &Parts, taken: &Taken, takes_long: bool) -> Result<Self::Reply, Crowded>
         requires ready { may_answer }
-        ensures { Self.Reply.can_poll result };
+        ensures { IfOk result Self.Reply.can_poll };
 
     /// The request waits no more: its reply is made. What it waited with is given back.
     fn made(&self);

@@ -1,11 +1,13 @@
 //! A share of a house.
-use crate::house::{Answers, House};
+ghost use Rattle.std.specs.Prelude.{IfOk};
+
+use crate::house::{Answers, Crowded, House};
 use crate::intake::Taken;
 use crate::seats::{Admittance, Seat};
 use crate::sits::Sits;
 use crate::watch::Bell;
 use http::request::Parts;
-use mds_limits::Asker;
+use mds_limits::{Asker, CROWDED_PAUSE_MILLIS};
 use std::alloc::{AllocError, Global};
 use std::sync::atomic::Ordering;
 use std::sync::{Arc, Wait};
@@ -74,6 +76,16 @@ impl<A: Answers, C: Clock + Wait + Drop> Sits for Sitting<A, C> {
             .ok()
     }
 
+    fn pause(&self) -> Option<Sleep> {
+        self.house
+            .timers
+            .sleep(
+                &self.house.clock,
+                Duration::from_millis(CROWDED_PAUSE_MILLIS),
+            )
+            .ok()
+    }
+
     fn now(&self) -> Option<Instant> {
         Instant::now(&self.house.clock).ok()
     }
@@ -114,9 +126,9 @@ impl<A: Answers, C: Clock + Wait + Drop> Sits for Sitting<A, C> {
         self.house.queues.place(asker, takes_long)
     }
 
-    fn answer(&self, parts: &Parts, taken: Taken, takes_long: bool) -> A::Reply
+    fn answer(&self, parts: &Parts, taken: &Taken, takes_long: bool) -> Result<A::Reply, Crowded>
         requires { A.may_answer }
-        ensures { A.Reply.can_poll result }
+        ensures { IfOk result A.Reply.can_poll }
     {
         if takes_long {
             self.bell.ring();
