@@ -1,5 +1,5 @@
 //! The page before what answers requests.
-ghost use Rattle.std.specs.Prelude.{◌≡◌, Some, IfSome, IsSome};
+ghost use Rattle.std.specs.Prelude.{◌≡◌, Some, IfOk, IfSome, IsSome, MatchResult};
 ghost use Rattle.futures.specs.declared.future.either.Either.TheVariants.{Left, Right};
 ghost use Rattle.http_uri.specs.Uri.{uri_path};
 ghost use Rattle.mds_limits.specs.declared.asker.Asker.TheVariants.{Stranger};
@@ -9,7 +9,7 @@ ghost use Rattle.mds_page.specs.declared.file.File.{File};
 
 use futures::future::{Either, Ready, ready};
 use http::request::Parts;
-use mds_connections::{Answers, Taken};
+use mds_connections::{Answers, Crowded, Taken};
 use mds_limits::Asker;
 use mds_page::Page;
 use mds_responses::HttpResult;
@@ -42,19 +42,22 @@ impl<A: Answers> Answers for Paged<A> {
         }
     }
 
-    fn answer(&self, parts: &Parts, taken: Taken) -> Either<Told, A::Reply>
+    /// # Errors
+    ///
+    /// It is no request for a file, and the share of who asks is used up.
+    fn answer(&self, parts: &Parts, taken: &Taken) -> Result<Either<Told, A::Reply>, Crowded>
         requires ready { A.may_answer }
-        ensures poll { elim result [ Left told ↦ IsSome told.0 | Right reply ↦ A.Reply.can_poll reply ] }
-        ensures told { elim result [
+        ensures poll { IfOk result (elim [ Left told ↦ IsSome told.0 | Right reply ↦ A.Reply.can_poll reply ]) }
+        ensures told { MatchResult result (elim [
           | Left told ↦ IfSome told.0 (λ r. Tells parts.now.method (uri_path parts.now.uri) parts.now.headers (Some r))
           | Right reply ↦ IsNoFile (uri_path parts.now.uri)
-        ] }
+        ]) (λ _. IsNoFile (uri_path parts.now.uri)) }
     {
         let method = parts.method.as_str().as_bytes();
         let path = parts.uri.path().as_bytes();
         match self.page.respond(self.alloc, method, path, &parts.headers) {
-            Some(told) => Either::Left(ready(told)),
-            None => Either::Right(self.answers.answer(parts, taken)),
+            Some(told) => Ok(Either::Left(ready(told))),
+            None => Ok(Either::Right(self.answers.answer(parts, taken)?)),
         }
     }
 }
