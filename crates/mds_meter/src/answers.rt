@@ -7,7 +7,7 @@ use futures::Future;
 use http::Response;
 use http::request::Parts;
 use http_body_util::Full;
-use mds_connections::{Answers, Taken};
+use mds_connections::{Answers, Crowded, Taken};
 use mds_control::{Call, Counters};
 use mds_limits::Asker;
 use std::alloc::AllocError;
@@ -31,9 +31,14 @@ impl<'a, A: Answers, C: Clock + Copy + Drop> Answers for Metered<'a, A, C> {
         self.answers.asker(parts)
     }
 
-    fn answer(&self, parts: &Parts, taken: Taken) -> MeteredReply<'a, A::Reply, C> {
+    /// A request that is crowded is pending while it is asked, and is counted once it is answered.
+    fn answer(
+        &self,
+        parts: &Parts,
+        taken: &Taken,
+    ) -> Result<MeteredReply<'a, A::Reply, C>, Crowded> {
         let call = Call::of(parts.method.as_str(), parts.uri.path());
         let ticket = Ticket::new(self.counters, self.clock, call);
-        MeteredReply::new(self.answers.answer(parts, taken), ticket)
+        Ok(MeteredReply::new(self.answers.answer(parts, taken)?, ticket))
     }
 }
