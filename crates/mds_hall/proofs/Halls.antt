@@ -1,10 +1,11 @@
--- A hall may be shared by threads: its configuration is shared, and each desk, the author's room and the latest note is behind a lock.
+-- A hall may be shared by threads: its configuration and its routes are shared, and each desk, the author's room and the latest note is behind a lock.
 use denote.RattleType.{RattleType}
 use denote.Param.Send.{IsSend, IsSync, sendable}
 use denote.Param.SendFields.{declared_send, declared_sync}
 use Rattle.std.proofs.Crossing.{crosses}
 use Rattle.mds_snapshot.specs.declared.history.Naming.{Ghosts}
 use Rattle.mds_desk.proofs.Desks.{desk_send, room_send}
+use Rattle.mds_desk.proofs.Routing.{routes_send, routes_sync}
 use Rattle.mds_request.proofs.config.Config.TheSendSync as config
 use Rattle.mds_snapshot.proofs.note.Note.TheSendSync as note
 use Rattle.mds_hall.specs.declared.named.Named.{Ghosts as Names}
@@ -38,18 +39,22 @@ module _ (K : RattleType) (n : Names K.Denot) (g : Ghosts K.Denot) where
   hall_send =
       let cs = config.the_send in
       let cy = config.the_sync in
+      let rs = routes_send in
+      let ry = routes_sync in
       let d = lock_send in
       let r = room_crosses in
       let t = note.the_send K g in
       declared_send (Hall.the_type K n g)
-      (search (sendable, crosses) depth 20, (search (sendable, crosses) depth 20, (search (sendable, crosses) depth 20, (search (sendable, crosses) depth 20, tt))))
+      (search (sendable, crosses) depth 20, (search (sendable, crosses) depth 20, (search (sendable, crosses) depth 20, (search (sendable, crosses) depth 20, (search (sendable, crosses) depth 20, tt)))))
 
   pub hall_sync : IsSync (Hall.the_row K n g)
   hall_sync =
       let cs = config.the_send in
       let cy = config.the_sync in
+      let rs = routes_send in
+      let ry = routes_sync in
       let d = lock_sync in
       let r = room_crosses in
       let t = note.the_send K g in
       declared_sync (Hall.the_type K n g)
-      (search (sendable, crosses) depth 20, (search (sendable, crosses) depth 20, (search (sendable, crosses) depth 20, (search (sendable, crosses) depth 20, tt))))
+      (search (sendable, crosses) depth 20, (search (sendable, crosses) depth 20, (search (sendable, crosses) depth 20, (search (sendable, crosses) depth 20, (search (sendable, crosses) depth 20, tt)))))

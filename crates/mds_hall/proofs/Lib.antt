@@ -1,4 +1,6 @@
-mod Askers
+pub mod Askers
 pub mod Halls
+mod Outcomes
 mod Placing
+pub mod Refusing
 mod Turns

@@ -11,7 +11,7 @@ use Rattle.mds_hall.specs.Told.{DeskTells, Looks}
 use Rattle.mds_hall.specs.Turn.{Answers, DeskReplies, DeskRuns, IsDeskAt, IsTold, SaysOne, TakesToldRun, TakesToldTurn}
 
 -- what a desk is told leaves it the same desk
-same_told : (d : DeskState) (note : Option (List Publication)) (told : DeskState) → IsTold d note told → IsSameDesk d told
+pub same_told : (d : DeskState) (note : Option (List Publication)) (told : DeskState) → IsTold d note told → IsSameDesk d told
 same_told d None told is = record { configuration = ap (λ s. s.configuration) is; place = ap (λ s. s.place) is }
 same_told d (Some list) told learns = learns.same
 
@@ -19,21 +19,6 @@ same_told d (Some list) told learns = learns.same
 pub of_ok : {R E : Type 0} {P Q : R → Type 0} (result : Result R E) → ((r : R) → P r → Q r) → IfOk result P → IfOk result Q
 of_ok (Ok r) imply p = imply r p
 of_ok (Err e) imply p = tt
-
--- a desk of the operator at this place says the reply of a turn
-pub desk_says : {E : Type 0} (configuration : Configuration) (place : ℕ) (d : DeskState) (note : Option (List Publication)) (request : Request)
-    (result : Result (Response (Full (List ℕ))) E) (next : DeskState)
-    → IsDeskAt configuration place d → Answers d note request result next → IfOk result (SaysOne (DeskReplies configuration place request))
-desk_says configuration place d note request result next its answers =
-    let same = same_told d note answers.told answers.learns in
-    let gives : DeskReplies configuration place request answers.reply =
-    record {
-      before = answers.told;
-      after = next;
-      is_its = record { configured = same.configuration ∙ its.configured; placed = same.place ∙ its.placed };
-      turn = answers.turn;
-    } in
-    of_ok result (λ response says. (answers.reply, gives, says)) answers.says
 
 -- a turn of the desk of the operator at this place gives its reply
 pub desk_replies : (configuration : Configuration) (place : ℕ) (d : DeskState) (note : Option (List Publication)) (request : Request)

@@ -3,7 +3,6 @@ ghost use Rattle.std.specs.Prelude.{IfOk};
 ghost use Rattle.mds_request.specs.Configuration.{configuration};
 ghost use Rattle.mds_hall.specs.Respond.{Responds};
 
-use crate::asked::token;
 use crate::early::{Arrived, hear};
 use crate::hall::Hall;
 use crate::named::Named;
@@ -11,7 +10,7 @@ use crate::responding::response;
 use http::request::Parts;
 use mds_catalog::Catalogue;
 use mds_desk::{Gate, OpenGate};
-use mds_request::{Actor, Code};
+use mds_request::Call;
 use mds_responses::HttpResult;
 use mds_shelf::Answer;
 use mds_text::Moment;
@@ -19,8 +18,8 @@ use mds_verdict::Evaluator;
 use std::alloc::{AllocError, Global};
 use std::sync::Wait;
 
-/// Answers an HTTP request whose body has arrived, at this moment of the machine's clock. Vehicles are
-/// judged by the evaluator.
+/// Answers an HTTP request whose body has arrived, at this moment of the machine's clock. What the table of
+/// calls refuses is answered without a lock. Vehicles are judged by the evaluator.
 ///
 /// # Errors
 ///
@@ -71,18 +70,19 @@ pub fn respond_with<K: Named, R: Wait, G: Gate, E: Evaluator<Catalogue>>(
         Ok(heard) => heard,
         Err(code) => return response(alloc, Answer::from(code)),
     };
-    match hall.asker(token(&parts.headers)) {
-        Actor::Author => {
-            let reply = hall.authored(rt, heard);
-            response(alloc, reply)
+    match hall.call(&heard) {
+        Ok(Call::Author(call)) => {
+            let answer = hall.answer_author(rt, heard, &call);
+            response(alloc, answer)
         }
-        Actor::Operator(place) => {
+        Ok(Call::Operator(place, call)) => {
             let Some(mut desk) = hall.desk(place).taken(rt) else {
                 return Err(AllocError);
             };
             let note = hall.note(rt);
-            desk.answer(alloc, heard, note.as_ref(), gate, evaluator)
+            let answer = desk.carry_out(heard, &call, note.as_ref(), gate, evaluator);
+            response(alloc, answer)
         }
-        Actor::Nobody => response(alloc, Answer::from(Code::Token)),
+        Err(code) => response(alloc, Answer::from(code)),
     }
 }

@@ -1,8 +1,10 @@
 //! The author's room and the desks of a server, each behind a lock of its own.
-ghost use Rattle.std.specs.Prelude.{◌≡◌, ◌<◌, IfOk, IfSome, Some, length, map};
+ghost use Rattle.std.specs.Prelude.{◌≡◌, ◌<◌, IfOk, IfSome, Ok, Some, length, map};
 ghost use Rattle.std.specs.Sync.Mutex.{mutex_guard_value};
 ghost use Rattle.std.specs.List.{range_with_len};
+ghost use Rattle.mds_request.specs.Call.{call_of};
 ghost use Rattle.mds_request.specs.Configuration.{configuration, actor_of};
+ghost use Rattle.mds_request.specs.declared.call.Call.TheVariants.{Author as ByAuthor};
 ghost use Rattle.mds_desk.specs.Desk.{state_of};
 ghost use Rattle.mds_desk.specs.Room.{room_of};
 ghost use Rattle.mds_snapshot.specs.Opening.{book_of};
@@ -13,8 +15,8 @@ ghost use Rattle.mds_hall.specs.Turn.{AreDesksOf, RoomReplies};
 use crate::early::Heard;
 use crate::named::Named;
 use crate::places::{DeskLock, HallDesk, HallRoom};
-use mds_desk::{AuthorRoom, Desk, furnish};
-use mds_request::{Actor, Config};
+use mds_desk::{Always, AuthorRoom, Desk, furnish};
+use mds_request::{Actor, AuthorCall, Call, Code, Config, Routes, read_call};
 use mds_shelf::Answer;
 use mds_snapshot::{Blank, Note, OpenFault};
 use std::alloc::{AllocError, Global};
@@ -27,6 +29,7 @@ use std::sync::{Arc, Mutex, MutexGuard, Wait};
 #[derive(Drop)]
 pub struct Hall<K: Named> {
     config: Arc<Config>,
+    routes: Arc<Routes>,
     room: Mutex<HallRoom<K>>,
     desks: Vec<DeskLock<K>>,
     latest: Mutex<Option<Note<K>>>,
@@ -103,9 +106,10 @@ impl<K: Named> Hall<K> {
         requires desks { AreDesksOf K.configuration (map state_of desks.items) }
         ensures { IfOk result (λ hall. configuration hall.config.value ≡ K.configuration) }
     {
-        match (room.configuration(), locked(alloc, desks)) {
-            (Ok(config), Ok(desks)) => Ok(Hall {
+        match (room.configuration(), room.routes(), locked(alloc, desks)) {
+            (Ok(config), Ok(routes), Ok(desks)) => Ok(Hall {
                 config,
+                routes,
                 room: Mutex::new(HallRoom::new(room)),
                 desks,
                 latest: Mutex::new(None),
@@ -123,6 +127,18 @@ impl<K: Named> Hall<K> {
         ensures within { IsWithin (length (configuration self.now.config.value).operators) result }
     {
         self.config.actor(token)
+    }
+
+    /// What a request calls for, by who asks. Takes no lock.
+    ///
+    /// # Errors
+    ///
+    /// The first refusal of the table of calls, as `mds_request::read_call` says.
+    pub fn call(&self, heard: &Heard<'_>) -> Result<Call, Code>
+        ensures { result ≡ call_of (configuration self.now.config.value) (request_heard heard.now) }
+    {
+        let request = heard.request();
+        read_call(&self.routes, &self.config, &request)
     }
 
     /// The lock of the desk of the operator at this place of the configuration.
@@ -165,13 +181,19 @@ impl<K: Named> Hall<K> {
         copied(&*latest)
     }
 
-    /// Answers a request by one turn of the author's room. A publication's note is the latest before the
-    /// next request of the author is answered.
-    pub(crate) fn authored<R: Wait>(&self, rt: &R, heard: Heard<'_>) -> Answer
+    /// Carries out a call of the author, the one that the request is, by one turn of the author's room. A
+    /// publication's note is the latest before the next request of the author is answered.
+    pub(crate) fn answer_author<R: Wait>(
+        &self,
+        rt: &R,
+        heard: Heard<'_>,
+        call: &AuthorCall,
+    ) -> Answer
+        requires { call_of (configuration self.now.config.value) (request_heard heard) ≡ Ok (ByAuthor call.now) }
         ensures { RoomReplies (configuration self.now.config.value) (request_heard heard.entry) result }
     {
         let mut room = self.room.lock(rt);
-        let (reply, note) = room.answer(rt, heard);
+        let (reply, note) = room.carry_out(rt, heard, call, &mut Always);
         if let Some(note) = note {
             keep(&mut *self.latest.lock(rt), note);
         }
@@ -193,6 +215,7 @@ impl<K: Named> Hall<K> {
     pub fn finish<R: Wait>(self, rt: &R) {
         let Self {
             config: _config,
+            routes: _routes,
             room,
             desks: _desks,
             latest: _latest,

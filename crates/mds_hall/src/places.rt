@@ -1,23 +1,24 @@
 //! What lies behind the locks of a hall: of one opening and one configuration, which K names.
-ghost use Rattle.std.specs.Prelude.{◌≡◌, ◌⊎◌, IfErr, IfOk, IfSome, IsSome, OnErr, map, option_copied};
+ghost use Rattle.std.specs.Prelude.{◌≡◌, ◌⊎◌, IfErr, IfOk, IfSome, IsSome, Ok, OnErr, map, option_copied};
 ghost use Rattle.std.specs.Mem.{manually_drop_value};
 ghost use Rattle.std.specs.Sync.Mutex.{mutex_guard_value};
 ghost use Rattle.mds_desk.specs.Desk.{state_of};
+ghost use Rattle.mds_request.specs.Call.{call_of};
 ghost use Rattle.mds_request.specs.Request.{request_of};
 ghost use Rattle.mds_request.specs.Reply.{refused};
+ghost use Rattle.mds_request.specs.declared.call.Call.TheVariants.{Author as ByAuthor, Operator as OperatorAt};
 ghost use Rattle.mds_request.specs.declared.code.Code.TheVariants.{NoMemory, NoSnapshot};
 ghost use Rattle.mds_desk.specs.Room.{room_of, TakesRoomTurn};
 ghost use Rattle.mds_hall.specs.Heard.{request_heard};
 ghost use Rattle.mds_hall.specs.Told.{DeskTells, Looks, RoomTells};
-ghost use Rattle.mds_hall.specs.Turn.{Answers, DeskReplies, DeskRuns, IsDeskAt, IsTold, RoomReplies, SaysOne, TakesToldRun, TakesToldTurn};
+ghost use Rattle.mds_hall.specs.Turn.{DeskReplies, DeskRuns, IsDeskAt, IsTold, RoomReplies, TakesToldRun, TakesToldTurn};
 
 use crate::early::Heard;
 use crate::named::Named;
-use crate::turn::{told_look, told_run, told_turn, turn};
+use crate::turn::{told_call, told_look, told_run, told_turn};
 use mds_catalog::Catalogue;
 use mds_desk::{AuthorRoom, AuthorTelling, Desk, Gate, Leave, Telling};
-use mds_request::{Code, Request};
-use mds_responses::HttpResult;
+use mds_request::{AuthorCall, Code, OperatorCall, Request};
 use mds_shelf::Answer;
 use mds_snapshot::Note;
 use mds_verdict::Evaluator;
@@ -94,6 +95,28 @@ impl<K: Named> HallDesk<K> {
         reply
     }
 
+    /// Carries out a call of this desk's operator, the one that the request is: the desk learns the note, where there is
+    /// one, and takes one turn, whose reply it gives. Vehicles are judged by the evaluator.
+    pub fn carry_out<G: Gate, E: Evaluator<Catalogue>>(
+        &mut self,
+        heard: Heard<'_>,
+        call: &OperatorCall,
+        note: Option<&Note<K>>,
+        gate: &mut G,
+        evaluator: &E,
+    ) -> Answer
+        requires judge { E.may_judge }
+        requires resolved { call_of K.configuration (request_heard heard) ≡ Ok (OperatorAt self.old.place call.now) }
+        ensures turn { TakesToldTurn (state_of self.old.desk) (option_copied note.entry) (request_heard heard.entry) result (state_of self.new.desk) }
+        ensures replies { DeskReplies K.configuration self.old.place (request_heard heard.entry) result }
+        ensures place { self.new.place ≡ self.old.place }
+    {
+        let request = heard.request();
+        let reply = told_call(&request, call, &mut self.desk, note, gate, evaluator);
+        tell_count(&self.desk, &self.vehicles);
+        reply
+    }
+
     /// Answers many requests: the desk learns the note, where there is one, and takes a turn for each, in their order.
     /// Gives their replies in that order. Vehicles are judged by the evaluator.
     ///
@@ -117,31 +140,6 @@ impl<K: Named> HallDesk<K> {
         let replies = told_run(requests, &mut self.desk, note, gate, evaluator);
         tell_count(&self.desk, &self.vehicles);
         replies
-    }
-
-    /// Answers a request: the desk learns the note, where there is one, and takes one turn, whose reply the
-    /// response says. Vehicles are judged by the evaluator.
-    ///
-    /// # Errors
-    ///
-    /// There was no memory for the response. The request may have been carried out.
-    pub(crate) fn answer<G: Gate, E: Evaluator<Catalogue>>(
-        &mut self,
-        alloc: Global,
-        heard: Heard<'_>,
-        note: Option<&Note<K>>,
-        gate: &mut G,
-        evaluator: &E,
-    ) -> HttpResult
-        requires { E.may_judge }
-        ensures turn { Answers (state_of self.old.desk) (option_copied note.entry) (request_heard heard.entry) result (state_of self.new.desk) }
-        ensures place { self.new.place ≡ self.old.place }
-        ensures told { IfOk result (SaysOne (DeskReplies K.configuration self.old.place (request_heard heard.entry))) }
-    {
-        let request = heard.request();
-        let response = turn(alloc, &request, &mut self.desk, note, gate, evaluator);
-        tell_count(&self.desk, &self.vehicles);
-        response
     }
 }
 
@@ -216,17 +214,8 @@ impl<K: Named> HallRoom<K> {
         }
     }
 
-    /// Answers a request by one turn of the room. A publication gives a note, for desks to learn.
-    pub(crate) fn answer<R: Wait>(&mut self, rt: &R, heard: Heard<'_>) -> (Answer, Option<Note<K>>)
-        ensures turn { TakesRoomTurn (room_of (manually_drop_value self.old.room)) (request_heard heard.entry)
-            result.0 result.1 (room_of (manually_drop_value self.new.room)) }
-        ensures configured { (room_of (manually_drop_value self.old.room)).configuration ≡ K.configuration }
-    {
-        let request = heard.request();
-        self.room.answer(rt, &request)
-    }
-
-    /// The same, where leave is asked just before a publication is shown: see `mds_desk::AuthorRoom::answer_with`.
+    /// Answers a request by one turn of the room. A publication gives a note, for desks to learn, and leave is asked
+    /// just before it is shown: see `mds_desk::AuthorRoom::answer_with`.
     pub fn answer_with<R: Wait, L: Leave>(
         &mut self,
         rt: &R,
@@ -241,6 +230,25 @@ impl<K: Named> HallRoom<K> {
     {
         let request = heard.request();
         self.room.answer_with(rt, &request, leave)
+    }
+
+    /// The same for a call of the author, the one that the request is.
+    pub fn carry_out<R: Wait, L: Leave>(
+        &mut self,
+        rt: &R,
+        heard: Heard<'_>,
+        call: &AuthorCall,
+        leave: &mut L,
+    ) -> (Answer, Option<Note<K>>)
+        requires { call_of K.configuration (request_heard heard) ≡ Ok (ByAuthor call.now) }
+        ensures turn { TakesRoomTurn (room_of (manually_drop_value self.old.room)) (request_heard heard.entry)
+            result.0 result.1 (room_of (manually_drop_value self.new.room)) }
+        ensures replies { RoomReplies K.configuration (request_heard heard.entry) result.0 }
+        ensures given { IfSome result.1 (λ list. L.given leave.new) }
+        ensures asked { (leave.new ≡ leave.old) ⊎ (IsSome result.1 ⊎ (result.0 ≡ refused NoMemory)) }
+    {
+        let request = heard.request();
+        self.room.carry_out(rt, &request, call, leave)
     }
 
     /// Tells what a telling has to tell of the drafts and of what is published. Nothing changes.

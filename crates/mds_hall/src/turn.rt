@@ -1,6 +1,8 @@
 //! A request at an operator's desk.
-ghost use Rattle.std.specs.Prelude.{◌≡◌, ◌⊎◌, IfErr, IfOk, OnErr, map, option_copied};
+ghost use Rattle.std.specs.Prelude.{◌≡◌, ◌⊎◌, IfErr, IfOk, Ok, OnErr, map, option_copied};
+ghost use Rattle.mds_request.specs.Call.{call_of};
 ghost use Rattle.mds_request.specs.Request.{request_of};
+ghost use Rattle.mds_request.specs.declared.call.Call.TheVariants.{Operator as OperatorAt};
 ghost use Rattle.mds_request.specs.declared.code.Code.TheVariants.{NoMemory, NoSnapshot};
 ghost use Rattle.mds_desk.specs.Desk.{state_of, IsSameDesk};
 ghost use Rattle.mds_hall.specs.Asked.{request_in};
@@ -12,7 +14,7 @@ use crate::responding::response;
 use http::request::Parts;
 use mds_catalog::Catalogue;
 use mds_desk::{Desk, Gate, Telling};
-use mds_request::{Code, Request};
+use mds_request::{Code, OperatorCall, Request};
 use mds_responses::HttpResult;
 use mds_shelf::Answer;
 use mds_snapshot::{Naming, Note};
@@ -67,6 +69,25 @@ pub(crate) fn told_turn<K: Naming, G: Gate, E: Evaluator<Catalogue>>(
     desk.answer(request, gate, evaluator)
 }
 
+/// Takes one turn of a desk for a call of its operator, the one that the request is: the desk learns the note, where
+/// there is one, and carries it out. It stays the desk of the same operator. Vehicles are judged by the evaluator.
+pub(crate) fn told_call<K: Naming, G: Gate, E: Evaluator<Catalogue>>(
+    request: &Request<'_>,
+    call: &OperatorCall,
+    desk: &mut Desk<K>,
+    note: Option<&Note<K>>,
+    gate: &mut G,
+    evaluator: &E,
+) -> Answer
+    requires judge { E.may_judge }
+    requires resolved { call_of (state_of desk.old).configuration (request_of request.now) ≡ Ok (OperatorAt (state_of desk.old).place call.now) }
+    ensures turn { TakesToldTurn (state_of desk.old) (option_copied note.entry) (request_of request.now) result (state_of desk.new) }
+    ensures same { IsSameDesk (state_of desk.old) (state_of desk.new) }
+{
+    tell(desk, note);
+    desk.carry_out(request, call, gate, evaluator)
+}
+
 /// Takes a turn of a desk for each request, in their order: the desk learns the note, where there is one, before. It
 /// stays the desk of the same operator. Vehicles are judged by the evaluator.
 ///
@@ -87,27 +108,6 @@ pub(crate) fn told_run<K: Naming, G: Gate, E: Evaluator<Catalogue>>(
 {
     tell(desk, note);
     desk.run(requests, gate, evaluator)
-}
-
-/// The same as `told_turn`, where the response says the reply.
-///
-/// # Errors
-///
-/// There was no memory for the response. The request may have been carried out.
-pub(crate) fn turn<K: Naming, G: Gate, E: Evaluator<Catalogue>>(
-    alloc: Global,
-    request: &Request<'_>,
-    desk: &mut Desk<K>,
-    note: Option<&Note<K>>,
-    gate: &mut G,
-    evaluator: &E,
-) -> HttpResult
-    requires { E.may_judge }
-    ensures turn { Answers (state_of desk.old) (option_copied note.entry) (request_of request.now) result (state_of desk.new) }
-    ensures same { IsSameDesk (state_of desk.old) (state_of desk.new) }
-{
-    let reply = told_turn(request, desk, note, gate, evaluator);
-    response(alloc, reply)
 }
 
 /// Answers the HTTP request of this head and body at a desk: the desk learns the note, where there is one,
@@ -131,5 +131,6 @@ pub fn desk_turn<K: Naming, G: Gate, E: Evaluator<Catalogue>>(
     ensures { Answers (state_of desk.old) (option_copied note.entry) (request_in parts.now body.now at) result (state_of desk.new) }
 {
     let request = request(parts, body, at);
-    turn(alloc, &request, desk, note, gate, evaluator)
+    let reply = told_turn(&request, desk, note, gate, evaluator);
+    response(alloc, reply)
 }

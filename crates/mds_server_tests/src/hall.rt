@@ -123,6 +123,7 @@ enum Visit {
     BesideAHeldQuestion,
     LatestNote,
     Judged,
+    RefusedBesideLocks,
 }
 
 fn visited<R: Host + Sync>(rt: &R, visit: Visit) -> Result<(), Fail> {
@@ -152,6 +153,7 @@ fn opened<K: Named + Send + Sync, R: Host + Sync>(
         Visit::BesideAHeldQuestion => overlapping::beside_a_held_question(rt, alloc, &hall),
         Visit::LatestNote => session::latest_note(rt, alloc, &hall),
         Visit::Judged => session::judged(rt, alloc, &hall),
+        Visit::RefusedBesideLocks => early::refused_beside_locks(rt, alloc, &hall),
     }
     hall.finish(rt);
     // A room that isn't ended keeps its share.

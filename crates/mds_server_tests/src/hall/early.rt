@@ -1,6 +1,6 @@
 //! What is refused before a desk or the author's room is asked.
 use super::*;
-use mds_request::MOST_BODY;
+use mds_request::{Actor, MOST_BODY};
 
 const TOO_LARGE: &Answer = &Answer {
     status: 413,
@@ -107,4 +107,42 @@ pub(super) fn large_and_unknown<K: Named, R: Host + Sync>(rt: &R, alloc: Global,
 #[test]
 fn a_large_body_comes_before_the_token(rt: HostRuntime) -> Result<(), Fail> {
     visited(&rt, Visit::LargeAndUnknown)
+}
+
+const NO_ROUTE: &Answer = &Answer {
+    status: 404,
+    body: r#"{"error":"no_route"}"#,
+};
+
+/// Whether a request that no call has, with these credentials, is refused so.
+fn finds_nowhere<K: Named, R: Host + Sync>(
+    rt: &R,
+    alloc: Global,
+    hall: &Hall<K>,
+    credentials: &'static str,
+) -> bool {
+    let parts = parts(alloc, Method::GET, NOWHERE, Some(credentials));
+    gives(rt, alloc, hall, parts, whole(""), Moment::new(2000), NO_ROUTE)
+}
+
+/// Alfa's desk and the author's room are taken all the while.
+pub(super) fn refused_beside_locks<K: Named, R: Host + Sync>(
+    rt: &R,
+    alloc: Global,
+    hall: &Hall<K>,
+) {
+    let Actor::Operator(place) = hall.asker(b"alfa") else {
+        panic!(rt; "alfa is an operator");
+    };
+    let desk = hall.desk_at(rt, place).expect(rt, "alfa's desk");
+    let room = hall.room(rt);
+    assert!(rt; finds_nowhere(rt, alloc, hall, ALFA));
+    assert!(rt; finds_nowhere(rt, alloc, hall, CITY));
+    drop(room);
+    drop(desk);
+}
+
+#[test]
+fn refuses_without_a_lock(rt: HostRuntime) -> Result<(), Fail> {
+    visited(&rt, Visit::RefusedBesideLocks)
 }
