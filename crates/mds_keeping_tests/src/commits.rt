@@ -3,8 +3,8 @@ ghost use Rattle.std.specs.Prelude.{◌≡◌, ℕ, List};
 
 use futures::executor::block_on;
 use mds_commit::{
-    Counted, FlushFault, Keeper, Naming, NotTold, Opened, ReserveFault, Settling, Stamp, Telling,
-    open,
+    Counted, FlushFault, Keeper, MOST_TEXTS_OF_ONE, Naming, NotTold, Opened, ReserveFault,
+    Settling, Stamp, Telling, Usage, open,
 };
 use mds_records::{AppendFault, Journal, Log, Memory};
 use std::alloc::{AllocError, AllocGlobal, Global};
@@ -15,13 +15,20 @@ use std::sync::{Arc, Wait};
 use std::test::Fail;
 use std::thread::{Threads, join};
 
-/// Why there is no place for a text. A place is given back.
+/// How many ask.
+const ASKERS: usize = 6;
+
+/// Who asks, where one alone does.
+const AUTHOR: usize = 1;
+
+/// Why there is no place for a text of an asker. A place is given back.
 fn refused<K: Naming, L: Log, R: Wait>(
     rt: &R,
     keeper: &Keeper<K, L, Counted>,
+    asker: usize,
     text: Vec<u8>,
 ) -> Option<ReserveFault> {
-    match keeper.reserve(rt, text) {
+    match keeper.reserve(rt, asker, text) {
         Ok(place) => {
             keeper.release(rt, place);
             None
@@ -40,7 +47,7 @@ fn replied<K: Naming, L: Log, R: Wait + RandomSource + AllocGlobal>(
     keeper: &Arc<Keeper<K, L, Counted>>,
     text: &[u8],
 ) -> Result<Result<u32, NotTold>, Fail> {
-    let Ok(place) = keeper.reserve(rt, Vec::from_slice(rt.alloc(), text)?) else {
+    let Ok(place) = keeper.reserve(rt, AUTHOR, Vec::from_slice(rt.alloc(), text)?) else {
         return Ok(Err(NotTold::NoMemory));
     };
     let stamp = match keeper.append(rt, place) {
@@ -57,7 +64,7 @@ fn published<K: Naming, L: Log, R: Wait + AllocGlobal>(
     keeper: &Keeper<K, L, Counted>,
     text: &[u8],
 ) -> Result<Option<u64>, Fail> {
-    match keeper.reserve(rt, Vec::from_slice(rt.alloc(), text)?) {
+    match keeper.reserve(rt, AUTHOR, Vec::from_slice(rt.alloc(), text)?) {
         Ok(place) => Ok(
             keeper
                 .append_synced(rt, place)
@@ -73,6 +80,8 @@ fn published<K: Naming, L: Log, R: Wait + AllocGlobal>(
 struct Told {
     reply: Result<u32, NotTold>,
     published: Option<u64>,
+    /// Whether its whole share is free then.
+    is_free: bool,
 }
 
 fn asked<K: Naming, L: Log, R: Wait + RandomSource + AllocGlobal>(
@@ -82,6 +91,14 @@ fn asked<K: Naming, L: Log, R: Wait + RandomSource + AllocGlobal>(
     Ok(Told {
         reply: replied(rt, keeper, b"one")?,
         published: published(rt, keeper, b"two")?,
+        is_free: keeper.has_share(
+            rt,
+            AUTHOR,
+            Usage {
+                texts: MOST_TEXTS_OF_ONE,
+                bytes: 0,
+            },
+        ),
     })
 }
 
@@ -98,7 +115,13 @@ where
         left: 100_000_000,
         aside: 0,
     };
-    let (keeper, flusher, _nothing) = open::<K, L, Counted>(rt.alloc(), opened, log, space)?;
+    let (keeper, flusher, _nothing) = open::<K, L, Counted>(
+        rt.alloc(),
+        opened,
+        log,
+        space,
+        ASKERS,
+    )?;
     let keeper = Arc::new(rt.alloc(), keeper)?;
     let (log, told) = join(
         rt,
@@ -138,7 +161,7 @@ fn journal_served<R: Wait + Threads + RandomSource + AllocGlobal + Sync>(
 #[test]
 fn replies_leave_once_synced(rt: HostRuntime) -> Result<(), Fail> {
     let (log, told) = journal_served(&rt, 100)?;
-    assert!(rt; told.reply == Ok(7) && told.published == Some(2));
+    assert!(rt; told.reply == Ok(7) && told.published == Some(2) && told.is_free);
     let medium = log.ok().ok_or("a log")?.into_medium();
     assert!(rt; medium.is_synced);
     // Two groups, each of a mark of 44 bytes and a record of 15.
@@ -187,21 +210,27 @@ fn bounded<K: Naming, L: Log, R: Wait + Abort + AllocGlobal>(
     requires listed { (first : List (List ℕ)) × L.may_be log first }
 {
     let space = Counted { left: 59, aside: 0 };
-    let (keeper, _flusher, nothing) = open::<K, L, Counted>(rt.alloc(), opened, log, space)?;
+    let (keeper, _flusher, nothing) = open::<K, L, Counted>(
+        rt.alloc(),
+        opened,
+        log,
+        space,
+        ASKERS,
+    )?;
     assert!(rt; keeper.may_tell(&nothing) == Telling::Now && nothing.len() == 0);
-    assert!(rt; refused(rt, &keeper, text(rt, b"")?) == Some(ReserveFault::Untaken));
-    assert!(rt; refused(rt, &keeper, text(rt, b"four")?) == Some(ReserveFault::NoRoom));
-    assert!(rt; refused(rt, &keeper, text(rt, b"one")?) == None);
+    assert!(rt; refused(rt, &keeper, AUTHOR, text(rt, b"")?) == Some(ReserveFault::Untaken));
+    assert!(rt; refused(rt, &keeper, AUTHOR, text(rt, b"four")?) == Some(ReserveFault::NoRoom));
+    assert!(rt; refused(rt, &keeper, AUTHOR, text(rt, b"one")?) == None);
     let (first, second, third) = (text(rt, b"one")?, text(rt, b"two")?, text(rt, b"two")?);
-    let Ok(place) = keeper.reserve(rt, first) else {
+    let Ok(place) = keeper.reserve(rt, AUTHOR, first) else {
         return Err("a place".into());
     };
-    let none = refused(rt, &keeper, second);
+    let none = refused(rt, &keeper, AUTHOR, second);
     let stamp = keeper.append(rt, place).ok().ok_or("a stamp")?;
     assert!(rt; none == Some(ReserveFault::NoRoom));
     assert!(rt; keeper.may_tell(&stamp) == Telling::Later && stamp.len() == 1);
     keeper.stop(rt);
-    assert!(rt; refused(rt, &keeper, third) == Some(ReserveFault::Stopping));
+    assert!(rt; refused(rt, &keeper, AUTHOR, third) == Some(ReserveFault::Stopping));
     Ok(())
 }
 
@@ -220,10 +249,10 @@ fn journal_settled<R: Wait + Abort + AllocGlobal>(rt: &R) -> Result<(), Fail> {
     settled::<Brand, Journal<Memory>, R>(rt, opened, log)
 }
 
-/// Two texts of three bytes.
-fn two_texts(rt: &impl AllocGlobal) -> Result<Vec<Vec<u8>>, Fail> {
+/// So many texts of three bytes.
+fn texts(rt: &impl AllocGlobal, count: usize) -> Result<Vec<Vec<u8>>, Fail> {
     let mut texts = Vec::new(rt.alloc());
-    for _ in 0..2 {
+    for _ in 0..count {
         texts.push(text(rt, b"one")?)?;
     }
     Ok(texts)
@@ -242,34 +271,107 @@ fn settled<K: Naming, L: Log, R: Wait + Abort + AllocGlobal>(
         left: 118,
         aside: 0,
     };
-    let (keeper, _flusher, _nothing) = open::<K, L, Counted>(rt.alloc(), opened, log, space)?;
-    let mut three = two_texts(rt)?;
-    three.push(text(rt, b"one")?)?;
-    assert!(rt; refused_together(rt, &keeper, three) == Some(ReserveFault::NoRoom));
-    assert!(rt; refused_together(rt, &keeper, two_texts(rt)?) == None);
-    let (texts, one) = (two_texts(rt)?, text(rt, b"one")?);
-    let Ok(places) = keeper.reserve_all(rt, texts) else {
+    let (keeper, _flusher, nothing) = open::<K, L, Counted>(
+        rt.alloc(),
+        opened,
+        log,
+        space,
+        ASKERS,
+    )?;
+    assert!(rt; refused_together(rt, &keeper, AUTHOR, texts(rt, 3)?) == Some(ReserveFault::NoRoom));
+    assert!(rt; refused_together(rt, &keeper, AUTHOR, texts(rt, 2)?) == None);
+    let (two, one) = (texts(rt, 2)?, text(rt, b"one")?);
+    let Ok(places) = keeper.reserve_all(rt, AUTHOR, two) else {
         return Err("places".into());
     };
-    let none = refused(rt, &keeper, one);
-    let stamp = keeper.settle(rt, places, &[false, true]);
+    let none = refused(rt, &keeper, AUTHOR, one);
+    let stamp = keeper.settle(rt, &nothing, places, &[false, true]);
     assert!(rt; none == Some(ReserveFault::NoRoom));
     assert!(rt; stamp.ok().map(|stamp| stamp.len()) == Some(1));
-    assert!(rt; refused(rt, &keeper, text(rt, b"one")?) == None);
+    assert!(rt; refused(rt, &keeper, AUTHOR, text(rt, b"one")?) == None);
     Ok(())
 }
 
-/// Why there are no places for texts. Places are given back.
+/// Why there are no places for texts of an asker. Places are given back.
 fn refused_together<K: Naming, L: Log, R: Wait>(
     rt: &R,
     keeper: &Keeper<K, L, Counted>,
+    asker: usize,
     texts: Vec<Vec<u8>>,
 ) -> Option<ReserveFault> {
-    match keeper.reserve_all(rt, texts) {
+    match keeper.reserve_all(rt, asker, texts) {
         Ok(places) => {
             keeper.release_all(rt, places);
             None
         }
         Err(fault) => Some(fault),
     }
+}
+
+#[test]
+fn places_are_shared_out(rt: HostRuntime) -> Result<(), Fail> {
+    journal_shared(&rt)
+}
+
+fn journal_shared<R: Wait + Abort + AllocGlobal>(rt: &R) -> Result<(), Fail> {
+    let Ok(mut log) = Journal::open(rt.alloc(), medium(rt.alloc(), 3)) else {
+        return Err("a journal".into());
+    };
+    let Ok(opened) = Opened::new(&mut log) else {
+        return Err("a history".into());
+    };
+    shared::<Brand, Journal<Memory>, R>(rt, opened, log)
+}
+
+/// Has so many texts of an asker wait, or says why they don't.
+fn awaited<K: Naming, L: Log, R: Wait + AllocGlobal>(
+    rt: &R,
+    keeper: &Keeper<K, L, Counted>,
+    nothing: &Stamp<K, L>,
+    asker: usize,
+    count: usize,
+) -> Result<Option<ReserveFault>, Fail> {
+    let kept = vec![in rt.alloc(); true; count]?;
+    match keeper.reserve_all(rt, asker, texts(rt, count)?) {
+        Ok(places) => {
+            let _ = keeper.settle(rt, nothing, places, &kept);
+            Ok(None)
+        }
+        Err(fault) => Ok(Some(fault)),
+    }
+}
+
+/// Three use up their shares, and a fourth all but a place for each of two others.
+fn shared<K: Naming, L: Log, R: Wait + Abort + AllocGlobal>(
+    rt: &R,
+    opened: Opened<L>,
+    log: L,
+) -> Result<(), Fail>
+    requires book { opened.seen.book ≡ K.book }
+    requires listed { (first : List (List ℕ)) × L.may_be log first }
+{
+    let space = Counted {
+        left: 100_000_000,
+        aside: 0,
+    };
+    let (keeper, _flusher, nothing) = open::<K, L, Counted>(
+        rt.alloc(),
+        opened,
+        log,
+        space,
+        ASKERS,
+    )?;
+    assert!(rt; awaited(rt, &keeper, &nothing, 1, 4_097)? == Some(ReserveFault::Untaken));
+    assert!(rt; awaited(rt, &keeper, &nothing, ASKERS, 1)? == Some(ReserveFault::Crowded));
+    for asker in 1..4 {
+        assert!(rt; awaited(rt, &keeper, &nothing, asker, 4_096)? == None);
+        assert!(rt; refused(rt, &keeper, asker, text(rt, b"one")?) == Some(ReserveFault::Crowded));
+    }
+    assert!(rt; awaited(rt, &keeper, &nothing, 4, 4_095)? == Some(ReserveFault::Crowded));
+    assert!(rt; awaited(rt, &keeper, &nothing, 4, 4_094)? == None);
+    // A place that is given back is held again.
+    assert!(rt; refused(rt, &keeper, 5, text(rt, b"one")?) == None);
+    assert!(rt; awaited(rt, &keeper, &nothing, 5, 1)? == None);
+    assert!(rt; refused(rt, &keeper, 5, text(rt, b"one")?) == Some(ReserveFault::Crowded));
+    Ok(())
 }
