@@ -1,15 +1,15 @@
 //! A hall that answers at the moments of a clock.
-ghost use Rattle.std.specs.Prelude.{◌≡◌, IsSome};
+ghost use Rattle.std.specs.Prelude.{◌≡◌, IfOk, IsOk, IsSome};
 ghost use Rattle.mds_request.specs.Configuration.{configuration, actor_of};
 ghost use Rattle.mds_hall.specs.Asked.{token_of};
 ghost use Rattle.mds_limits.specs.Asker.{asker_of};
-ghost use Rattle.mds_doors.specs.Arrived.{arrived_of};
+ghost use Rattle.mds_doors.specs.Arrived.{ArrivesAs};
 
 use crate::moments::Moments;
 use futures::future::{Ready, ready};
 use http::request::Parts;
 use mds_catalog::Catalogue;
-use mds_connections::{Answers, Taken};
+use mds_connections::{Answers, Crowded, Taken};
 use mds_hall::{Arrived, Hall, Named, respond, token};
 use mds_limits::{Arrival, Asker};
 use mds_responses::HttpResult;
@@ -39,12 +39,14 @@ impl<K: Named, R: Wait + Drop, E: Evaluator<Catalogue> + Drop, M: Moments> Answe
         Asker::of(self.hall.asker(token(&parts.headers)))
     }
 
-    fn answer(&self, parts: &Parts, taken: Taken) -> Ready<HttpResult>
+    /// Nobody has a share here that could be used up.
+    fn answer(&self, parts: &Parts, taken: &Taken) -> Result<Ready<HttpResult>, Crowded>
         requires { E.may_judge }
-        ensures { IsSome result.0 }
+        ensures answered { IsOk result }
+        ensures reply { IfOk result (λ reply. IsSome reply.0) }
     {
         let at = self.moments.now();
-        ready(respond(
+        Ok(ready(respond(
             &self.rt,
             self.alloc,
             parts,
@@ -52,16 +54,20 @@ impl<K: Named, R: Wait + Drop, E: Evaluator<Catalogue> + Drop, M: Moments> Answe
             at,
             &self.hall,
             &self.evaluator,
-        ))
+        )))
     }
 }
 
-/// A body that was taken in, as a hall takes it.
-pub fn arrived(taken: Taken) -> Arrived
-    ensures { result ≡ arrived_of taken.arrival taken.body }
+/// A body that was taken in, as a hall takes it. Its bytes are shared; where there are too many shares of them, it arrives as
+/// one for which there was no memory.
+pub fn arrived(taken: &Taken) -> Arrived
+    ensures { ArrivesAs taken.now.arrival taken.now.body result }
 {
     match taken.arrival {
-        Arrival::Whole => Arrived::Whole(taken.body),
+        Arrival::Whole => match taken.body.clone() {
+            Ok(body) => Arrived::Whole(body),
+            Err(_) => Arrived::NoMemory,
+        },
         Arrival::Broken => Arrived::Broken,
         Arrival::TooLong => Arrived::TooLong,
         Arrival::NoMemory => Arrived::NoMemory,
