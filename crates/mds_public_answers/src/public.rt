@@ -1,5 +1,5 @@
 //! What everyone is told, before what answers requests.
-ghost use Rattle.std.specs.Prelude.{◌≡◌, None, Some, IfOk, IfSome, IsSome};
+ghost use Rattle.std.specs.Prelude.{◌≡◌, None, Some, IfOk, IfSome, IsSome, MatchResult};
 ghost use Rattle.futures.specs.declared.future.either.Either.TheVariants.{Left, Right};
 ghost use Rattle.http_uri.specs.Uri.{uri_path};
 ghost use Rattle.mds_limits.specs.declared.asker.Asker.TheVariants.{Stranger};
@@ -10,7 +10,7 @@ use crate::shown::Shows;
 use crate::window::Window;
 use futures::future::{Either, Ready, ready};
 use http::request::Parts;
-use mds_connections::{Answers, Taken};
+use mds_connections::{Answers, Crowded, Taken};
 use mds_hall::Named;
 use mds_limits::Asker;
 use mds_public::Asked;
@@ -81,17 +81,20 @@ impl<K: Named, A: Answers + Shows<K>, R: Wait + Drop> Answers for Public<K, A, R
         }
     }
 
-    fn answer(&self, parts: &Parts, taken: Taken) -> Either<Told, A::Reply>
+    /// # Errors
+    ///
+    /// It is no request for what everyone is told, and the share of who asks is used up.
+    fn answer(&self, parts: &Parts, taken: &Taken) -> Result<Either<Told, A::Reply>, Crowded>
         requires ready { A.may_answer }
-        ensures poll { elim result [ Left told ↦ IsSome told.0 | Right reply ↦ A.Reply.can_poll reply ] }
-        ensures told { elim result [
+        ensures poll { IfOk result (elim [ Left told ↦ IsSome told.0 | Right reply ↦ A.Reply.can_poll reply ]) }
+        ensures told { MatchResult result (elim [
           | Left told ↦ IfSome told.0 (λ r. IsToldTo K.configuration self.now.window parts.now (Some r))
           | Right reply ↦ IsToldTo K.configuration self.now.window parts.now None
-        ] }
+        ]) (λ _. IsToldTo K.configuration self.now.window parts.now None) }
     {
         match self.told(parts) {
-            Some(told) => Either::Left(ready(told)),
-            None => Either::Right(self.answers.answer(parts, taken)),
+            Some(told) => Ok(Either::Left(ready(told))),
+            None => Ok(Either::Right(self.answers.answer(parts, taken)?)),
         }
     }
 }
