@@ -1,12 +1,12 @@
 //! A server over loopback that is ended while a connection rests.
-ghost use Rattle.std.specs.Prelude.{IsSome};
+ghost use Rattle.std.specs.Prelude.{IfOk, IsSome};
 
 use bytes::Bytes;
 use futures::future::{Ready, ready};
 use http::Response;
 use http::request::Parts;
 use http_body_util::Full;
-use mds_connections::{Answers, Taken};
+use mds_connections::{Answers, Crowded, Taken};
 use mds_doors::{Closing, Ended, Queues, bound, serve_by};
 use mds_limits::Asker;
 use mds_request::Config;
@@ -42,12 +42,12 @@ impl Answers for Parrot {
     fn answer(
         &self,
         _parts: &Parts,
-        _taken: Taken,
-    ) -> Ready<Result<Response<Full<Bytes>>, AllocError>>
-        ensures { IsSome result.0 }
+        _taken: &Taken,
+    ) -> Result<Ready<Result<Response<Full<Bytes>>, AllocError>>, Crowded>
+        ensures { IfOk result (λ reply. IsSome reply.0) }
     {
         let body = Full::new(Bytes::from_static(ANSWER));
-        ready(Ok(Response::new(self.alloc, body)))
+        Ok(ready(Ok(Response::new(self.alloc, body))))
     }
 }
 

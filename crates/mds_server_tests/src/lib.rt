@@ -11,6 +11,8 @@ mod connections;
 #[cfg(test)]
 mod counting;
 #[cfg(test)]
+mod crowded;
+#[cfg(test)]
 mod desk;
 #[cfg(test)]
 mod hall;

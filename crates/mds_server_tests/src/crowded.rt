@@ -1,0 +1,101 @@
+//! A server over loopback whose answerer says a few times that who asks is crowded.
+ghost use Rattle.std.specs.Prelude.{IfOk, IsSome};
+
+use bytes::Bytes;
+use futures::future::{Ready, ready};
+use http::Response;
+use http::request::Parts;
+use http_body_util::Full;
+use mds_connections::{Answers, Crowded, Taken};
+use mds_doors::{Closing, Ended, Queues, bound, serve_by};
+use mds_limits::Asker;
+use mds_request::Config;
+use std::alloc::{AllocError, Global};
+use std::io::{self, Read, Write};
+use std::net::TcpStream;
+use std::sync::atomic::{AtomicU64, Ordering};
+use std::test::Fail;
+use std::thread::join;
+use tokio::runtime::Runtime;
+
+const CONFIGURATION: &[u8] = br#"{"author":"city","operators":[],"zone":"Z"}"#;
+
+const REQUEST: &[u8] =
+    b"POST /policies HTTP/1.1\r\nhost: localhost\r\nconnection: close\r\ncontent-length: 7\r\n\r\nas ever";
+
+const BODY: &[u8] = b"as ever";
+
+/// How often a request is asked in vain.
+const CROWDED: u64 = 3;
+
+/// Answers the author with what the author says, once it was asked so often in vain.
+#[derive(Drop)]
+struct Echo {
+    alloc: Global,
+    asked: AtomicU64,
+}
+
+impl Answers for Echo {
+    type Reply = Ready<Result<Response<Full<Bytes>>, AllocError>>;
+
+    fn asker(&self, _parts: &Parts) -> Asker {
+        Asker::Author
+    }
+
+    fn answer(&self, _parts: &Parts, taken: &Taken) -> Result<Self::Reply, Crowded>
+        ensures { IfOk result (λ reply. IsSome reply.0) }
+    {
+        if self.asked.fetch_add(1, Ordering::SeqCst) < CROWDED {
+            return Err(Crowded);
+        }
+        let response = match taken.body.clone() {
+            Ok(body) => Ok(Response::new(self.alloc, Full::new(body))),
+            Err(fault) => Err(fault),
+        };
+        Ok(ready(response))
+    }
+}
+
+/// Asks over a connection that is closed behind the request, and gives what is told.
+fn ask(stream: &mut TcpStream, alloc: Global) -> io::Result<Vec<u8>> {
+    stream.write_all(REQUEST)?;
+    let mut told = Vec::new(alloc);
+    stream.read_to_end(&mut told)?;
+    Ok(told)
+}
+
+/// Asks, ends the server, and gives what was told.
+fn ask_and_end(mut stream: TcpStream, closing: &Closing, alloc: Global) -> io::Result<Vec<u8>> {
+    let told = ask(&mut stream, alloc);
+    closing.close();
+    told
+}
+
+/// A request that is crowded is asked again with its body, until it is answered.
+#[test]
+fn asks_a_crowded_request_again(rt: HostRuntime) -> Result<(), Fail> {
+    let alloc = rt.alloc();
+    let config = Config::read(alloc, CONFIGURATION)?;
+    let queues = Queues::new(alloc, &config)?;
+    let mut runtime = Runtime::with_worker_threads(&rt, 2)?;
+    let listener = bound(&rt, "127.0.0.1:0", runtime.handle().reactor())?;
+    let stream = TcpStream::connect(&rt, listener.local_addr()?)?;
+    let closing = Closing::new(alloc)?;
+    let echo = Echo {
+        alloc,
+        asked: AtomicU64::new(0),
+    };
+    let (told, served) = join(
+        &rt,
+        || ask_and_end(stream, &closing, alloc),
+        || serve_by(&rt, &mut runtime, listener, echo, queues, &closing),
+    );
+    let Ended { answers, outcome } = served?;
+    outcome?;
+    let told = told?;
+    assert!(rt; told.starts_with(b"HTTP/1.1 200 "));
+    assert!(rt; told.ends_with(BODY));
+    let echo = answers.ok_or("held")?;
+    assert_eq!(rt; echo.asked.load(Ordering::SeqCst), CROWDED + 1);
+    Ok(())
+}
