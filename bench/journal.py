@@ -30,7 +30,7 @@ sys.path.append(os.path.join(HERE, "..", "tests"))
 # This folder's http.py, not the library's package of that name.
 from http import REPORTS, SMALL, Load, districts, line, policies, send, send_many, spread  # noqa: E402
 
-from kept import City  # noqa: E402
+from kept import City, slowed  # noqa: E402
 from postgres import inserts  # noqa: E402
 from thinning import thin  # noqa: E402
 from wire import Server  # noqa: E402
@@ -182,11 +182,9 @@ def tell(rounds, count):
 
 def slow_down(folder, microseconds):
     """From now on each sync of a program that is started takes so much longer."""
-    library = os.path.join(folder, "slow_sync.so")
-    subprocess.run(["gcc", "-O2", "-shared", "-fPIC", "-o", library, os.path.join(HERE, "slow_sync.c"), "-ldl"], check=True)
     # Another user's programs read it too.
     os.chmod(folder, 0o755)
-    os.environ.update(LD_PRELOAD=library, SYNC_MICROSECONDS=str(microseconds))
+    os.environ.update(slowed(folder, microseconds))
 
 
 def written(folder, name, text):

@@ -90,6 +90,15 @@ def serving(program, **how):
     return Alone(program, **how) if is_keeping(program) else Server(program, **how)
 
 
+def slowed(folder, microseconds):
+    """The environment of a program each of whose syncs takes so much longer, as on a slower disk. What it takes is built into the folder, by
+    a compiler of C."""
+    library = os.path.join(folder, "slow_sync.so")
+    source = os.path.join(os.path.dirname(os.path.abspath(__file__)), "..", "bench", "slow_sync.c")
+    subprocess.run(["cc", "-O2", "-shared", "-fPIC", "-o", library, source, "-ldl"], check=True)
+    return os.environ | {"LD_PRELOAD": library, "SYNC_MICROSECONDS": str(microseconds)}
+
+
 class City:
     """A folder and a configuration, on which the program is started as often as one likes."""
 

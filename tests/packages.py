@@ -19,6 +19,7 @@ PACKAGES = {
     "openssl": "openssl",
     "curl": "curl",
     "tzdata": "tzdata",
+    "cc": "gcc libc6-dev",
 }
 # What has to be there of a module that an old package lacks.
 PROBES = {"jsonschema": "jsonschema.Draft202012Validator"}

@@ -7,11 +7,11 @@ The tests of each crate that has some are built and run by `rt try --test`, and 
 (tests/unproved.py) and kept in out/unproved, as many at once as there are processors and memory; a program that is there is taken, the
 proved one first, where no source is newer. Then come the scripts (replays.py), questions that are asked once and again (columns.py),
 ruffletuff on the messages that wait for no deadline and on the short loads (http.py), some kills (kills.py, contended.py), journals
-(journals.py, damages.py, thinning.py), the control port (control.py), configurations (config.py), many reports at once (many.py), files
-that are imported (exchange.py), what people are told (app.py), what everyone is told (public.py), the counts of lines in
-docs/DEFINITIONS.md (definitions.py), nginx before a server (nginx.py), the page (page.py), in a browser too (web/run.py), a short stress
-(stress.py), some refused growths of memory (growths.py) and the check of docs/openapi.yaml (openapi.py). The other messages, and mds_serve,
-which serves by the same crates, are tried by `make prove` alone.
+(journals.py, damages.py, thinning.py), the control port (control.py), configurations (config.py), many reports at once (many.py), also
+beside the changes of others (shares.py), files that are imported (exchange.py), what people are told (app.py), what everyone is told
+(public.py), the counts of lines in docs/DEFINITIONS.md (definitions.py), nginx before a server (nginx.py), the page (page.py), in a
+browser too (web/run.py), a short stress (stress.py), some refused growths of memory (growths.py) and the check of docs/openapi.yaml
+(openapi.py). The other messages, and mds_serve, which serves by the same crates, are tried by `make prove` alone.
 
 What wants a package that isn't there is left out, which the last line but one names, with the command that gets it; with GATE=1 it has
 failed (packages.py). What a part prints comes once the part is over, and of one that failed the last lines again behind all parts. Last
@@ -41,6 +41,7 @@ CONTENDED_KILLS = "10"
 TOLD_AGAIN = 20  # lines of each part that failed, behind all parts
 STRIDE = "29"  # of a journal's bytes, each so many are changed
 CITIES = "2"  # whose questions are asked once and again
+SHARES = ("4", "--told")  # seconds of each load beside which others ask for changes
 DAY = ("--vehicles", "1", "--kills", "2")  # of a journal that is thinned
 # The crates whose tests for want of memory bear a refused growth in their set-up too.
 SWEPT = ("mds_core_tests", "mds_server_tests", "mds_thinning_tests")
@@ -138,6 +139,7 @@ def parts(room):
     add("the control port", 0.5, kept, lambda: script("control.py", keep, slow=slow["ruffletuff"]))
     add("configurations", 0.3, kept, lambda: script("config.py", keep, slow=slow["ruffletuff"]))
     add("many reports", 0.5, kept, lambda: script("many.py", keep, slow=slow["ruffletuff"]))
+    add("changes beside many lines", 0.5, kept, lambda: script("shares.py", keep, *SHARES, slow=slow["ruffletuff"]))
     add("what people are told", 0.3, kept, lambda: script("app.py", keep, slow=slow["ruffletuff"]))
     add("files and a server", 0.5, kept, lambda: script("exchange.py", keep, slow=slow["ruffletuff"]))
     add("the page", 0.2, kept, lambda: script("page.py", keep, slow=slow["ruffletuff"]))
