@@ -13,7 +13,7 @@
 # bench    times mds_replay on generated input, and a program in plain Rust beside it, in three forms (minutes, once built)
 # bench-journal  times ruffletuff beside mds_serve, SQLite and PostgreSQL, thinning and a large start (minutes, once built)
 # stress   publishes 500 batches at mds_serve while 8 operators ask, and checks each reply against a replay (seconds, once built)
-# dist     packs the built programs: a tar and a Debian package in out/dist (seconds, once built)
+# dist     packs the built programs: a tar and a Debian package in out/dist (minutes, once built; seconds again for the same commit)
 # dist-try  installs that package into a clean Debian root and asks its server (as root, minutes)
 # help     these lines
 
@@ -30,7 +30,7 @@ TRY_TIME := half a minute
 WEB_TIME := some minutes
 BENCH_TIME := some minutes
 STRESS_TIME := seconds
-DIST_TIME := seconds
+DIST_TIME := some minutes for a commit, since ruffletuff is proved once more with its name in it, and seconds again
 DIST_TRY_TIME := about two minutes
 
 PROGRAM := crates/mds_replay/out/mds_replay
