@@ -67,7 +67,7 @@ page() {
     {
         printf 'GET / HTTP/1.1\r\nhost: localhost\r\nconnection: close\r\n\r\n' >&3
         head -n 1 <&3 | tr -d '\r'
-    } 3<>/dev/tcp/127.0.0.1/8090 2>/dev/null
+    } 2>/dev/null 3<>/dev/tcp/127.0.0.1/8090
 }
 
 # Whether a file has a line.
@@ -136,14 +136,29 @@ try_serve() {
     end "$process"
 }
 
-# Ends what make runs, each by its number, and make with it.
-end() {
+# The numbers of a process and of all that it has started.
+all_of() {
     local child
+    echo "$1"
     for child in $(cat /proc/"$1"/task/*/children 2>/dev/null); do
-        end "$child"
+        all_of "$child"
     done
-    kill "$1" 2>/dev/null
+}
+
+# Ends make and what it runs, each by its number, and waits until none of them is there, nor what they listened at.
+end() {
+    local all process
+    all=$(all_of "$1")
+    # shellcheck disable=SC2086
+    kill $all 2>/dev/null
     wait "$1" 2>/dev/null
+    for process in $all; do
+        for _ in $(seq 100); do
+            kill -0 "$process" 2>/dev/null || continue 2
+            sleep 0.1
+        done
+        echo "process $process doesn't end"
+    done
 }
 
 du -sh --apparent-size "$kit" | awk '{ print "the kit has " $1 }'
