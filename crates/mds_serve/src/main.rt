@@ -6,6 +6,7 @@ mod arguments;
 mod configuration;
 mod ending;
 mod running;
+mod runtime;
 
 use mds_start::{ServeFault, USAGE};
 use running::run;

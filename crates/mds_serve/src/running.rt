@@ -6,20 +6,16 @@ ghost use Rattle.mds_snapshot.specs.Opening.{book_of};
 use crate::arguments::{Arguments, read_words};
 use crate::configuration::read_configuration;
 use crate::ending::Ending;
+use crate::runtime::ServerRuntime;
 use mds_doors::{MachineClock, Moments, Queues, bound, serve};
 use mds_hall::{Hall, Named};
 use mds_request::Config;
 use mds_snapshot::{Blank, prepare};
 use mds_start::{Asked, HELP, ServeFault, VERSION, asked_by, workers};
-use std::alloc::AllocGlobal;
 use std::env::Env;
-use std::io::{self, Input, Print};
+use std::io::{self, Input};
 use std::marker::Brand;
-use std::net::Net;
-use std::random::RandomSource;
-use std::sync::Wait;
-use std::thread::{Threads, available_parallelism};
-use std::time::Clock;
+use std::thread::available_parallelism;
 use tokio::runtime::Runtime;
 
 /// Reads the arguments, and says how the program is called, says its version, or serves.
@@ -27,22 +23,7 @@ use tokio::runtime::Runtime;
 /// # Errors
 ///
 /// The first fault, in the order of `ServeFault`'s cases.
-pub fn run<R>(rt: &R) -> Result<(), Ending>
-where
-    R: Wait
-        + Threads
-        + Clock
-        + Net
-        + RandomSource
-        + AllocGlobal
-        + Env
-        + Input
-        + Print
-        + Sync
-        + Send
-        + Copy
-        + Drop,
-{
+pub fn run<R: ServerRuntime + Env + Input>(rt: &R) -> Result<(), Ending> {
     let words = read_words(rt)?;
     match asked_by(&words) {
         Some(Asked::Help) => {
@@ -71,43 +52,22 @@ where
 }
 
 /// Opens the server and serves.
-fn prepared<R>(rt: &R, arguments: Arguments<'_>, config: Config) -> Result<(), ServeFault>
-where
-    R: Wait
-        + Threads
-        + Clock
-        + Net
-        + RandomSource
-        + AllocGlobal
-        + Print
-        + Sync
-        + Send
-        + Copy
-        + Drop,
-{
+fn prepared<R: ServerRuntime>(
+    rt: &R,
+    arguments: Arguments<'_>,
+    config: Config,
+) -> Result<(), ServeFault> {
     let blank = prepare(rt.alloc())?;
     open::<Brand, R>(rt, arguments, config, blank)
 }
 
 /// Opens a hall, serves and ends it.
-fn open<K: Named + Send + Sync, R>(
+fn open<K: Named + Send + Sync, R: ServerRuntime>(
     rt: &R,
     arguments: Arguments<'_>,
     config: Config,
     blank: Blank,
 ) -> Result<(), ServeFault>
-where
-    R: Wait
-        + Threads
-        + Clock
-        + Net
-        + RandomSource
-        + AllocGlobal
-        + Print
-        + Sync
-        + Send
-        + Copy
-        + Drop,
     requires book { book_of blank ≡ K.book }
     requires configured { configuration config ≡ K.configuration }
 {
@@ -122,7 +82,7 @@ where
 }
 
 /// Binds, says so, serves by so many threads and ends the hall.
-fn listen<K: Named + Send + Sync, R, M: Moments + Send + Sync>(
+fn listen<K: Named + Send + Sync, R: ServerRuntime, M: Moments + Send + Sync>(
     rt: &R,
     threads: usize,
     arguments: Arguments<'_>,
@@ -130,18 +90,6 @@ fn listen<K: Named + Send + Sync, R, M: Moments + Send + Sync>(
     queues: Queues,
     moments: M,
 ) -> io::Result<()>
-where
-    R: Wait
-        + Threads
-        + Clock
-        + Net
-        + RandomSource
-        + AllocGlobal
-        + Print
-        + Sync
-        + Send
-        + Copy
-        + Drop,
     requires { 0 < threads }
 {
     let mut runtime = Runtime::with_worker_threads(rt, threads)?;
