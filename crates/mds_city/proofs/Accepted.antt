@@ -5,14 +5,12 @@ use Rattle.std.proofs.lemmas.List.{map-append}
 use Rattle.std.specs.List.{AllByRecursion}
 use Rattle.mds_commit.specs.Durable.{chosen}
 use Rattle.mds_machine.specs.Step.{Exchange}
-use Rattle.mds_request.specs.Call.{call_of}
 use Rattle.mds_request.specs.Configuration.{Configuration}
 use Rattle.mds_request.specs.Request.{Request}
 use Rattle.mds_request.specs.Reply.{Reply}
-use Rattle.mds_restarts.specs.Kept.{is_kept, may_change, requests_in}
+use Rattle.mds_restarts.specs.Kept.{requests_in}
 use Rattle.mds_city.specs.Many.{AreRecordsOf, accepted, exchanges}
 use Rattle.mds_city.specs.Records.{HasRecord, IsRecordOf}
-use Rattle.mds_city.proofs.Turns.{second_true}
 
 -- one more request has a record
 pub one_more_record : (configuration : Configuration) (requests : List Request) (texts : List (List ℕ)) (request : Request) (text : List ℕ)
@@ -24,7 +22,7 @@ one_more_record configuration (first ∷ requests) [] request text are is = absu
 one_more_record configuration (first ∷ requests) (other ∷ texts) request text are is =
     (are.0, one_more_record configuration requests texts request text are.1 is)
 
-taken_more : {A : Type 0} (items : List A) (i : ℕ) (item : A) → i < length items → item ≡ get_or items i item → take (i + 1) items ≡ take i items ++ item ∷ []
+pub taken_more : {A : Type 0} (items : List A) (i : ℕ) (item : A) → i < length items → item ≡ get_or items i item → take (i + 1) items ≡ take i items ++ item ∷ []
 taken_more items i item within here =
     ap (λ n. take n items) (add-one i) ∙ take-suc items i item within ∙ ap (λ a. take i items ++ a ∷ []) (sym here)
 
@@ -61,9 +59,12 @@ chosen_are_theirs configuration (request ∷ requests) (reply ∷ replies) (text
     (chosen (map (λ r. r.status == 200) replies) texts) (reply.status == 200) are.0
     (chosen_are_theirs configuration requests replies texts are.1)
 
--- each exchange that a journal keeps has its record among these texts
+-- each exchange that was accepted has its record among these texts
 abbrev pub Recorded : Configuration → List (List ℕ) → Exchange → Type 0
-Recorded configuration texts e = is_kept configuration e ≡ true → HasRecord configuration e.request texts
+Recorded configuration texts e = e.reply.status ≡ 200 → HasRecord configuration e.request texts
+
+no_success : (status : ℕ) → (status == 200) ≡ false → status ≡ 200 → ⊥
+no_success status is success = let e : (200 == 200) ≡ false = subst (λ (n : ℕ). (n == 200) ≡ false) success is in cc e
 
 next_recorded : (configuration : Configuration) (e : Exchange) (history : List Exchange) (before records : List (List ℕ)) (b : Bool) → (e.reply.status == 200) ≡ b
     → ((earlier texts : List (List ℕ)) → AreRecordsOf configuration (requests_in (accepted history)) texts
@@ -72,12 +73,12 @@ next_recorded : (configuration : Configuration) (e : Exchange) (history : List E
     → AllByRecursion (Recorded configuration (before ++ records)) (e ∷ history)
 next_recorded configuration e history before [] true is others are = absurd are
 next_recorded configuration e history before (text ∷ texts) true is others are = (
-  (λ kept. (text, are.0, (before, texts, refl))),
+  (λ success. (text, are.0, (before, texts, refl))),
   subst (λ (all : List (List ℕ)). AllByRecursion (Recorded configuration all) history) (append_assoc before (text ∷ []) texts)
       (others (before ++ text ∷ []) texts are.1),
 )
 next_recorded configuration e history before records false is others are = (
-  (λ kept. absurd (cc (second_true (may_change (call_of configuration e.request)) (e.reply.status == 200) kept, is))),
+  (λ success. absurd (no_success e.reply.status is success)),
   others before records are,
 )
 

@@ -1,5 +1,5 @@
 -- No route has the path of a call beside the protocol's, so that none of these calls is one of the protocol.
-use Rattle.std.proofs.Common.{◌≡◌, ◌&&◌, ◌==◌, ℕ, List, [], Bool, true, false, cond, bytes_eq, if◌then◌else◌, nat_lt, length, IsSome, Option, Some, None, option_map, Result, Ok, Err, refl, ap, subst, sym}
+use Rattle.std.proofs.Common.{◌≡◌, ◌&&◌, ◌==◌, ℕ, List, [], Bool, true, false, cond, bytes_eq, if◌then◌else◌, nat_lt, length, IsSome, Option, Some, None, option_map, Err, refl, ap, subst, sym}
 use Rattle.std.specs.List.{slice_split}
 use Rattle.std.specs.Str.{is_utf8}
 use Rattle.std.proofs.lemmas.Slice.Eq.{bytes_eq-Decides}
@@ -7,7 +7,6 @@ use Rattle.mds_request.specs.Call.{behind_slash, is_slash, path_of, rows_at, seg
 use Rattle.mds_request.specs.Configuration.{Configuration, actor_of}
 use Rattle.mds_request.specs.Request.{Request}
 use Rattle.mds_request.specs.declared.call.TheConstants.{MOST_BODY}
-use Rattle.mds_request.specs.declared.code.Code.{Code}
 use Rattle.mds_request.specs.declared.code.Code.TheVariants.{NoRoute, TooLarge}
 use Rattle.mds_request.specs.declared.config.Actor.{Actor}
 use Rattle.mds_request.specs.declared.config.Actor.TheVariants.{Author, Operator, Nobody}

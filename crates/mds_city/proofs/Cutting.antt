@@ -1,5 +1,5 @@
 -- The first line of a text, and the reports of its lines.
-use Rattle.std.proofs.Common.{◌≡◌, ℕ, ◌+◌, ◌<◌, Bool, true, false, cond, List, [], ◌∷◌, ◌++◌, length, map, filter, take, drop, position, Some, None, refl, sym, ap, ◌∙◌, arith, append_assoc}
+use Rattle.std.proofs.Common.{◌≡◌, ℕ, ◌+◌, ◌≤◌, ◌<◌, Bool, true, false, cond, List, [], ◌∷◌, ◌++◌, length, map, filter, take, drop, position, Some, None, refl, sym, ap, ◌∙◌, arith, append_assoc, length-append}
 use Rattle.std.specs.Io.BufRead.{strip_last}
 use Rattle.std.proofs.lemmas.List.{append-nil, map-append}
 use Rattle.mds_lines.specs.Input.{is_feed, is_filled, lines}
@@ -56,3 +56,14 @@ module _ {A : Type 0} (report : List ℕ → A) where
       → now ≡ so_far ++ reported (line ∷ [])
   reports_one line so_far now it is it_is more =
       more ∙ ap (λ x. so_far ++ x ∷ []) it_is ∙ sym (ap (λ xs. so_far ++ xs) (by_filled true line is))
+
+  -- a line behind as many as there may be makes them too many
+  pub more_than : (so_far all : List A) (line rest behind : List ℕ) (most : ℕ) → lines rest ≡ line ∷ lines behind → so_far ++ reported (lines rest) ≡ all
+      → is_filled line ≡ true → most ≤ length so_far → most < length all
+  more_than so_far all line rest behind most first was is least =
+      let now = so_far ++ reported (line ∷ []) in
+      let onto : now ++ reported (lines behind) ≡ all = reported_next so_far now all line rest behind first refl was in
+      let one : length now ≡ length so_far + 1 = ap (λ xs. length (so_far ++ xs)) (by_filled true line is) ∙ length-append so_far (report line ∷ []) in
+      let many : length all ≡ length now + length (reported (lines behind)) =
+      sym (ap length onto) ∙ length-append now (reported (lines behind)) in
+      omega (arith, one, many, least)

@@ -3,9 +3,9 @@ mod Among
 mod Apart
 pub mod Cities
 mod Cutting
-mod Getting
 mod Own
 mod Reports
 mod Responses
+mod Runs
 mod Told
 mod Turns

@@ -1,7 +1,7 @@
 -- What an operator is told beside the protocol's calls, by its own place.
 use Rattle.std.proofs.Common.{◌≡◌, ◌⊎◌, ℕ, List, Option, Some, None, option_map, Result, Ok, Err, IfOk, IfErr, inl, inr, refl, sym, ap, subst, ◌∙◌}
 use Rattle.std.specs.List.{slice_get}
-use Rattle.mds_app.specs.Badges.{Badge, Badges}
+use Rattle.mds_app.specs.Badges.{Badges}
 use Rattle.mds_app.specs.Whoami.{told_operator}
 use Rattle.mds_app.specs.Withdrawals.{withdrawals_reply}
 use Rattle.mds_catalog.specs.Publication.{Publication}
@@ -11,7 +11,6 @@ use Rattle.mds_request.specs.Reply.{Reply, refused}
 use Rattle.mds_request.specs.declared.code.Code.{Code}
 use Rattle.mds_request.specs.declared.code.Code.TheVariants.{NoMemory, NoSnapshot}
 use Rattle.mds_hall.specs.Told.{DeskTells, RoomTells}
-use Rattle.mds_hall.specs.Turn.{IsDeskAt}
 use Rattle.mds_city.specs.Told.{IsToldReply, operator_told, own_withdrawals}
 use Rattle.mds_city.specs.declared.app.Question.{Question}
 use Rattle.mds_city.specs.declared.app.Question.TheVariants.{Whoami, Withdrawals, Drafts}

@@ -1,5 +1,5 @@
 -- What a city responds.
-use Rattle.std.proofs.Common.{◌≡◌, ◌⊎◌, ℕ, List, Option, Some, None, IfSome, MatchOption, Result, Ok, Err, IfOk, inl, inr, refl, sym, subst}
+use Rattle.std.proofs.Common.{◌≡◌, ◌⊎◌, ℕ, List, Option, Some, None, IfSome, MatchOption, Result, Ok, Err, IfOk, inl, inr, sym, subst}
 use Rattle.http.specs.declared.response.Response.{Response}
 use Rattle.http_body_util.specs.declared.full.Full.{Full}
 use Rattle.mds_app.specs.Badges.{Badges}
@@ -11,28 +11,28 @@ use Rattle.mds_request.specs.declared.config.Actor.{Actor}
 use Rattle.mds_hall.specs.Respond as hall
 use Rattle.mds_hall.specs.Response.{Says}
 use Rattle.mds_city.specs.App.{app_of}
-use Rattle.mds_city.specs.Away.{SaysNoRoom}
 use Rattle.mds_city.specs.City.{IsAnswered, IsAnsweredBy, IsTold, IsToldBy}
 use Rattle.mds_city.specs.Told.{IsToldReply, SaysTold}
+use Rattle.mds_city.specs.Unheld.{SaysUnheld}
 use Rattle.mds_city.specs.Unstored.{Waits}
 use Rattle.mds_city.specs.declared.app.AppCall.{AppCall}
 
 -- one reply of the protocol is a hall's
 one_is : (configuration : Configuration) (request : Request) (stamp : List (List ℕ)) (response : Response (Full (List ℕ)))
     → IsAnsweredBy configuration (actor_of configuration request.token) request stamp response
-    → SaysNoRoom response ⊎ hall.IsCarriedOut configuration request response
-one_is configuration request stamp response (inl full) = inl full
+    → SaysUnheld response ⊎ hall.IsCarriedOut configuration request response
+one_is configuration request stamp response (inl unheld) = inl unheld
 one_is configuration request stamp response (inr carried) = inr (carried.reply, carried.turn.turn, carried.says)
 
 none_is : {A : Type 0} (P : Type 0) (Q : A → Type 0) (o : Option A) → o ≡ None → MatchOption o P Q → P
 none_is P Q None none is = is
 none_is P Q (Some a) none is = absurd cc
 
--- where there is room, the response to a call of the protocol is a hall's
+-- where the log holds what is needed, the response to a call of the protocol is a hall's
 pub as_a_hall : (configuration : Configuration) (badges : Badges) (early : Option Code) (at : Option ℕ) (request : ℕ → Request) (stamp : List (List ℕ)) (response : Response (Full (List ℕ)))
     → ((moment : ℕ) → app_of (request moment) ≡ None)
     → MatchOption early (IfSome at (λ moment. IsAnswered configuration badges (request moment) stamp response)) (λ code. Says response (refused code))
-    → SaysNoRoom response ⊎ MatchOption early (IfSome at (λ moment. hall.IsCarriedOut configuration (request moment) response)) (λ code. Says response (refused code))
+    → SaysUnheld response ⊎ MatchOption early (IfSome at (λ moment. hall.IsCarriedOut configuration (request moment) response)) (λ code. Says response (refused code))
 as_a_hall configuration badges (Some code) at request stamp response plain says = inr says
 as_a_hall configuration badges None None request stamp response plain nothing = inr nothing
 as_a_hall configuration badges None (Some moment) request stamp response plain told =

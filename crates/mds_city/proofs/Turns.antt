@@ -1,22 +1,29 @@
 -- What is kept of a turn.
-use Rattle.std.proofs.Common.{◌≡◌, ℕ, Bool, true, false, List, Option, Some, None, IfSome, IfNone, IsSome, option_map, refl, sym, subst}
+use Rattle.std.proofs.Common.{◌≡◌, ℕ, Bool, true, false, List, Option, Some, None, IfSome, IfNone, IsSome, option_map, Err, refl, sym, ap, subst}
 use Rattle.std.specs.Prelude.{◌&&◌, ◌==◌}
 use Rattle.std.proofs.lemmas.Bool.{eqb-true}
 use Rattle.mds_commit.specs.declared.backlog.Place.{Place}
 use Rattle.mds_request.specs.Call.{call_of}
-use Rattle.mds_request.specs.Configuration.{Configuration}
+use Rattle.mds_request.specs.Configuration.{Configuration, actor_of}
 use Rattle.mds_request.specs.Request.{Request}
-use Rattle.mds_request.specs.Reply.{Reply}
+use Rattle.mds_request.specs.Reply.{Reply, refused}
+use Rattle.mds_request.specs.declared.code.Code.{Code}
 use Rattle.mds_request.specs.declared.config.Actor.{Actor}
+use Rattle.mds_request.specs.declared.config.Actor.TheVariants.{Author, Operator, Nobody}
 use Rattle.mds_restarts.specs.Kept.{is_kept, may_change}
+use Rattle.http.specs.declared.request.Parts.{Parts}
+use Rattle.mds_hall.specs.Asked.{token_of}
+use Rattle.mds_hall.specs.Early.{unknown}
+use Rattle.mds_hall.specs.Heard.{IsHeard}
+use Rattle.mds_hall.specs.declared.early.Arrived.{Arrived}
 use Rattle.mds_hall.specs.Respond.{TurnGives}
+use Rattle.mds_hall.proofs.Refusing.{IsSomebody, table_refuses}
 use Rattle.mds_city.specs.City.{IsRecordedTurn}
 use Rattle.mds_city.specs.Records.{HasRecord, IsAmong, IsReserved, IsSettled, IsTitled, place_of}
 use Rattle.mds_city.specs.declared.records.Reserved.{Reserved}
 use Rattle.mds_city.specs.declared.records.Reserved.TheVariants.{Reads, Holds}
-use Rattle.mds_city.proofs.Getting.{reads_change_nothing}
 
-first_true : (a b : Bool) → (a && b) ≡ true → a ≡ true
+pub first_true : (a b : Bool) → (a && b) ≡ true → a ≡ true
 first_true true b is = refl
 first_true false b is = absurd cc
 
@@ -29,8 +36,7 @@ has_record : (configuration : Configuration) (request : Request) (reply : Reply)
     → is_kept configuration (record { request = request; reply = reply }) ≡ true → HasRecord configuration request stamp
 has_record configuration request reply Reads stamp is settled kept =
     let may = first_true (may_change (call_of configuration request)) (reply.status == 200) kept in
-    let reads = reads_change_nothing configuration request is in
-    absurd (cc (may, reads))
+    absurd (cc (may, is))
 has_record configuration request reply (Holds place) stamp is settled kept =
     (place.text.items, is, settled (eqb-true reply.status 200 (second_true (may_change (call_of configuration request)) (reply.status == 200) kept)))
 
@@ -71,3 +77,28 @@ settled_unasked place text reserved held (Some e) status stamp is same none sett
 pub of_some : {A P : Type 0} (o : Option A) → IsSome o → IfSome o (λ _. P) → P
 of_some None some p = absurd cc
 of_some (Some a) some p = p
+
+-- the author or an operator is known
+somebody : (actor : Actor) → unknown actor ≡ None → IsSomebody actor
+somebody Author known = tt
+somebody (Operator place) known = tt
+somebody Nobody known = absurd cc
+
+-- what the table of calls refuses of them is what a turn gives, and no journal keeps it
+pub refused_turn : (configuration : Configuration) (request : Request) (code : Code) (stamp : List (List ℕ)) → call_of configuration request ≡ Err code
+    → unknown (actor_of configuration request.token) ≡ None
+    → IsRecordedTurn configuration (actor_of configuration request.token) request (refused code) stamp
+refused_turn configuration request code stamp resolved known =
+    let actor = actor_of configuration request.token in
+    record {
+      turn = table_refuses configuration request code resolved (refused code) refl actor refl (somebody actor known);
+      recorded = λ kept.
+          let may = first_true (may_change (call_of configuration request)) ((refused code).status == 200) kept in
+          let reads : may_change (call_of configuration request) ≡ false = ap may_change resolved in
+          absurd (cc (may, reads));
+    }
+
+-- the access token of what was heard is the head's
+pub heard_token : (parts : Parts) (arrived : Arrived) (at : Option ℕ) (request : Request) → IsHeard parts arrived at request → request.token ≡ token_of parts.headers
+heard_token parts arrived None request heard = absurd (let none = heard.allowed in cc)
+heard_token parts arrived (Some moment) request heard = ap (λ r. r.token) heard.is_it

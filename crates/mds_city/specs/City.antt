@@ -19,10 +19,10 @@ use Rattle.mds_hall.specs.Heard.{body_in}
 use Rattle.mds_hall.specs.Respond.{TurnGives}
 use Rattle.mds_hall.specs.Response.{Says}
 use Rattle.mds_city.specs.App.{app_of}
-use Rattle.mds_city.specs.Away.{SaysNoRoom}
 use Rattle.mds_city.specs.Many.{ManyAreAnswered}
 use Rattle.mds_city.specs.Records.{HasRecord}
 use Rattle.mds_city.specs.Told.{SaysTold, TellsAuthor, TellsOperator}
+use Rattle.mds_city.specs.Unheld.{SaysUnheld}
 use Rattle.mds_city.specs.Unstored.{Waits}
 use Rattle.mds_city.specs.declared.app.AppCall.{AppCall}
 use Rattle.mds_city.specs.declared.app.AppCall.TheVariants.{Events, Told}
@@ -38,9 +38,9 @@ pub record IsCarriedOutBy (configuration : Configuration) (actor : Actor) (reque
   pub turn : IsRecordedTurn configuration actor request reply stamp
   pub says : Says response reply
 
--- the log has no room, and nothing was asked; or the request was carried out
+-- nothing of the log is held, and the request wasn't carried out; or it was
 abbrev pub IsAnsweredBy : Configuration → Actor → Request → List (List ℕ) → Response (Full (List ℕ)) → Type 0
-IsAnsweredBy configuration actor request stamp response = SaysNoRoom response ⊎ IsCarriedOutBy configuration actor request stamp response
+IsAnsweredBy configuration actor request stamp response = SaysUnheld response ⊎ IsCarriedOutBy configuration actor request stamp response
 
 -- What is told of a call beside the protocol's: that the path hasn't the method; what the reports of an operator are answered; or
 -- what whoever asks is told, of which nothing is kept.

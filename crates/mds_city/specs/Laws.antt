@@ -1,5 +1,5 @@
 -- What the answers of a city are good for.
-use Rattle.std.specs.Prelude.{◌≡◌, ◌⊎◌, ℕ, true, false, List, [], filter, Option, None, Some, IsSome, slice_get}
+use Rattle.std.specs.Prelude.{◌≡◌, ◌⊎◌, ℕ, true, false, List, [], ◌++◌, filter, Option, None, Some, IsSome, slice_get}
 use Rattle.std.specs.List.{AllByRecursion, filter_map}
 use Rattle.http.specs.declared.request.Parts.{Parts}
 use Rattle.http.specs.declared.response.Response.{Response}
@@ -19,11 +19,11 @@ use Rattle.mds_app.specs.Badges.{Badges}
 use Rattle.mds_app.specs.Withdrawals.{withdrawal_of, withdrawals}
 use Rattle.mds_catalog.specs.Publication.{Publication, is_meant_for, published_policies}
 use Rattle.mds_city.specs.App.{app_at, app_of}
-use Rattle.mds_city.specs.Away.{SaysNoRoom}
 use Rattle.mds_city.specs.City.{Answers, IsCarriedOut}
-use Rattle.mds_city.specs.Many.{AreCarriedOutBy, SaysAll, exchanges}
+use Rattle.mds_city.specs.Many.{AreCarriedOutBy, AreRefusedBehind, SaysAll, exchanges}
 use Rattle.mds_city.specs.Records.{HasRecord}
 use Rattle.mds_city.specs.Told.{operator_told}
+use Rattle.mds_city.specs.Unheld.{SaysUnheld}
 use Rattle.mds_city.specs.declared.app.Question.{Question}
 
 module _ {L : Type 0} (may_be : L → List (List ℕ) → Type 0) (is_synced : L → Type 0) where
@@ -40,22 +40,24 @@ module _ {L : Type 0} (may_be : L → List (List ℕ) → Type 0) (is_synced : L
       → (reply : Reply) × TurnGives configuration (actor_of configuration request.token) request reply × Says response reply
       × (is_kept configuration (record { request = request; reply = reply }) ≡ true → HasDurableRecord configuration request)
 
-  -- Many reports that were taken, told by a response: it says the replies of a run of turns of the operator's desk. Of each that a journal
-  -- keeps a synced log has the record.
+  -- Many reports that were taken, told by a response: it says the replies of a run of turns of the operator's desk to those at the front, of
+  -- each of which that a journal keeps a synced log has the record. Those behind them, if there are any, were refused and weren't carried out.
   abbrev pub ManyAreKept : Type 0
   ManyAreKept =
       (configuration : Configuration) (place : ℕ) (requests : List Request) (response : Response (Full (List ℕ))) (stamp : List (List ℕ))
       → AreCarriedOutBy configuration place requests stamp response → AreDurable may_be is_synced stamp
-      → (replies : List Reply) × DeskRuns configuration place requests replies × SaysAll response replies
-      × AllByRecursion (λ e. is_kept configuration e ≡ true → HasDurableRecord configuration e.request) (exchanges requests replies)
+      → (asked : List Request) × (unasked : List Request) × (own : List Reply) × (others : List Reply) × (requests ≡ asked ++ unasked)
+      × DeskRuns configuration place asked own × SaysAll response (own ++ others)
+      × ((unasked ≡ [] × others ≡ []) ⊎ AreRefusedBehind unasked others)
+      × AllByRecursion (λ e. is_kept configuration e ≡ true → HasDurableRecord configuration e.request) (exchanges asked own)
 
--- Where the log has room, a city responds to a call of the protocol as a hall does.
+-- Where the log holds what a request needs, a city responds to a call of the protocol as a hall does.
 abbrev pub RespondsAsAHall : Type 0
 RespondsAsAHall =
     (configuration : Configuration) (badges : Badges) (parts : Parts) (arrived : Arrived) (at : Option ℕ) (stamp : List (List ℕ)) (response : Response (Full (List ℕ)))
     → app_at (verb_of parts.method) (path_of (target_of parts.uri)) ≡ None
     → Answers configuration badges parts arrived at stamp response
-    → SaysNoRoom response ⊎ Responds configuration parts arrived at response
+    → SaysUnheld response ⊎ Responds configuration parts arrived at response
 
 -- No route has the path of a call beside the protocol's.
 abbrev pub AppAndProtocolAreApart : Type 0

@@ -1,4 +1,4 @@
-pub mod Away
+pub mod Unheld
 pub mod App
 pub mod Records
 pub mod Many

@@ -1,24 +1,30 @@
 -- Many reports in one body, and what is told of them.
-use Rattle.std.specs.Prelude.{◌≡◌, ◌==◌, ◌⊎◌, ℕ, List, [], ◌∷◌, ◌++◌, codes, map, filter}
-use Rattle.std.specs.List.{flat_map}
+use mathlib.Core.List.{IsPrefix}
+use Rattle.std.specs.Prelude.{◌≡◌, ◌==◌, ◌<◌, ◌⊎◌, ℕ, List, [], ◌∷◌, ◌++◌, codes, length, map, filter, Option, Some, None}
+use Rattle.std.specs.List.{AllByRecursion, flat_map}
 use Rattle.http_header.specs.FieldValue.{plain_value}
 use Rattle.http.specs.Response.{head_of, body_of}
 use Rattle.http.specs.declared.response.Response.{Response}
 use Rattle.http_body_util.specs.declared.full.Full.{Full}
-use Rattle.mds_commit.specs.Durable.{AreLast}
 use Rattle.mds_lines.specs.Answering.{status_text}
 use Rattle.mds_lines.specs.Input.{is_filled, lines}
 use Rattle.mds_machine.specs.Step.{Exchange}
 use Rattle.mds_request.specs.Configuration.{Configuration}
 use Rattle.mds_request.specs.Request.{Request}
 use Rattle.mds_request.specs.Reply.{Reply, refused}
-use Rattle.mds_request.specs.declared.code.Code.TheVariants.{NoMemory}
+use Rattle.mds_request.specs.declared.code.Code.{Code}
+use Rattle.mds_request.specs.declared.code.Code.TheVariants as code
 use Rattle.mds_request.specs.declared.request.Verb.TheVariants.{Post}
-use Rattle.mds_restarts.specs.Kept.{requests_in}
 use Rattle.mds_hall.specs.Response.{Says, bytes_of}
-use Rattle.mds_hall.specs.Turn.{DeskRuns}
-use Rattle.mds_city.specs.Away.{SaysNoRoom}
-use Rattle.mds_city.specs.Records.{IsRecordOf}
+use Rattle.mds_hall.specs.Turn.{DeskRuns, TakesToldRun}
+use Rattle.mds_desk.specs.Desk.{DeskState}
+use Rattle.mds_catalog.specs.Publication.{Publication}
+use Rattle.mds_city.specs.Records.{HasRecord, IsRecordOf}
+use Rattle.mds_city.specs.Unheld.{SaysUnheld}
+use Rattle.mds_city.specs.declared.lines.TheConstants.{MOST_REPORTS}
+use Rattle.mds_city.specs.declared.many.Halt.{Halt}
+use Rattle.mds_city.specs.declared.many.Halt.TheVariants.{Unheld, NotTold}
+use Rattle.mds_city.specs.declared.records.Unreserved.TheVariants.{Crowded, NoRoom, Stopping, Failed, NoMemory}
 
 -- the report that a line is: by the same asker, at the same moment
 abbrev pub report_of : Request → List ℕ → Request
@@ -55,25 +61,65 @@ AreRecordsOf configuration [] [] = Unit {0}
 AreRecordsOf configuration (request ∷ requests) (text ∷ texts) = IsRecordOf configuration request text × AreRecordsOf configuration requests texts
 AreRecordsOf configuration requests texts = ⊥
 
--- A turn for each request of the desk of the operator at this place gives the replies. The records of those that were answered
--- with success are the last of these texts, in their order and with nothing between.
+-- each that was answered with success has its record among these texts
+abbrev pub AreRecorded : Configuration → List Exchange → List (List ℕ) → Type 0
+AreRecorded configuration history stamp = AllByRecursion (λ e. e.reply.status ≡ 200 → HasRecord configuration e.request stamp) history
+
+-- A turn for each request, in their order and with nothing between, of the desk of the operator at this place gives the replies. Each that
+-- was answered with success has its record among these texts.
 pub record IsRecordedRun (configuration : Configuration) (place : ℕ) (requests : List Request) (replies : List Reply) (stamp : List (List ℕ)) : Type 0 where
   pub run : DeskRuns configuration place requests replies
-  pub records : List (List ℕ)
-  pub are_theirs : AreRecordsOf configuration (requests_in (accepted (exchanges requests replies))) records
-  pub are_last : AreLast records stamp
+  pub recorded : AreRecorded configuration (exchanges requests replies) stamp
 
--- the response says the replies of such a run
+-- Behind what a desk was asked before, each of these requests has a turn. Each that was answered with success has its record among these later
+-- texts, which begin with those that were known.
+pub record Continues (configuration : Configuration) (before : DeskState) (known : List (List ℕ)) (requests : List Request) (after : DeskState) (replies : List Reply) (later : List (List ℕ)) : Type 0 where
+  pub note : Option (List Publication)
+  pub run : TakesToldRun before note requests replies after
+  pub recorded : AreRecorded configuration (exchanges requests replies) later
+  pub longer : IsPrefix known later
+
+-- what is told of requests that stand behind others of their body, where nothing more of the log is held; nothing where it failed
+abbrev pub refusal_behind : Halt → Option Code
+refusal_behind (Unheld Crowded) = Some code.Busy
+refusal_behind (Unheld Stopping) = Some code.Busy
+refusal_behind (Unheld NoRoom) = Some code.NoRoom
+refusal_behind (Unheld NoMemory) = Some code.NoMemory
+refusal_behind (Unheld Failed) = None
+refusal_behind (NotTold fault) = None
+
+-- these requests aren't carried out, and each is told the same refusal
+pub record AreRefusedBehind (requests : List Request) (replies : List Reply) : Type 0 where
+  pub code : Code
+  pub why : (halt : Halt) × (refusal_behind halt ≡ Some code)
+  pub replies_are : replies ≡ map (λ _. refused code) requests
+
+-- The requests at the front were answered by a run; those behind them, if there are any, aren't carried out.
+pub record IsAnsweredInPart (configuration : Configuration) (place : ℕ) (requests : List Request) (replies : List Reply) (stamp : List (List ℕ)) : Type 0 where
+  pub asked : List Request
+  pub unasked : List Request
+  pub cut : requests ≡ asked ++ unasked
+  pub own : List Reply
+  pub others : List Reply
+  pub told : replies ≡ own ++ others
+  pub run : IsRecordedRun configuration place asked own stamp
+  pub rest : (unasked ≡ [] × others ≡ []) ⊎ AreRefusedBehind unasked others
+
+-- the response says such replies
 pub record AreCarriedOutBy (configuration : Configuration) (place : ℕ) (requests : List Request) (stamp : List (List ℕ)) (response : Response (Full (List ℕ))) : Type 0 where
   pub replies : List Reply
-  pub run : IsRecordedRun configuration place requests replies stamp
+  pub answered : IsAnsweredInPart configuration place requests replies stamp
   pub says : SaysAll response replies
 
--- none of them was asked: the log hasn't room for all of their records, or memory ran out
-abbrev pub IsUnasked : Response (Full (List ℕ)) → Type 0
-IsUnasked response = SaysNoRoom response ⊎ Says response (refused NoMemory)
+-- there are more reports than one body may have, or there was no memory for them
+abbrev pub IsRefusedWhole : Request → Code → Type 0
+IsRefusedWhole request c = (c ≡ code.NoMemory) ⊎ ((c ≡ code.TooLarge) × (MOST_REPORTS < length (reports_of request)))
+
+-- none of them was carried out
+abbrev pub IsUnasked : Request → Response (Full (List ℕ)) → Type 0
+IsUnasked request response = SaysUnheld response ⊎ ((c : Code) × IsRefusedWhole request c × Says response (refused c))
 
 -- what the operator at this place is told of the reports of one body
 abbrev pub ManyAreAnswered : Configuration → ℕ → Request → List (List ℕ) → Response (Full (List ℕ)) → Type 0
 ManyAreAnswered configuration place request stamp response =
-    IsUnasked response ⊎ AreCarriedOutBy configuration place (reports_of request) stamp response
+    IsUnasked request response ⊎ AreCarriedOutBy configuration place (reports_of request) stamp response

@@ -1,20 +1,24 @@
 -- Records of requests, and their places in a log.
-use Rattle.std.specs.Prelude.{◌≡◌, ℕ, Bool, true, false, List, [], ◌∷◌, ◌++◌, Option, Some, None, IfSome, Result, Ok}
+use Rattle.std.specs.Prelude.{◌≡◌, ℕ, false, List, [], ◌∷◌, ◌++◌, Option, Some, None, IfSome, Result, Ok}
 use Rattle.mds_commit.specs.Durable.{AreDurable}
 use Rattle.mds_commit.specs.declared.backlog.Place.{Place}
 use Rattle.mds_entries.specs.Entries.{Entry, entry_text}
 use Rattle.mds_entries.specs.Requests.{entry_by}
 use Rattle.mds_request.specs.Configuration.{Configuration}
 use Rattle.mds_request.specs.Request.{Request}
-use Rattle.mds_request.specs.declared.request.Verb.{Verb}
-use Rattle.mds_request.specs.declared.request.Verb.TheVariants.{Get}
+use Rattle.mds_request.specs.Call.{call_of}
+use Rattle.mds_request.specs.declared.call.Call.{Call}
+use Rattle.mds_request.specs.declared.call.Call.TheVariants.{Author, Operator}
+use Rattle.mds_restarts.specs.Kept.{may_change}
+use Rattle.mds_limits.specs.Asker.{index_of}
+use Rattle.mds_limits.specs.declared.asker.Asker.TheVariants as asker
 use Rattle.mds_city.specs.declared.records.Reserved.{Reserved}
 use Rattle.mds_city.specs.declared.records.Reserved.TheVariants.{Reads, Holds}
 
--- a request of any verb but GET may change something
-abbrev pub changes : Verb → Bool
-changes Get = false
-changes _ = true
+-- the place of who calls among those who share the log
+abbrev pub sharer_of : Call → ℕ
+sharer_of (Author call) = index_of asker.Author
+sharer_of (Operator place call) = index_of (asker.Operator place)
 
 -- the text is one of these
 abbrev pub IsAmong : List ℕ → List (List ℕ) → Type 0
@@ -30,9 +34,9 @@ pub record IsRecordOf (configuration : Configuration) (request : Request) (text 
 abbrev pub HasRecord : Configuration → Request → List (List ℕ) → Type 0
 HasRecord configuration request texts = (text : List ℕ) × IsRecordOf configuration request text × IsAmong text texts
 
--- what is held is enough for the request: nothing where it reads, and else a place for its record
+-- what is held is enough for the request: nothing where its call changes nothing, and else a place for its record
 abbrev pub IsReserved : Configuration → Request → Reserved → Type 0
-IsReserved configuration request Reads = request.verb ≡ Get
+IsReserved configuration request Reads = may_change (call_of configuration request) ≡ false
 IsReserved configuration request (Holds place) = IsRecordOf configuration request place.text.items
 
 -- where a request was answered with success, the text that a place was held for is among these

@@ -1,19 +1,22 @@
 //! A hall whose accepted changes are kept.
-ghost use Rattle.std.specs.Prelude.{◌≡◌, ◌<◌, length, IfOk, IfSome};
+ghost use Rattle.std.specs.Prelude.{◌≡◌, ◌<◌, length, IfOk, Ok};
+ghost use Rattle.mds_request.specs.Call.{call_of};
 ghost use Rattle.mds_request.specs.Configuration.{configuration, actor_of};
 ghost use Rattle.mds_request.specs.Reply.{refused};
+ghost use Rattle.mds_request.specs.declared.call.Call.TheVariants.{Author as ByAuthor, Operator as OperatorAt};
 ghost use Rattle.mds_request.specs.declared.config.Actor.TheVariants.{Author, Operator};
 ghost use Rattle.mds_hall.specs.Asker.{IsWithin};
 ghost use Rattle.mds_hall.specs.Heard.{request_heard};
 ghost use Rattle.mds_hall.specs.Response.{Says};
-ghost use Rattle.mds_city.specs.Away.{SaysNoRoom};
 ghost use Rattle.mds_city.specs.City.{IsRecordedTurn};
 ghost use Rattle.mds_city.specs.Records.{IsReserved, IsTitled};
+ghost use Rattle.mds_city.specs.Unheld.{SaysUnheld};
 ghost use Rattle.mds_city.specs.Unstored.{Waits};
 
-use crate::away::no_room;
+use crate::context::Context;
+use crate::pending::{Pending, Unanswered};
 use crate::recording::{Recording, Titled};
-use crate::records::{Reserved, give_back, reserve, settled};
+use crate::records::{Reserved, Unreserved, give_back, record_text, refusal_for, settled, sharer};
 use crate::unstored::unstored;
 use bytes::Bytes;
 use http::Response;
@@ -23,8 +26,9 @@ use mds_catalog::Catalogue;
 use mds_commit::{Keeper, Naming, NotTold, Settling, Space, Stamp};
 use mds_desk::OpenGate;
 use mds_hall::{Hall, Heard, Named, response};
+use mds_keeping::may_change;
 use mds_records::Log;
-use mds_request::{Actor, Code};
+use mds_request::{Actor, AuthorCall, Call, Code, OperatorCall};
 use mds_shelf::Answer;
 use mds_verdict::Evaluator;
 use std::alloc::Global;
@@ -39,7 +43,7 @@ pub struct City<K: Named, N: Naming, L: Log, S: Space> {
     pub(crate) badges: Badges,
     pub(crate) keeper: Arc<Keeper<N, L, S>>,
     /// The stamp of nothing.
-    nothing: Stamp<N, L>,
+    pub(crate) nothing: Stamp<N, L>,
 }
 
 /// What was answered, and the stamp of all that it shows.
@@ -99,7 +103,7 @@ impl<K: Named, N: Naming, L: Log, S: Space> City<K, N, L, S> {
         &self,
         stamp: Stamp<N, L>,
         response: Response<Full<Bytes>>,
-    ) -> Result<Settling<Response<Full<Bytes>>, N, L, S>, NotTold>
+    ) -> Result<Pending<N, L, S>, Unanswered>
         ensures reply { IfOk result (λ s. Waits (λ plain. plain ≡ response) s.reply) }
         ensures stamp { IfOk result (λ s. s.stamp ≡ stamp) }
     {
@@ -117,7 +121,7 @@ impl<K: Named, N: Naming, L: Log, S: Space> City<K, N, L, S> {
         &self,
         alloc: Global,
         answered: Answered<N, L>,
-    ) -> Result<Settling<Response<Full<Bytes>>, N, L, S>, NotTold>
+    ) -> Result<Pending<N, L, S>, Unanswered>
         ensures says { IfOk result (λ s. Waits (λ response. Says response answered.answer) s.reply) }
         ensures stamp { IfOk result (λ s. s.stamp ≡ answered.stamp) }
     {
@@ -126,80 +130,96 @@ impl<K: Named, N: Naming, L: Log, S: Space> City<K, N, L, S> {
         self.waiting(stamp, response)
     }
 
-    /// A refusal of what isn't asked.
+    /// A refusal of what isn't carried out: it shows nothing, so it waits for no sync.
     ///
     /// # Errors
     ///
     /// There was no memory for the response.
-    pub(crate) fn refused(
-        &self,
-        alloc: Global,
-        code: Code,
-    ) -> Result<Settling<Response<Full<Bytes>>, N, L, S>, NotTold>
+    pub(crate) fn refused(&self, alloc: Global, code: Code) -> Result<Pending<N, L, S>, Unanswered>
         ensures { IfOk result (λ s. Waits (λ response. Says response (refused code)) s.reply) }
     {
-        let stamp = self.stamp();
+        let stamp = self.nothing.again();
         let answer = Answer::from(code);
         self.told(alloc, Answered { answer, stamp })
     }
 
-    /// The response that says that there is no room, of what isn't asked.
+    /// What is said of a request for which nothing of the log is held.
     ///
     /// # Errors
     ///
-    /// There was no memory for the response.
-    pub(crate) fn turned_away(
+    /// It may be asked again, or nothing may be told.
+    pub(crate) fn unheld(
         &self,
         alloc: Global,
-    ) -> Result<Settling<Response<Full<Bytes>>, N, L, S>, NotTold>
-        ensures { IfOk result (λ s. Waits SaysNoRoom s.reply) }
+        why: Unreserved,
+    ) -> Result<Pending<N, L, S>, Unanswered>
+        ensures { IfOk result (λ s. Waits SaysUnheld s.reply) }
     {
-        let stamp = self.stamp();
-        let response = no_room(alloc)?;
-        self.waiting(stamp, response)
+        match refusal_for(why) {
+            Ok(code) => self.refused(alloc, code),
+            Err(unanswered) => Err(unanswered),
+        }
     }
 
-    /// Holds what a request needs of the log before it is asked. None where there is no room: nothing is held then.
+    /// Holds what a call needs of the log before it is carried out.
+    ///
+    /// # Errors
+    ///
+    /// Nothing is held.
     pub(crate) fn room_for<R: Wait>(
         &self,
         rt: &R,
         alloc: Global,
         heard: &Heard<'_>,
-    ) -> Option<Reserved>
-        ensures { IfSome result (IsReserved (configuration self.now.hall.config.value) (request_heard heard.now)) }
+        call: &Call,
+    ) -> Result<Reserved, Unreserved>
+        requires { call_of (configuration self.now.hall.config.value) (request_heard heard.now) ≡ Ok call.now }
+        ensures { IfOk result (IsReserved (configuration self.now.hall.config.value) (request_heard heard.now)) }
     {
-        let Ok(config) = self.hall.configuration() else {
-            return None;
-        };
+        if !may_change(&Ok(*call)) {
+            return Ok(Reserved::Reads);
+        }
+        let config = self.hall.configuration()?;
         let request = heard.request();
-        reserve(rt, alloc, &*self.keeper, &*config, &request)
+        let text = record_text(alloc, &*config, &request)?;
+        match self.keeper.reserve(rt, sharer(call), text) {
+            Ok(place) => Ok(Reserved::Holds(place)),
+            Err(fault) => Err(Unreserved::from(fault)),
+        }
     }
 
-    /// One turn of the desk of the operator at this place, and what is kept of it, all under the desk's lock.
+    /// One turn of the desk of the operator at this place for a call of it, and what is kept of it, all under the desk's lock.
     ///
     /// # Errors
     ///
     /// The keeper failed.
     pub(crate) fn desk_turn<R: Wait, E: Evaluator<Catalogue>>(
         &self,
-        rt: &R,
+        context: &Context<'_, R, E>,
         place: usize,
+        call: OperatorCall,
         heard: Heard<'_>,
         reserved: Reserved,
-        evaluator: &E,
     ) -> Result<Answered<N, L>, NotTold>
         requires judge { E.may_judge }
-        requires place { place < length (configuration self.now.hall.config.value).operators }
+        requires resolved { call_of (configuration self.now.hall.config.value) (request_heard heard) ≡ Ok (OperatorAt place call) }
         requires reserved { IsReserved (configuration self.now.hall.config.value) (request_heard heard) reserved }
         ensures { IfOk result (λ answered. IsRecordedTurn (configuration self.now.hall.config.value) (Operator place)
             (request_heard heard.entry) answered.answer answered.stamp) }
     {
+        let rt = context.rt;
         let Some(mut desk) = self.hall.desk_at(rt, place) else {
             give_back(rt, &*self.keeper, reserved);
             return Err(NotTold::NoMemory);
         };
         let note = self.hall.note(rt);
-        let answer = desk.answered(heard, note.as_ref(), &mut OpenGate, evaluator);
+        let answer = desk.carry_out(
+            heard,
+            &call,
+            note.as_ref(),
+            &mut OpenGate,
+            context.evaluator,
+        );
         let status = answer.status();
         match settled(rt, &*self.keeper, &self.nothing, reserved, status) {
             Ok(stamp) => Ok(Answered { answer, stamp }),
@@ -207,8 +227,8 @@ impl<K: Named, N: Naming, L: Log, S: Space> City<K, N, L, S> {
         }
     }
 
-    /// One turn of the author's room, and what is kept of it, all under the room's lock. A publication's record is synced
-    /// before the publication is shown.
+    /// One turn of the author's room for a call of the author, and what is kept of it, all under the room's lock. A
+    /// publication's record is synced before the publication is shown.
     ///
     /// # Errors
     ///
@@ -216,18 +236,20 @@ impl<K: Named, N: Naming, L: Log, S: Space> City<K, N, L, S> {
     pub(crate) fn room_turn<T: Titled, R: Wait + Copy + Drop>(
         &self,
         rt: &R,
+        call: AuthorCall,
         heard: Heard<'_>,
         keeper: Arc<Keeper<N, L, S>>,
         reserved: Reserved,
     ) -> Result<Answered<N, L>, NotTold>
         requires title { IsTitled T.text reserved }
+        requires resolved { call_of (configuration self.now.hall.config.value) (request_heard heard) ≡ Ok (ByAuthor call) }
         requires reserved { IsReserved (configuration self.now.hall.config.value) (request_heard heard) reserved }
         ensures { IfOk result (λ answered. IsRecordedTurn (configuration self.now.hall.config.value) Author
             (request_heard heard.entry) answered.answer answered.stamp) }
     {
         let mut recording = Recording::<T, R, N, L, S>::new(*rt, keeper, reserved);
         let mut room = self.hall.room(rt);
-        let (answer, note) = room.answer_with(rt, heard, &mut recording);
+        let (answer, note) = room.carry_out(rt, heard, &call, &mut recording);
         let is_published = note.is_some();
         if let Some(note) = note {
             self.hall.keep_note(rt, note);
@@ -243,18 +265,20 @@ impl<K: Named, N: Naming, L: Log, S: Space> City<K, N, L, S> {
     /// # Errors
     ///
     /// The keeper failed, or a share of it couldn't be had: what was held is given back then.
-    pub(crate) fn authored<R: Wait + Copy + Drop>(
+    pub(crate) fn room_turn_of<R: Wait + Copy + Drop>(
         &self,
         rt: &R,
+        call: AuthorCall,
         heard: Heard<'_>,
         reserved: Reserved,
     ) -> Result<Answered<N, L>, NotTold>
-        requires { IsReserved (configuration self.now.hall.config.value) (request_heard heard) reserved }
+        requires resolved { call_of (configuration self.now.hall.config.value) (request_heard heard) ≡ Ok (ByAuthor call) }
+        requires reserved { IsReserved (configuration self.now.hall.config.value) (request_heard heard) reserved }
         ensures { IfOk result (λ answered. IsRecordedTurn (configuration self.now.hall.config.value) Author
             (request_heard heard.entry) answered.answer answered.stamp) }
     {
         match Arc::try_clone(&self.keeper) {
-            Ok(keeper) => self.room_turn::<Brand, R>(rt, heard, keeper, reserved),
+            Ok(keeper) => self.room_turn::<Brand, R>(rt, call, heard, keeper, reserved),
             Err(_) => {
                 give_back(rt, &*self.keeper, reserved);
                 Err(NotTold::NoMemory)

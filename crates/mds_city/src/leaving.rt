@@ -1,13 +1,13 @@
 //! A response on its way out.
-ghost use Rattle.std.specs.Prelude.{◌≡◌};
-ghost use Rattle.std.specs.Result.{result_ok};
+ghost use Rattle.std.specs.Prelude.{◌≡◌, Some, None};
 
+use crate::pending::Pending;
 use bytes::Bytes;
 use futures::Future;
 use futures::task::{Context, Poll};
 use http::Response;
 use http_body_util::Full;
-use mds_commit::{Naming, NotTold, Settling, Space};
+use mds_commit::{Naming, Space};
 use mds_records::Log;
 use std::alloc::AllocError;
 
@@ -15,19 +15,24 @@ use std::alloc::AllocError;
 #[derive(Drop)]
 pub struct Leaving<N: Naming, L: Log, S: Space> {
     /// What waits; none, where nothing may be told.
-    pub told: Option<Settling<Response<Full<Bytes>>, N, L, S>>,
+    pub told: Option<Pending<N, L, S>>,
 }
 
 impl<N: Naming, L: Log, S: Space> Leaving<N, L, S> {
-    /// What was answered, on its way.
-    pub(crate) fn new(
-        answered: Result<Settling<Response<Full<Bytes>>, N, L, S>, NotTold>,
-    ) -> Leaving<N, L, S>
-        ensures { result.told ≡ result_ok answered }
+    /// A response on its way.
+    pub(crate) fn of(pending: Pending<N, L, S>) -> Leaving<N, L, S>
+        ensures { result.told ≡ Some pending }
     {
         Leaving {
-            told: answered.ok(),
+            told: Some(pending),
         }
+    }
+
+    /// Nothing may be told.
+    pub(crate) fn nothing() -> Leaving<N, L, S>
+        ensures { result.told ≡ None }
+    {
+        Leaving { told: None }
     }
 }
 

@@ -3,12 +3,13 @@
 #![tactic(auto)]
 
 mod app;
-mod away;
 mod city;
+mod context;
 pub mod laws;
 mod leaving;
 mod lines;
 mod many;
+mod pending;
 mod people;
 mod published;
 mod reception;
@@ -19,9 +20,11 @@ mod telling;
 mod unstored;
 
 pub use app::{AppCall, Question, app_call};
-pub use away::no_room;
 pub use city::City;
+pub use context::Context;
 pub use leaving::Leaving;
+pub use lines::MOST_REPORTS;
+pub use pending::{Pending, Unanswered};
 pub use reception::CityReception;
-pub use records::{is_accepted, may_change};
+pub use records::is_accepted;
 pub use responding::respond;

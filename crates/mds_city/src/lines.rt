@@ -1,23 +1,21 @@
 //! Many reports, as the lines of one body.
-ghost use Rattle.std.specs.Prelude.{◌≡◌, ◌++◌, ◌∷◌, [], ◌<◌, IfOk, IfSome, OnOk, filter, length, map, position};
+ghost use Rattle.std.specs.Prelude.{◌≡◌, ◌⊎◌, ◌++◌, ◌∷◌, [], ◌≤◌, ◌<◌, true, IfOk, IfErr, IfSome, OnOk, filter, length, map, position};
 ghost use Rattle.std.specs.Io.BufRead.{strip_last};
 ghost use Rattle.mds_lines.specs.Input.{is_feed, is_filled, lines};
 ghost use Rattle.mds_request.specs.Request.{request_of};
-ghost use Rattle.mds_city.specs.Many.{report_of, reports_of};
+ghost use Rattle.mds_city.specs.Many.{IsRefusedWhole, report_of, reports_of};
+ghost use Rattle.mds_city.specs.declared.lines.TheConstants.{MOST_REPORTS};
+ghost use Rattle.mds_request.specs.declared.code.Code.TheVariants.{NoMemory, TooLarge};
 
-use mds_commit::MOST_TEXTS;
-use mds_request::{Request, Verb};
+use mds_request::{Code, Request, Verb};
 use memchr::memchr;
 use std::alloc::Global;
 
-/// Why none of many reports is asked.
-#[derive(Clone, Copy, Debug, PartialEq, Eq)]
-pub(crate) enum Unasked {
-    /// The log hasn't room for all of their records.
-    NoRoom,
-    /// Memory ran out.
-    NoMemory,
-}
+/// The most reports of one body.
+pub const MOST_REPORTS: usize = 16_384;
+
+/// The most reports for whose records places are held at once.
+pub(crate) const CHUNK: usize = 256;
 
 /// Where the first line feed stands.
 fn line_feed(text: &[u8]) -> Option<usize>
@@ -49,20 +47,58 @@ fn first_line(text: &[u8]) -> (&[u8], &[u8])
     }
 }
 
+/// Whether a byte is white space of JSON (RFC 8259, section 2).
+fn is_space(byte: u8) -> bool {
+    matches!(byte, b' ' | b'\t' | b'\n' | b'\r')
+}
+
+/// Whether a line may be a report: behind white space it begins as an object of JSON does (RFC 8259, section 4).
+pub(crate) fn may_be_report(line: &[u8]) -> bool {
+    matches!(line.iter().find(|byte| !is_space(**byte)), Some(b'{'))
+}
+
+/// How many of these requests, from the first on, may all be reports, or may none be; fewer than places are held for at once.
+fn alike(requests: &[Request<'_>], may_be_reports: bool) -> usize
+    ensures { result ≤ length requests.now }
+{
+    let mut count = 0;
+    for request in requests {
+        if count == CHUNK - 1 || may_be_report(request.body) != may_be_reports {
+            return count;
+        }
+        count += 1;
+    }
+    count
+}
+
+/// How many requests the first chunk has: all of them may be reports, or none, and they are as many as places are held for
+/// at once, at the most.
+pub(crate) fn chunk_length(requests: &[Request<'_>]) -> usize
+    requires { 0 < length requests.now }
+    ensures some { 0 < result }
+    ensures within { result ≤ length requests.now }
+{
+    let may_be_reports = may_be_report(requests[0].body);
+    // The first one is of the chunk by itself.
+    1 + alike(&requests[1..], may_be_reports)
+}
+
 /// Adds the report that a line is, unless the line is empty.
 fn push_report<'a>(
     reports: &mut Vec<Request<'a>>,
     request: &Request<'a>,
     line: &'a [u8],
-) -> Result<(), Unasked>
-    ensures { OnOk result (map request_of reports.new.items
+) -> Result<(), Code>
+    ensures refused { IfErr result (λ code. (code ≡ NoMemory)
+        ⊎ ((code ≡ TooLarge) × (MOST_REPORTS ≤ length reports.old.items) × (is_filled line.now ≡ true))) }
+    ensures pushed { OnOk result (map request_of reports.new.items
         ≡ map request_of reports.old.items ++ map (report_of (request_of request.now)) (filter is_filled (line.now ∷ []))) }
 {
     if line.is_empty() {
         return Ok(());
     }
-    if reports.len() >= MOST_TEXTS {
-        return Err(Unasked::NoRoom);
+    if reports.len() >= MOST_REPORTS {
+        return Err(Code::TooLarge);
     }
     let report = Request {
         verb: Verb::Post,
@@ -72,7 +108,7 @@ fn push_report<'a>(
     };
     match reports.push(report) {
         Ok(()) => Ok(()),
-        Err(_) => Err(Unasked::NoMemory),
+        Err(_) => Err(Code::NoMemory),
     }
 }
 
@@ -80,9 +116,10 @@ fn push_report<'a>(
 ///
 /// # Errors
 ///
-/// There are more than may wait in the log, or memory ran out.
-pub(crate) fn reports<'a>(alloc: Global, request: &Request<'a>) -> Result<Vec<Request<'a>>, Unasked>
-    ensures { IfOk result (λ reports. map request_of reports.items ≡ reports_of (request_of request.now)) }
+/// `TooLarge` where there are more than one body may have, `NoMemory` where memory ran out.
+pub(crate) fn reports<'a>(alloc: Global, request: &Request<'a>) -> Result<Vec<Request<'a>>, Code>
+    ensures refused { IfErr result (IsRefusedWhole (request_of request.now)) }
+    ensures reports { IfOk result (λ reports. map request_of reports.items ≡ reports_of (request_of request.now)) }
 {
     let mut reports = Vec::new(alloc);
     let mut rest = request.body;

@@ -1,51 +1,130 @@
-//! Many reports of an operator, answered by one run of turns of its desk.
-ghost use Rattle.std.specs.Prelude.{◌≡◌, ◌==◌, ◌≤◌, ◌<◌, IfOk, OnOk, IfSome, length, map, vec_capacity};
+//! Many reports of an operator, answered by turns of its desk with nothing between.
+ghost use Rattle.std.specs.Prelude.{◌≡◌, ◌==◌, ◌≤◌, ◌<◌, ◌++◌, IfOk, List, OnOk, length, map, not, vec_capacity};
+ghost use Rattle.std.specs.List.{list_all};
 ghost use Rattle.mds_request.specs.Configuration.{configuration};
 ghost use Rattle.mds_request.specs.Request.{request_of};
+ghost use Rattle.mds_request.specs.Reply.{Reply, refused};
+ghost use Rattle.mds_desk.specs.Desk.{state_of};
 ghost use Rattle.mds_hall.specs.Heard.{request_heard};
-ghost use Rattle.mds_city.specs.Many.{AreRecordsOf, IsUnasked, ManyAreAnswered, IsRecordedRun, SaysAll, reports_of};
+ghost use Rattle.mds_city.specs.Many.{AreRecordsOf, AreRefusedBehind, Continues, IsAnsweredInPart, ManyAreAnswered, SaysAll, refusal_behind};
+ghost use Rattle.mds_city.specs.Unheld.{SaysUnheld};
 ghost use Rattle.mds_city.specs.Unstored.{Waits};
 
 use crate::city::City;
-use crate::lines::{Unasked, reports};
-use crate::records::{is_accepted, record_text};
+use crate::context::Context;
+use crate::lines::{chunk_length, may_be_report, reports};
+use crate::pending::{Pending, Unanswered};
+use crate::records::{Unreserved, is_accepted, record_text};
 use crate::telling::response_of_all;
-use bytes::Bytes;
-use http::Response;
-use http_body_util::Full;
 use mds_catalog::Catalogue;
-use mds_commit::{Keeper, Naming, NotTold, Places, Settling, Space, Stamp};
+use mds_commit::{MOST_TEXTS_OF_ONE, Naming, NotTold, Places, Space, Stamp, Usage};
 use mds_desk::OpenGate;
-use mds_hall::{Heard, Named};
+use mds_hall::{HallDesk, Heard, Named};
+use mds_limits::Asker;
 use mds_records::Log;
 use mds_request::{Code, Config, Request};
 use mds_shelf::Answer;
 use mds_verdict::Evaluator;
-use std::alloc::Global;
+use std::alloc::{AllocError, Global};
 use std::sync::Wait;
 
-/// What many requests were answered, and the stamp of all that it shows.
+/// What requests were answered so far, in their order, and the stamp of all that it shows.
 #[derive(Drop)]
-pub(crate) struct AllAnswered<N: Naming, L: Log> {
+pub(crate) struct Replies<N: Naming, L: Log> {
     answers: Vec<Answer>,
     stamp: Stamp<N, L>,
 }
 
-/// The texts of the requests' records. None where memory ran out, and where a request has none.
-fn record_texts(alloc: Global, config: &Config, requests: &[Request<'_>]) -> Option<Vec<Vec<u8>>>
-    ensures { IfSome result (λ texts. AreRecordsOf (configuration config.now) (map request_of requests.now) (map (λ text. text.items) texts.items)) }
+/// Why a chunk of requests isn't answered.
+#[derive(Clone, Copy, Debug, PartialEq, Eq)]
+pub(crate) enum Halt {
+    /// Nothing of the log is held for it, and none of it was carried out.
+    Unheld(Unreserved),
+    /// Nothing may be told.
+    NotTold(NotTold),
+}
+
+impl From<Unreserved> for Halt {
+    fn from(why: Unreserved) -> Halt {
+        Halt::Unheld(why)
+    }
+}
+
+impl From<AllocError> for Halt {
+    fn from(_: AllocError) -> Halt {
+        Halt::Unheld(Unreserved::NoMemory)
+    }
+}
+
+impl From<NotTold> for Halt {
+    fn from(fault: NotTold) -> Halt {
+        Halt::NotTold(fault)
+    }
+}
+
+/// The refusal of requests that stand behind others of their body, where nothing more is held. None where nothing may be
+/// told.
+fn refusal_behind(halt: Halt) -> Option<Code>
+    ensures { result ≡ refusal_behind halt }
 {
-    let mut texts = match Vec::with_capacity(alloc, requests.len()) {
-        Ok(texts) => texts,
-        Err(_) => return None,
-    };
+    match halt {
+        Halt::Unheld(Unreserved::Crowded) => Some(Code::Busy),
+        Halt::Unheld(Unreserved::Stopping) => Some(Code::Busy),
+        Halt::Unheld(Unreserved::NoRoom) => Some(Code::NoRoom),
+        Halt::Unheld(Unreserved::NoMemory) => Some(Code::NoMemory),
+        Halt::Unheld(Unreserved::Failed) => None,
+        Halt::NotTold(_) => None,
+    }
+}
+
+/// A refusal of each of these requests.
+fn refusals(alloc: Global, code: Code, requests: &[Request<'_>]) -> Result<Vec<Answer>, AllocError>
+    ensures { IfOk result (λ answers. answers.items ≡ map (λ _. refused code) (map request_of requests.now)) }
+{
+    let mut answers = Vec::with_capacity(alloc, requests.len())?;
     for request in requests {
-        let Some(text) = record_text(alloc, config, request) else {
-            return None;
-        };
+        let _ = request;
+        answers.push_reserved(Answer::from(code));
+    }
+    Ok(answers)
+}
+
+/// The texts of the requests' records.
+///
+/// # Errors
+///
+/// A request has none, or memory ran out.
+fn record_texts(
+    alloc: Global,
+    config: &Config,
+    requests: &[Request<'_>],
+) -> Result<Vec<Vec<u8>>, Unreserved>
+    ensures { IfOk result (λ texts. AreRecordsOf (configuration config.now) (map request_of requests.now) (map (λ text. text.items) texts.items)) }
+{
+    let mut texts = Vec::with_capacity(alloc, requests.len())?;
+    for request in requests {
+        let text = record_text(alloc, config, request)?;
         texts.push_reserved(text);
     }
-    Some(texts)
+    Ok(texts)
+}
+
+/// How many of these requests may be reports.
+fn reports_among(requests: &[Request<'_>]) -> usize {
+    let mut count: usize = 0;
+    for request in requests {
+        if may_be_report(request.body) {
+            count = count.saturating_add(1);
+        }
+    }
+    count
+}
+
+/// Whether no request was accepted.
+fn are_refused(answers: &[Answer]) -> bool
+    ensures { result ≡ list_all (λ answer. not (answer.status == 200)) answers.now }
+{
+    answers.iter().all(|answer| !is_accepted(answer.status()))
 }
 
 /// Notes of each answer whether its request was accepted.
@@ -59,8 +138,71 @@ fn note_accepted(flags: &mut Vec<bool>, answers: &[Answer])
     }
 }
 
+impl<N: Naming, L: Log> Replies<N, L> {
+    /// Adds what further requests were answered.
+    ///
+    /// # Errors
+    ///
+    /// Memory ran out, though they were carried out.
+    fn extend(&mut self, further: Replies<N, L>) -> Result<(), NotTold>
+        ensures { OnOk result ((self.new.answers.items ≡ self.old.answers.items ++ further.answers.items) × (self.new.stamp ≡ further.stamp)) }
+    {
+        let Replies { mut answers, stamp } = further;
+        self.answers.append(&mut answers)?;
+        self.stamp = stamp;
+        Ok(())
+    }
+
+    /// The same replies, and behind them a refusal of each of these requests, which aren't carried out.
+    ///
+    /// # Errors
+    ///
+    /// None was answered before them, or nothing may be told.
+    fn with_refused(
+        self,
+        alloc: Global,
+        requests: &[Request<'_>],
+        halt: Halt,
+    ) -> Result<Replies<N, L>, Halt>
+        ensures { IfOk result (λ all. (others : List Reply) × (all.answers.items ≡ self.answers.items ++ others)
+            × AreRefusedBehind (map request_of requests.now) others × (all.stamp ≡ self.stamp)) }
+    {
+        let Some(code) = refusal_behind(halt) else {
+            return Err(halt);
+        };
+        if self.answers.is_empty() {
+            return Err(halt);
+        }
+        let Ok(others) = refusals(alloc, code, requests) else {
+            return Err(Halt::NotTold(NotTold::NoMemory));
+        };
+        let stamp = self.stamp.again();
+        let refused = Replies {
+            answers: others,
+            stamp,
+        };
+        let mut all = self;
+        match all.extend(refused) {
+            Ok(()) => Ok(all),
+            Err(fault) => Err(Halt::NotTold(fault)),
+        }
+    }
+}
+
 impl<K: Named, N: Naming, L: Log, S: Space> City<K, N, L, S> {
-    /// Holds a place for the record of each of these requests, before the first is asked.
+    /// Whether this operator's share of the log has room for so many reports of one body, or, where they are more, for as
+    /// many as it may ever have.
+    fn has_share<R: Wait>(&self, rt: &R, place: usize, reports: usize, bytes: usize) -> bool {
+        let more = Usage {
+            texts: reports.min(MOST_TEXTS_OF_ONE),
+            bytes: bytes as u64,
+        };
+        self.keeper
+            .has_share(rt, Asker::Operator(place).index(), more)
+    }
+
+    /// Holds a place for the record of each of these requests of the operator at this place, before the first is carried
+    /// out.
     ///
     /// # Errors
     ///
@@ -69,67 +211,171 @@ impl<K: Named, N: Naming, L: Log, S: Space> City<K, N, L, S> {
         &self,
         rt: &R,
         alloc: Global,
+        place: usize,
         requests: &[Request<'_>],
-    ) -> Result<Places, Unasked>
+    ) -> Result<Places, Unreserved>
         ensures { IfOk result (λ places. AreRecordsOf (configuration self.now.hall.config.value) (map request_of requests.now)
             (map (λ text. text.items) places.texts.items)) }
     {
-        let Ok(config) = self.hall.configuration() else {
-            return Err(Unasked::NoMemory);
-        };
-        let Some(texts) = record_texts(alloc, &*config, requests) else {
-            return Err(Unasked::NoMemory);
-        };
-        match self.keeper.reserve_all(rt, texts) {
+        let config = self.hall.configuration()?;
+        let texts = record_texts(alloc, &*config, requests)?;
+        let sharer = Asker::Operator(place).index();
+        match self.keeper.reserve_all(rt, sharer, texts) {
             Ok(places) => Ok(places),
-            Err(_) => Err(Unasked::NoRoom),
+            Err(fault) => Err(Unreserved::from(fault)),
         }
     }
 
-    /// A turn of the desk of the operator at this place for each of these requests, and what is kept of them, all under
-    /// one holding of the desk's lock. Where memory runs out before the first turn none is asked.
+    /// A turn of this desk for each of these requests, for whose records places are held, and what is kept of them. The stamp
+    /// that is given has all of the known one.
     ///
     /// # Errors
     ///
-    /// The keeper failed.
-    fn desk_run<R: Wait, E: Evaluator<Catalogue>>(
+    /// Memory ran out before the first turn, and none is carried out; or the keeper failed.
+    fn carry_out_held<R: Wait, E: Evaluator<Catalogue>>(
         &self,
-        rt: &R,
-        alloc: Global,
-        place: usize,
+        context: &Context<'_, R, E>,
+        desk: &mut HallDesk<K>,
         requests: &[Request<'_>],
         places: Places,
-        evaluator: &E,
-    ) -> Result<Option<AllAnswered<N, L>>, NotTold>
+        known: &Stamp<N, L>,
+    ) -> Result<Replies<N, L>, Halt>
         requires judge { E.may_judge }
-        requires place { place < length (configuration self.now.hall.config.value).operators }
-        requires places { AreRecordsOf (configuration self.now.hall.config.value) (map request_of requests.now)
-            (map (λ text. text.items) places.texts.items) }
-        ensures { IfOk result (λ all. IfSome all (λ answered. IsRecordedRun (configuration self.now.hall.config.value) place
-            (map request_of requests.now) answered.answers.items answered.stamp)) }
+        requires places { AreRecordsOf K.configuration (map request_of requests.now) (map (λ text. text.items) places.texts.items) }
+        ensures place { desk.new.place ≡ desk.old.place }
+        ensures continues { IfOk result (λ replies. Continues K.configuration (state_of desk.old.desk) known.now
+            (map request_of requests.now) (state_of desk.new.desk) replies.answers.items replies.stamp) }
     {
-        let Ok(mut accepted) = Vec::with_capacity(alloc, requests.len()) else {
-            self.keeper.release_all(rt, places);
-            return Ok(None);
+        let Ok(mut accepted) = Vec::with_capacity(context.alloc, requests.len()) else {
+            self.keeper.release_all(context.rt, places);
+            return Err(Halt::Unheld(Unreserved::NoMemory));
         };
-        let Some(mut desk) = self.hall.desk_at(rt, place) else {
-            self.keeper.release_all(rt, places);
-            return Ok(None);
-        };
-        let note = self.hall.note(rt);
-        let run = desk.answered_all(requests, note.as_ref(), &mut OpenGate, evaluator);
+        let note = self.hall.note(context.rt);
+        let run = desk.answered_all(requests, note.as_ref(), &mut OpenGate, context.evaluator);
         let Ok(answers) = run else {
-            self.keeper.release_all(rt, places);
-            return Ok(None);
+            self.keeper.release_all(context.rt, places);
+            return Err(Halt::Unheld(Unreserved::NoMemory));
         };
         note_accepted(&mut accepted, &answers);
-        match self.keeper.settle(rt, places, &accepted) {
-            Ok(stamp) => Ok(Some(AllAnswered { answers, stamp })),
-            Err(fault) => Err(fault),
-        }
+        let stamp = self.keeper.settle(context.rt, known, places, &accepted)?;
+        Ok(Replies { answers, stamp })
     }
 
-    /// The response that says all answers, once all that they show is synced.
+    /// A turn of this desk for each of these requests, none of which can be accepted: no place is held for them.
+    ///
+    /// # Errors
+    ///
+    /// Memory ran out before the first turn, and none is carried out; or the keeper failed, as it does where one of them was
+    /// accepted all the same.
+    fn carry_out_refused<R: Wait, E: Evaluator<Catalogue>>(
+        &self,
+        context: &Context<'_, R, E>,
+        desk: &mut HallDesk<K>,
+        requests: &[Request<'_>],
+        known: &Stamp<N, L>,
+    ) -> Result<Replies<N, L>, Halt>
+        requires judge { E.may_judge }
+        ensures place { desk.new.place ≡ desk.old.place }
+        ensures continues { IfOk result (λ replies. Continues K.configuration (state_of desk.old.desk) known.now
+            (map request_of requests.now) (state_of desk.new.desk) replies.answers.items replies.stamp) }
+    {
+        let note = self.hall.note(context.rt);
+        let answers = desk.answered_all(requests, note.as_ref(), &mut OpenGate, context.evaluator)?;
+        if !are_refused(&answers) {
+            self.keeper.fail(context.rt);
+            return Err(Halt::NotTold(NotTold::Failed));
+        }
+        let stamp = known.again();
+        Ok(Replies { answers, stamp })
+    }
+
+    /// A turn of this desk, which is that of the operator at this place, for each request of a chunk, and what is kept of
+    /// them.
+    ///
+    /// # Errors
+    ///
+    /// None is carried out, or the keeper failed.
+    fn carry_out_chunk<R: Wait, E: Evaluator<Catalogue>>(
+        &self,
+        context: &Context<'_, R, E>,
+        desk: &mut HallDesk<K>,
+        place: usize,
+        requests: &[Request<'_>],
+        known: &Stamp<N, L>,
+    ) -> Result<Replies<N, L>, Halt>
+        requires judge { E.may_judge }
+        ensures place { desk.new.place ≡ desk.old.place }
+        ensures continues { IfOk result (λ replies. Continues K.configuration (state_of desk.old.desk) known.now
+            (map request_of requests.now) (state_of desk.new.desk) replies.answers.items replies.stamp) }
+    {
+        if !requests.iter().any(|request| may_be_report(request.body)) {
+            return self.carry_out_refused(context, desk, requests, known);
+        }
+        let places = self.room_for_all(context.rt, context.alloc, place, requests)?;
+        self.carry_out_held(context, desk, requests, places, known)
+    }
+
+    /// Answers these requests by turns of this desk, which is that of the operator at this place, chunk by chunk and with
+    /// nothing between. Where nothing more of the log is held, the others are refused.
+    ///
+    /// # Errors
+    ///
+    /// None is carried out, or the keeper failed.
+    fn carry_out_all<R: Wait, E: Evaluator<Catalogue>>(
+        &self,
+        context: &Context<'_, R, E>,
+        desk: &mut HallDesk<K>,
+        place: usize,
+        requests: &[Request<'_>],
+    ) -> Result<Replies<N, L>, Halt>
+        requires judge { E.may_judge }
+        requires place { desk.old.place ≡ place }
+        requires within { place < length K.configuration.operators }
+        ensures { IfOk result (λ replies. IsAnsweredInPart K.configuration place (map request_of requests.now) replies.answers.items replies.stamp) }
+    {
+        let mut replies = Replies {
+            answers: Vec::with_capacity(context.alloc, requests.len())?,
+            stamp: self.nothing.again(),
+        };
+        let mut done = 0;
+        'chunks: while done < requests.len() {
+            let rest = &requests[done..];
+            let length = chunk_length(rest);
+            let chunk = &rest[..length];
+            match self.carry_out_chunk(context, desk, place, chunk, &replies.stamp) {
+                Ok(further) => {
+                    replies.extend(further)?;
+                    done += length;
+                }
+                Err(halt) => return replies.with_refused(context.alloc, rest, halt),
+            }
+        }
+        Ok(replies)
+    }
+
+    /// Answers these requests of the operator at this place, all under one holding of its desk's lock.
+    ///
+    /// # Errors
+    ///
+    /// None is carried out, or the keeper failed.
+    fn answer_all<R: Wait, E: Evaluator<Catalogue>>(
+        &self,
+        context: &Context<'_, R, E>,
+        place: usize,
+        requests: &[Request<'_>],
+    ) -> Result<Replies<N, L>, Halt>
+        requires judge { E.may_judge }
+        requires place { place < length (configuration self.now.hall.config.value).operators }
+        ensures { IfOk result (λ replies. IsAnsweredInPart (configuration self.now.hall.config.value) place
+            (map request_of requests.now) replies.answers.items replies.stamp) }
+    {
+        let Some(mut desk) = self.hall.desk_at(context.rt, place) else {
+            return Err(Halt::Unheld(Unreserved::NoMemory));
+        };
+        self.carry_out_all(context, &mut *desk, place, requests)
+    }
+
+    /// The response that says all replies, once all that they show is synced.
     ///
     /// # Errors
     ///
@@ -137,66 +383,58 @@ impl<K: Named, N: Naming, L: Log, S: Space> City<K, N, L, S> {
     fn all_told(
         &self,
         alloc: Global,
-        answered: AllAnswered<N, L>,
-    ) -> Result<Settling<Response<Full<Bytes>>, N, L, S>, NotTold>
-        ensures says { IfOk result (λ s. Waits (λ response. SaysAll response answered.answers.items) s.reply) }
-        ensures stamp { IfOk result (λ s. s.stamp ≡ answered.stamp) }
+        replies: Replies<N, L>,
+    ) -> Result<Pending<N, L, S>, Unanswered>
+        ensures says { IfOk result (λ s. Waits (λ response. SaysAll response replies.answers.items) s.reply) }
+        ensures stamp { IfOk result (λ s. s.stamp ≡ replies.stamp) }
     {
-        let AllAnswered { answers, stamp } = answered;
+        let Replies { answers, stamp } = replies;
         let response = response_of_all(alloc, &answers)?;
         self.waiting(stamp, response)
     }
 
-    /// A refusal of all of them, none of which is asked.
+    /// What is said where none of many reports was carried out.
     ///
     /// # Errors
     ///
-    /// There was no memory for the response.
-    fn unasked(
-        &self,
-        alloc: Global,
-        why: Unasked,
-    ) -> Result<Settling<Response<Full<Bytes>>, N, L, S>, NotTold>
-        ensures { IfOk result (λ s. Waits IsUnasked s.reply) }
+    /// They may be asked again, or nothing may be told.
+    fn halted(&self, alloc: Global, halt: Halt) -> Result<Pending<N, L, S>, Unanswered>
+        ensures { IfOk result (λ s. Waits SaysUnheld s.reply) }
     {
-        match why {
-            Unasked::NoRoom => self.turned_away(alloc),
-            Unasked::NoMemory => self.refused(alloc, Code::NoMemory),
+        match halt {
+            Halt::Unheld(why) => self.unheld(alloc, why),
+            Halt::NotTold(fault) => Err(Unanswered::NotTold(fault)),
         }
     }
 }
 
-/// Answers many reports of the operator at this place: each line of the body that isn't empty is one. There is room for all
-/// of their records before the first is asked, and nothing comes between them.
+/// Answers many reports of the operator at this place: each line of the body that isn't empty is one. Nothing of this
+/// operator's comes between them.
 ///
 /// # Errors
 ///
-/// Nothing may be told: the keeper failed, or there was no memory for the response, and reports may have been taken.
+/// The share of who asks is used up, and none was carried out; or nothing may be told, and reports may have been taken.
 pub(crate) fn many_reports<K: Named, N: Naming, R: Wait, E: Evaluator<Catalogue>, L: Log, S: Space>(
-    rt: &R,
-    alloc: Global,
+    context: &Context<'_, R, E>,
     place: usize,
     heard: &Heard<'_>,
     city: &City<K, N, L, S>,
-    evaluator: &E,
-) -> Result<Settling<Response<Full<Bytes>>, N, L, S>, NotTold>
+) -> Result<Pending<N, L, S>, Unanswered>
     requires judge { E.may_judge }
     requires place { place < length (configuration city.now.hall.config.value).operators }
     ensures { IfOk result (λ s. Waits (ManyAreAnswered (configuration city.now.hall.config.value) place (request_heard heard.now) s.stamp) s.reply) }
 {
     let request = heard.request();
-    let requests = match reports(alloc, &request) {
+    let requests = match reports(context.alloc, &request) {
         Ok(requests) => requests,
-        Err(why) => return city.unasked(alloc, why),
+        Err(code) => return city.refused(context.alloc, code),
     };
     let lent = requests.as_slice();
-    let places = match city.room_for_all(rt, alloc, lent) {
-        Ok(places) => places,
-        Err(why) => return city.unasked(alloc, why),
-    };
-    match city.desk_run(rt, alloc, place, lent, places, evaluator) {
-        Ok(Some(answered)) => city.all_told(alloc, answered),
-        Ok(None) => city.refused(alloc, Code::NoMemory),
-        Err(fault) => Err(fault),
+    if !city.has_share(context.rt, place, reports_among(lent), request.body.len()) {
+        return Err(Unanswered::Crowded);
+    }
+    match city.answer_all(context, place, lent) {
+        Ok(replies) => city.all_told(context.alloc, replies),
+        Err(halt) => city.halted(context.alloc, halt),
     }
 }

@@ -13,12 +13,10 @@ ghost use Rattle.mds_city.specs.declared.app.Question.TheVariants.{Withdrawals};
 
 use crate::app::Question;
 use crate::city::{Answered, City};
-use bytes::Bytes;
-use http::Response;
-use http_body_util::Full;
+use crate::pending::{Pending, Unanswered};
 use mds_app::{listed_drafts, whoami, withdrawals};
 use mds_catalog::Catalogue;
-use mds_commit::{Naming, NotTold, Settling, Space};
+use mds_commit::{Naming, NotTold, Space};
 use mds_desk::{AuthorTelling, Telling};
 use mds_drafts::Drafts;
 use mds_hall::Named;
@@ -114,11 +112,7 @@ impl<K: Named, N: Naming, L: Log, S: Space> City<K, N, L, S> {
     /// # Errors
     ///
     /// There was no memory for the response.
-    fn who(
-        &self,
-        alloc: Global,
-        asker: Actor,
-    ) -> Result<Settling<Response<Full<Bytes>>, N, L, S>, NotTold>
+    fn who(&self, alloc: Global, asker: Actor) -> Result<Pending<N, L, S>, Unanswered>
         ensures { IfOk result (λ s. Waits (SaysTold (λ reply. reply ≡ who_reply (badges_view self.now.badges) asker)) s.reply) }
     {
         let stamp = self.stamp();
@@ -159,14 +153,14 @@ impl<K: Named, N: Naming, L: Log, S: Space> City<K, N, L, S> {
         rt: &R,
         alloc: Global,
         place: usize,
-    ) -> Result<Settling<Response<Full<Bytes>>, N, L, S>, NotTold>
+    ) -> Result<Pending<N, L, S>, Unanswered>
         requires { place < length (configuration self.now.hall.config.value).operators }
         ensures { IfOk result (λ s. Waits (SaysTold (TellsOperator (configuration self.now.hall.config.value) (badges_view self.now.badges)
             place Withdrawals)) s.reply) }
     {
         match self.desk_told(rt, place) {
             Ok(answered) => self.told(alloc, answered),
-            Err(fault) => Err(fault),
+            Err(fault) => Err(Unanswered::NotTold(fault)),
         }
     }
 
@@ -191,7 +185,7 @@ impl<K: Named, N: Naming, L: Log, S: Space> City<K, N, L, S> {
         rt: &R,
         alloc: Global,
         asked: OfRoom,
-    ) -> Result<Settling<Response<Full<Bytes>>, N, L, S>, NotTold>
+    ) -> Result<Pending<N, L, S>, Unanswered>
         ensures { IfOk result (λ s. Waits (SaysTold (RoomTells (configuration self.now.hall.config.value)
             (λ drafts publications told. told ≡ room_told asked drafts publications))) s.reply) }
     {
@@ -210,7 +204,7 @@ pub(crate) fn tell_the_author<K: Named, N: Naming, R: Wait, L: Log, S: Space>(
     alloc: Global,
     question: Question,
     city: &City<K, N, L, S>,
-) -> Result<Settling<Response<Full<Bytes>>, N, L, S>, NotTold>
+) -> Result<Pending<N, L, S>, Unanswered>
     ensures { IfOk result (λ s. Waits (SaysTold (TellsAuthor (configuration city.now.hall.config.value) (badges_view city.now.badges) question)) s.reply) }
 {
     match question {
@@ -231,7 +225,7 @@ pub(crate) fn tell_an_operator<K: Named, N: Naming, R: Wait, L: Log, S: Space>(
     place: usize,
     question: Question,
     city: &City<K, N, L, S>,
-) -> Result<Settling<Response<Full<Bytes>>, N, L, S>, NotTold>
+) -> Result<Pending<N, L, S>, Unanswered>
     requires { place < length (configuration city.now.hall.config.value).operators }
     ensures { IfOk result (λ s. Waits (SaysTold (TellsOperator (configuration city.now.hall.config.value) (badges_view city.now.badges) place question)) s.reply) }
 {

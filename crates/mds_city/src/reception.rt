@@ -1,19 +1,22 @@
 //! A city that answers at the moments of a clock.
-ghost use Rattle.std.specs.Prelude.{◌≡◌, Option, ℕ, IfSome};
+ghost use Rattle.std.specs.Prelude.{◌≡◌, Option, ℕ, IfOk, IfSome};
 ghost use Rattle.mds_request.specs.Configuration.{configuration, actor_of};
 ghost use Rattle.mds_hall.specs.Asked.{token_of};
 ghost use Rattle.mds_limits.specs.Asker.{asker_of};
-ghost use Rattle.mds_doors.specs.Arrived.{arrived_of};
+ghost use Rattle.mds_doors.specs.Arrived.{ArrivesAs};
+ghost use Rattle.mds_hall.specs.declared.early.Arrived.{Arrived};
 ghost use Rattle.mds_app.specs.Badges.{badges_view};
 ghost use Rattle.mds_city.specs.City.{CityResponds};
 
 use crate::city::City;
+use crate::context::Context;
 use crate::leaving::Leaving;
+use crate::pending::Unanswered;
 use crate::responding::respond;
 use http::request::Parts;
 use mds_catalog::Catalogue;
 use mds_commit::{Naming, Space};
-use mds_connections::{Answers, Taken};
+use mds_connections::{Answers, Crowded, Taken};
 use mds_doors::{Moments, arrived};
 use mds_hall::{Named, token};
 use mds_limits::Asker;
@@ -56,21 +59,23 @@ impl<
         Asker::of(self.city.asker(token(&parts.headers)))
     }
 
-    fn answer(&self, parts: &Parts, taken: Taken) -> Leaving<N, L, S>
+    fn answer(&self, parts: &Parts, taken: &Taken) -> Result<Leaving<N, L, S>, Crowded>
         requires { E.may_judge }
-        ensures { IfSome result.told (λ s. (at : Option ℕ)
+        ensures { IfOk result (λ leaving. IfSome leaving.told (λ s. (at : Option ℕ) × (arrived : Arrived)
+            × ArrivesAs taken.now.arrival taken.now.body arrived
             × CityResponds (configuration self.now.city.hall.config.value) (badges_view self.now.city.badges) parts.now
-            (arrived_of taken.arrival taken.body) at s.reply s.stamp) }
+            arrived at s.reply s.stamp)) }
     {
         let at = self.moments.now();
-        Leaving::new(respond(
-            &self.rt,
-            self.alloc,
-            parts,
-            arrived(taken),
-            at,
-            &self.city,
-            &self.evaluator,
-        ))
+        let context = Context {
+            rt: &self.rt,
+            alloc: self.alloc,
+            evaluator: &self.evaluator,
+        };
+        match respond(&context, parts, arrived(taken), at, &self.city) {
+            Ok(pending) => Ok(Leaving::of(pending)),
+            Err(Unanswered::Crowded) => Err(Crowded),
+            Err(Unanswered::NotTold(_)) => Ok(Leaving::nothing()),
+        }
     }
 }

@@ -1,32 +1,89 @@
 //! The record of a request, and its place in the log.
-ghost use Rattle.std.specs.Prelude.{◌≡◌, ◌==◌, IfOk, IfSome};
+ghost use Rattle.std.specs.Prelude.{◌≡◌, ◌==◌, IfOk};
+ghost use Rattle.std.specs.Result.{result_ok};
 ghost use Rattle.mds_request.specs.Configuration.{configuration};
 ghost use Rattle.mds_request.specs.Request.{request_of};
-ghost use Rattle.mds_city.specs.Records.{IsRecordOf, IsReserved, IsSettled, changes};
+ghost use Rattle.mds_city.specs.Records.{IsRecordOf, IsSettled, sharer_of};
+ghost use Rattle.mds_city.specs.Unheld.{refusal_for};
 
-use mds_commit::{Keeper, Naming, NotTold, Place, Space, Stamp};
+use crate::pending::Unanswered;
+use mds_commit::{Keeper, Naming, NotTold, Place, ReserveFault, Space, Stamp};
 use mds_entries::{entry_by, entry_text};
+use mds_limits::Asker;
 use mds_records::Log;
-use mds_request::{Config, Request, Verb};
-use std::alloc::Global;
+use mds_request::{Call, Code, Config, Request};
+use std::alloc::{AllocError, Global};
 use std::sync::Wait;
 
 /// The status of a success.
 const SUCCESS: u16 = 200;
 
-/// What a request has of the log before it is asked.
+/// What a request has of the log before it is carried out.
 pub(crate) enum Reserved {
-    /// It reads, and has no record.
+    /// It changes nothing, and has no record.
     Reads,
     /// The place that is held for its record.
     Holds(Place),
 }
 
-/// Whether a request of this verb may change something: of any verb but GET.
-pub fn may_change(verb: Verb) -> bool
-    ensures { result ≡ changes verb }
+/// Why nothing of the log is held for a request that may change something. It isn't carried out, and nothing has changed.
+#[derive(Clone, Copy, Debug, PartialEq, Eq)]
+pub(crate) enum Unreserved {
+    /// The share of who asks is used up: it may be asked again.
+    Crowded,
+    /// The disk has no room for its record.
+    NoRoom,
+    /// The log takes nothing more, since the program ends.
+    Stopping,
+    /// An append or a sync failed: nothing more is told.
+    Failed,
+    /// Memory ran out, or no log takes the record.
+    NoMemory,
+}
+
+impl From<ReserveFault> for Unreserved {
+    fn from(fault: ReserveFault) -> Unreserved {
+        match fault {
+            ReserveFault::Crowded => Unreserved::Crowded,
+            ReserveFault::NoRoom => Unreserved::NoRoom,
+            ReserveFault::Stopping => Unreserved::Stopping,
+            ReserveFault::Failed => Unreserved::Failed,
+            ReserveFault::Untaken => Unreserved::NoMemory,
+        }
+    }
+}
+
+impl From<AllocError> for Unreserved {
+    fn from(_: AllocError) -> Unreserved {
+        Unreserved::NoMemory
+    }
+}
+
+/// The refusal of a request for which nothing of the log is held.
+///
+/// # Errors
+///
+/// It isn't refused: it may be asked again, or nothing may be told.
+pub(crate) fn refusal_for(why: Unreserved) -> Result<Code, Unanswered>
+    ensures { result_ok result ≡ refusal_for why }
 {
-    verb != Verb::Get
+    match why {
+        Unreserved::NoRoom => Ok(Code::NoRoom),
+        Unreserved::Stopping => Ok(Code::Busy),
+        Unreserved::NoMemory => Ok(Code::NoMemory),
+        Unreserved::Crowded => Err(Unanswered::Crowded),
+        Unreserved::Failed => Err(Unanswered::NotTold(NotTold::Failed)),
+    }
+}
+
+/// The place of who calls among those who share the log.
+pub(crate) fn sharer(call: &Call) -> usize
+    ensures { result ≡ sharer_of call.now }
+{
+    match call {
+        Call::Author(_) => Asker::Author.index(),
+        Call::Operator(place, _) => Asker::Operator(*place).index(),
+    }
 }
 
 /// Whether a request that was answered with this status was accepted: whether its record is appended where it may have
@@ -37,39 +94,24 @@ pub fn is_accepted(status: u16) -> bool
     status == SUCCESS
 }
 
-/// The text of a request's record. None where its access token is nobody's, where its target is too long for a record,
-/// and where memory ran out.
-pub(crate) fn record_text(alloc: Global, config: &Config, request: &Request<'_>) -> Option<Vec<u8>>
-    ensures { IfSome result (λ text. IsRecordOf (configuration config.now) (request_of request.now) text.items) }
-{
-    let Some(entry) = entry_by(config, request) else {
-        return None;
-    };
-    match entry_text(alloc, &entry) {
-        Ok(text) => Some(text),
-        Err(_) => None,
-    }
-}
-
-/// Holds what a request needs of the log before it is asked. None where there is no room, or no text: nothing is held then.
-pub(crate) fn reserve<R: Wait, N: Naming, L: Log, S: Space>(
-    rt: &R,
+/// The text of a request's record.
+///
+/// # Errors
+///
+/// Its access token is nobody's, its target is too long for a record, or memory ran out.
+pub(crate) fn record_text(
     alloc: Global,
-    keeper: &Keeper<N, L, S>,
     config: &Config,
     request: &Request<'_>,
-) -> Option<Reserved>
-    ensures { IfSome result (IsReserved (configuration config.now) (request_of request.now)) }
+) -> Result<Vec<u8>, Unreserved>
+    ensures { IfOk result (λ text. IsRecordOf (configuration config.now) (request_of request.now) text.items) }
 {
-    if !may_change(request.verb) {
-        return Some(Reserved::Reads);
-    }
-    let Some(text) = record_text(alloc, config, request) else {
-        return None;
+    let Some(entry) = entry_by(config, request) else {
+        return Err(Unreserved::NoMemory);
     };
-    match keeper.reserve(rt, text) {
-        Ok(place) => Some(Reserved::Holds(place)),
-        Err(_) => None,
+    match entry_text(alloc, &entry) {
+        Ok(text) => Ok(text),
+        Err(_) => Err(Unreserved::NoMemory),
     }
 }
 

@@ -122,7 +122,15 @@ fn finds_nowhere<K: Named, R: Host + Sync>(
     credentials: &'static str,
 ) -> bool {
     let parts = parts(alloc, Method::GET, NOWHERE, Some(credentials));
-    gives(rt, alloc, hall, parts, whole(""), Moment::new(2000), NO_ROUTE)
+    gives(
+        rt,
+        alloc,
+        hall,
+        parts,
+        whole(""),
+        Moment::new(2000),
+        NO_ROUTE,
+    )
 }
 
 /// Alfa's desk and the author's room are taken all the while.

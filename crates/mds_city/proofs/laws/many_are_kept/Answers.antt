@@ -1,13 +1,16 @@
-use Rattle.std.proofs.Common.{◌≡◌, ◌++◌, ℕ, true, List, [], ◌∷◌, sym, subst}
+use Rattle.std.proofs.Common.{◌≡◌, ◌++◌, ◌==◌, ℕ, true, List, [], ◌∷◌, subst}
 use Rattle.std.specs.List.{AllByRecursion}
+use Rattle.std.proofs.lemmas.Bool.{eqb-true}
 use Rattle.mds_commit.specs.Durable.{AreDurable}
 use Rattle.mds_machine.specs.Step.{Exchange}
+use Rattle.mds_request.specs.Call.{call_of}
 use Rattle.mds_request.specs.Configuration.{Configuration}
-use Rattle.mds_restarts.specs.Kept.{is_kept}
+use Rattle.mds_restarts.specs.Kept.{is_kept, may_change}
 use Rattle.mds_city.specs.Laws.{HasDurableRecord}
-use Rattle.mds_city.specs.Many.{exchanges}
+use Rattle.mds_city.specs.Many.{SaysAll, exchanges}
 use Rattle.mds_city.proofs.Among.{behind_among, later_among}
-use Rattle.mds_city.proofs.Accepted.{Recorded, all_recorded}
+use Rattle.mds_city.proofs.Accepted.{Recorded}
+use Rattle.mds_city.proofs.Turns.{second_true}
 use Rattle.mds_city.proofs.laws.many_are_kept.Goals as goal
 
 each : {P Q : Exchange → Type 0} → ((e : Exchange) → P e → Q e) → (history : List Exchange) → AllByRecursion P history → AllByRecursion Q history
@@ -18,19 +21,21 @@ module _ {L : Type 0} (may_be : L → List (List ℕ) → Type 0) (is_synced : L
   durable : (configuration : Configuration) (stamp : List (List ℕ)) → AreDurable may_be is_synced stamp
       → (e : Exchange) → Recorded configuration stamp e → is_kept configuration e ≡ true → HasDurableRecord may_be is_synced configuration e.request
   durable configuration stamp all e recorded kept =
-      let has = recorded kept in
+      let has = recorded (eqb-true e.reply.status 200 (second_true (may_change (call_of configuration e.request)) (e.reply.status == 200) kept)) in
       let synced = all.2 in
       let here = later_among has.0 stamp all.0 has.2 all.1 in
       (synced.0, synced.1 ++ all.0, synced.2, synced.3, (has.0, has.1, behind_among synced.1 has.0 all.0 here))
 
 pub returns : goal.returns
 returns g c configuration place requests response stamp carried all =
-    let run = carried.run in
-    let history = exchanges requests carried.replies in
-    let recorded = subst (λ (texts : List (List ℕ)). AllByRecursion (Recorded configuration texts) history) (sym run.are_last.1)
-    (all_recorded configuration history run.are_last.0 run.records run.are_theirs) in (
-      carried.replies,
-      run.run,
-      carried.says,
-      each (durable g.L.Log.may_be g.L.Log.is_synced configuration stamp all) history recorded,
+    let part = carried.answered in (
+      part.asked,
+      part.unasked,
+      part.own,
+      part.others,
+      part.cut,
+      part.run.run,
+      subst (SaysAll response) part.told carried.says,
+      part.rest,
+      each (durable g.L.Log.may_be g.L.Log.is_synced configuration stamp all) (exchanges part.asked part.own) part.run.recorded,
     )

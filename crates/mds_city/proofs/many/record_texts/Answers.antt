@@ -7,8 +7,8 @@ use Rattle.mds_city.proofs.many.record_texts.Goals as goal
 pub loop-request-preserved : goal.loop-request-preserved
 loop-request-preserved c = record {
   records = records_more request_of (λ text. text.items) (configuration c.args.config.now) c.args.requests.now c.loop-request.request-index c.request-item.result
-      c.loop-request.texts.items c.push_reserved.new.self.items c.in-Some.text (omega arith) (cc) c.push_reserved.ensures.items
-      c.loop-request.invariant.records c.in-Some.ensures;
+      c.loop-request.texts.items c.push_reserved.new.self.items c.in_ok-text.text (omega arith) (cc) c.push_reserved.ensures.items
+      c.loop-request.invariant.records c.in_ok-text.ensures;
   each = grind arith;
   room = omega arith;
 }

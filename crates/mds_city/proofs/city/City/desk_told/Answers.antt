@@ -1,4 +1,4 @@
-use Rattle.std.proofs.Common.{◌≡◌, ◌<◌, ℕ, List, Option, Some, option_map, length, sym, ap, subst, ◌∙◌}
+use Rattle.std.proofs.Common.{◌≡◌, List, Some, option_map, sym, ap, ◌∙◌}
 use Rattle.std.specs.List.{slice_get}
 use Rattle.mds_app.specs.Badges.{badges_view}
 use Rattle.mds_app.specs.Withdrawals.{withdrawals_reply}

@@ -11,7 +11,7 @@ pub returns-in-Ok : goal.returns-in-Ok
 returns-in-Ok g c =
     let hall = c.args.self.now.hall in
     let request = request_heard c.args.heard in
-    let answered = c.answer_with-answer in
+    let answered = c.carry_out-answer in
     let reply = answered.result.0 in
     let reserved = c.args.reserved in
     let stamp = c.in-Ok.stamp in

@@ -1,5 +1,5 @@
 use Rattle.mds_city.specs.Records.{text_of}
-use Rattle.mds_city.proofs.city.City.authored.Given as goal
+use Rattle.mds_city.proofs.city.City.room_turn_of.Given as goal
 
 -- the text that a place is held for
 abbrev pub ghosts-room_turn : goal.ghosts-room_turn

@@ -1,0 +1,69 @@
+use Rattle.std.proofs.Common.{◌≡◌, ◌+◌, ◌-◌, ◌<◌, ◌≤◌, ℕ, List, [], ◌++◌, length, map, take, drop, sym, ap, subst, ◌∙◌, arith, take-add, length-drop, length-take-le}
+use Rattle.std.proofs.Math.Seq.{take-length}
+use Rattle.std.proofs.lemmas.List.{length-map, map-append, take-append-drop}
+use Rattle.mds_request.specs.Request.{Request, request_of}
+use Rattle.mds_request.specs.Reply.{Reply}
+use Rattle.mds_desk.specs.Desk.{state_of}
+use Rattle.mds_city.specs.Many.{IsAnsweredInPart}
+use Rattle.mds_city.proofs.Reports.{Reached, all_answered, reached_more, reached_none, rest_is, some_answered_of}
+use Rattle.mds_city.proofs.city.City.carry_out_all.Goals as goal
+
+pub chunks-init : goal.chunks-init
+chunks-init g c =
+    let desk = state_of c.args.desk.now.desk in
+    record {
+      reached = subst (λ (replies : List Reply). Reached g.K.Named.configuration c.args.place [] replies c.again.result desk) (sym c.in_ok-with_capacity.ensures.items)
+          (reached_none g.K.Named.configuration c.args.place c.again.result desk
+          (record { configured = c.args.desk.now.configured; placed = c.args.desk.now.placed ∙ c.requires.place }));
+      place = c.requires.place;
+      within = omega arith;
+    }
+
+pub returns-in-Err : goal.returns-in-Err
+returns-in-Err g c =
+    let requests = c.args.requests.now in
+    let done = c.chunks.done in
+    let rest = take (length requests - done) (drop done requests) in
+    let cut : map request_of requests ≡ map request_of (take done requests) ++ map request_of rest =
+    ap (map request_of) (sym (take-append-drop done requests)) ∙ map-append request_of (take done requests) (drop done requests)
+    ∙ ap (λ xs. map request_of (take done requests) ++ map request_of xs) (sym (rest_is done requests)) in
+    some_answered_of (λ all. all.answers.items) (λ all. all.stamp) g.K.Named.configuration c.args.place (map request_of (take done requests)) (map request_of rest)
+    (map request_of requests) c.chunks.replies.answers.items c.chunks.replies.stamp (state_of c.chunks.desk.desk) c.with_refused.result cut c.chunks.invariant.reached c.with_refused.ensures
+
+pub chunks-preserved : goal.chunks-preserved
+chunks-preserved g c =
+    let own = g.K.Named.configuration in
+    let place = c.args.place in
+    let requests = c.args.requests.now in
+    let done = c.chunks.done in
+    let more = c.chunk_length-length.result in
+    let rest = take (length requests - done) (drop done requests) in
+    let chunk = take more rest in
+    let next = state_of c.carry_out_chunk.new.desk.desk in
+    let left : length rest ≡ length requests - done = ap length (rest_is done requests) ∙ length-drop done requests in
+    let few : more ≤ length rest = c.chunk_length-length.ensures.within in
+    let long : length (map request_of chunk) ≡ more = length-map chunk request_of ∙ length-take-le more rest few in
+    let some : 0 < length (map request_of chunk) = omega (arith, long, c.chunk_length-length.ensures.some) in
+    let asked : map request_of (take (done + more) requests) ≡ map request_of (take done requests) ++ map request_of chunk =
+    ap (map request_of) (take-add done more requests ∙ ap (λ xs. take done requests ++ take more xs) (sym (rest_is done requests)))
+    ∙ map-append request_of (take done requests) chunk in
+    let told = c.in_ok-extend-in-Ok.ensures in
+    let reached = reached_more own place (map request_of (take done requests)) c.chunks.replies.answers.items c.chunks.replies.stamp (state_of c.chunks.desk.desk)
+    (map request_of chunk) next c.in-Ok.further.answers.items c.in-Ok.further.stamp c.requires.within some c.chunks.invariant.reached c.in-Ok.ensures.continues in
+    record {
+      reached = subst (λ (rs : List Request). Reached own place rs c.extend.new.self.answers.items c.extend.new.self.stamp next) (sym asked)
+          (subst (λ (replies : List Reply). Reached own place (map request_of (take done requests) ++ map request_of chunk) replies c.extend.new.self.stamp next) (sym told.0)
+          (subst (λ (texts : List (List ℕ)). Reached own place (map request_of (take done requests) ++ map request_of chunk)
+          (c.chunks.replies.answers.items ++ c.in-Ok.further.answers.items) texts next) (sym told.1) reached));
+      place = c.in-Ok.ensures.place ∙ c.chunks.invariant.place;
+      within = omega (arith, few, left, c.chunks.invariant.within);
+    }
+
+pub returns : goal.returns
+returns g c =
+    let requests = c.args.requests.now in
+    let end : c.chunks.done ≡ length requests = omega (arith, c.chunks.invariant.within) in
+    let all : take c.chunks.done requests ≡ requests = ap (λ n. take n requests) end ∙ take-length requests in
+    subst (λ rs. IsAnsweredInPart g.K.Named.configuration c.args.place (map request_of rs) c.chunks.replies.answers.items c.chunks.replies.stamp) all
+    (all_answered g.K.Named.configuration c.args.place (map request_of (take c.chunks.done requests)) c.chunks.replies.answers.items c.chunks.replies.stamp
+    (state_of c.chunks.desk.desk) c.chunks.invariant.reached)

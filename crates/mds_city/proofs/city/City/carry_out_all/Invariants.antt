@@ -1,0 +1,16 @@
+use Rattle.std.proofs.Common.{◌≡◌, ◌≤◌, ◌-◌, length, map, take}
+use Rattle.mds_request.specs.Request.{request_of}
+use Rattle.mds_desk.specs.Desk.{state_of}
+use Rattle.mds_city.proofs.Reports.{Reached}
+use Rattle.mds_city.proofs.city.City.carry_out_all.Given as goal
+
+-- the requests so far are answered, at this operator's desk
+abbrev pub invariant-chunks : goal.invariant-chunks
+invariant-chunks g l = record {
+  reached : Reached g.K.Named.configuration l.fn.place (map request_of (take l.done l.requests)) l.replies.answers.items l.replies.stamp (state_of l.desk.desk);
+  place : l.desk.place ≡ l.fn.place;
+  within : l.done ≤ length l.requests;
+}
+
+abbrev pub decreases-chunks : goal.decreases-chunks
+decreases-chunks g l = length l.requests - l.done

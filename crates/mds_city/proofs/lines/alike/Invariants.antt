@@ -1,0 +1,6 @@
+use Rattle.std.proofs.Common.{◌≡◌}
+use Rattle.mds_city.proofs.lines.alike.Given as goal
+
+-- all requests so far are counted
+abbrev pub invariant-loop-request : goal.invariant-loop-request
+invariant-loop-request l = l.count ≡ l.request-index
