@@ -3,7 +3,7 @@
 use http::request::Parts;
 use mds_city::CityReception;
 use mds_commit::{Naming, Space};
-use mds_connections::{Answers, Taken};
+use mds_connections::{Answers, Crowded, Taken};
 use mds_hall::Named;
 use mds_limits::Asker;
 use mds_meter::{Metered, MeteredReply};
@@ -33,9 +33,16 @@ impl<'a, A: Answers, C: Clock + Copy + Drop> Answers for Counted<'a, A, C> {
         self.metered.asker(parts)
     }
 
-    fn answer(&self, parts: &Parts, taken: Taken) -> GuidedReply<MeteredReply<'a, A::Reply, C>> {
-        let guide = Guide::of(parts.uri.path());
-        GuidedReply::new(self.metered.answer(parts, taken), guide)
+    /// # Errors
+    ///
+    /// The share of who asks is used up.
+    fn answer(
+        &self,
+        parts: &Parts,
+        taken: &Taken,
+    ) -> Result<GuidedReply<MeteredReply<'a, A::Reply, C>>, Crowded> {
+        let reply = self.metered.answer(parts, taken)?;
+        Ok(GuidedReply::new(reply, Guide::of(parts.uri.path())))
     }
 }
 

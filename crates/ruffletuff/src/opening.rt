@@ -278,6 +278,7 @@ where
         listen,
         dropped: &dropped,
         queues: Queues::new(alloc, &config)?,
+        askers: config.operators().len() + 2,
         threads: threads_for(rt, &config),
         board,
     };

@@ -39,6 +39,8 @@ pub struct Stage<'a> {
     pub dropped: &'a [Id],
     /// How many requests may wait.
     pub queues: Queues,
+    /// How many may ask for changes: strangers, the author and the operators.
+    pub askers: usize,
     /// How many threads answer.
     pub threads: usize,
     /// What the server shows to who controls it.
@@ -148,7 +150,7 @@ where
 {
     let alloc = rt.alloc();
     count_vehicles(rt, &hall, stage.board.counters)?;
-    let (keeper, flusher, nothing) = open::<N, L, S>(alloc, history, log, space)?;
+    let (keeper, flusher, nothing) = open::<N, L, S>(alloc, history, log, space, stage.askers)?;
     let Ok(keeper) = Arc::new(alloc, keeper) else {
         return Err(Ending::NoMemory);
     };
