@@ -749,7 +749,7 @@ def a_full_disk(small):
             for token, *asked in [(AUTHOR, *DRAFTS[1]), (AUTHOR, *PUBLISH), (ALFA, "DELETE", f"/fleet/vehicles/{identifier(4, 1)}", "")]:
                 if not (answer := server.ask(asked[0], asked[1], token, asked[2].encode())).is_by_the_server(*NO_ROOM):
                     yield f"{asked[0]} {asked[1]} is answered {answer}"
-            for token, target, wanted in ((ALFA, "/nowhere", NO_ROOM), ("nobody", "/fleet/events", code(401, "token"))):
+            for token, target, wanted in ((ALFA, "/nowhere", code(404, "no_route")), ("nobody", "/fleet/events", code(401, "token"))):
                 if not (answer := server.ask("POST", target, token, b"{}")).is_by_the_server(*wanted):
                     yield f"{target} of {token} is answered {answer}"
             if told(server) != before:

@@ -132,11 +132,11 @@ def refusals(program):
         with server.link() as link:
             link.send(request("POST", PATH, FIRST, long))
             refused(link.answer("POST"), 413, "too_large", "a body over its limit")
-        refused(server.ask("POST", PATH, FIRST, text + b"1\n" * MOST_LINES), 503, "no_room", "more lines than may wait")
+        refused(server.ask("POST", PATH, FIRST, text + b"1\n" * MOST_LINES), 413, "too_large", "more lines than a body may have")
         expect(vehicles(server) == [], "a refused report was taken")
         lines_are(server.ask("POST", PATH, FIRST, long[:MOST_BODY]), [line_of(200, NEW)], "a body at its limit")
         answer = server.ask("POST", PATH, FIRST, b"1\n" * MOST_LINES)
-        lines_are(answer, [line_of(400, refusal("bad_field"))] * MOST_LINES, "as many lines as may wait")
+        lines_are(answer, [line_of(400, refusal("bad_field"))] * MOST_LINES, "as many lines as a body may have")
         lines_are(server.ask("POST", PATH, FIRST, report(2)), [line_of(200, NEW)], "one behind them")
     yield from ()
 
