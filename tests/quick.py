@@ -8,8 +8,8 @@ The tests of each crate that has some are built and run by `rt try --test`, and 
 proved one first, where no source is newer. Then come the scripts (replays.py), questions that are asked once and again (columns.py),
 ruffletuff on the messages that wait for no deadline and on the short loads (http.py), some kills (kills.py, contended.py), journals
 (journals.py, damages.py, thinning.py), the control port (control.py), configurations (config.py), many reports at once (many.py), also
-beside the changes of others (shares.py), files that are imported (exchange.py), what people are told (app.py), what everyone is told
-(public.py), the counts of lines in docs/DEFINITIONS.md (definitions.py), nginx before a server (nginx.py), the page (page.py), in a
+beside the changes of others (shares.py), each path by each method and asker (routes.py), files that are imported (exchange.py), what
+people are told (app.py), what everyone is told (public.py), the counts of lines in docs/DEFINITIONS.md (definitions.py), nginx before a server (nginx.py), the page (page.py), in a
 browser too (web/run.py), a short stress (stress.py), some refused growths of memory (growths.py) and the check of docs/openapi.yaml
 (openapi.py). The other messages, and mds_serve, which serves by the same crates, are tried by `make prove` alone.
 
@@ -140,6 +140,7 @@ def parts(room):
     add("configurations", 0.3, kept, lambda: script("config.py", keep, slow=slow["ruffletuff"]))
     add("many reports", 0.5, kept, lambda: script("many.py", keep, slow=slow["ruffletuff"]))
     add("changes beside many lines", 0.5, kept, lambda: script("shares.py", keep, *SHARES, slow=slow["ruffletuff"]))
+    add("each path, and what refusals take", 1.5, kept, lambda: script("routes.py", keep, "--told", slow=slow["ruffletuff"]))
     add("what people are told", 0.3, kept, lambda: script("app.py", keep, slow=slow["ruffletuff"]))
     add("files and a server", 0.5, kept, lambda: script("exchange.py", keep, slow=slow["ruffletuff"]))
     add("the page", 0.2, kept, lambda: script("page.py", keep, slow=slow["ruffletuff"]))

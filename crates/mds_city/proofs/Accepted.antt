@@ -1,7 +1,6 @@
 -- The records of many requests.
 use Rattle.std.proofs.Common.{◌≡◌, ◌==◌, ℕ, ◌+◌, ◌<◌, Bool, true, false, cond, List, [], ◌∷◌, ◌++◌, length, map, take, get_or, refl, sym, ap, subst, ◌∙◌, add-one, append_assoc}
 use Rattle.std.proofs.Math.Seq.{take-suc}
-use Rattle.std.proofs.lemmas.List.{map-append}
 use Rattle.std.specs.List.{AllByRecursion}
 use Rattle.mds_commit.specs.Durable.{chosen}
 use Rattle.mds_machine.specs.Step.{Exchange}
@@ -12,32 +11,9 @@ use Rattle.mds_restarts.specs.Kept.{requests_in}
 use Rattle.mds_city.specs.Many.{AreRecordsOf, accepted, exchanges}
 use Rattle.mds_city.specs.Records.{HasRecord, IsRecordOf}
 
--- one more request has a record
-pub one_more_record : (configuration : Configuration) (requests : List Request) (texts : List (List ℕ)) (request : Request) (text : List ℕ)
-    → AreRecordsOf configuration requests texts → IsRecordOf configuration request text
-    → AreRecordsOf configuration (requests ++ request ∷ []) (texts ++ text ∷ [])
-one_more_record configuration [] [] request text are is = (is, tt)
-one_more_record configuration [] (other ∷ texts) request text are is = absurd are
-one_more_record configuration (first ∷ requests) [] request text are is = absurd are
-one_more_record configuration (first ∷ requests) (other ∷ texts) request text are is =
-    (are.0, one_more_record configuration requests texts request text are.1 is)
-
 pub taken_more : {A : Type 0} (items : List A) (i : ℕ) (item : A) → i < length items → item ≡ get_or items i item → take (i + 1) items ≡ take i items ++ item ∷ []
 taken_more items i item within here =
     ap (λ n. take n items) (add-one i) ∙ take-suc items i item within ∙ ap (λ a. take i items ++ a ∷ []) (sym here)
-
--- the same in a loop over requests that are lent
-pub records_more : {A V : Type 0} (request : A → Request) (text : V → List ℕ) (configuration : Configuration) (lent : List A) (i : ℕ) (item : A) (texts all : List V) (it : V)
-    → i < length lent → item ≡ get_or lent i item → all ≡ texts ++ it ∷ []
-    → AreRecordsOf configuration (map request (take i lent)) (map text texts) → IsRecordOf configuration (request item) (text it)
-    → AreRecordsOf configuration (map request (take (i + 1) lent)) (map text all)
-records_more request text configuration lent i item texts all it within here more are is =
-    let asked : map request (take (i + 1) lent) ≡ map request (take i lent) ++ request item ∷ [] =
-    ap (map request) (taken_more lent i item within here) ∙ map-append request (take i lent) (item ∷ []) in
-    let told : map text all ≡ map text texts ++ text it ∷ [] = ap (map text) more ∙ map-append text texts (it ∷ []) in
-    subst (λ (rs : List Request). AreRecordsOf configuration rs (map text all)) (sym asked)
-    (subst (λ (ts : List (List ℕ)). AreRecordsOf configuration (map request (take i lent) ++ request item ∷ []) ts) (sym told)
-    (one_more_record configuration (map request (take i lent)) (map text texts) (request item) (text it) are is))
 
 by_flag : (configuration : Configuration) (e : Exchange) (history : List Exchange) (text : List ℕ) (texts : List (List ℕ)) (b : Bool)
     → IsRecordOf configuration e.request text → AreRecordsOf configuration (requests_in history) texts

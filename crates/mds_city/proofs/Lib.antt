@@ -1,6 +1,6 @@
 mod Accepted
 mod Among
-mod Apart
+mod Askers
 pub mod Cities
 mod Cutting
 mod Own
@@ -9,3 +9,5 @@ mod Responses
 mod Runs
 mod Told
 mod Turns
+mod Unkept
+mod Ways

@@ -5,15 +5,14 @@ use Rattle.mds_app.specs.Badges.{Badges}
 use Rattle.mds_app.specs.Whoami.{told_operator}
 use Rattle.mds_app.specs.Withdrawals.{withdrawals_reply}
 use Rattle.mds_catalog.specs.Publication.{Publication}
-use Rattle.mds_drafts.specs.Drafts.{Drafts as Held}
 use Rattle.mds_request.specs.Configuration.{Configuration, Operator as Named}
 use Rattle.mds_request.specs.Reply.{Reply, refused}
 use Rattle.mds_request.specs.declared.code.Code.{Code}
 use Rattle.mds_request.specs.declared.code.Code.TheVariants.{NoMemory, NoSnapshot}
-use Rattle.mds_hall.specs.Told.{DeskTells, RoomTells}
+use Rattle.mds_hall.specs.Told.{DeskTells}
 use Rattle.mds_city.specs.Told.{IsToldReply, operator_told, own_withdrawals}
-use Rattle.mds_city.specs.declared.app.Question.{Question}
-use Rattle.mds_city.specs.declared.app.Question.TheVariants.{Whoami, Withdrawals, Drafts}
+use Rattle.mds_routes.specs.declared.app.Question.{Question}
+use Rattle.mds_routes.specs.declared.app.Question.TheVariants.{Whoami, Withdrawals, Drafts}
 
 pub told_own : (one other : Configuration) (named renamed : Badges) (place : ℕ) (publications : List Publication) (question : Question)
     → slice_get one.operators place ≡ slice_get other.operators place → slice_get named.operators place ≡ slice_get renamed.operators place → named.zone ≡ renamed.zone
@@ -29,22 +28,18 @@ pub own_is : (publications : List Publication) (operator : Option Named) (id : L
 own_is publications None id is = absurd cc
 own_is publications (Some operator) id is = ap (λ o. withdrawals_reply publications o) (sym is)
 
--- what is told of a front, by another name for it and for the place
-pub desk_tells : {T : Type 0} (one other : Configuration) (place there : ℕ) (tells also : List Publication → T → Type 0) (told : T)
-    → one ≡ other → place ≡ there → ((publications : List Publication) → tells publications told → also publications told)
-    → DeskTells one place tells told → DeskTells other there also told
-desk_tells one other place there tells also told same here imply it =
+-- what is told of a front, by another name for the place, and of another kind
+pub desk_tells : {T : Type 0} (configuration : Configuration) (place there : ℕ) (tells also : List Publication → T → Type 0) (told : T)
+    → place ≡ there → ((publications : List Publication) → tells publications told → also publications told)
+    → DeskTells configuration place tells told → DeskTells configuration there also told
+desk_tells configuration place there tells also told here imply it =
     record {
       before = it.before;
       after = it.after;
-      is_its = record { configured = it.is_its.configured ∙ same; placed = it.is_its.placed ∙ here };
+      is_its = record { configured = it.is_its.configured; placed = it.is_its.placed ∙ here };
       learnt = it.learnt;
       tells = imply it.after.known it.tells;
     }
-
-pub room_tells : {T : Type 0} (one other : Configuration) (tells : Held → List Publication → T → Type 0) (told : T) → one ≡ other
-    → RoomTells one tells told → RoomTells other tells told
-room_tells one other tells told same it = record { room = it.room; is_its = it.is_its ∙ same; tells = it.tells }
 
 -- an answer that tells this, or that memory ran out
 pub by_memory : {E : Type 0} (Kind : Reply → Type 0) (told : Result Reply E) (answer : Reply) → IfOk told (λ reply. answer ≡ reply) → IfErr told (λ _. answer ≡ refused NoMemory)

@@ -18,9 +18,11 @@ use Rattle.mds_desk.specs.Desk.{DeskState, TakesRun}
 use Rattle.mds_desk.proofs.Running.{begins}
 use Rattle.mds_hall.specs.Response.{Says}
 use Rattle.mds_hall.specs.Turn.{IsDeskAt, TakesToldRun}
-use Rattle.mds_city.specs.Many.{AreRecorded, AreRecordsOf, AreRefusedBehind, Continues, IsAnsweredInPart, IsRecordedRun, IsRefusedWhole, ManyAreAnswered, SaysAll, accepted, exchanges, reports_of}
-use Rattle.mds_city.specs.Unheld.{SaysUnheld}
+use Rattle.mds_city.specs.Many.{AreRecorded, AreRecordsOf, AreRefusedBehind, Continues, IsAnsweredInPart, IsHalted, IsRecordedRun, IsRefusedWhole, ManyAreAnswered, SaysAll, accepted, exchanges, reports_of}
 use Rattle.mds_city.specs.Unstored.{Waits}
+use Rattle.mds_city.specs.declared.many.Halt.{Halt}
+use Rattle.mds_city.specs.declared.many.Halt.TheVariants.{Unheld, NotTold}
+use Rattle.mds_city.specs.declared.pending.Unanswered.{Unanswered}
 use Rattle.mds_city.proofs.Accepted.{all_recorded, chosen_are_theirs, taken_more}
 use Rattle.mds_city.proofs.Among.{later_among}
 use Rattle.mds_city.proofs.Responses.{ok_more, waits_more}
@@ -204,11 +206,6 @@ some_answered_of replies stamp configuration place requests rest whole so_far te
 -- ---- what is told
 
 module _ {V E : Type 0} (reply : V → Option (Response (Full (List ℕ)))) (stamp : V → List (List ℕ)) (configuration : Configuration) (place : ℕ) (request : Request) where
-  -- nothing of the log is held for them
-  pub told_unheld : (result : Result V E) → IfOk result (λ s. Waits SaysUnheld (reply s))
-      → IfOk result (λ s. Waits (ManyAreAnswered configuration place request (stamp s)) (reply s))
-  told_unheld result told = ok_more result (λ s. waits_more (reply s) (λ response unheld. inl (inl unheld))) told
-
   -- the body is refused as a whole
   pub told_whole : (result : Result V E) (code : Code) → IsRefusedWhole request code → IfOk result (λ s. Waits (λ response. Says response (refused code)) (reply s))
       → IfOk result (λ s. Waits (ManyAreAnswered configuration place request (stamp s)) (reply s))
@@ -232,3 +229,11 @@ module _ {V E : Type 0} (reply : V → Option (Response (Full (List ℕ)))) (sta
         }),
       )
   told_run (Err e) requests replies texts are answered says is = tt
+
+-- none of them is carried out
+pub told_halted : {V : Type 0} (reply : V → Option (Response (Full (List ℕ)))) (stamp : V → List (List ℕ)) (configuration : Configuration) (place : ℕ) (request : Request)
+    (result : Result V Unanswered) (halt : Halt) → IsHalted reply halt result → IfOk result (λ s. Waits (ManyAreAnswered configuration place request (stamp s)) (reply s))
+told_halted reply stamp configuration place request result (Unheld why) told =
+    ok_more result (λ s. waits_more (reply s) (λ response says. inl (inl (why, says)))) told
+told_halted reply stamp configuration place request result (NotTold fault) untold =
+    subst (λ r. IfOk r (λ s. Waits (ManyAreAnswered configuration place request (stamp s)) (reply s))) (sym untold) tt

@@ -8,14 +8,15 @@ use Rattle.mds_request.specs.Request.{Request}
 use Rattle.mds_request.specs.Reply.{Reply, refused}
 use Rattle.mds_request.specs.declared.code.Code.{Code}
 use Rattle.mds_request.specs.declared.config.Actor.{Actor}
+use Rattle.mds_request.specs.declared.config.Actor.{Actor}
 use Rattle.mds_hall.specs.Respond as hall
 use Rattle.mds_hall.specs.Response.{Says}
-use Rattle.mds_city.specs.App.{app_of}
-use Rattle.mds_city.specs.City.{IsAnswered, IsAnsweredBy, IsTold, IsToldBy}
+use Rattle.mds_routes.specs.App.{app_of}
+use Rattle.mds_city.specs.City.{IsAnswered, IsAnsweredBy, IsRecordedTurn, IsTold}
 use Rattle.mds_city.specs.Told.{IsToldReply, SaysTold}
 use Rattle.mds_city.specs.Unheld.{SaysUnheld}
 use Rattle.mds_city.specs.Unstored.{Waits}
-use Rattle.mds_city.specs.declared.app.AppCall.{AppCall}
+use Rattle.mds_routes.specs.declared.app.AppCall.{AppCall}
 
 -- one reply of the protocol is a hall's
 one_is : (configuration : Configuration) (request : Request) (stamp : List (List ℕ)) (response : Response (Full (List ℕ)))
@@ -41,14 +42,6 @@ as_a_hall configuration badges None (Some moment) request stamp response plain t
     one_is configuration asked stamp response
     (none_is (IsAnsweredBy configuration actor asked stamp response) (λ (call : Result AppCall Code). IsTold configuration badges actor asked call stamp response)
     (app_of asked) (plain moment) told)
-
-plain_by : {A : Type 0} (P : Type 0) (Q : A → Type 0) (o : Option A) → o ≡ None → P → MatchOption o P Q
-plain_by P Q None none p = p
-plain_by P Q (Some a) none p = absurd cc
-
-beside_by : {A : Type 0} (P : Type 0) (Q : A → Type 0) (o : Option A) (a : A) → o ≡ Some a → Q a → MatchOption o P Q
-beside_by P Q None a some q = absurd cc
-beside_by P Q (Some b) a some q = subst Q (sym (let e : b ≡ a = cc in e)) q
 
 pub waits_more : {P Q : Response (Full (List ℕ)) → Type 0} (reply : Option (Response (Full (List ℕ)))) → ((response : Response (Full (List ℕ))) → P response → Q response)
     → Waits P reply → Waits Q reply
@@ -78,17 +71,27 @@ pub waits_kind : {V E : Type 0} (Kind Other : Reply → Type 0) (reply : V → O
 waits_kind Kind Other reply result imply says =
     ok_more result (λ s. waits_more (reply s) (λ response one. (one.0, told_more imply one.0 one.1, one.2))) says
 
-module _ {V E : Type 0} (reply : V → Option (Response (Full (List ℕ)))) (stamp : V → List (List ℕ)) (configuration : Configuration) (badges : Badges) (actor : Actor) (request : Request) where
-  -- what is told of a call of the protocol
-  pub told_plain : (result : Result V E) → app_of request ≡ None
-      → IfOk result (λ s. Waits (IsAnsweredBy configuration actor request (stamp s)) (reply s))
-      → IfOk result (λ s. Waits (IsToldBy configuration badges actor request (stamp s)) (reply s))
-  told_plain result none told = ok_more result (λ s. waits_more (reply s) (λ response. plain_by (IsAnsweredBy configuration actor request (stamp s) response)
-      (λ (call : Result AppCall Code). IsTold configuration badges actor request call (stamp s) response) (app_of request) none)) told
+-- the reply of a recorded turn, which waits for its stamp
+pub waits_carried : {V E : Type 0} (reply : V → Option (Response (Full (List ℕ)))) (stamp : V → List (List ℕ)) (configuration : Configuration) (actor : Actor) (request : Request)
+    (answer : Reply) (shown : List (List ℕ)) (result : Result V E) → IsRecordedTurn configuration actor request answer shown
+    → IfOk result (λ s. Waits (λ response. Says response answer) (reply s)) → IfOk result (λ s. stamp s ≡ shown)
+    → IfOk result (λ s. Waits (IsAnsweredBy configuration actor request (stamp s)) (reply s))
+waits_carried reply stamp configuration actor request answer shown (Ok s) turn says same =
+    waits_more (reply s)
+    (λ response is. inr (record { reply = answer; turn = subst (λ (texts : List (List ℕ)). IsRecordedTurn configuration actor request answer texts) (sym same) turn; says = is }))
+    says
+waits_carried reply stamp configuration actor request answer shown (Err e) turn says same = tt
 
-  -- what is told of a call beside it
-  pub told_beside : (result : Result V E) (call : Result AppCall Code) → app_of request ≡ Some call
-      → IfOk result (λ s. Waits (IsTold configuration badges actor request call (stamp s)) (reply s))
-      → IfOk result (λ s. Waits (IsToldBy configuration badges actor request (stamp s)) (reply s))
-  told_beside result call some told = ok_more result (λ s. waits_more (reply s) (λ response. beside_by (IsAnsweredBy configuration actor request (stamp s) response)
-      (λ (other : Result AppCall Code). IsTold configuration badges actor request other (stamp s) response) (app_of request) call some)) told
+-- the reply of a recorded turn is what is answered
+pub waits_turn : {V E : Type 0} (reply : V → Option (Response (Full (List ℕ)))) (stamp : V → List (List ℕ)) (configuration : Configuration) (actor : Actor) (request : Request)
+    (result : Result V E) (told : Reply) (texts : List (List ℕ)) → IsRecordedTurn configuration actor request told texts
+    → IfOk result (λ s. Waits (λ response. Says response told) (reply s)) → IfOk result (λ s. stamp s ≡ texts)
+    → IfOk result (λ s. Waits (IsAnsweredBy configuration actor request (stamp s)) (reply s))
+waits_turn reply stamp configuration actor request (Ok s) told texts turn says is = (
+  says.0,
+  says.1,
+  says.2,
+  says.3,
+  inr (record { reply = told; turn = subst (IsRecordedTurn configuration actor request told) (sym is) turn; says = says.4 }),
+)
+waits_turn reply stamp configuration actor request (Err e) told texts turn says is = tt

@@ -11,11 +11,7 @@ use Rattle.mds_request.specs.declared.code.Code.{Code}
 use Rattle.mds_request.specs.declared.config.Actor.{Actor}
 use Rattle.mds_request.specs.declared.config.Actor.TheVariants.{Author, Operator, Nobody}
 use Rattle.mds_restarts.specs.Kept.{is_kept, may_change}
-use Rattle.http.specs.declared.request.Parts.{Parts}
-use Rattle.mds_hall.specs.Asked.{token_of}
 use Rattle.mds_hall.specs.Early.{unknown}
-use Rattle.mds_hall.specs.Heard.{IsHeard}
-use Rattle.mds_hall.specs.declared.early.Arrived.{Arrived}
 use Rattle.mds_hall.specs.Respond.{TurnGives}
 use Rattle.mds_hall.proofs.Refusing.{IsSomebody, table_refuses}
 use Rattle.mds_city.specs.City.{IsRecordedTurn}
@@ -97,8 +93,3 @@ refused_turn configuration request code stamp resolved known =
           let reads : may_change (call_of configuration request) ≡ false = ap may_change resolved in
           absurd (cc (may, reads));
     }
-
--- the access token of what was heard is the head's
-pub heard_token : (parts : Parts) (arrived : Arrived) (at : Option ℕ) (request : Request) → IsHeard parts arrived at request → request.token ≡ token_of parts.headers
-heard_token parts arrived None request heard = absurd (let none = heard.allowed in cc)
-heard_token parts arrived (Some moment) request heard = ap (λ r. r.token) heard.is_it

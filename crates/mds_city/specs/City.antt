@@ -11,21 +11,21 @@ use Rattle.mds_request.specs.Reply.{Reply, refused}
 use Rattle.mds_request.specs.declared.code.Code.{Code}
 use Rattle.mds_request.specs.declared.config.Actor.{Actor}
 use Rattle.mds_request.specs.declared.config.Actor.TheVariants.{Author, Operator, Nobody}
+use Rattle.mds_limits.specs.Arrival.{body_in}
+use Rattle.mds_limits.specs.declared.arrival.Arrived.{Arrived}
 use Rattle.mds_restarts.specs.Kept.{is_kept}
 use Rattle.mds_hall.specs.Asked.{request_in}
-use Rattle.mds_hall.specs.declared.early.Arrived.{Arrived}
 use Rattle.mds_hall.specs.Early.{early}
-use Rattle.mds_hall.specs.Heard.{body_in}
 use Rattle.mds_hall.specs.Respond.{TurnGives}
 use Rattle.mds_hall.specs.Response.{Says}
-use Rattle.mds_city.specs.App.{app_of}
+use Rattle.mds_routes.specs.App.{app_of}
 use Rattle.mds_city.specs.Many.{ManyAreAnswered}
 use Rattle.mds_city.specs.Records.{HasRecord}
 use Rattle.mds_city.specs.Told.{SaysTold, TellsAuthor, TellsOperator}
 use Rattle.mds_city.specs.Unheld.{SaysUnheld}
 use Rattle.mds_city.specs.Unstored.{Waits}
-use Rattle.mds_city.specs.declared.app.AppCall.{AppCall}
-use Rattle.mds_city.specs.declared.app.AppCall.TheVariants.{Events, Told}
+use Rattle.mds_routes.specs.declared.app.AppCall.{AppCall}
+use Rattle.mds_routes.specs.declared.app.AppCall.TheVariants.{Events, Told}
 
 -- One turn of who asks gives the reply. Where a journal keeps that exchange, its record is among these texts.
 pub record IsRecordedTurn (configuration : Configuration) (actor : Actor) (request : Request) (reply : Reply) (stamp : List (List ℕ)) : Type 0 where

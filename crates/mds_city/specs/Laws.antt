@@ -9,8 +9,8 @@ use Rattle.mds_hall.specs.Asked.{target_of}
 use Rattle.mds_hall.specs.Respond.{Responds, TurnGives}
 use Rattle.mds_hall.specs.Response.{Says}
 use Rattle.mds_hall.specs.Turn.{DeskRuns}
-use Rattle.mds_hall.specs.declared.early.Arrived.{Arrived}
-use Rattle.mds_request.specs.Call.{path_of, rows_at, segments_of}
+use Rattle.mds_limits.specs.declared.arrival.Arrived.{Arrived}
+use Rattle.mds_request.specs.Call.{path_of}
 use Rattle.mds_request.specs.Configuration.{Configuration, actor_of}
 use Rattle.mds_request.specs.Request.{Request, verb_of}
 use Rattle.mds_request.specs.Reply.{Reply}
@@ -18,13 +18,13 @@ use Rattle.mds_restarts.specs.Kept.{is_kept}
 use Rattle.mds_app.specs.Badges.{Badges}
 use Rattle.mds_app.specs.Withdrawals.{withdrawal_of, withdrawals}
 use Rattle.mds_catalog.specs.Publication.{Publication, is_meant_for, published_policies}
-use Rattle.mds_city.specs.App.{app_at, app_of}
+use Rattle.mds_routes.specs.App.{app_at, app_of}
 use Rattle.mds_city.specs.City.{Answers, IsCarriedOut}
 use Rattle.mds_city.specs.Many.{AreCarriedOutBy, AreRefusedBehind, SaysAll, exchanges}
 use Rattle.mds_city.specs.Records.{HasRecord}
 use Rattle.mds_city.specs.Told.{operator_told}
 use Rattle.mds_city.specs.Unheld.{SaysUnheld}
-use Rattle.mds_city.specs.declared.app.Question.{Question}
+use Rattle.mds_routes.specs.declared.app.Question.{Question}
 
 module _ {L : Type 0} (may_be : L → List (List ℕ) → Type 0) (is_synced : L → Type 0) where
   -- a synced log may be of a list that has the request's record
@@ -58,10 +58,6 @@ RespondsAsAHall =
     → app_at (verb_of parts.method) (path_of (target_of parts.uri)) ≡ None
     → Answers configuration badges parts arrived at stamp response
     → SaysUnheld response ⊎ Responds configuration parts arrived at response
-
--- No route has the path of a call beside the protocol's.
-abbrev pub AppAndProtocolAreApart : Type 0
-AppAndProtocolAreApart = (request : Request) → IsSome (app_of request) → rows_at (segments_of request.target) ≡ []
 
 -- No journal keeps a call beside the protocol's: of many reports it keeps each by itself, as a request of the protocol.
 abbrev pub AppCallsAreNotKept : Type 0

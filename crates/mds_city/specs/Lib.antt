@@ -1,5 +1,4 @@
 pub mod Unheld
-pub mod App
 pub mod Records
 pub mod Many
 pub mod Told

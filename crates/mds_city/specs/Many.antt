@@ -1,6 +1,6 @@
 -- Many reports in one body, and what is told of them.
 use mathlib.Core.List.{IsPrefix}
-use Rattle.std.specs.Prelude.{◌≡◌, ◌==◌, ◌<◌, ◌⊎◌, ℕ, List, [], ◌∷◌, ◌++◌, codes, length, map, filter, Option, Some, None}
+use Rattle.std.specs.Prelude.{◌≡◌, ◌==◌, ◌<◌, ◌⊎◌, ℕ, List, [], ◌∷◌, ◌++◌, codes, length, map, filter, Option, Some, None, IfOk, Result, Err}
 use Rattle.std.specs.List.{AllByRecursion, flat_map}
 use Rattle.http_header.specs.FieldValue.{plain_value}
 use Rattle.http.specs.Response.{head_of, body_of}
@@ -9,21 +9,25 @@ use Rattle.http_body_util.specs.declared.full.Full.{Full}
 use Rattle.mds_lines.specs.Answering.{status_text}
 use Rattle.mds_lines.specs.Input.{is_filled, lines}
 use Rattle.mds_machine.specs.Step.{Exchange}
-use Rattle.mds_request.specs.Configuration.{Configuration}
+use Rattle.mds_request.specs.Configuration.{Configuration, actor_of}
 use Rattle.mds_request.specs.Request.{Request}
 use Rattle.mds_request.specs.Reply.{Reply, refused}
 use Rattle.mds_request.specs.declared.code.Code.{Code}
 use Rattle.mds_request.specs.declared.code.Code.TheVariants as code
+use Rattle.mds_request.specs.declared.config.Actor.TheVariants.{Operator}
 use Rattle.mds_request.specs.declared.request.Verb.TheVariants.{Post}
 use Rattle.mds_hall.specs.Response.{Says, bytes_of}
 use Rattle.mds_hall.specs.Turn.{DeskRuns, TakesToldRun}
 use Rattle.mds_desk.specs.Desk.{DeskState}
 use Rattle.mds_catalog.specs.Publication.{Publication}
 use Rattle.mds_city.specs.Records.{HasRecord, IsRecordOf}
-use Rattle.mds_city.specs.Unheld.{SaysUnheld}
+use Rattle.mds_city.specs.Unheld.{SaysUnheld, SaysUnheldFor}
+use Rattle.mds_city.specs.Unstored.{Waits}
 use Rattle.mds_city.specs.declared.lines.TheConstants.{MOST_REPORTS}
 use Rattle.mds_city.specs.declared.many.Halt.{Halt}
 use Rattle.mds_city.specs.declared.many.Halt.TheVariants.{Unheld, NotTold}
+use Rattle.mds_city.specs.declared.pending.Unanswered.{Unanswered}
+use Rattle.mds_city.specs.declared.pending.Unanswered.TheVariants.{NotTold as Untold}
 use Rattle.mds_city.specs.declared.records.Unreserved.TheVariants.{Crowded, NoRoom, Stopping, Failed, NoMemory}
 
 -- the report that a line is: by the same asker, at the same moment
@@ -34,6 +38,10 @@ report_of request line =
 -- a report for each line of the body that isn't empty
 abbrev pub reports_of : Request → List Request
 reports_of request = map (report_of request) (filter is_filled (lines request.body))
+
+-- the operator at this place asks each of them
+abbrev pub AreAskedBy : Configuration → ℕ → List Request → Type 0
+AreAskedBy configuration place requests = AllByRecursion (λ request. actor_of configuration request.token ≡ Operator place) requests
 
 -- the line that tells a reply: its body and its status as JSON (RFC 8259), whose members are in the byte order of their names
 abbrev pub told_line : Reply → List ℕ
@@ -118,6 +126,11 @@ IsRefusedWhole request c = (c ≡ code.NoMemory) ⊎ ((c ≡ code.TooLarge) × (
 -- none of them was carried out
 abbrev pub IsUnasked : Request → Response (Full (List ℕ)) → Type 0
 IsUnasked request response = SaysUnheld response ⊎ ((c : Code) × IsRefusedWhole request c × Says response (refused c))
+
+-- what is given where none of them was carried out: the reply that waits says the refusal for the reason, or nothing may be told
+abbrev pub IsHalted : {V : Type 0} → (V → Option (Response (Full (List ℕ)))) → Halt → Result V Unanswered → Type 0
+IsHalted reply (Unheld why) result = IfOk result (λ s. Waits (SaysUnheldFor why) (reply s))
+IsHalted reply (NotTold fault) result = result ≡ Err (Untold fault)
 
 -- what the operator at this place is told of the reports of one body
 abbrev pub ManyAreAnswered : Configuration → ℕ → Request → List (List ℕ) → Response (Full (List ℕ)) → Type 0

@@ -3,26 +3,36 @@ use Rattle.std.specs.Prelude.{◌≡◌, ℕ, false, List, [], ◌∷◌, ◌++�
 use Rattle.mds_commit.specs.Durable.{AreDurable}
 use Rattle.mds_commit.specs.declared.backlog.Place.{Place}
 use Rattle.mds_entries.specs.Entries.{Entry, entry_text}
-use Rattle.mds_entries.specs.Requests.{entry_by}
+use Rattle.mds_entries.specs.Requests.{asked_by, entry_by}
+use Rattle.mds_entries.specs.declared.entry.Asker.{Asker}
 use Rattle.mds_request.specs.Configuration.{Configuration}
 use Rattle.mds_request.specs.Request.{Request}
 use Rattle.mds_request.specs.Call.{call_of}
 use Rattle.mds_request.specs.declared.call.Call.{Call}
 use Rattle.mds_request.specs.declared.call.Call.TheVariants.{Author, Operator}
 use Rattle.mds_restarts.specs.Kept.{may_change}
-use Rattle.mds_limits.specs.Asker.{index_of}
-use Rattle.mds_limits.specs.declared.asker.Asker.TheVariants as asker
+use Rattle.mds_limits.specs.Actor.{index_of}
+use Rattle.mds_request.specs.declared.config.Actor.{Actor}
+use Rattle.mds_request.specs.declared.config.Actor.TheVariants as actor
 use Rattle.mds_city.specs.declared.records.Reserved.{Reserved}
 use Rattle.mds_city.specs.declared.records.Reserved.TheVariants.{Reads, Holds}
 
--- the place of who calls among those who share the log
+-- who makes a call
+abbrev pub caller_of : Call → Actor
+caller_of (Author call) = actor.Author
+caller_of (Operator place call) = actor.Operator place
+
+-- the place of who makes a call among those who share the log
 abbrev pub sharer_of : Call → ℕ
-sharer_of (Author call) = index_of asker.Author
-sharer_of (Operator place call) = index_of (asker.Operator place)
+sharer_of call = index_of (caller_of call)
 
 -- the text is one of these
 abbrev pub IsAmong : List ℕ → List (List ℕ) → Type 0
 IsAmong text texts = (before : List (List ℕ)) × (after : List (List ℕ)) × (texts ≡ before ++ text ∷ after)
+
+-- the text of the record of this asker's request
+abbrev pub record_by : Asker → Request → List ℕ
+record_by asker request = entry_text (asked_by request asker)
 
 -- the text is that of the request's entry, with who asks and no access token
 pub record IsRecordOf (configuration : Configuration) (request : Request) (text : List ℕ) : Type 0 where

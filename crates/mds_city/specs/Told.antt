@@ -14,8 +14,8 @@ use Rattle.mds_request.specs.declared.code.Code.TheVariants.{NoMemory, NoSnapsho
 use Rattle.mds_request.specs.declared.config.Actor.TheVariants.{Author, Operator}
 use Rattle.mds_hall.specs.Told.{DeskTells, RoomTells}
 use Rattle.mds_hall.specs.Turn.{SaysOne}
-use Rattle.mds_city.specs.declared.app.Question.{Question}
-use Rattle.mds_city.specs.declared.app.Question.TheVariants.{Whoami, Withdrawals, Drafts}
+use Rattle.mds_routes.specs.declared.app.Question.{Question}
+use Rattle.mds_routes.specs.declared.app.Question.TheVariants.{Whoami, Withdrawals, Drafts}
 use Rattle.mds_city.specs.declared.people.OfRoom.{OfRoom}
 use Rattle.mds_city.specs.declared.people.OfRoom.TheVariants as room
 

@@ -1,27 +1,40 @@
 -- What is said of a request that may change something, and for which nothing of the log is held: it isn't carried out.
-use Rattle.std.specs.Prelude.{◌≡◌, ℕ, List, Option, Some, None}
+use Rattle.std.specs.Prelude.{◌≡◌, ℕ, List, Result, Ok, Err}
 use Rattle.http.specs.declared.response.Response.{Response}
 use Rattle.http_body_util.specs.declared.full.Full.{Full}
+use Rattle.mds_commit.specs.declared.backlog.ReserveFault.{ReserveFault}
+use Rattle.mds_commit.specs.declared.backlog.ReserveFault.TheVariants as fault
+use Rattle.mds_commit.specs.declared.keeper.NotTold.TheVariants as untold
 use Rattle.mds_request.specs.Reply.{refused}
 use Rattle.mds_request.specs.declared.code.Code.{Code}
 use Rattle.mds_request.specs.declared.code.Code.TheVariants as code
 use Rattle.mds_hall.specs.Response.{Says}
+use Rattle.mds_city.specs.declared.pending.Unanswered.{Unanswered}
+use Rattle.mds_city.specs.declared.pending.Unanswered.TheVariants as unanswered
 use Rattle.mds_city.specs.declared.records.Unreserved.{Unreserved}
 use Rattle.mds_city.specs.declared.records.Unreserved.TheVariants.{Crowded, NoRoom, Stopping, Failed, NoMemory}
 
+-- by what the keeper says; a record that no log takes counts as one for which there is no memory
+abbrev pub unreserved_by : ReserveFault → Unreserved
+unreserved_by fault.Crowded = Crowded
+unreserved_by fault.NoRoom = NoRoom
+unreserved_by fault.Stopping = Stopping
+unreserved_by fault.Failed = Failed
+unreserved_by fault.Untaken = NoMemory
+
 -- A full disk, a program that ends and want of memory are told, each by its name. Whose share is used up is asked again, and where the log failed
 -- nothing is told.
-abbrev pub refusal_for : Unreserved → Option Code
-refusal_for NoRoom = Some code.NoRoom
-refusal_for Stopping = Some code.Busy
-refusal_for NoMemory = Some code.NoMemory
-refusal_for Crowded = None
-refusal_for Failed = None
+abbrev pub refusal_for : Unreserved → Result Code Unanswered
+refusal_for NoRoom = Ok code.NoRoom
+refusal_for Stopping = Ok code.Busy
+refusal_for NoMemory = Ok code.NoMemory
+refusal_for Crowded = Err unanswered.Crowded
+refusal_for Failed = Err (unanswered.NotTold untold.Failed)
 
--- it is one of these refusals
-abbrev pub IsUnheld : Code → Type 0
-IsUnheld c = (why : Unreserved) × (refusal_for why ≡ Some c)
+-- the response says the refusal for this reason
+abbrev pub SaysUnheldFor : Unreserved → Response (Full (List ℕ)) → Type 0
+SaysUnheldFor why response = (c : Code) × (refusal_for why ≡ Ok c) × Says response (refused c)
 
--- the response says one of them
+-- the response says the refusal for one of the reasons
 abbrev pub SaysUnheld : Response (Full (List ℕ)) → Type 0
-SaysUnheld response = (c : Code) × IsUnheld c × Says response (refused c)
+SaysUnheld response = (why : Unreserved) × SaysUnheldFor why response

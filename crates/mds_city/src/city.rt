@@ -1,23 +1,24 @@
 //! A hall whose accepted changes are kept.
-ghost use Rattle.std.specs.Prelude.{◌≡◌, ◌<◌, length, IfOk, Ok};
+ghost use Rattle.std.specs.Prelude.{◌≡◌, IfErr, IfOk, Ok, Err};
 ghost use Rattle.mds_request.specs.Call.{call_of};
-ghost use Rattle.mds_request.specs.Configuration.{configuration, actor_of};
+ghost use Rattle.mds_request.specs.Configuration.{configuration};
 ghost use Rattle.mds_request.specs.Reply.{refused};
 ghost use Rattle.mds_request.specs.declared.call.Call.TheVariants.{Author as ByAuthor, Operator as OperatorAt};
 ghost use Rattle.mds_request.specs.declared.config.Actor.TheVariants.{Author, Operator};
-ghost use Rattle.mds_hall.specs.Asker.{IsWithin};
 ghost use Rattle.mds_hall.specs.Heard.{request_heard};
 ghost use Rattle.mds_hall.specs.Response.{Says};
 ghost use Rattle.mds_city.specs.City.{IsRecordedTurn};
 ghost use Rattle.mds_city.specs.Records.{IsReserved, IsTitled};
-ghost use Rattle.mds_city.specs.Unheld.{SaysUnheld};
+ghost use Rattle.mds_city.specs.Unheld.{SaysUnheldFor, refusal_for};
 ghost use Rattle.mds_city.specs.Unstored.{Waits};
 
 use crate::context::Context;
 use crate::pending::{Pending, Unanswered};
 use crate::recording::{Recording, Titled};
-use crate::records::{Reserved, Unreserved, give_back, record_text, refusal_for, settled, sharer};
-use crate::unstored::unstored;
+use crate::records::{
+    Reserved, Unreserved, asker_of, give_back, record_text, refusal_for, settle, sharer,
+};
+use crate::unstored::mark_unstored;
 use bytes::Bytes;
 use http::Response;
 use http_body_util::Full;
@@ -28,7 +29,7 @@ use mds_desk::OpenGate;
 use mds_hall::{Hall, Heard, Named, response};
 use mds_keeping::may_change;
 use mds_records::Log;
-use mds_request::{Actor, AuthorCall, Call, Code, OperatorCall};
+use mds_request::{AuthorCall, Call, Code, OperatorCall};
 use mds_shelf::Answer;
 use mds_verdict::Evaluator;
 use std::alloc::Global;
@@ -74,14 +75,6 @@ impl<K: Named, N: Naming, L: Log, S: Space> City<K, N, L, S> {
         }
     }
 
-    /// Whose access token it is.
-    pub fn asker(&self, token: &[u8]) -> Actor
-        ensures value { result ≡ actor_of (configuration self.now.hall.config.value) token.now }
-        ensures within { IsWithin (length (configuration self.now.hall.config.value).operators) result }
-    {
-        self.hall.asker(token)
-    }
-
     /// Ends the author's room: no request can come any more.
     pub fn finish<R: Wait>(self, rt: &R) {
         let Self {
@@ -99,7 +92,7 @@ impl<K: Named, N: Naming, L: Log, S: Space> City<K, N, L, S> {
     }
 
     /// A response that waits until all of a stamp is synced, and that no cache may keep.
-    pub(crate) fn waiting(
+    pub(crate) fn await_sync(
         &self,
         stamp: Stamp<N, L>,
         response: Response<Full<Bytes>>,
@@ -108,7 +101,7 @@ impl<K: Named, N: Naming, L: Log, S: Space> City<K, N, L, S> {
         ensures stamp { IfOk result (λ s. s.stamp ≡ stamp) }
     {
         let keeper = Arc::try_clone(&self.keeper)?;
-        let marked = unstored(response)?;
+        let marked = mark_unstored(response)?;
         Ok(Settling::new(keeper, stamp, marked))
     }
 
@@ -117,7 +110,7 @@ impl<K: Named, N: Naming, L: Log, S: Space> City<K, N, L, S> {
     /// # Errors
     ///
     /// There was no memory for the response. What was done stays.
-    pub(crate) fn told(
+    pub(crate) fn reply(
         &self,
         alloc: Global,
         answered: Answered<N, L>,
@@ -127,7 +120,7 @@ impl<K: Named, N: Naming, L: Log, S: Space> City<K, N, L, S> {
     {
         let Answered { answer, stamp } = answered;
         let response = response(alloc, answer)?;
-        self.waiting(stamp, response)
+        self.await_sync(stamp, response)
     }
 
     /// A refusal of what isn't carried out: it shows nothing, so it waits for no sync.
@@ -135,28 +128,29 @@ impl<K: Named, N: Naming, L: Log, S: Space> City<K, N, L, S> {
     /// # Errors
     ///
     /// There was no memory for the response.
-    pub(crate) fn refused(&self, alloc: Global, code: Code) -> Result<Pending<N, L, S>, Unanswered>
+    pub(crate) fn refuse(&self, alloc: Global, code: Code) -> Result<Pending<N, L, S>, Unanswered>
         ensures { IfOk result (λ s. Waits (λ response. Says response (refused code)) s.reply) }
     {
         let stamp = self.nothing.again();
         let answer = Answer::from(code);
-        self.told(alloc, Answered { answer, stamp })
+        self.reply(alloc, Answered { answer, stamp })
     }
 
-    /// What is said of a request for which nothing of the log is held.
+    /// The refusal of a request for which nothing of the log is held.
     ///
     /// # Errors
     ///
-    /// It may be asked again, or nothing may be told.
-    pub(crate) fn unheld(
+    /// It isn't refused, since it may be asked again or nothing may be told; or there was no memory for the response.
+    pub(crate) fn refuse_unheld(
         &self,
         alloc: Global,
         why: Unreserved,
     ) -> Result<Pending<N, L, S>, Unanswered>
-        ensures { IfOk result (λ s. Waits SaysUnheld s.reply) }
+        ensures says { IfOk result (λ s. Waits (SaysUnheldFor why) s.reply) }
+        ensures untold { IfErr (refusal_for why) (λ unanswered. result ≡ Err unanswered) }
     {
         match refusal_for(why) {
-            Ok(code) => self.refused(alloc, code),
+            Ok(code) => self.refuse(alloc, code),
             Err(unanswered) => Err(unanswered),
         }
     }
@@ -173,15 +167,16 @@ impl<K: Named, N: Naming, L: Log, S: Space> City<K, N, L, S> {
         heard: &Heard<'_>,
         call: &Call,
     ) -> Result<Reserved, Unreserved>
-        requires { call_of (configuration self.now.hall.config.value) (request_heard heard.now) ≡ Ok call.now }
-        ensures { IfOk result (IsReserved (configuration self.now.hall.config.value) (request_heard heard.now)) }
+        requires { call_of K.configuration (request_heard heard.now) ≡ Ok call.now }
+        ensures { IfOk result (IsReserved K.configuration (request_heard heard.now)) }
     {
         if !may_change(&Ok(*call)) {
             return Ok(Reserved::Reads);
         }
         let config = self.hall.configuration()?;
+        let asker = asker_of(&*config, call);
         let request = heard.request();
-        let text = record_text(alloc, &*config, &request)?;
+        let text = record_text(alloc, asker, &request)?;
         match self.keeper.reserve(rt, sharer(call), text) {
             Ok(place) => Ok(Reserved::Holds(place)),
             Err(fault) => Err(Unreserved::from(fault)),
@@ -202,9 +197,9 @@ impl<K: Named, N: Naming, L: Log, S: Space> City<K, N, L, S> {
         reserved: Reserved,
     ) -> Result<Answered<N, L>, NotTold>
         requires judge { E.may_judge }
-        requires resolved { call_of (configuration self.now.hall.config.value) (request_heard heard) ≡ Ok (OperatorAt place call) }
-        requires reserved { IsReserved (configuration self.now.hall.config.value) (request_heard heard) reserved }
-        ensures { IfOk result (λ answered. IsRecordedTurn (configuration self.now.hall.config.value) (Operator place)
+        requires resolved { call_of K.configuration (request_heard heard) ≡ Ok (OperatorAt place call) }
+        requires reserved { IsReserved K.configuration (request_heard heard) reserved }
+        ensures { IfOk result (λ answered. IsRecordedTurn K.configuration (Operator place)
             (request_heard heard.entry) answered.answer answered.stamp) }
     {
         let rt = context.rt;
@@ -221,7 +216,7 @@ impl<K: Named, N: Naming, L: Log, S: Space> City<K, N, L, S> {
             context.evaluator,
         );
         let status = answer.status();
-        match settled(rt, &*self.keeper, &self.nothing, reserved, status) {
+        match settle(rt, &*self.keeper, &self.nothing, reserved, status) {
             Ok(stamp) => Ok(Answered { answer, stamp }),
             Err(fault) => Err(fault),
         }
@@ -242,9 +237,9 @@ impl<K: Named, N: Naming, L: Log, S: Space> City<K, N, L, S> {
         reserved: Reserved,
     ) -> Result<Answered<N, L>, NotTold>
         requires title { IsTitled T.text reserved }
-        requires resolved { call_of (configuration self.now.hall.config.value) (request_heard heard) ≡ Ok (ByAuthor call) }
-        requires reserved { IsReserved (configuration self.now.hall.config.value) (request_heard heard) reserved }
-        ensures { IfOk result (λ answered. IsRecordedTurn (configuration self.now.hall.config.value) Author
+        requires resolved { call_of K.configuration (request_heard heard) ≡ Ok (ByAuthor call) }
+        requires reserved { IsReserved K.configuration (request_heard heard) reserved }
+        ensures { IfOk result (λ answered. IsRecordedTurn K.configuration Author
             (request_heard heard.entry) answered.answer answered.stamp) }
     {
         let mut recording = Recording::<T, R, N, L, S>::new(*rt, keeper, reserved);
@@ -254,7 +249,7 @@ impl<K: Named, N: Naming, L: Log, S: Space> City<K, N, L, S> {
         if let Some(note) = note {
             self.hall.keep_note(rt, note);
         }
-        match recording.ended(&self.nothing, answer.status(), is_published) {
+        match recording.settle(&self.nothing, answer.status(), is_published) {
             Ok(stamp) => Ok(Answered { answer, stamp }),
             Err(fault) => Err(fault),
         }
@@ -272,9 +267,9 @@ impl<K: Named, N: Naming, L: Log, S: Space> City<K, N, L, S> {
         heard: Heard<'_>,
         reserved: Reserved,
     ) -> Result<Answered<N, L>, NotTold>
-        requires resolved { call_of (configuration self.now.hall.config.value) (request_heard heard) ≡ Ok (ByAuthor call) }
-        requires reserved { IsReserved (configuration self.now.hall.config.value) (request_heard heard) reserved }
-        ensures { IfOk result (λ answered. IsRecordedTurn (configuration self.now.hall.config.value) Author
+        requires resolved { call_of K.configuration (request_heard heard) ≡ Ok (ByAuthor call) }
+        requires reserved { IsReserved K.configuration (request_heard heard) reserved }
+        ensures { IfOk result (λ answered. IsRecordedTurn K.configuration Author
             (request_heard heard.entry) answered.answer answered.stamp) }
     {
         match Arc::try_clone(&self.keeper) {

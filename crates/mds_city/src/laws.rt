@@ -1,5 +1,5 @@
 //! Laws of what a city answers. The functions do nothing: their contracts are the laws.
-ghost use Rattle.mds_city.specs.Laws.{AppAndProtocolAreApart, AppCallsAreNotKept, ManyAreKept, OperatorsAreToldTheirOwn, RecordedAreKept, RespondsAsAHall, WithdrawalsAreOfOwnPolicies};
+ghost use Rattle.mds_city.specs.Laws.{AppCallsAreNotKept, ManyAreKept, OperatorsAreToldTheirOwn, RecordedAreKept, RespondsAsAHall, WithdrawalsAreOfOwnPolicies};
 
 use mds_records::Log;
 
@@ -11,11 +11,6 @@ pub fn recorded_are_kept<L: Log>()
 /// Of each of many reports that were told and that a journal keeps, a synced log has the record.
 pub fn many_are_kept<L: Log>()
     ensures { ManyAreKept L.may_be L.is_synced }
-{}
-
-/// No call beside the protocol's stands at a path of the protocol: the table of calls has no row for its path.
-pub fn app_and_protocol_are_apart()
-    ensures { AppAndProtocolAreApart }
 {}
 
 /// No journal keeps a call beside the protocol's.

@@ -2,7 +2,6 @@
 //! synced.
 #![tactic(auto)]
 
-mod app;
 mod city;
 mod context;
 pub mod laws;
@@ -19,7 +18,6 @@ mod responding;
 mod telling;
 mod unstored;
 
-pub use app::{AppCall, Question, app_call};
 pub use city::City;
 pub use context::Context;
 pub use leaving::Leaving;

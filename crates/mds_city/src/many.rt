@@ -1,28 +1,30 @@
 //! Many reports of an operator, answered by turns of its desk with nothing between.
 ghost use Rattle.std.specs.Prelude.{◌≡◌, ◌==◌, ◌≤◌, ◌<◌, ◌++◌, IfOk, List, OnOk, length, map, not, vec_capacity};
 ghost use Rattle.std.specs.List.{list_all};
-ghost use Rattle.mds_request.specs.Configuration.{configuration};
+ghost use Rattle.mds_request.specs.Configuration.{actor_of};
 ghost use Rattle.mds_request.specs.Request.{request_of};
 ghost use Rattle.mds_request.specs.Reply.{Reply, refused};
 ghost use Rattle.mds_desk.specs.Desk.{state_of};
 ghost use Rattle.mds_hall.specs.Heard.{request_heard};
-ghost use Rattle.mds_city.specs.Many.{AreRecordsOf, AreRefusedBehind, Continues, IsAnsweredInPart, ManyAreAnswered, SaysAll, refusal_behind};
-ghost use Rattle.mds_city.specs.Unheld.{SaysUnheld};
+ghost use Rattle.mds_request.specs.declared.config.Actor.TheVariants.{Operator};
+ghost use Rattle.mds_city.specs.Many.{AreAskedBy, AreRecordsOf, AreRefusedBehind, Continues, IsAnsweredInPart, IsHalted, ManyAreAnswered, SaysAll, refusal_behind};
+ghost use Rattle.mds_city.specs.Records.{record_by};
 ghost use Rattle.mds_city.specs.Unstored.{Waits};
 
 use crate::city::City;
 use crate::context::Context;
 use crate::lines::{chunk_length, may_be_report, reports};
 use crate::pending::{Pending, Unanswered};
-use crate::records::{Unreserved, is_accepted, record_text};
+use crate::records::{Unreserved, is_accepted, operator_asker, record_text};
 use crate::telling::response_of_all;
 use mds_catalog::Catalogue;
 use mds_commit::{MOST_TEXTS_OF_ONE, Naming, NotTold, Places, Space, Stamp, Usage};
 use mds_desk::OpenGate;
+use mds_entries::Asker;
 use mds_hall::{HallDesk, Heard, Named};
-use mds_limits::Asker;
+use mds_limits::index_of;
 use mds_records::Log;
-use mds_request::{Code, Config, Request};
+use mds_request::{Actor, Code, Request};
 use mds_shelf::Answer;
 use mds_verdict::Evaluator;
 use std::alloc::{AllocError, Global};
@@ -89,21 +91,21 @@ fn refusals(alloc: Global, code: Code, requests: &[Request<'_>]) -> Result<Vec<A
     Ok(answers)
 }
 
-/// The texts of the requests' records.
+/// The texts of the records of this asker's requests.
 ///
 /// # Errors
 ///
-/// A request has none, or memory ran out.
+/// `NoMemory`: a request's target is too long for a record, or memory ran out.
 fn record_texts(
     alloc: Global,
-    config: &Config,
+    asker: &Asker,
     requests: &[Request<'_>],
 ) -> Result<Vec<Vec<u8>>, Unreserved>
-    ensures { IfOk result (λ texts. AreRecordsOf (configuration config.now) (map request_of requests.now) (map (λ text. text.items) texts.items)) }
+    ensures { IfOk result (λ texts. map (λ text. text.items) texts.items ≡ map (record_by asker.now) (map request_of requests.now)) }
 {
     let mut texts = Vec::with_capacity(alloc, requests.len())?;
     for request in requests {
-        let text = record_text(alloc, config, request)?;
+        let text = record_text(alloc, *asker, request)?;
         texts.push_reserved(text);
     }
     Ok(texts)
@@ -198,7 +200,7 @@ impl<K: Named, N: Naming, L: Log, S: Space> City<K, N, L, S> {
             bytes: bytes as u64,
         };
         self.keeper
-            .has_share(rt, Asker::Operator(place).index(), more)
+            .has_share(rt, index_of(Actor::Operator(place)), more)
     }
 
     /// Holds a place for the record of each of these requests of the operator at this place, before the first is carried
@@ -214,12 +216,15 @@ impl<K: Named, N: Naming, L: Log, S: Space> City<K, N, L, S> {
         place: usize,
         requests: &[Request<'_>],
     ) -> Result<Places, Unreserved>
-        ensures { IfOk result (λ places. AreRecordsOf (configuration self.now.hall.config.value) (map request_of requests.now)
+        requires place { place < length K.configuration.operators }
+        requires asked { AreAskedBy K.configuration place (map request_of requests.now) }
+        ensures { IfOk result (λ places. AreRecordsOf K.configuration (map request_of requests.now)
             (map (λ text. text.items) places.texts.items)) }
     {
         let config = self.hall.configuration()?;
-        let texts = record_texts(alloc, &*config, requests)?;
-        let sharer = Asker::Operator(place).index();
+        let asker = operator_asker(&*config, place);
+        let texts = record_texts(alloc, &asker, requests)?;
+        let sharer = index_of(Actor::Operator(place));
         match self.keeper.reserve_all(rt, sharer, texts) {
             Ok(places) => Ok(places),
             Err(fault) => Err(Unreserved::from(fault)),
@@ -304,6 +309,8 @@ impl<K: Named, N: Naming, L: Log, S: Space> City<K, N, L, S> {
         known: &Stamp<N, L>,
     ) -> Result<Replies<N, L>, Halt>
         requires judge { E.may_judge }
+        requires place { place < length K.configuration.operators }
+        requires asked { AreAskedBy K.configuration place (map request_of requests.now) }
         ensures place { desk.new.place ≡ desk.old.place }
         ensures continues { IfOk result (λ replies. Continues K.configuration (state_of desk.old.desk) known.now
             (map request_of requests.now) (state_of desk.new.desk) replies.answers.items replies.stamp) }
@@ -331,6 +338,7 @@ impl<K: Named, N: Naming, L: Log, S: Space> City<K, N, L, S> {
         requires judge { E.may_judge }
         requires place { desk.old.place ≡ place }
         requires within { place < length K.configuration.operators }
+        requires asked { AreAskedBy K.configuration place (map request_of requests.now) }
         ensures { IfOk result (λ replies. IsAnsweredInPart K.configuration place (map request_of requests.now) replies.answers.items replies.stamp) }
     {
         let mut replies = Replies {
@@ -365,8 +373,9 @@ impl<K: Named, N: Naming, L: Log, S: Space> City<K, N, L, S> {
         requests: &[Request<'_>],
     ) -> Result<Replies<N, L>, Halt>
         requires judge { E.may_judge }
-        requires place { place < length (configuration self.now.hall.config.value).operators }
-        ensures { IfOk result (λ replies. IsAnsweredInPart (configuration self.now.hall.config.value) place
+        requires place { place < length K.configuration.operators }
+        requires asked { AreAskedBy K.configuration place (map request_of requests.now) }
+        ensures { IfOk result (λ replies. IsAnsweredInPart K.configuration place
             (map request_of requests.now) replies.answers.items replies.stamp) }
     {
         let Some(mut desk) = self.hall.desk_at(context.rt, place) else {
@@ -380,7 +389,7 @@ impl<K: Named, N: Naming, L: Log, S: Space> City<K, N, L, S> {
     /// # Errors
     ///
     /// There was no memory for the response. What was done stays.
-    fn all_told(
+    fn reply_to_all(
         &self,
         alloc: Global,
         replies: Replies<N, L>,
@@ -390,19 +399,19 @@ impl<K: Named, N: Naming, L: Log, S: Space> City<K, N, L, S> {
     {
         let Replies { answers, stamp } = replies;
         let response = response_of_all(alloc, &answers)?;
-        self.waiting(stamp, response)
+        self.await_sync(stamp, response)
     }
 
-    /// What is said where none of many reports was carried out.
+    /// The refusal of many reports of which none was carried out.
     ///
     /// # Errors
     ///
-    /// They may be asked again, or nothing may be told.
-    fn halted(&self, alloc: Global, halt: Halt) -> Result<Pending<N, L, S>, Unanswered>
-        ensures { IfOk result (λ s. Waits SaysUnheld s.reply) }
+    /// They aren't refused, since they may be asked again or nothing may be told; or there was no memory for the response.
+    fn refuse_all(&self, alloc: Global, halt: Halt) -> Result<Pending<N, L, S>, Unanswered>
+        ensures { IsHalted (λ s. s.reply) halt result }
     {
         match halt {
-            Halt::Unheld(why) => self.unheld(alloc, why),
+            Halt::Unheld(why) => self.refuse_unheld(alloc, why),
             Halt::NotTold(fault) => Err(Unanswered::NotTold(fault)),
         }
     }
@@ -421,20 +430,20 @@ pub(crate) fn many_reports<K: Named, N: Naming, R: Wait, E: Evaluator<Catalogue>
     city: &City<K, N, L, S>,
 ) -> Result<Pending<N, L, S>, Unanswered>
     requires judge { E.may_judge }
-    requires place { place < length (configuration city.now.hall.config.value).operators }
-    ensures { IfOk result (λ s. Waits (ManyAreAnswered (configuration city.now.hall.config.value) place (request_heard heard.now) s.stamp) s.reply) }
+    requires asker { actor_of K.configuration (request_heard heard.now).token ≡ Operator place }
+    ensures { IfOk result (λ s. Waits (ManyAreAnswered K.configuration place (request_heard heard.now) s.stamp) s.reply) }
 {
     let request = heard.request();
     let requests = match reports(context.alloc, &request) {
         Ok(requests) => requests,
-        Err(code) => return city.refused(context.alloc, code),
+        Err(code) => return city.refuse(context.alloc, code),
     };
     let lent = requests.as_slice();
     if !city.has_share(context.rt, place, reports_among(lent), request.body.len()) {
         return Err(Unanswered::Crowded);
     }
     match city.answer_all(context, place, lent) {
-        Ok(replies) => city.all_told(context.alloc, replies),
-        Err(halt) => city.halted(context.alloc, halt),
+        Ok(replies) => city.reply_to_all(context.alloc, replies),
+        Err(halt) => city.refuse_all(context.alloc, halt),
     }
 }

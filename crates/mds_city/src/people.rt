@@ -1,19 +1,18 @@
 //! What people are told beside the protocol's calls. It is read under the lock of the desk or of the room, and nothing is kept
 //! of it.
-ghost use Rattle.std.specs.Prelude.{◌≡◌, ◌<◌, IfErr, IfOk, Some, length, option_map, slice_get};
+ghost use Rattle.std.specs.Prelude.{◌≡◌, ◌<◌, IfErr, IfOk, length};
 ghost use Rattle.mds_app.specs.Badges.{badges_view};
 ghost use Rattle.mds_app.specs.Whoami.{who_reply};
-ghost use Rattle.mds_request.specs.Configuration.{configuration};
 ghost use Rattle.mds_request.specs.Reply.{refused};
 ghost use Rattle.mds_request.specs.declared.code.Code.TheVariants.{NoMemory};
 ghost use Rattle.mds_hall.specs.Told.{RoomTells};
 ghost use Rattle.mds_city.specs.Told.{IsToldReply, SaysTold, TellsAuthor, TellsOperator, room_told};
 ghost use Rattle.mds_city.specs.Unstored.{Waits};
-ghost use Rattle.mds_city.specs.declared.app.Question.TheVariants.{Withdrawals};
+ghost use Rattle.mds_routes.specs.declared.app.Question.TheVariants.{Withdrawals};
 
-use crate::app::Question;
 use crate::city::{Answered, City};
 use crate::pending::{Pending, Unanswered};
+use crate::records::id_at;
 use mds_app::{listed_drafts, whoami, withdrawals};
 use mds_catalog::Catalogue;
 use mds_commit::{Naming, NotTold, Space};
@@ -21,7 +20,8 @@ use mds_desk::{AuthorTelling, Telling};
 use mds_drafts::Drafts;
 use mds_hall::Named;
 use mds_records::Log;
-use mds_request::{Actor, Code, Config, Reply};
+use mds_request::{Actor, Code, Reply};
+use mds_routes::Question;
 use mds_shelf::Answer;
 use mds_text::Id;
 use std::alloc::{AllocError, Global};
@@ -98,14 +98,6 @@ fn or_refused(told: Result<Reply, Code>) -> Answer
     }
 }
 
-/// The identifier of the operator at this place.
-fn id_at(config: &Config, place: usize) -> Id
-    requires { place < length (configuration config.now).operators }
-    ensures { option_map (λ o. o.id) (slice_get (configuration config.now).operators place) ≡ Some result }
-{
-    config.operators()[place].id
-}
-
 impl<K: Named, N: Naming, L: Log, S: Space> City<K, N, L, S> {
     /// Tells who asks.
     ///
@@ -117,7 +109,7 @@ impl<K: Named, N: Naming, L: Log, S: Space> City<K, N, L, S> {
     {
         let stamp = self.stamp();
         let answer = or_no_memory(whoami(alloc, &self.badges, asker));
-        self.told(alloc, Answered { answer, stamp })
+        self.reply(alloc, Answered { answer, stamp })
     }
 
     /// What the operator at this place is told of withdrawals, from one look of its desk, under the desk's lock.
@@ -125,9 +117,9 @@ impl<K: Named, N: Naming, L: Log, S: Space> City<K, N, L, S> {
     /// # Errors
     ///
     /// There was no memory for it.
-    fn desk_told<R: Wait>(&self, rt: &R, place: usize) -> Result<Answered<N, L>, NotTold>
-        requires { place < length (configuration self.now.hall.config.value).operators }
-        ensures { IfOk result (λ answered. IsToldReply (TellsOperator (configuration self.now.hall.config.value) (badges_view self.now.badges)
+    fn withdrawals_at<R: Wait>(&self, rt: &R, place: usize) -> Result<Answered<N, L>, NotTold>
+        requires { place < length K.configuration.operators }
+        ensures { IfOk result (λ answered. IsToldReply (TellsOperator K.configuration (badges_view self.now.badges)
             place Withdrawals) answered.answer) }
     {
         let config = self.hall.configuration()?;
@@ -154,19 +146,19 @@ impl<K: Named, N: Naming, L: Log, S: Space> City<K, N, L, S> {
         alloc: Global,
         place: usize,
     ) -> Result<Pending<N, L, S>, Unanswered>
-        requires { place < length (configuration self.now.hall.config.value).operators }
-        ensures { IfOk result (λ s. Waits (SaysTold (TellsOperator (configuration self.now.hall.config.value) (badges_view self.now.badges)
+        requires { place < length K.configuration.operators }
+        ensures { IfOk result (λ s. Waits (SaysTold (TellsOperator K.configuration (badges_view self.now.badges)
             place Withdrawals)) s.reply) }
     {
-        match self.desk_told(rt, place) {
-            Ok(answered) => self.told(alloc, answered),
+        match self.withdrawals_at(rt, place) {
+            Ok(answered) => self.reply(alloc, answered),
             Err(fault) => Err(Unanswered::NotTold(fault)),
         }
     }
 
     /// What the author is told of its room, under the room's lock.
-    fn room_told<R: Wait>(&self, rt: &R, asked: OfRoom) -> Answered<N, L>
-        ensures { IsToldReply (RoomTells (configuration self.now.hall.config.value)
+    fn answer_of<R: Wait>(&self, rt: &R, asked: OfRoom) -> Answered<N, L>
+        ensures { IsToldReply (RoomTells K.configuration
             (λ drafts publications told. told ≡ room_told asked drafts publications)) result.answer }
     {
         let room = self.hall.room(rt);
@@ -186,11 +178,11 @@ impl<K: Named, N: Naming, L: Log, S: Space> City<K, N, L, S> {
         alloc: Global,
         asked: OfRoom,
     ) -> Result<Pending<N, L, S>, Unanswered>
-        ensures { IfOk result (λ s. Waits (SaysTold (RoomTells (configuration self.now.hall.config.value)
+        ensures { IfOk result (λ s. Waits (SaysTold (RoomTells K.configuration
             (λ drafts publications told. told ≡ room_told asked drafts publications))) s.reply) }
     {
-        let answered = self.room_told(rt, asked);
-        self.told(alloc, answered)
+        let answered = self.answer_of(rt, asked);
+        self.reply(alloc, answered)
     }
 }
 
@@ -205,7 +197,7 @@ pub(crate) fn tell_the_author<K: Named, N: Naming, R: Wait, L: Log, S: Space>(
     question: Question,
     city: &City<K, N, L, S>,
 ) -> Result<Pending<N, L, S>, Unanswered>
-    ensures { IfOk result (λ s. Waits (SaysTold (TellsAuthor (configuration city.now.hall.config.value) (badges_view city.now.badges) question)) s.reply) }
+    ensures { IfOk result (λ s. Waits (SaysTold (TellsAuthor K.configuration (badges_view city.now.badges) question)) s.reply) }
 {
     match question {
         Question::Whoami => city.who(alloc, Actor::Author),
@@ -226,12 +218,12 @@ pub(crate) fn tell_an_operator<K: Named, N: Naming, R: Wait, L: Log, S: Space>(
     question: Question,
     city: &City<K, N, L, S>,
 ) -> Result<Pending<N, L, S>, Unanswered>
-    requires { place < length (configuration city.now.hall.config.value).operators }
-    ensures { IfOk result (λ s. Waits (SaysTold (TellsOperator (configuration city.now.hall.config.value) (badges_view city.now.badges) place question)) s.reply) }
+    requires { place < length K.configuration.operators }
+    ensures { IfOk result (λ s. Waits (SaysTold (TellsOperator K.configuration (badges_view city.now.badges) place question)) s.reply) }
 {
     match question {
         Question::Whoami => city.who(alloc, Actor::Operator(place)),
         Question::Withdrawals => city.of_desk(rt, alloc, place),
-        Question::Drafts => city.refused(alloc, Code::Role),
+        Question::Drafts => city.refuse(alloc, Code::Role),
     }
 }

@@ -1,11 +1,8 @@
 //! A city that answers at the moments of a clock.
 ghost use Rattle.std.specs.Prelude.{◌≡◌, Option, ℕ, IfOk, IfSome};
-ghost use Rattle.mds_request.specs.Configuration.{configuration, actor_of};
-ghost use Rattle.mds_hall.specs.Asked.{token_of};
-ghost use Rattle.mds_limits.specs.Asker.{asker_of};
-ghost use Rattle.mds_doors.specs.Arrived.{ArrivesAs};
-ghost use Rattle.mds_hall.specs.declared.early.Arrived.{Arrived};
 ghost use Rattle.mds_app.specs.Badges.{badges_view};
+ghost use Rattle.mds_routes.specs.Endpoint.{AsksFile, AsksPublic, AsksState};
+ghost use Rattle.mds_routes.specs.declared.resolved.Resolved.TheVariants.{Asset, Public, State};
 ghost use Rattle.mds_city.specs.City.{CityResponds};
 
 use crate::city::City;
@@ -16,11 +13,12 @@ use crate::responding::respond;
 use http::request::Parts;
 use mds_catalog::Catalogue;
 use mds_commit::{Naming, Space};
-use mds_connections::{Answers, Crowded, Taken};
-use mds_doors::{Moments, arrived};
-use mds_hall::{Named, token};
-use mds_limits::Asker;
+use mds_connections::Crowded;
+use mds_doors::Moments;
+use mds_hall::Named;
+use mds_limits::Arrived;
 use mds_records::Log;
+use mds_routes::{Resolved, ResolvedState, resolve};
 use mds_verdict::Evaluator;
 use std::alloc::Global;
 use std::sync::Wait;
@@ -48,23 +46,32 @@ impl<
     M: Moments,
     L: Log,
     S: Space,
-> Answers for CityReception<K, N, R, E, M, L, S> {
-    type Reply = Leaving<N, L, S>;
-
-    ghost may_answer = { E.may_judge };
-
-    fn asker(&self, parts: &Parts) -> Asker
-        ensures { result ≡ asker_of (actor_of (configuration self.now.city.hall.config.value) (token_of parts.now.headers)) }
+> CityReception<K, N, R, E, M, L, S> {
+    /// Resolves a head: what it asks for, and who asks, as `mds_routes::resolve` says.
+    pub fn resolve(&self, is_public: bool, parts: Parts) -> Resolved<K>
+        ensures { elim result [
+          | Asset own file ↦ (own ≡ parts) × AsksFile parts file
+          | Public own asked ↦ (own ≡ parts) × AsksPublic is_public parts asked
+          | State head ↦ (head.parts ≡ parts) × AsksState is_public parts
+        ] }
     {
-        Asker::of(self.city.asker(token(&parts.headers)))
+        resolve(&self.city.hall, is_public, parts)
     }
 
-    fn answer(&self, parts: &Parts, taken: &Taken) -> Result<Leaving<N, L, S>, Crowded>
+    /// Answers the request of a head whose body has arrived so, at the clock's moment. Head and body are lent, so that it may be
+    /// asked again. Where nothing may be told, the response on its way is an error.
+    ///
+    /// # Errors
+    ///
+    /// The share of who asks is used up: nothing was carried out.
+    pub fn answer(
+        &self,
+        head: &ResolvedState<K>,
+        body: &Arrived,
+    ) -> Result<Leaving<N, L, S>, Crowded>
         requires { E.may_judge }
-        ensures { IfOk result (λ leaving. IfSome leaving.told (λ s. (at : Option ℕ) × (arrived : Arrived)
-            × ArrivesAs taken.now.arrival taken.now.body arrived
-            × CityResponds (configuration self.now.city.hall.config.value) (badges_view self.now.city.badges) parts.now
-            arrived at s.reply s.stamp)) }
+        ensures { IfOk result (λ leaving. IfSome leaving.told (λ s. (at : Option ℕ)
+            × CityResponds K.configuration (badges_view self.now.city.badges) head.now.parts body.now at s.reply s.stamp)) }
     {
         let at = self.moments.now();
         let context = Context {
@@ -72,7 +79,7 @@ impl<
             alloc: self.alloc,
             evaluator: &self.evaluator,
         };
-        match respond(&context, parts, arrived(taken), at, &self.city) {
+        match respond(&context, head, body, at, &self.city) {
             Ok(pending) => Ok(Leaving::of(pending)),
             Err(Unanswered::Crowded) => Err(Crowded),
             Err(Unanswered::NotTold(_)) => Ok(Leaving::nothing()),

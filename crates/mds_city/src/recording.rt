@@ -2,7 +2,7 @@
 ghost use Rattle.std.specs.Prelude.{◌≡◌, None, IfOk, IfNone, IfSome, option_map};
 ghost use Rattle.mds_city.specs.Records.{IsAmong, IsShown, IsTitled, place_of};
 
-use crate::records::{Reserved, give_back, settled};
+use crate::records::{Reserved, give_back, settle};
 use mds_commit::{Keeper, Naming, NotTold, Place, Space, Stamp};
 use mds_desk::Leave;
 use mds_records::Log;
@@ -115,7 +115,7 @@ impl<T: Titled, R: Wait + Drop, N: Naming, L: Log, S: Space> Recording<T, R, N, 
     /// # Errors
     ///
     /// The keeper failed. It fails too where a record was appended of what wasn't published: the log is ahead then.
-    pub(crate) fn ended(
+    pub(crate) fn settle(
         self,
         nothing: &Stamp<N, L>,
         status: u16,
@@ -131,7 +131,7 @@ impl<T: Titled, R: Wait + Drop, N: Naming, L: Log, S: Space> Recording<T, R, N, 
             shown,
         } = self;
         let Some(shown) = shown else {
-            return settled(&rt, &keeper, nothing, reserved_of(held), status);
+            return settle(&rt, &keeper, nothing, reserved_of(held), status);
         };
         // Nothing is held any more.
         give_back(&rt, &keeper, reserved_of(held));

@@ -1,17 +1,20 @@
 //! The record of a request, and its place in the log.
-ghost use Rattle.std.specs.Prelude.{◌≡◌, ◌==◌, IfOk};
-ghost use Rattle.std.specs.Result.{result_ok};
+ghost use Rattle.std.specs.Prelude.{◌≡◌, ◌<◌, ◌==◌, IfOk, Some, length, option_map, slice_get};
+ghost use Rattle.mds_entries.specs.Requests.{asker_at};
+ghost use Rattle.mds_hall.specs.Asker.{IsWithin};
 ghost use Rattle.mds_request.specs.Configuration.{configuration};
 ghost use Rattle.mds_request.specs.Request.{request_of};
-ghost use Rattle.mds_city.specs.Records.{IsRecordOf, IsSettled, sharer_of};
+ghost use Rattle.mds_request.specs.declared.config.Actor.TheVariants.{Operator};
+ghost use Rattle.mds_city.specs.Records.{IsSettled, caller_of, record_by, sharer_of};
 ghost use Rattle.mds_city.specs.Unheld.{refusal_for};
 
 use crate::pending::Unanswered;
 use mds_commit::{Keeper, Naming, NotTold, Place, ReserveFault, Space, Stamp};
-use mds_entries::{entry_by, entry_text};
-use mds_limits::Asker;
+use mds_entries::{Asker, Entry, entry_text};
+use mds_limits::index_of;
 use mds_records::Log;
-use mds_request::{Call, Code, Config, Request};
+use mds_request::{Actor, Call, Code, Config, Request};
+use mds_text::Id;
 use std::alloc::{AllocError, Global};
 use std::sync::Wait;
 
@@ -42,6 +45,11 @@ pub(crate) enum Unreserved {
 }
 
 impl From<ReserveFault> for Unreserved {
+    ghost use Rattle.std.specs.Prelude.{◌≡◌};
+    ghost use Rattle.mds_city.specs.Unheld.{unreserved_by};
+
+    ghost from_gives = { λ fault why. why ≡ unreserved_by fault };
+
     fn from(fault: ReserveFault) -> Unreserved {
         match fault {
             ReserveFault::Crowded => Unreserved::Crowded,
@@ -65,7 +73,7 @@ impl From<AllocError> for Unreserved {
 ///
 /// It isn't refused: it may be asked again, or nothing may be told.
 pub(crate) fn refusal_for(why: Unreserved) -> Result<Code, Unanswered>
-    ensures { result_ok result ≡ refusal_for why }
+    ensures { result ≡ refusal_for why }
 {
     match why {
         Unreserved::NoRoom => Ok(Code::NoRoom),
@@ -76,13 +84,47 @@ pub(crate) fn refusal_for(why: Unreserved) -> Result<Code, Unanswered>
     }
 }
 
-/// The place of who calls among those who share the log.
+/// Who makes a call.
+fn caller(call: &Call) -> Actor
+    ensures { result ≡ caller_of call.now }
+{
+    match call {
+        Call::Author(_) => Actor::Author,
+        Call::Operator(place, _) => Actor::Operator(*place),
+    }
+}
+
+/// The place of who makes a call among those who share the log.
 pub(crate) fn sharer(call: &Call) -> usize
     ensures { result ≡ sharer_of call.now }
 {
+    index_of(caller(call))
+}
+
+/// The identifier of the operator at this place.
+pub(crate) fn id_at(config: &Config, place: usize) -> Id
+    requires { place < length (configuration config.now).operators }
+    ensures { option_map (λ o. o.id) (slice_get (configuration config.now).operators place) ≡ Some result }
+{
+    config.operators()[place].id
+}
+
+/// The operator at this place, as a record has it.
+pub(crate) fn operator_asker(config: &Config, place: usize) -> Asker
+    requires { place < length (configuration config.now).operators }
+    ensures { asker_at (configuration config.now) (Operator place) ≡ Some result }
+{
+    Asker::Operator(id_at(config, place))
+}
+
+/// Who makes a call, as a record has it.
+pub(crate) fn asker_of(config: &Config, call: &Call) -> Asker
+    requires { IsWithin (length (configuration config.now).operators) (caller_of call.now) }
+    ensures { asker_at (configuration config.now) (caller_of call.now) ≡ Some result }
+{
     match call {
-        Call::Author(_) => Asker::Author.index(),
-        Call::Operator(place, _) => Asker::Operator(*place).index(),
+        Call::Author(_) => Asker::Author,
+        Call::Operator(place, _) => operator_asker(config, *place),
     }
 }
 
@@ -94,20 +136,24 @@ pub fn is_accepted(status: u16) -> bool
     status == SUCCESS
 }
 
-/// The text of a request's record.
+/// The text of the record of a request of this asker.
 ///
 /// # Errors
 ///
-/// Its access token is nobody's, its target is too long for a record, or memory ran out.
+/// `NoMemory`: the request's target is too long for a record, or memory ran out.
 pub(crate) fn record_text(
     alloc: Global,
-    config: &Config,
+    asker: Asker,
     request: &Request<'_>,
 ) -> Result<Vec<u8>, Unreserved>
-    ensures { IfOk result (λ text. IsRecordOf (configuration config.now) (request_of request.now) text.items) }
+    ensures { IfOk result (λ text. text.items ≡ record_by asker (request_of request.now)) }
 {
-    let Some(entry) = entry_by(config, request) else {
-        return Err(Unreserved::NoMemory);
+    let entry = Entry {
+        asker,
+        at: request.at,
+        verb: request.verb,
+        target: request.target,
+        body: request.body,
     };
     match entry_text(alloc, &entry) {
         Ok(text) => Ok(text),
@@ -133,7 +179,7 @@ pub(crate) fn give_back<R: Wait, N: Naming, L: Log, S: Space>(
 /// # Errors
 ///
 /// The keeper failed.
-pub(crate) fn settled<R: Wait, N: Naming, L: Log, S: Space>(
+pub(crate) fn settle<R: Wait, N: Naming, L: Log, S: Space>(
     rt: &R,
     keeper: &Keeper<N, L, S>,
     nothing: &Stamp<N, L>,

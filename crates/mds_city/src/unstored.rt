@@ -13,7 +13,9 @@ use std::alloc::AllocError;
 /// # Errors
 ///
 /// There was no memory for the field.
-pub fn unstored(response: Response<Full<Bytes>>) -> Result<Response<Full<Bytes>>, AllocError>
+pub(crate) fn mark_unstored(
+    response: Response<Full<Bytes>>,
+) -> Result<Response<Full<Bytes>>, AllocError>
     ensures { IfOk result (IsUnstored response) }
 {
     let mut marked = response;

@@ -19,11 +19,11 @@ impl<P: Sits, I: Drop> Service<Request<Incoming<I>>> for Door<P> {
 
     type Error = AllocError;
 
-    type Future = Exchange<P, P::Reply, I>;
+    type Future = Exchange<P, P::Head, P::Reply, I>;
 
     ghost can_call = { λ _. P.may_answer };
 
-    fn call(&self, req: Request<Incoming<I>>) -> Exchange<P, P::Reply, I> {
+    fn call(&self, req: Request<Incoming<I>>) -> Exchange<P, P::Head, P::Reply, I> {
         let (parts, body) = req.into_parts();
         Exchange::new(&self.sitting, parts, body)
     }

@@ -1,26 +1,28 @@
 //! A request on its way: its body is taken in within its limit and its time, then the request waits for its turn, and then
 //! it is answered.
-ghost use Rattle.std.specs.Prelude.{◌≡◌, ◌+◌, ◌≤◌, None, IfSome, IfOk, IsSome};
+ghost use Rattle.std.specs.Prelude.{◌≡◌, ◌+◌, ◌≤◌, None, [], IfSome, IfOk, OnOk, IsSome};
 ghost use Rattle.futures.specs.Task.{Covers, Keeps};
 ghost use Rattle.futures.specs.Poll.{IfReady, OnPending};
-ghost use Rattle.tokio.specs.Locks.{CanAcquire};
+ghost use Rattle.mds_limits.specs.Arrival.{body_in, closes_after};
 ghost use Rattle.mds_connections.specs.Busy.{SaysBusy};
+ghost use Rattle.mds_connections.specs.Turn.{IsWaiting};
 ghost use Rattle.mds_connections.specs.declared.seats.Admittance.TheVariants.{Busy};
 
 use crate::house::Crowded;
-use crate::intake::{Intake, Taken};
+use crate::intake::Intake;
 use crate::replies::{busy, finished};
 use crate::seats::Admittance;
 use crate::sits::Sits;
+use crate::turn::Turn;
+use bytes::Bytes;
 use futures::task::{Context, Poll};
 use futures::{Future, ready};
 use http::request::Parts;
 use hyper::body::Incoming;
-use mds_limits::{Arrival, Asker, BODY_SECONDS, PASSING_SECONDS, is_long};
-use mds_request::Verb;
+use mds_limits::{Arrived, BODY_SECONDS, PASSING_SECONDS};
+use mds_request::Actor;
 use mds_responses::HttpResult;
 use std::alloc::AllocError;
-use tokio::sync::AcquireOwned;
 use tokio::time::Sleep;
 
 /// How often a request that is crowded pauses at most, before it is told that the server is busy: some five seconds.
@@ -28,42 +30,43 @@ const MOST_PAUSES: u32 = 500;
 
 /// The future of an answer.
 #[derive(Drop)]
-pub struct Exchange<P, F, I> {
+pub struct Exchange<P, H, F, I> {
     sitting: Option<P>,
     admittance: Admittance,
-    parts: Parts,
+    head: H,
     /// What still comes.
     body: Option<Intake<I>>,
     /// When the body is late; once it has arrived, when a pause is over.
     deadline: Option<Sleep>,
-    /// The body, once it has arrived, and until the reply is on its way.
-    taken: Taken,
+    /// How the body arrived, once it has. Its bytes are kept until the reply is on its way.
+    taken: Arrived,
     /// How often the request has paused because it was crowded.
     pauses: u32,
     /// What the request waits for behind its body.
-    turn: Option<AcquireOwned>,
+    turn: Option<Turn>,
     /// The reply, once its turn is over.
     reply: Option<F>,
 }
 
-impl<P: Sits, I: Drop> Exchange<P, P::Reply, I> {
+impl<P: Sits, I: Drop> Exchange<P, P::Head, P::Reply, I> {
     /// The exchange of a request whose head has come.
-    pub fn new(sitting: &P, parts: Parts, body: Incoming<I>) -> Exchange<P, P::Reply, I>
+    pub fn new(sitting: &P, parts: Parts, body: Incoming<I>) -> Exchange<P, P::Head, P::Reply, I>
         ensures turn { result.turn ≡ None }
         ensures reply { result.reply ≡ None }
     {
         let mut body = Intake::new(sitting.alloc(), body);
-        let admittance = sitting.ask(&parts, body.counts());
+        let head = sitting.resolve(parts);
+        let admittance = sitting.ask(P::actor(&head), body.counts());
         if admittance == Admittance::Busy {
             body.pass();
         }
         Exchange {
             sitting: sitting.again().ok(),
             admittance,
-            parts,
+            head,
             body: Some(body),
             deadline: None,
-            taken: Taken::nothing(Arrival::Whole),
+            taken: Arrived::Whole(Bytes::new()),
             pauses: 0,
             turn: None,
             reply: None,
@@ -90,35 +93,36 @@ impl<P: Sits, I: Drop> Exchange<P, P::Reply, I> {
     }
 
     /// The body is there, and the request waits for its turn.
-    fn arrive(&mut self, asker: Asker, taken: Taken)
+    fn arrive(&mut self, actor: Actor, taken: Arrived)
         ensures admittance { self.new.admittance ≡ self.old.admittance }
-        ensures turn { IfSome self.new.turn CanAcquire }
+        ensures turn { IfSome self.new.turn IsWaiting }
         ensures reply { self.new.reply ≡ self.old.reply }
     {
         self.body = None;
         self.taken = taken;
-        self.queue(asker);
+        self.queue(actor);
     }
 
-    /// The request waits for its turn, at the end of this asker's queue.
-    fn queue(&mut self, asker: Asker)
+    /// The request waits for its turn, at the end of this actor's queue. One whose answer takes nothing of it has its turn at
+    /// once.
+    fn queue(&mut self, actor: Actor)
         ensures admittance { self.new.admittance ≡ self.old.admittance }
-        ensures turn { IfSome self.new.turn CanAcquire }
+        ensures turn { IfSome self.new.turn IsWaiting }
         ensures reply { self.new.reply ≡ self.old.reply }
     {
         self.deadline = None;
-        let takes_long = takes_long(&self.parts, &self.taken);
+        let cost = P::cost(&self.head, self.taken.bytes().len());
         self.turn = match &self.sitting {
-            Some(sitting) => sitting.place(asker, takes_long),
+            Some(sitting) => sitting.turn(actor, cost),
             None => None,
         };
     }
 
-    /// Waits until the pause is over of a request that was crowded. It is in this asker's queue again then.
-    fn rest(&mut self, asker: Asker, cx: &mut Context<'_>) -> Poll<()>
-        requires turn { IfSome self.old.turn CanAcquire }
+    /// Waits until the pause is over of a request that was crowded. It is in this actor's queue again then.
+    fn rest(&mut self, actor: Actor, cx: &mut Context<'_>) -> Poll<()>
+        requires turn { IfSome self.old.turn IsWaiting }
         ensures admittance { self.new.admittance ≡ self.old.admittance }
-        ensures turn { IfSome self.new.turn CanAcquire }
+        ensures turn { IfSome self.new.turn IsWaiting }
         ensures reply { self.new.reply ≡ self.old.reply }
         ensures registered { OnPending result (Covers cx.new (λ _. ⊥)) }
         ensures kept { Keeps cx.old cx.new }
@@ -127,12 +131,13 @@ impl<P: Sits, I: Drop> Exchange<P, P::Reply, I> {
             if pause.poll(cx).is_pending() {
                 return Poll::Pending;
             }
-            self.queue(asker);
+            self.queue(actor);
         }
         Poll::Ready(())
     }
 
-    /// Asks for the answer to the request. Its place in the queue is given back with its turn.
+    /// Asks for the answer to the request. Once it is on its way, the bytes of the body are given back, and how it arrived is
+    /// kept.
     ///
     /// # Errors
     ///
@@ -142,22 +147,25 @@ impl<P: Sits, I: Drop> Exchange<P, P::Reply, I> {
         ensures admittance { self.new.admittance ≡ self.old.admittance }
         ensures turn { self.new.turn ≡ None }
         ensures reply { IfSome self.old.reply P.Reply.can_poll → IfSome self.new.reply P.Reply.can_poll }
+        ensures bytes { OnOk result (body_in self.new.taken ≡ []) }
+        ensures closes { closes_after self.new.taken ≡ closes_after self.old.taken }
     {
         self.turn = None;
-        let takes_long = takes_long(&self.parts, &self.taken);
         if let Some(sitting) = &self.sitting {
-            self.reply = Some(sitting.answer(&self.parts, &self.taken, takes_long)?);
+            self.reply = Some(sitting.answer(&self.head, &self.taken)?);
         }
-        self.taken = Taken::nothing(self.taken.arrival);
+        if !self.taken.closes() {
+            self.taken = Arrived::Whole(Bytes::new());
+        }
         Ok(())
     }
 
     /// Waits for the turn of a request whose body has arrived, and asks for its answer then.
     fn take_turn(&mut self, cx: &mut Context<'_>) -> Poll<Result<(), Crowded>>
-        requires turn { IfSome self.old.turn CanAcquire }
+        requires turn { IfSome self.old.turn IsWaiting }
         requires ready { P.may_answer }
         ensures admittance { self.new.admittance ≡ self.old.admittance }
-        ensures turn { IfSome self.new.turn CanAcquire }
+        ensures turn { IfSome self.new.turn IsWaiting }
         ensures reply { IfSome self.old.reply P.Reply.can_poll → IfSome self.new.reply P.Reply.can_poll }
         ensures registered { OnPending result (Covers cx.new (λ _. ⊥)) }
         ensures kept { Keeps cx.old cx.new }
@@ -167,9 +175,9 @@ impl<P: Sits, I: Drop> Exchange<P, P::Reply, I> {
         };
         match turn.poll(cx) {
             Poll::Pending => Poll::Pending,
-            Poll::Ready(Ok(_permit)) => Poll::Ready(self.ask()),
+            Poll::Ready(Ok(_permits)) => Poll::Ready(self.ask()),
             Poll::Ready(Err(_)) => {
-                self.taken = Taken::nothing(Arrival::NoMemory);
+                self.taken = Arrived::NoMemory;
                 Poll::Ready(self.ask())
             }
         }
@@ -236,24 +244,24 @@ impl<P: Sits, I: Drop> Exchange<P, P::Reply, I> {
 
     /// The reply as it is sent.
     fn finish(&self, told: HttpResult) -> HttpResult {
-        finished(told?, self.taken.arrival)
+        finished(told?, &self.taken)
     }
 
-    /// Takes the body in, waits for the turn of this asker, answers, and waits until the reply may be told. A request that is
+    /// Takes the body in, waits for the turn of this actor, answers, and waits until the reply may be told. A request that is
     /// crowded pauses, queues again, and is asked again.
-    fn proceed(&mut self, asker: Asker, cx: &mut Context<'_>) -> Poll<HttpResult>
-        requires turn { IfSome self.old.turn CanAcquire }
+    fn proceed(&mut self, actor: Actor, cx: &mut Context<'_>) -> Poll<HttpResult>
+        requires turn { IfSome self.old.turn IsWaiting }
         requires reply { IfSome self.old.reply P.Reply.can_poll }
         requires ready { P.may_answer }
         ensures admittance { self.new.admittance ≡ self.old.admittance }
-        ensures turn { OnPending result (IfSome self.new.turn CanAcquire) }
+        ensures turn { OnPending result (IfSome self.new.turn IsWaiting) }
         ensures reply { OnPending result (IfSome self.new.reply P.Reply.can_poll) }
         ensures registered { OnPending result (Covers cx.new (λ _. ⊥)) }
         ensures kept { Keeps cx.old cx.new }
     {
         if let Some(body) = &mut self.body {
             match body.poll(cx) {
-                Poll::Ready(taken) => self.arrive(asker, taken),
+                Poll::Ready(taken) => self.arrive(actor, taken),
                 Poll::Pending if self.is_late(BODY_SECONDS, cx) => {
                     return Poll::Ready(Err(AllocError));
                 }
@@ -261,7 +269,7 @@ impl<P: Sits, I: Drop> Exchange<P, P::Reply, I> {
             }
         }
         if self.reply.is_none() {
-            ready!(self.rest(asker, cx));
+            ready!(self.rest(actor, cx));
             if let Err(Crowded) = ready!(self.take_turn(cx)) {
                 return self.pause(cx);
             }
@@ -303,23 +311,17 @@ impl<P: Sits, I: Drop> Exchange<P, P::Reply, I> {
     }
 }
 
-impl<P: Sits, I: Drop> Future for Exchange<P, P::Reply, I> {
+impl<P: Sits, I: Drop> Future for Exchange<P, P::Head, P::Reply, I> {
     type Output = HttpResult;
 
-    ghost can_poll = { λ e. IfSome e.turn CanAcquire × IfSome e.reply P.Reply.can_poll × P.may_answer };
+    ghost can_poll = { λ e. IfSome e.turn IsWaiting × IfSome e.reply P.Reply.can_poll × P.may_answer };
 
     ghost gives = { λ e given. e.admittance ≡ Busy → IfOk given SaysBusy };
 
     fn poll(&mut self, cx: &mut Context<'_>) -> Poll<Self::Output> {
         match self.admittance {
-            Admittance::Admitted(asker) => self.proceed(asker, cx),
+            Admittance::Admitted(actor) => self.proceed(actor, cx),
             Admittance::Busy => self.pass(cx),
         }
     }
-}
-
-/// Whether the answer may take long.
-fn takes_long(parts: &Parts, taken: &Taken) -> bool {
-    let verb = Verb::read(parts.method.as_str().as_bytes());
-    is_long(verb, parts.uri.path().as_bytes(), taken.body.len())
 }

@@ -1,10 +1,10 @@
 //! What all connections of a server share.
-use crate::intake::Taken;
 use crate::queues::Queues;
 use crate::seats::Register;
 use futures::Future;
 use http::request::Parts;
-use mds_limits::Asker;
+use mds_limits::{Arrived, Cost};
+use mds_request::Actor;
 use mds_responses::HttpResult;
 use std::alloc::Global;
 use std::sync::Mutex;
@@ -14,25 +14,34 @@ use tokio::time::Handle;
 #[derive(Clone, Copy, Debug, PartialEq, Eq)]
 pub struct Crowded;
 
-/// Answers requests whose bodies have arrived.
+/// Resolves the heads of requests, and answers them once their bodies have arrived.
 pub trait Answers: Drop {
     ghost use Rattle.std.specs.Prelude.{⊤, IfOk};
+
+    /// A head with what it was resolved to: who asks, and what for.
+    type Head: Drop;
 
     /// What it takes to answer: nothing, or threads that may share what answers.
     ghost may_answer: { Type 0 } = { ⊤ };
 
-    /// Who asks by this head.
-    fn asker(&self, parts: &Parts) -> Asker;
+    /// Resolves a head: once, before its body is taken in.
+    fn resolve(&self, parts: Parts) -> Self::Head;
+
+    /// Who asks.
+    fn actor(head: &Self::Head) -> Actor;
+
+    /// What the answer takes of its asker's queue, where the body has so many bytes.
+    fn cost(head: &Self::Head, length: usize) -> Cost;
 
     /// The response, when it may be told. Where there was no memory for it, it is an error.
     type Reply: Future<Output = HttpResult>;
 
-    /// The response on its way. The request and its body are lent, so that it can be asked again.
+    /// The response on its way. Head and body are lent, so that it can be asked again.
     ///
     /// # Errors
     ///
     /// The share of who asks is used up: nothing was asked.
-    fn answer(&self, parts: &Parts, taken: &Taken) -> Result<Self::Reply, Crowded>
+    fn answer(&self, head: &Self::Head, body: &Arrived) -> Result<Self::Reply, Crowded>
         requires ready { may_answer }
         ensures { IfOk result Self.Reply.can_poll };
 }

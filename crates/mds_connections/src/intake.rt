@@ -1,24 +1,20 @@
 //! A body is taken in.
-ghost use Rattle.std.specs.Prelude.{◌≡◌};
+ghost use Rattle.std.specs.Prelude.{◌≡◌, ◌≢◌, ◌⊎◌, None, [], IfSome};
 ghost use Rattle.futures.specs.Task.{Keeps};
+ghost use Rattle.mds_limits.specs.Arrival.{arrived_of};
+ghost use Rattle.mds_limits.specs.declared.arrival.Arrived.TheVariants.{TooLong, NoMemory};
+ghost use Rattle.mds_limits.specs.declared.arrival.End.TheVariants.{Over};
 
 use bytes::{Bytes, BytesQueue};
 use futures::task::{Context, Poll};
 use futures::{Future, ready};
 use http_body::{Body, Frame};
 use hyper::body::Incoming;
-use mds_limits::{Arrival, End, Piece, counted};
+use mds_limits::{Arrived, End, Piece, counted};
 use std::alloc::Global;
 
 /// How many pieces are taken in a row before other tasks are let run.
 const PIECES: usize = 32;
-
-/// How a body arrived, and all of it, where it arrived whole; else nothing of it.
-#[derive(Drop)]
-pub struct Taken {
-    pub arrival: Arrival,
-    pub body: Bytes,
-}
 
 /// The future of a body: its bytes, within the limit of a body. One that is too long is read past.
 #[derive(Drop)]
@@ -29,18 +25,6 @@ pub struct Intake<I> {
     kept: Option<BytesQueue>,
     /// How many bytes came.
     length: usize,
-}
-
-impl Taken {
-    /// Nothing of a body.
-    pub fn nothing(arrival: Arrival) -> Taken
-        ensures { result.arrival ≡ arrival }
-    {
-        Taken {
-            arrival,
-            body: Bytes::new(),
-        }
-    }
 }
 
 impl<I: Drop> Intake<I> {
@@ -93,26 +77,33 @@ impl<I: Drop> Intake<I> {
         }
     }
 
-    /// How the body arrived whose reading ended so.
-    fn taken(&mut self, end: End) -> Taken {
-        match Arrival::of(end, self.length) {
-            Arrival::Whole => match self.whole() {
-                Some(body) => Taken {
-                    arrival: Arrival::Whole,
-                    body,
-                },
-                None => Taken::nothing(Arrival::NoMemory),
-            },
-            arrival => Taken::nothing(arrival),
+    /// How the body arrived whose reading ended so. One of which nothing is kept is too long, or its request may not wait, and
+    /// then nobody asks how it arrived. Where there is no memory to join what was kept, it is `NoMemory`.
+    fn arrival(&mut self, end: End) -> Arrived
+        ensures joined { end ≡ Over → IfSome self.old.kept
+            (λ kept. (result ≡ arrived_of Over kept) ⊎ (result ≡ NoMemory)) }
+        ensures passed { end ≡ Over → self.old.kept ≡ None → result ≡ TooLong }
+        ensures unfinished { end ≢ Over → result ≡ arrived_of end [] }
+    {
+        if end != End::Over {
+            return Arrived::of(end, Bytes::new());
+        }
+        let Some(kept) = self.kept.take() else {
+            return Arrived::TooLong;
+        };
+        match join(self.alloc, kept) {
+            Some(body) => Arrived::of(End::Over, body),
+            None => Arrived::NoMemory,
         }
     }
+}
 
-    /// All that came; none, where it wasn't kept, or there is no memory to join it.
-    fn whole(&mut self) -> Option<Bytes> {
-        let mut kept = self.kept.take()?;
-        let length = kept.len();
-        kept.split_to(self.alloc, length).ok()
-    }
+/// These pieces as one; none, where there is no memory to join them.
+fn join(alloc: Global, mut pieces: BytesQueue) -> Option<Bytes>
+    ensures { IfSome result (λ whole. whole ≡ pieces) }
+{
+    let length = pieces.len();
+    pieces.split_to(alloc, length).ok()
 }
 
 /// How the reading of a body ends with this error.
@@ -125,9 +116,9 @@ fn end_of(error: &hyper::Error) -> End {
 }
 
 impl<I: Drop> Future for Intake<I> {
-    type Output = Taken;
+    type Output = Arrived;
 
-    fn poll(&mut self, cx: &mut Context<'_>) -> Poll<Taken> {
+    fn poll(&mut self, cx: &mut Context<'_>) -> Poll<Arrived> {
         for _ in 0..PIECES {
             let end = match ready!(self.body.poll_frame(cx)) {
                 None => Some(End::Over),
@@ -135,7 +126,7 @@ impl<I: Drop> Future for Intake<I> {
                 Some(Ok(frame)) => self.take(frame),
             };
             if let Some(end) = end {
-                return Poll::Ready(self.taken(end));
+                return Poll::Ready(self.arrival(end));
             }
         }
         cx.yield_now()

@@ -16,13 +16,14 @@ mod sending;
 mod serving;
 mod sits;
 mod sitting;
+mod turn;
 mod watch;
 
 pub use admission::Admission;
 pub use ending::{Closed, Closing};
 pub use house::{Answers, Crowded, House};
-pub use intake::Taken;
 pub use queues::Queues;
 pub use replies::{busy, closing, finished};
 pub use seats::{Admittance, Register, Seat};
 pub use serving::{Seating, serve_all};
+pub use turn::{Permits, Turn};

@@ -1,17 +1,68 @@
 //! Whose turn it is. Short answers to one who asks are given side by side, a long one alone.
-ghost use Rattle.std.specs.Prelude.{IfSome};
-ghost use Rattle.tokio.specs.Locks.{CanAcquire};
+ghost use Rattle.std.specs.Prelude.{◌≡◌, None, IfSome, true, false};
+ghost use Rattle.mds_limits.specs.declared.cost.Cost.TheVariants.{Free, Shared, Exclusive};
+ghost use Rattle.mds_limits.specs.declared.limits.TheConstants.{MOST_SHORT};
+ghost use Rattle.mds_request.specs.declared.config.Actor.TheVariants.{Nobody};
+ghost use Rattle.mds_connections.specs.Turn.{IsWaiting, is_for_line, permits_of};
 
-use mds_limits::{Asker, MOST_SHORT};
-use mds_request::Config;
+use crate::turn::Turn;
+use mds_limits::{Cost, MOST_SHORT, index_of};
+use mds_request::{Actor, Config};
 use std::alloc::{AllocError, Global};
 use std::sync::Arc;
-use tokio::sync::{AcquireOwned, Semaphore};
+use tokio::sync::Semaphore;
 
-/// A queue for each who asks, at its place. A short answer takes one permit, a long one takes all.
+/// The queue of one who asks.
+#[derive(Drop)]
+struct Queue {
+    /// One permit. A long answer holds it while it waits for those below and has them, so that no other long one waits
+    /// for them before a short one.
+    line: Arc<Semaphore>,
+    /// As many permits as short answers are given at once. A short answer takes one, a long one takes all.
+    permits: Arc<Semaphore>,
+}
+
+/// A queue for each who asks, at its place.
 #[derive(Drop)]
 pub struct Queues {
-    turns: Vec<Arc<Semaphore>>,
+    queues: Vec<Queue>,
+}
+
+impl Queue {
+    /// A queue in which nobody waits.
+    ///
+    /// # Errors
+    ///
+    /// Memory ran out.
+    fn new(alloc: Global) -> Result<Queue, AllocError> {
+        let line = Semaphore::new(alloc, 1)?;
+        let permits = Semaphore::new(alloc, MOST_SHORT as usize)?;
+        Ok(Queue {
+            line: Arc::new(alloc, line)?,
+            permits: Arc::new(alloc, permits)?,
+        })
+    }
+
+    /// The turn of a short answer; none, where there are too many shares.
+    fn shared_turn(&self) -> Option<Turn>
+        ensures waits { IfSome result IsWaiting }
+        ensures permits { IfSome result (λ turn. permits_of turn ≡ 1) }
+        ensures line { IfSome result (λ turn. is_for_line turn.line ≡ false) }
+    {
+        let permits = Arc::try_clone(&self.permits).ok()?;
+        Some(Turn::for_one_permit(permits))
+    }
+
+    /// The turn of a long answer; none, where there are too many shares.
+    fn exclusive_turn(&self) -> Option<Turn>
+        ensures waits { IfSome result IsWaiting }
+        ensures permits { IfSome result (λ turn. permits_of turn ≡ MOST_SHORT) }
+        ensures line { IfSome result (λ turn. is_for_line turn.line ≡ true) }
+    {
+        let line = Arc::try_clone(&self.line).ok()?;
+        let permits = Arc::try_clone(&self.permits).ok()?;
+        Some(Turn::for_all_permits(line, permits))
+    }
 }
 
 impl Queues {
@@ -22,28 +73,39 @@ impl Queues {
     /// Memory ran out.
     pub fn new(alloc: Global, config: &Config) -> Result<Queues, AllocError> {
         let askers = config.operators().len() + 2;
-        let mut turns = Vec::with_capacity(alloc, askers)?;
+        let mut queues = Vec::with_capacity(alloc, askers)?;
         for _ in 0..askers {
-            let queue = Semaphore::new(alloc, MOST_SHORT as usize)?;
-            turns.push(Arc::new(alloc, queue)?)?;
+            queues.push(Queue::new(alloc)?)?;
         }
-        Ok(Queues { turns })
+        Ok(Queues { queues })
     }
 
-    /// How many there are who ask: strangers, the author and the operators.
+    /// How many there are who ask: those without a known access token, the author and the operators.
     pub fn askers(&self) -> usize {
-        self.turns.len()
+        self.queues.len()
     }
 
-    /// A place in this asker's queue; none for a stranger, who is refused at once.
-    pub fn place(&self, asker: Asker, takes_long: bool) -> Option<AcquireOwned>
-        ensures { IfSome result CanAcquire }
+    /// The turn of an answer that takes so much of its asker's queue; none for what takes nothing of it, for who has no known
+    /// access token and is refused at once, and where there is no queue or there are too many shares of it.
+    pub fn turn(&self, actor: Actor, cost: Cost) -> Option<Turn>
+        ensures waits { IfSome result IsWaiting }
+        ensures free { cost ≡ Free → result ≡ None }
+        ensures nobody { actor ≡ Nobody → result ≡ None }
+        // A short answer takes one permit.
+        ensures shared { cost ≡ Shared → IfSome result
+            (λ turn. (permits_of turn ≡ 1) × (is_for_line turn.line ≡ false)) }
+        // A long answer takes all permits, and waits for them once no other long one of its asker does.
+        ensures exclusive { cost ≡ Exclusive → IfSome result
+            (λ turn. (permits_of turn ≡ MOST_SHORT) × (is_for_line turn.line ≡ true)) }
     {
-        if asker == Asker::Stranger {
+        if actor == Actor::Nobody {
             return None;
         }
-        let turns = Arc::try_clone(self.turns.get(asker.index())?).ok()?;
-        let permits = if takes_long { MOST_SHORT } else { 1 };
-        Some(Semaphore::acquire_many_owned(turns, permits))
+        let queue = self.queues.get(index_of(actor))?;
+        match cost {
+            Cost::Free => None,
+            Cost::Shared => queue.shared_turn(),
+            Cost::Exclusive => queue.exclusive_turn(),
+        }
     }
 }

@@ -7,7 +7,7 @@ use bytes::Bytes;
 use http::header::CONNECTION;
 use http::{HeaderValue, Response, StatusCode};
 use http_body_util::Full;
-use mds_limits::Arrival;
+use mds_limits::Arrived;
 use mds_responses::{HttpResult, json_response, with_field};
 use std::alloc::Global;
 
@@ -39,11 +39,11 @@ pub fn closing(response: Response<Full<Bytes>>) -> HttpResult
 /// # Errors
 ///
 /// Memory ran out.
-pub fn finished(response: Response<Full<Bytes>>, arrival: Arrival) -> HttpResult
-    ensures closes { IsTrue (closes_after arrival) → IfOk result (Closes response) }
-    ensures same { IsFalse (closes_after arrival) → result ≡ Ok response }
+pub fn finished(response: Response<Full<Bytes>>, arrived: &Arrived) -> HttpResult
+    ensures closes { IsTrue (closes_after arrived.now) → IfOk result (Closes response) }
+    ensures same { IsFalse (closes_after arrived.now) → result ≡ Ok response }
 {
-    if arrival.closes() {
+    if arrived.closes() {
         closing(response)
     } else {
         Ok(response)

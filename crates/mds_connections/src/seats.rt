@@ -2,7 +2,8 @@
 ghost use Rattle.std.specs.Prelude.{◌≡◌, None, true, false};
 ghost use Rattle.mds_connections.specs.declared.seats.Admittance.TheVariants.{Busy};
 
-use mds_limits::{Asker, Decision, Load, may_wait, seat_for};
+use mds_limits::{Decision, Load, index_of, may_wait, seat_for};
+use mds_request::Actor;
 use slab::Slab;
 use std::alloc::{AllocError, Global};
 use std::collections::BTreeMap;
@@ -24,8 +25,8 @@ pub struct Seat {
 /// Whether a request may wait for its answer.
 #[derive(Clone, Copy, Debug, PartialEq, Eq)]
 pub enum Admittance {
-    /// It may, in this asker's queue.
-    Admitted(Asker),
+    /// It may, in the queue of who asks.
+    Admitted(Actor),
     /// Too much waits already, no seat is left for a connection of who asks, the connection was told to leave, or the register
     /// is closed.
     Busy,
@@ -167,7 +168,7 @@ impl Register {
         if self.is_closed {
             return None;
         }
-        let asker = Asker::Stranger.index();
+        let asker = index_of(Actor::Nobody);
         if !self.makes_room(asker) {
             return None;
         }
@@ -211,8 +212,8 @@ impl Register {
         }
     }
 
-    /// Whether a request of this asker, whose body counts as so many bytes, may wait. Where it may, it waits from now on.
-    pub fn ask(&mut self, key: usize, asker: Asker, bytes: usize) -> Admittance
+    /// Whether a request of this actor, whose body counts as so many bytes, may wait. Where it may, it waits from now on.
+    pub fn ask(&mut self, key: usize, actor: Actor, bytes: usize) -> Admittance
         ensures closed { self.old.is_closed ≡ true → result ≡ Busy }
         ensures kept { self.new.is_closed ≡ self.old.is_closed }
     {
@@ -224,11 +225,11 @@ impl Register {
             _ => return Admittance::Busy,
         }
         self.stir(key);
-        if asker != Asker::Stranger && !self.becomes(key, asker.index()) {
+        if actor != Actor::Nobody && !self.becomes(key, index_of(actor)) {
             return Admittance::Busy;
         }
         if self.waits(key, bytes) {
-            Admittance::Admitted(asker)
+            Admittance::Admitted(actor)
         } else {
             Admittance::Busy
         }

@@ -213,6 +213,7 @@ where
     S: Stream<Item = I>,
     I: AsyncRead + AsyncWrite + Send,
     A: Answers + Send + Sync,
+    A::Head: Send,
     A::Reply: Send,
     T: Timer + Send,
     requires sockets { S.can_poll sockets }
@@ -237,6 +238,7 @@ where
     S: Stream<Item = I>,
     I: AsyncRead + AsyncWrite + Send,
     P: Sits + Send,
+    P::Head: Send,
     P::Reply: Send,
     T: Timer + Send,
     requires sockets { S.can_poll sockets }

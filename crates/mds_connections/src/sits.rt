@@ -1,21 +1,26 @@
 //! What a connection has of its server.
 use crate::house::Crowded;
-use crate::intake::Taken;
 use crate::seats::Admittance;
+use crate::turn::Turn;
 use futures::Future;
 use http::request::Parts;
-use mds_limits::Asker;
+use mds_limits::{Arrived, Cost};
+use mds_request::Actor;
 use mds_responses::HttpResult;
 use std::alloc::{AllocError, Global};
 use std::time::Instant;
-use tokio::sync::{AcquireOwned, OwnedNotified};
+use tokio::sync::OwnedNotified;
 use tokio::time::Sleep;
 
 /// What a connection has of its house, or who lets connections in. The types of a connection's own hold it as a parameter:
 /// the proof of what serves them goes over all that stands in a type, and so over nothing of a house.
 pub trait Sits: Drop {
-    ghost use Rattle.std.specs.Prelude.{⊤, IfOk, IfSome};
-    ghost use Rattle.tokio.specs.Locks.{CanAcquire};
+    ghost use Rattle.std.specs.Prelude.{◌≡◌, ⊤, None, IfOk, IfSome};
+    ghost use Rattle.mds_limits.specs.declared.cost.Cost.TheVariants.{Free};
+    ghost use Rattle.mds_connections.specs.Turn.{IsWaiting};
+
+    /// A head with what it was resolved to: who asks, and what for.
+    type Head: Drop;
 
     /// A reply on its way: what it says is known, and it may still wait, with no place in a queue, until it may be told.
     type Reply: Future<Output = HttpResult>;
@@ -65,19 +70,30 @@ pub trait Sits: Drop {
     /// There are too many shares.
     fn last(&self) -> Result<OwnedNotified, AllocError>;
 
-    /// A head has come, whose body counts as so many bytes: who asks, where the request may wait.
-    fn ask(&self, parts: &Parts, bytes: usize) -> Admittance;
+    /// Resolves a head that has come: once, before its body is taken in.
+    fn resolve(&self, parts: Parts) -> Self::Head;
 
-    /// A place in this asker's queue; none, where there is no queue for it.
-    fn place(&self, asker: Asker, takes_long: bool) -> Option<AcquireOwned>
-        ensures { IfSome result CanAcquire };
+    /// Who asks.
+    fn actor(head: &Self::Head) -> Actor;
 
-    /// The reply to the request whose body was taken in.
+    /// What the answer takes of its asker's queue, where the body has so many bytes.
+    fn cost(head: &Self::Head, length: usize) -> Cost;
+
+    /// A head of this actor has come, whose body counts as so many bytes: whether the request may wait.
+    fn ask(&self, actor: Actor, bytes: usize) -> Admittance;
+
+    /// The turn of an answer that takes so much of its asker's queue; none for what takes nothing of it, and where there is
+    /// no queue for it.
+    fn turn(&self, actor: Actor, cost: Cost) -> Option<Turn>
+        ensures waits { IfSome result IsWaiting }
+        ensures free { cost ≡ Free → result ≡ None };
+
+    /// The reply to the request whose body was taken in. Head and body are lent, so that it can be asked again.
     ///
     /// # Errors
     ///
     /// The share of who asks is used up: nothing was asked.
-    fn answer(&self, parts: &Parts, taken: &Taken, takes_long: bool) -> Result<Self::Reply, Crowded>
+    fn answer(&self, head: &Self::Head, body: &Arrived) -> Result<Self::Reply, Crowded>
         requires ready { may_answer }
         ensures { IfOk result Self.Reply.can_poll };
 

@@ -2,17 +2,18 @@
 ghost use Rattle.std.specs.Prelude.{IfOk};
 
 use crate::house::{Answers, Crowded, House};
-use crate::intake::Taken;
 use crate::seats::{Admittance, Seat};
 use crate::sits::Sits;
+use crate::turn::Turn;
 use crate::watch::Bell;
 use http::request::Parts;
-use mds_limits::{Asker, CROWDED_PAUSE_MILLIS};
+use mds_limits::{Arrived, CROWDED_PAUSE_MILLIS, Cost};
+use mds_request::Actor;
 use std::alloc::{AllocError, Global};
 use std::sync::atomic::Ordering;
 use std::sync::{Arc, Wait};
 use std::time::{Clock, Duration, Instant};
-use tokio::sync::{AcquireOwned, OwnedNotified};
+use tokio::sync::OwnedNotified;
 use tokio::time::Sleep;
 
 /// A share of a house, and a seat in it, under a key in the register. Who lets connections in has none.
@@ -37,6 +38,8 @@ impl<A, C> Sitting<A, C> {
 }
 
 impl<A: Answers, C: Clock + Wait + Drop> Sits for Sitting<A, C> {
+    type Head = A::Head;
+
     type Reply = A::Reply;
 
     ghost may_answer = { A.may_answer };
@@ -109,31 +112,42 @@ impl<A: Answers, C: Clock + Wait + Drop> Sits for Sitting<A, C> {
         self.seat.last()
     }
 
-    fn ask(&self, parts: &Parts, bytes: usize) -> Admittance {
-        let asker = self.house.answers.asker(parts);
+    fn resolve(&self, parts: Parts) -> A::Head {
+        self.house.answers.resolve(parts)
+    }
+
+    fn actor(head: &A::Head) -> Actor {
+        A::actor(head)
+    }
+
+    fn cost(head: &A::Head, length: usize) -> Cost {
+        A::cost(head, length)
+    }
+
+    fn ask(&self, actor: Actor, bytes: usize) -> Admittance {
         self.seat.pace.fetch_add(1, Ordering::SeqCst);
         match self.key {
             Some(key) => self
                 .house
                 .register
                 .lock(&self.house.clock)
-                .ask(key, asker, bytes),
+                .ask(key, actor, bytes),
             None => Admittance::Busy,
         }
     }
 
-    fn place(&self, asker: Asker, takes_long: bool) -> Option<AcquireOwned> {
-        self.house.queues.place(asker, takes_long)
+    fn turn(&self, actor: Actor, cost: Cost) -> Option<Turn> {
+        self.house.queues.turn(actor, cost)
     }
 
-    fn answer(&self, parts: &Parts, taken: &Taken, takes_long: bool) -> Result<A::Reply, Crowded>
+    fn answer(&self, head: &A::Head, body: &Arrived) -> Result<A::Reply, Crowded>
         requires { A.may_answer }
         ensures { IfOk result A.Reply.can_poll }
     {
-        if takes_long {
+        if A::cost(head, body.bytes().len()) == Cost::Exclusive {
             self.bell.ring();
         }
-        self.house.answers.answer(parts, taken)
+        self.house.answers.answer(head, body)
     }
 
     fn made(&self) {

@@ -1,25 +1,20 @@
 -- The kinds of what is counted, and the rows that they stand in.
-use Rattle.std.specs.Prelude.{ℕ, ◌+◌, ◌*◌, List, bytes_eq, codes, nat_lt, if◌then◌else◌}
-use Rattle.mds_control.specs.declared.counters.Call.{Call}
-use Rattle.mds_control.specs.declared.counters.Call.TheVariants.{Read, Change, Publish}
+use Rattle.std.specs.Prelude.{ℕ, ◌+◌, ◌*◌, nat_lt, if◌then◌else◌}
+use Rattle.mds_control.specs.declared.counters.Kind.{Kind}
+use Rattle.mds_control.specs.declared.counters.Kind.TheVariants.{Read, Change, Publish}
 use Rattle.mds_control.specs.declared.counters.Outcome.{Outcome}
 use Rattle.mds_control.specs.declared.counters.Outcome.TheVariants.{Done, Refused, Failed}
 use Rattle.mds_control.specs.declared.counters.Figure.{Figure}
 use Rattle.mds_control.specs.declared.counters.Figure.TheVariants.{JournalBytes, Syncs, Pending, Revision}
 
-abbrev pub call_of : List ℕ → List ℕ → Call
-call_of method path =
-    if bytes_eq method (codes "GET") then Read
-    else (if bytes_eq path (codes "/publish") then Publish else Change)
-
 -- the class of a status (RFC 9110, section 15): 4xx is the client's fault, 5xx the server's
 abbrev pub outcome_of : ℕ → Outcome
 outcome_of status = if nat_lt status 400 then Done else (if nat_lt status 500 then Refused else Failed)
 
-abbrev pub call_place : Call → ℕ
-call_place Read = 0
-call_place Change = 1
-call_place Publish = 2
+abbrev pub kind_place : Kind → ℕ
+kind_place Read = 0
+kind_place Change = 1
+kind_place Publish = 2
 
 abbrev pub outcome_place : Outcome → ℕ
 outcome_place Done = 0
@@ -27,8 +22,8 @@ outcome_place Refused = 1
 outcome_place Failed = 2
 
 -- three rows for each kind of request
-abbrev pub request_place : Call → Outcome → ℕ
-request_place call outcome = 3 * call_place call + outcome_place outcome
+abbrev pub request_place : Kind → Outcome → ℕ
+request_place kind outcome = 3 * kind_place kind + outcome_place outcome
 
 -- behind the nine rows of requests
 abbrev pub place_of : Figure → ℕ

@@ -1,6 +1,6 @@
 //! What a server counts, in numbers that any thread may change.
 ghost use Rattle.std.specs.Prelude.{◌≡◌};
-ghost use Rattle.mds_control.specs.Counted.{call_of, outcome_of, place_of, request_place};
+ghost use Rattle.mds_control.specs.Counted.{outcome_of, place_of, request_place};
 
 use crate::families::{BOUNDS, CONNECTIONS, COUNT, FIRST_BUCKET, PLACES, ROWS, SUM, VEHICLES};
 use crate::fleets::Fleet;
@@ -11,10 +11,10 @@ use std::sync::atomic::{AtomicU64, Ordering};
 
 /// The kinds of requests.
 #[derive(Clone, Copy, PartialEq, Eq)]
-pub enum Call {
-    /// It reads.
+pub enum Kind {
+    /// It reads, or the table of calls refuses it.
     Read,
-    /// It changes what one keeps.
+    /// It may change what one keeps.
     Change,
     /// It publishes.
     Publish,
@@ -55,21 +55,6 @@ pub struct Counters {
     fleets: Vec<Fleet>,
 }
 
-impl Call {
-    /// The kind of a request of this method and path.
-    pub fn of(method: &str, path: &str) -> Call
-        ensures { result ≡ call_of method.now path.now }
-    {
-        if method == "GET" {
-            Call::Read
-        } else if path == "/publish" {
-            Call::Publish
-        } else {
-            Call::Change
-        }
-    }
-}
-
 impl Outcome {
     /// The kind of an answer of this status.
     pub fn of(status: u16) -> Outcome
@@ -84,13 +69,13 @@ impl Outcome {
 }
 
 /// The row of requests of this kind with such an answer.
-fn request_place(call: Call, outcome: Outcome) -> usize
-    ensures { result ≡ request_place call outcome }
+fn request_place(kind: Kind, outcome: Outcome) -> usize
+    ensures { result ≡ request_place kind outcome }
 {
-    let first = match call {
-        Call::Read => 0,
-        Call::Change => 3,
-        Call::Publish => 6,
+    let first = match kind {
+        Kind::Read => 0,
+        Kind::Change => 3,
+        Kind::Publish => 6,
     };
     match outcome {
         Outcome::Done => first,
@@ -154,9 +139,9 @@ impl Counters {
         }
     }
 
-    /// A request was answered with this status, so many milliseconds after its turn came.
-    pub fn answered(&self, call: Call, status: u16, millis: u64) {
-        self.bump(request_place(call, Outcome::of(status)), 1);
+    /// Counts a request of this kind that was answered with this status, so many milliseconds after its turn came.
+    pub fn count_answer(&self, kind: Kind, status: u16, millis: u64) {
+        self.bump(request_place(kind, Outcome::of(status)), 1);
         for (bucket, bound) in BOUNDS.iter().enumerate() {
             if millis <= *bound {
                 self.bump(FIRST_BUCKET + bucket, 1);

@@ -17,7 +17,7 @@ mod serving;
 
 pub use client::stop;
 pub use control::{Control, Stop};
-pub use counters::{Call, Counters, Figure, Outcome};
+pub use counters::{Counters, Figure, Kind, Outcome};
 pub use families::Family;
 pub use fleets::Fleet;
 pub use hosts::Hosts;

@@ -1,5 +1,5 @@
 //! What the control port says over loopback.
-use crate::counters::{Call, Counters, Figure};
+use crate::counters::{Counters, Figure, Kind};
 use crate::fleets::Fleet;
 use crate::{
     Answer, Control, Heading, Hosts, Port, Stop, answer_due, heading_of, metrics, serve_control,
@@ -356,8 +356,9 @@ fn tells_each_line(rt: HostRuntime) -> Result<(), Fail> {
 fn counts_in_its_rows(rt: HostRuntime) -> Result<(), Fail> {
     let alloc = rt.alloc();
     let counters = nothing_counted(alloc)?;
-    counters.answered(Call::of("POST", "/publish"), 503, 20);
-    counters.answered(Call::of("GET", "/policies"), 200, 2000);
+    counters.count_answer(Kind::Publish, 503, 20);
+    counters.count_answer(Kind::Read, 200, 2000);
+    counters.count_answer(Kind::Change, 404, 2000);
     counters.add(Figure::Syncs, 3);
     counters.set(Figure::Revision, 5);
     counters.add(Figure::Pending, 2);
@@ -366,12 +367,13 @@ fn counts_in_its_rows(rt: HostRuntime) -> Result<(), Fail> {
         "ruffletuff_requests_total{call=\"publish\",status=\"5xx\"} 1",
         "ruffletuff_requests_total{call=\"read\",status=\"2xx\"} 1",
         "ruffletuff_requests_total{call=\"change\",status=\"2xx\"} 0",
+        "ruffletuff_requests_total{call=\"change\",status=\"4xx\"} 1",
         "ruffletuff_answer_milliseconds_bucket{le=\"10\"} 0",
         "ruffletuff_answer_milliseconds_bucket{le=\"25\"} 1",
         "ruffletuff_answer_milliseconds_bucket{le=\"1000\"} 1",
-        "ruffletuff_answer_milliseconds_bucket{le=\"+Inf\"} 2",
-        "ruffletuff_answer_milliseconds_sum 2020",
-        "ruffletuff_answer_milliseconds_count 2",
+        "ruffletuff_answer_milliseconds_bucket{le=\"+Inf\"} 3",
+        "ruffletuff_answer_milliseconds_sum 4020",
+        "ruffletuff_answer_milliseconds_count 3",
         "# TYPE ruffletuff_syncs_total counter",
         "ruffletuff_syncs_total 3",
         "ruffletuff_pending_replies 1",

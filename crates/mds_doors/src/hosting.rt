@@ -173,6 +173,7 @@ pub fn serve_by<A, R>(
 ) -> io::Result<Ended<A>>
 where
     A: Answers + Send + Sync,
+    A::Head: Send,
     A::Reply: Send,
     R: Wait + Threads + Clock + RandomSource + AllocGlobal + Sync + Send + Copy + Drop,
     requires ready { A.may_answer }

@@ -8,4 +8,3 @@ mod reception;
 pub use hosting::{Ended, bound, serve, serve_by};
 pub use mds_connections::{Closing, Queues};
 pub use moments::{MachineClock, Moments};
-pub use reception::arrived;

@@ -1,17 +1,18 @@
 //! A hall that answers at the moments of a clock.
-ghost use Rattle.std.specs.Prelude.{◌≡◌, IfOk, IsOk, IsSome};
-ghost use Rattle.mds_request.specs.Configuration.{configuration, actor_of};
+ghost use Rattle.std.specs.Prelude.{◌≡◌, ℕ, Option, IfOk, IfSome, IsOk, IsSome};
+ghost use Rattle.mds_request.specs.Configuration.{actor_of};
 ghost use Rattle.mds_hall.specs.Asked.{token_of};
-ghost use Rattle.mds_limits.specs.Asker.{asker_of};
-ghost use Rattle.mds_doors.specs.Arrived.{ArrivesAs};
+ghost use Rattle.mds_hall.specs.Resolved.{call_in, cost_in};
+ghost use Rattle.mds_hall.specs.Respond.{Responds};
 
 use crate::moments::Moments;
 use futures::future::{Ready, ready};
 use http::request::Parts;
 use mds_catalog::Catalogue;
-use mds_connections::{Answers, Crowded, Taken};
-use mds_hall::{Arrived, Hall, Named, respond, token};
-use mds_limits::{Arrival, Asker};
+use mds_connections::{Answers, Crowded};
+use mds_hall::{Hall, HallContext, Named, ResolvedCall};
+use mds_limits::{Arrived, Cost};
+use mds_request::Actor;
 use mds_responses::HttpResult;
 use mds_verdict::Evaluator;
 use std::alloc::Global;
@@ -29,47 +30,45 @@ pub struct Reception<K: Named, R, E, M> {
 
 impl<K: Named, R: Wait + Drop, E: Evaluator<Catalogue> + Drop, M: Moments> Answers
     for Reception<K, R, E, M> {
+    type Head = ResolvedCall<K>;
+
     type Reply = Ready<HttpResult>;
 
     ghost may_answer = { E.may_judge };
 
-    fn asker(&self, parts: &Parts) -> Asker
-        ensures { result ≡ asker_of (actor_of (configuration self.now.hall.config.value) (token_of parts.now.headers)) }
+    fn resolve(&self, parts: Parts) -> ResolvedCall<K>
+        ensures { result.parts ≡ parts }
     {
-        Asker::of(self.hall.asker(token(&parts.headers)))
+        self.hall.resolve(parts)
+    }
+
+    fn actor(head: &ResolvedCall<K>) -> Actor
+        ensures { result ≡ actor_of K.configuration (token_of head.now.parts.headers) }
+    {
+        head.actor()
+    }
+
+    fn cost(head: &ResolvedCall<K>, length: usize) -> Cost
+        ensures { result ≡ cost_in (call_in K.configuration head.now.parts) length }
+    {
+        head.cost(length)
     }
 
     /// Nobody has a share here that could be used up.
-    fn answer(&self, parts: &Parts, taken: &Taken) -> Result<Ready<HttpResult>, Crowded>
+    fn answer(&self, head: &ResolvedCall<K>, body: &Arrived) -> Result<Ready<HttpResult>, Crowded>
         requires { E.may_judge }
         ensures answered { IsOk result }
         ensures reply { IfOk result (λ reply. IsSome reply.0) }
+        ensures says { IfOk result (λ reply. IfSome reply.0 (λ given. (at : Option ℕ)
+            × IfOk given (Responds K.configuration head.now.parts body.now at))) }
     {
         let at = self.moments.now();
-        Ok(ready(respond(
-            &self.rt,
-            self.alloc,
-            parts,
-            arrived(taken),
-            at,
-            &self.hall,
-            &self.evaluator,
-        )))
-    }
-}
-
-/// A body that was taken in, as a hall takes it. Its bytes are shared; where there are too many shares of them, it arrives as
-/// one for which there was no memory.
-pub fn arrived(taken: &Taken) -> Arrived
-    ensures { ArrivesAs taken.now.arrival taken.now.body result }
-{
-    match taken.arrival {
-        Arrival::Whole => match taken.body.clone() {
-            Ok(body) => Arrived::Whole(body),
-            Err(_) => Arrived::NoMemory,
-        },
-        Arrival::Broken => Arrived::Broken,
-        Arrival::TooLong => Arrived::TooLong,
-        Arrival::NoMemory => Arrived::NoMemory,
+        let context = HallContext {
+            rt: &self.rt,
+            alloc: self.alloc,
+            hall: &self.hall,
+            evaluator: &self.evaluator,
+        };
+        Ok(ready(head.respond(&context, body, at)))
     }
 }

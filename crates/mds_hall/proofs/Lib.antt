@@ -3,4 +3,5 @@ pub mod Halls
 mod Outcomes
 mod Placing
 pub mod Refusing
+pub mod Resolving
 mod Turns

@@ -1,5 +1,5 @@
 -- What the table of calls refuses is refused by one turn of who asks, of a new desk or a new room.
-use Rattle.std.proofs.Common.{◌≡◌, ℕ, [], None, Err, refl, ap}
+use Rattle.std.proofs.Common.{◌≡◌, ℕ, None, Err, refl, ap}
 use Rattle.mds_request.specs.Call.{call_of}
 use Rattle.mds_request.specs.Configuration.{Configuration, actor_of}
 use Rattle.mds_request.specs.Request.{Request}

@@ -1,21 +1,16 @@
 -- A request whose body has arrived.
-use Rattle.std.specs.Prelude.{◌≡◌, ℕ, List, [], Option, None, IfSome}
+use Rattle.std.specs.Prelude.{◌≡◌, ℕ, Option, None, IfSome}
 use Rattle.http.specs.declared.request.Parts.{Parts}
+use Rattle.mds_limits.specs.Arrival.{body_in}
+use Rattle.mds_limits.specs.declared.arrival.Arrived.{Arrived}
 use Rattle.mds_request.specs.Request.{Request}
 use Rattle.mds_hall.specs.Asked.{request_in}
 use Rattle.mds_hall.specs.Early.{unheard}
-use Rattle.mds_hall.specs.declared.early.Arrived.{Arrived}
-use Rattle.mds_hall.specs.declared.early.Arrived.TheVariants.{Whole}
-use Rattle.mds_hall.specs.declared.early.Heard.{Heard}
-
--- the body, where it arrived whole
-abbrev pub body_in : Arrived → List ℕ
-body_in (Whole body) = body
-body_in arrived = []
+use Rattle.mds_hall.specs.declared.heard.Heard.{Heard}
 
 -- the request that a `Heard` stands for
 abbrev pub request_heard : Heard → Request
-request_heard heard = request_in heard.parts.now heard.body heard.at
+request_heard heard = request_in heard.parts.now heard.body.now heard.at
 
 -- nothing of what arrived is refused, and this is the request of it
 pub record IsHeard (parts : Parts) (arrived : Arrived) (at : Option ℕ) (request : Request) : Type 0 where

@@ -2,6 +2,7 @@ pub mod Asker
 pub mod Asked
 pub mod Early
 pub mod Heard
+pub mod Resolved
 pub mod Respond
 pub mod Response
 pub mod Told

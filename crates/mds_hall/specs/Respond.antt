@@ -3,15 +3,15 @@ use Rattle.std.specs.Prelude.{ℕ, List, Option, IfSome, MatchOption}
 use Rattle.http.specs.declared.request.Parts.{Parts}
 use Rattle.http.specs.declared.response.Response.{Response}
 use Rattle.http_body_util.specs.declared.full.Full.{Full}
+use Rattle.mds_limits.specs.Arrival.{body_in}
+use Rattle.mds_limits.specs.declared.arrival.Arrived.{Arrived}
 use Rattle.mds_request.specs.Configuration.{Configuration, actor_of}
 use Rattle.mds_request.specs.Request.{Request}
 use Rattle.mds_request.specs.Reply.{Reply, refused}
 use Rattle.mds_request.specs.declared.config.Actor.{Actor}
 use Rattle.mds_request.specs.declared.config.Actor.TheVariants.{Author, Operator, Nobody}
 use Rattle.mds_hall.specs.Asked.{request_in}
-use Rattle.mds_hall.specs.declared.early.Arrived.{Arrived}
-use Rattle.mds_hall.specs.Early.{early}
-use Rattle.mds_hall.specs.Heard.{body_in}
+use Rattle.mds_hall.specs.Early.{early, unknown}
 use Rattle.mds_hall.specs.Response.{Says}
 use Rattle.mds_hall.specs.Turn.{DeskReplies, RoomReplies, SaysOne}
 
@@ -24,6 +24,11 @@ TurnGives configuration Nobody request reply = ⊥
 -- the response says what a turn of the one whose access token the request carries gives
 abbrev pub IsCarriedOut : Configuration → Request → Response (Full (List ℕ)) → Type 0
 IsCarriedOut configuration request response = SaysOne (TurnGives configuration (actor_of configuration request.token) request) response
+
+-- of a request that is heard, nobody's is refused for its access token, and any other is carried out
+abbrev pub IsAnswered : Configuration → Request → Response (Full (List ℕ)) → Type 0
+IsAnswered configuration request response =
+    MatchOption (unknown (actor_of configuration request.token)) (IsCarriedOut configuration request response) (λ code. Says response (refused code))
 
 -- The first early refusal that applies is said. Where none does, the request that the head and the body are at this moment
 -- is carried out.

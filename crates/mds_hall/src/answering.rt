@@ -1,22 +1,36 @@
 //! What an HTTP request is answered.
-ghost use Rattle.std.specs.Prelude.{IfOk};
+ghost use Rattle.std.specs.Prelude.{◌≡◌, IfOk};
+ghost use Rattle.mds_request.specs.Call.{call_of};
 ghost use Rattle.mds_request.specs.Configuration.{configuration};
-ghost use Rattle.mds_hall.specs.Respond.{Responds};
+ghost use Rattle.mds_hall.specs.Heard.{request_heard};
+ghost use Rattle.mds_hall.specs.Respond.{IsAnswered, Responds};
 
-use crate::early::{Arrived, hear};
+use crate::early::hear;
 use crate::hall::Hall;
+use crate::heard::Heard;
 use crate::named::Named;
 use crate::responding::response;
 use http::request::Parts;
 use mds_catalog::Catalogue;
 use mds_desk::{Gate, OpenGate};
-use mds_request::Call;
+use mds_limits::Arrived;
+use mds_request::{Call, Code};
 use mds_responses::HttpResult;
 use mds_shelf::Answer;
 use mds_text::Moment;
 use mds_verdict::Evaluator;
 use std::alloc::{AllocError, Global};
 use std::sync::Wait;
+
+/// By what requests are answered: what locks are waited by, where answers are made, the hall that is asked,
+/// and what judges vehicles.
+#[derive(Drop)]
+pub struct HallContext<'a, K: Named, R, E> {
+    pub rt: &'a R,
+    pub alloc: Global,
+    pub hall: &'a Hall<K>,
+    pub evaluator: &'a E,
+}
 
 /// Answers an HTTP request whose body has arrived, at this moment of the machine's clock. What the table of
 /// calls refuses is answered without a lock. Vehicles are judged by the evaluator.
@@ -66,23 +80,48 @@ pub fn respond_with<K: Named, R: Wait, G: Gate, E: Evaluator<Catalogue>>(
     requires { E.may_judge }
     ensures { IfOk result (Responds (configuration hall.now.config.value) parts.now arrived at) }
 {
-    let heard = match hear(parts, arrived, at) {
+    let heard = match hear(parts, &arrived, at) {
         Ok(heard) => heard,
         Err(code) => return response(alloc, Answer::from(code)),
     };
-    match hall.call(&heard) {
+    let context = HallContext {
+        rt,
+        alloc,
+        hall,
+        evaluator,
+    };
+    carry_out(&context, hall.call_at(parts), heard, gate)
+}
+
+/// Carries out the call that a request is, by one turn of the author's room or of the operator's desk, or
+/// says its refusal, which takes no lock. A gate is told of the look of an operator's request.
+///
+/// # Errors
+///
+/// There was no memory for the response. The request may have been carried out.
+pub(crate) fn carry_out<K: Named, R: Wait, G: Gate, E: Evaluator<Catalogue>>(
+    context: &HallContext<'_, K, R, E>,
+    call: Result<Call, Code>,
+    heard: Heard<'_>,
+    gate: &mut G,
+) -> HttpResult
+    requires judge { E.may_judge }
+    requires resolved { call_of K.configuration (request_heard heard) ≡ call }
+    ensures { IfOk result (IsAnswered K.configuration (request_heard heard.entry)) }
+{
+    match call {
         Ok(Call::Author(call)) => {
-            let answer = hall.answer_author(rt, heard, &call);
-            response(alloc, answer)
+            let answer = context.hall.answer_author(context.rt, heard, &call);
+            response(context.alloc, answer)
         }
         Ok(Call::Operator(place, call)) => {
-            let Some(mut desk) = hall.desk(place).taken(rt) else {
+            let Some(mut desk) = context.hall.desk_at(context.rt, place) else {
                 return Err(AllocError);
             };
-            let note = hall.note(rt);
-            let answer = desk.carry_out(heard, &call, note.as_ref(), gate, evaluator);
-            response(alloc, answer)
+            let note = context.hall.note(context.rt);
+            let answer = desk.carry_out(heard, &call, note.as_ref(), gate, context.evaluator);
+            response(context.alloc, answer)
         }
-        Err(code) => response(alloc, Answer::from(code)),
+        Err(code) => response(context.alloc, Answer::from(code)),
     }
 }

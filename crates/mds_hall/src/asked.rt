@@ -1,5 +1,5 @@
 //! The request that the head and the body of an HTTP request are.
-ghost use Rattle.std.specs.Prelude.{◌≡◌};
+ghost use Rattle.std.specs.Prelude.{◌≡◌, []};
 ghost use Rattle.mds_request.specs.Request.{request_of};
 ghost use Rattle.mds_hall.specs.Asked.{token_in, token_of, target_of, request_in};
 
@@ -36,8 +36,8 @@ pub fn token(headers: &HeaderMap) -> &[u8]
     }
 }
 
-/// The path with its query.
-fn target(uri: &Uri) -> &[u8]
+/// The target of a head: its path with its query (RFC 9112, section 3.2).
+pub fn target(uri: &Uri) -> &[u8]
     ensures { result.now ≡ target_of uri.now }
 {
     match uri.path_and_query() {
@@ -57,4 +57,12 @@ pub(crate) fn request<'a>(parts: &'a Parts, body: &'a [u8], at: Moment) -> Reque
         target: target(&parts.uri),
         body,
     }
+}
+
+/// The request of this head with no body. What a head calls for depends neither on a body within its limit
+/// nor on a moment.
+pub(crate) fn head_request(parts: &Parts) -> Request<'_>
+    ensures { request_of result ≡ request_in parts.now [] 0 }
+{
+    request(parts, &[], Moment::new(0).unwrap())
 }

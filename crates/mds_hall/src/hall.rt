@@ -8,13 +8,18 @@ ghost use Rattle.mds_request.specs.declared.call.Call.TheVariants.{Author as ByA
 ghost use Rattle.mds_desk.specs.Desk.{state_of};
 ghost use Rattle.mds_desk.specs.Room.{room_of};
 ghost use Rattle.mds_snapshot.specs.Opening.{book_of};
+ghost use Rattle.mds_hall.specs.Asked.{token_of};
 ghost use Rattle.mds_hall.specs.Asker.{IsWithin};
 ghost use Rattle.mds_hall.specs.Heard.{request_heard};
+ghost use Rattle.mds_hall.specs.Resolved.{call_in};
 ghost use Rattle.mds_hall.specs.Turn.{AreDesksOf, RoomReplies};
 
-use crate::early::Heard;
+use crate::asked::{head_request, token};
+use crate::heard::Heard;
 use crate::named::Named;
 use crate::places::{DeskLock, HallDesk, HallRoom};
+use crate::resolved::ResolvedCall;
+use http::request::Parts;
 use mds_desk::{Always, AuthorRoom, Desk, furnish};
 use mds_request::{Actor, AuthorCall, Call, Code, Config, Routes, read_call};
 use mds_shelf::Answer;
@@ -121,24 +126,50 @@ impl<K: Named> Hall<K> {
         }
     }
 
-    /// Whose access token it is.
-    pub fn asker(&self, token: &[u8]) -> Actor
-        ensures value { result ≡ actor_of (configuration self.now.config.value) token.now }
+    /// Who asks by a head: whose access token it carries.
+    pub fn actor_at(&self, parts: &Parts) -> Actor
+        ensures value { result ≡ actor_of (configuration self.now.config.value) (token_of parts.now.headers) }
         ensures within { IsWithin (length (configuration self.now.config.value).operators) result }
     {
-        self.config.actor(token)
+        self.config.actor(token(&parts.headers))
     }
 
-    /// What a request calls for, by who asks. Takes no lock.
+    /// What a head calls for, by who asks, whatever body within its limit comes behind it. Takes no lock.
     ///
     /// # Errors
     ///
     /// The first refusal of the table of calls, as `mds_request::read_call` says.
-    pub fn call(&self, heard: &Heard<'_>) -> Result<Call, Code>
-        ensures { result ≡ call_of (configuration self.now.config.value) (request_heard heard.now) }
+    pub fn call_at(&self, parts: &Parts) -> Result<Call, Code>
+        ensures { result ≡ call_in (configuration self.now.config.value) parts.now }
     {
-        let request = heard.request();
-        read_call(&self.routes, &self.config, &request)
+        read_call(&self.routes, &self.config, &head_request(parts))
+    }
+
+    /// Who asks by a head that calls for this. The access token is looked up again only for a refusal that
+    /// says nothing of it.
+    pub fn caller(&self, parts: &Parts, call: &Result<Call, Code>) -> Actor
+        requires { call.now ≡ call_in K.configuration parts.now }
+        ensures { result ≡ actor_of K.configuration (token_of parts.now.headers) }
+    {
+        match call {
+            Ok(call) => match call {
+                Call::Author(_) => Actor::Author,
+                Call::Operator(place, _) => Actor::Operator(*place),
+            },
+            Err(code) => match code {
+                Code::Token => Actor::Nobody,
+                _ => self.actor_at(parts),
+            },
+        }
+    }
+
+    /// Resolves a head: who asks, and what for. All that is done behind it goes by this. Takes no lock.
+    pub fn resolve(&self, parts: Parts) -> ResolvedCall<K>
+        ensures { result.parts ≡ parts }
+    {
+        let call = self.call_at(&parts);
+        let actor = self.caller(&parts, &call);
+        ResolvedCall::new(parts, actor, call)
     }
 
     /// The lock of the desk of the operator at this place of the configuration.

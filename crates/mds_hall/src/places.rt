@@ -13,7 +13,7 @@ ghost use Rattle.mds_hall.specs.Heard.{request_heard};
 ghost use Rattle.mds_hall.specs.Told.{DeskTells, Looks, RoomTells};
 ghost use Rattle.mds_hall.specs.Turn.{DeskReplies, DeskRuns, IsDeskAt, IsTold, RoomReplies, TakesToldRun, TakesToldTurn};
 
-use crate::early::Heard;
+use crate::heard::Heard;
 use crate::named::Named;
 use crate::turn::{told_call, told_look, told_run, told_turn};
 use mds_catalog::Catalogue;

@@ -1,6 +1,6 @@
+pub mod Actor
 pub mod Arrival
-pub mod Asker
-pub mod Length
+pub mod Cost
 pub mod Seat
 pub mod Stage
 pub mod Taking

@@ -1,8 +1,9 @@
 //! How a body arrives.
 ghost use Rattle.std.specs.Prelude.{◌≡◌};
-ghost use Rattle.mds_limits.specs.Arrival.{piece_at, arrival_of, closes_after};
+ghost use Rattle.mds_limits.specs.Arrival.{arrived_of, body_in, closes_after, piece_at};
 
 use crate::limits::MOST_PAST;
+use bytes::Bytes;
 use mds_request::MOST_BODY;
 
 /// What becomes of a piece of a body.
@@ -29,11 +30,11 @@ pub enum End {
     NoMemory,
 }
 
-/// How a body arrived.
-#[derive(Clone, Copy, Debug, PartialEq, Eq)]
-pub enum Arrival {
+/// How the body of a request arrived.
+#[derive(Drop)]
+pub enum Arrived {
     /// All of it.
-    Whole,
+    Whole(Bytes),
     /// It broke off, or wasn't framed as HTTP says.
     Broken,
     /// It was over the limit of a body.
@@ -60,26 +61,36 @@ impl Piece {
     }
 }
 
-impl Arrival {
-    /// How a body arrived of which so many bytes came until its reading ended so.
-    pub fn of(end: End, length: usize) -> Arrival
-        ensures { result ≡ arrival_of end length }
+impl Arrived {
+    /// How a body arrived of which these bytes came until its reading ended so.
+    pub fn of(end: End, body: Bytes) -> Arrived
+        ensures { result ≡ arrived_of end body }
     {
         match end {
-            End::Over if length <= MOST_BODY => Arrival::Whole,
-            End::Over | End::Refused => Arrival::TooLong,
-            End::Broken => Arrival::Broken,
-            End::NoMemory => Arrival::NoMemory,
+            End::Over if body.len() <= MOST_BODY => Arrived::Whole(body),
+            End::Over | End::Refused => Arrived::TooLong,
+            End::Broken => Arrived::Broken,
+            End::NoMemory => Arrived::NoMemory,
+        }
+    }
+
+    /// The body; no bytes, where it didn't arrive whole.
+    pub fn bytes(&self) -> &[u8]
+        ensures { result.now ≡ body_in self.now }
+    {
+        match self {
+            Arrived::Whole(body) => body,
+            Arrived::Broken | Arrived::TooLong | Arrived::NoMemory => &[],
         }
     }
 
     /// Whether the connection is closed after the reply to a request whose body arrived so.
-    pub fn closes(self) -> bool
-        ensures { result ≡ closes_after self }
+    pub fn closes(&self) -> bool
+        ensures { result ≡ closes_after self.now }
     {
         match self {
-            Arrival::Whole => false,
-            Arrival::Broken | Arrival::TooLong | Arrival::NoMemory => true,
+            Arrived::Whole(_) => false,
+            Arrived::Broken | Arrived::TooLong | Arrived::NoMemory => true,
         }
     }
 }

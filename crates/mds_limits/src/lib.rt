@@ -1,9 +1,9 @@
 //! What is decided of a connection: its limits, whose it is, who may take a seat, and what may wait.
 #![tactic(auto)]
 
+mod actor;
 mod arrival;
-mod asker;
-mod length;
+mod cost;
 mod limits;
 mod moment;
 mod seat;
@@ -11,9 +11,9 @@ mod stage;
 mod taking;
 mod waiting;
 
-pub use arrival::{Arrival, End, Piece};
-pub use asker::Asker;
-pub use length::is_long;
+pub use actor::index_of;
+pub use arrival::{Arrived, End, Piece};
+pub use cost::{Cost, cost_of};
 pub use limits::{
     ACCEPT_PAUSE_MILLIS, BODY_SECONDS, CROWDED_PAUSE_MILLIS, HEAD_SECONDS, IDLE_SECONDS,
     LEAST_TAKEN, MOST_CONNECTIONS, MOST_HELD, MOST_HELD_BY_ALL, MOST_OF_ASKER, MOST_PAST,

@@ -1,8 +1,6 @@
-//! A server that counts what it answers. What is answered stays what it is.
+//! Replies that are counted as they leave. What is told stays what it is.
 #![tactic(auto)]
 
-mod answers;
 mod reply;
 
-pub use answers::Metered;
 pub use reply::{MeteredReply, Ticket};

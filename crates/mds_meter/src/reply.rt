@@ -3,7 +3,7 @@ ghost use Rattle.std.specs.Prelude.{◌≡◌};
 
 use futures::Future;
 use futures::task::{Context, Poll};
-use mds_control::{Call, Counters, Figure};
+use mds_control::{Counters, Figure, Kind};
 use mds_responses::HttpResult;
 use std::time::{Clock, Instant};
 
@@ -15,21 +15,21 @@ const SUCCESS: u16 = 200;
 pub struct Ticket<'a, C> {
     counters: &'a Counters,
     clock: C,
-    call: Call,
+    kind: Kind,
     since: Option<Instant>,
 }
 
 impl<'a, C: Clock> Ticket<'a, C> {
     /// The ticket of a request of this kind, whose reply is on its way from now on.
-    pub fn new(counters: &'a Counters, clock: C, call: Call) -> Ticket<'a, C>
-        ensures { result.call ≡ call }
+    pub fn new(counters: &'a Counters, clock: C, kind: Kind) -> Ticket<'a, C>
+        ensures { result.kind ≡ kind }
     {
         counters.add(Figure::Pending, 1);
         let since = Instant::now(&clock).ok();
         Ticket {
             counters,
             clock,
-            call,
+            kind,
             since,
         }
     }
@@ -47,8 +47,8 @@ impl<'a, C: Clock> Ticket<'a, C> {
 
     /// The request was answered with this status.
     fn count(&self, status: u16) {
-        self.counters.answered(self.call, status, self.millis());
-        if self.call == Call::Publish && status == SUCCESS {
+        self.counters.count_answer(self.kind, status, self.millis());
+        if self.kind == Kind::Publish && status == SUCCESS {
             self.counters.add(Figure::Revision, 1);
         }
     }
@@ -60,7 +60,7 @@ impl<C: Drop> Drop for Ticket<'_, C> {
         let Ticket {
             counters: _counters,
             clock: _clock,
-            call: _call,
+            kind: _kind,
             since: _since,
         } = self;
     }

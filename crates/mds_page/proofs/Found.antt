@@ -1,11 +1,9 @@
 -- Files by their paths.
-use Rattle.std.proofs.Common.{◌≡◌, ◌≢◌, ℕ, List, [], ◌∷◌, true, false, cond, map, find, bytes_eq, option_copied, Option, Some, None, MatchOption, All, refl, sym, subst, arith}
-use denote.Ref.{Bor}
+use Rattle.std.proofs.Common.{◌≡◌, ◌≢◌, ℕ, List, [], ◌∷◌, true, false, cond, find, bytes_eq, Option, Some, None, MatchOption, All, refl, sym, subst, arith}
 use Rattle.std.proofs.lemmas.Bool.{false≢true}
 use Rattle.std.proofs.lemmas.List.Elements.{All-cons, All-nil}
 use Rattle.std.proofs.lemmas.Slice.Eq.{bytes_eq-Decides}
-use Rattle.mds_page.specs.File.{files, path_of}
-use Rattle.mds_page.specs.Response.{IsNoFile}
+use Rattle.mds_page.specs.File.{IsNoFile, file_at, files, path_of}
 use Rattle.mds_page.specs.declared.file.File.{File}
 use Rattle.mds_page.specs.declared.file.File.TheVariants.{IndexHtml, PageCss, AuthorJs, CardsJs, DomJs, FleetJs, GeometryJs, LayersJs, MapJs, PageJs, RulesJs, ServerJs, SettingsJson, StateJs, ZoneJs}
 
@@ -27,28 +25,29 @@ in_all P h SettingsJson = h 12 SettingsJson (omega arith)
 in_all P h StateJs = h 13 StateJs (omega arith)
 in_all P h ZoneJs = h 14 ZoneJs (omega arith)
 
-module _ {A : Type 0} (file : A → File) (path : List ℕ) where
+module _ (path : List ℕ) where
   -- the first one with the path, or none of them has it
-  abbrev Finds : List A → Option A → Type 0
-  Finds leaves found = MatchOption found (All (λ f. path_of f ≢ path) (map file leaves)) (λ leaf. path_of (file leaf) ≡ path)
+  abbrev Finds : List File → Option File → Type 0
+  Finds among found = MatchOption found (All (λ f. path_of f ≢ path) among) (λ file. path_of file ≡ path)
 
-  later : (leaf : A) (leaves : List A) (found : Option A) → path_of (file leaf) ≢ path → Finds leaves found → Finds (leaf ∷ leaves) found
-  later leaf leaves None other h = All-cons (λ f. path_of f ≢ path) (file leaf) (map file leaves) other h
-  later leaf leaves (Some it) other h = h
+  later : (file : File) (among : List File) (found : Option File) → path_of file ≢ path → Finds among found → Finds (file ∷ among) found
+  later file among None other h = All-cons (λ f. path_of f ≢ path) file among other h
+  later file among (Some it) other h = h
 
-  finds : (leaves : List A) → Finds leaves (find (λ leaf. bytes_eq (path_of (file leaf)) path) leaves)
+  finds : (among : List File) → Finds among (find (λ file. bytes_eq (path_of file) path) among)
   finds [] = All-nil (λ f. path_of f ≢ path)
-  finds (leaf ∷ leaves) =
-      let same = bytes_eq-Decides (path_of (file leaf)) path in
-      let rest = find (λ it. bytes_eq (path_of (file it)) path) leaves in
-      elim (bytes_eq (path_of (file leaf)) path) as (λ b. (b ≡ true → path_of (file leaf) ≡ path) → (path_of (file leaf) ≡ path → b ≡ true) → Finds (leaf ∷ leaves) (cond b (Some leaf) rest)) [
+  finds (file ∷ among) =
+      let same = bytes_eq-Decides (path_of file) path in
+      let rest = find (λ it. bytes_eq (path_of it) path) among in
+      elim (bytes_eq (path_of file) path) as (λ b. (b ≡ true → path_of file ≡ path) → (path_of file ≡ path → b ≡ true) → Finds (file ∷ among) (cond b (Some file) rest)) [
         | true ↦ λ is has. is refl
-        | false ↦ λ is has. later leaf leaves rest (λ e. false≢true (has e)) (finds leaves)
+        | false ↦ λ is has. later file among rest (λ e. false≢true (has e)) (finds among)
       ] same.0 same.1
 
+  of_files : (found : Option File) → Finds files found → MatchOption found (IsNoFile path) (λ file. path_of file ≡ path)
+  of_files None none = in_all (λ f. path_of f ≢ path) none
+  of_files (Some file) is = is
+
   -- of the page's files, the one with the path; no file has it, where there is none
-  pub at_path : (leaves : List A) → map file leaves ≡ files → (found : Option (Bor A)) → option_copied found ≡ find (λ leaf. bytes_eq (path_of (file leaf)) path) leaves
-      → MatchOption found (IsNoFile path) (λ leaf. path_of (file leaf.now) ≡ path)
-  at_path leaves whole None e =
-      in_all (λ f. path_of f ≢ path) (subst (All (λ f. path_of f ≢ path)) whole (subst (Finds leaves) (sym e) (finds leaves)))
-  at_path leaves whole (Some leaf) e = subst (Finds leaves) (sym e) (finds leaves)
+  pub at_path : (found : Option File) → found ≡ file_at path → MatchOption found (IsNoFile path) (λ file. path_of file ≡ path)
+  at_path found e = of_files found (subst (Finds files) (sym e) (finds files))

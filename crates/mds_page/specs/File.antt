@@ -1,5 +1,5 @@
 -- The files of the page, where each is asked for, of which type it is, and what is in it.
-use Rattle.std.specs.Prelude.{ℕ, List, [], ◌∷◌, codes}
+use Rattle.std.specs.Prelude.{◌≢◌, ℕ, List, [], ◌∷◌, bytes_eq, codes, find, Option}
 use Rattle.mds_page.specs.declared.file.File.{File}
 use Rattle.mds_page.specs.declared.file.File.TheVariants.{IndexHtml, PageCss, AuthorJs, CardsJs, DomJs, FleetJs, GeometryJs, LayersJs, MapJs, PageJs, RulesJs, ServerJs, SettingsJson, StateJs, ZoneJs}
 use Rattle.mds_page.specs.declared.texts.index_html.TheConstants.{INDEX_HTML}
@@ -55,6 +55,14 @@ path_of ServerJs = codes "/server.js"
 path_of SettingsJson = codes "/settings.json"
 path_of StateJs = codes "/state.js"
 path_of ZoneJs = codes "/zone.js"
+
+-- the first file with a path; none, where no file has it
+abbrev pub file_at : List ℕ → Option File
+file_at path = find (λ file. bytes_eq (path_of file) path) files
+
+-- no file of the page has this path
+abbrev pub IsNoFile : List ℕ → Type 0
+IsNoFile path = (file : File) → path_of file ≢ path
 
 -- its media type, with the encoding of a text (RFC 9110, section 8.3; RFC 9239, section 6; RFC 8259, section 11)
 abbrev pub type_of : File → List ℕ

@@ -1,14 +1,12 @@
 -- The responses that tell what is told of a file.
-use Rattle.std.specs.Prelude.{◌≡◌, ◌≢◌, ℕ, List, [], ◌∷◌, ◌++◌, ◌==◌, map, length, codes, if◌then◌else◌, Option, Some, None, Result, IfOk}
-use Rattle.std.specs.declared.alloc.AllocError.{AllocError}
+use Rattle.std.specs.Prelude.{◌≡◌, ℕ, List, [], ◌∷◌, ◌++◌, ◌==◌, map, length, codes, if◌then◌else◌, Some, None}
 use Rattle.http_header.specs.FieldValue.{FieldValue, plain_value}
-use Rattle.http_header.specs.HeaderMap.{Entries, Entry}
+use Rattle.http_header.specs.HeaderMap.{Entry}
 use Rattle.http.specs.Response.{head_of, body_of}
 use Rattle.http.specs.declared.response.Response.{Response}
 use Rattle.http_body_util.specs.declared.full.Full.{Full}
-use Rattle.mds_page.specs.File.{path_of, text_of, type_of}
+use Rattle.mds_page.specs.File.{text_of, type_of}
 use Rattle.mds_page.specs.Tag.{tag_of}
-use Rattle.mds_page.specs.Told.{told_of}
 use Rattle.mds_page.specs.declared.file.File.{File}
 use Rattle.mds_page.specs.declared.told.Told.{Told}
 use Rattle.mds_page.specs.declared.told.Told.TheVariants.{Whole, Unchanged, WrongMethod}
@@ -58,13 +56,3 @@ pub record Says (told : Told) (file : File) (response : Response (Full (List ℕ
   pub status : (head_of response).status ≡ status_of told
   pub body : (body_of response).buf ≡ (if length (content_of told file) == 0 then None else Some (content_of told file))
   pub headers : (head_of response).headers ≡ map field (fields_of told file)
-
--- no file of the page has this path
-abbrev pub IsNoFile : List ℕ → Type 0
-IsNoFile path = (file : File) → path_of file ≢ path
-
--- A request with this method, path and fields is told of the file at its path; where there is none, nothing.
-abbrev pub Tells : List ℕ → List ℕ → Entries FieldValue → Option (Result (Response (Full (List ℕ))) AllocError) → Type 0
-Tells method path headers None = IsNoFile path
-Tells method path headers (Some response) =
-    (file : File) × (path_of file ≡ path) × IfOk response (Says (told_of method headers (tag_of (text_of file))) file)

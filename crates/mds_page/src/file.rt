@@ -1,12 +1,12 @@
 //! The files of the page.
-ghost use Rattle.std.specs.Prelude.{◌≡◌, IsTrue};
+ghost use Rattle.std.specs.Prelude.{◌≡◌, IsTrue, MatchOption, slice_get};
 ghost use Rattle.http_header.specs.FieldValue.{is_visible_text};
-ghost use Rattle.mds_page.specs.File.{path_of, text_of, type_of};
+ghost use Rattle.mds_page.specs.File.{IsNoFile, file_at, files, path_of, text_of, type_of};
 
 use crate::texts;
 
 /// A file of the page.
-#[derive(Clone, Copy)]
+#[derive(Clone, Copy, Debug, PartialEq, Eq)]
 pub enum File {
     /// `/`, which is `index.html`
     IndexHtml,
@@ -60,6 +60,21 @@ pub const FILES: [File; 15] = [
 ];
 
 impl File {
+    /// The file that is asked for at a path, given without its query; none, where the page has no file at the path.
+    pub fn at(path: &[u8]) -> Option<File>
+        ensures value { result ≡ file_at path.now }
+        ensures at { MatchOption result (IsNoFile path.now) (λ file. path_of file ≡ path.now) }
+    {
+        first_at(path)
+    }
+
+    /// Its place among the files.
+    pub(crate) fn index(self) -> usize
+        ensures { slice_get files result ≡ Some self }
+    {
+        self as usize
+    }
+
     /// The path at which it is asked for.
     pub fn path(self) -> &'static str
         ensures { result.now ≡ path_of self }
@@ -129,4 +144,14 @@ impl File {
             File::ZoneJs => texts::ZONE_JS,
         }
     }
+}
+
+/// The first file with a path.
+fn first_at(path: &[u8]) -> Option<File>
+    ensures { result ≡ file_at path.now }
+{
+    FILES
+        .iter()
+        .copied()
+        .find(|file| file.path().as_bytes() == path)
 }

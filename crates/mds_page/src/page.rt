@@ -1,7 +1,9 @@
-//! The page: its files with their tags, by their paths.
-ghost use Rattle.std.specs.Prelude.{◌≡◌, ◌≢◌, ◌↔◌, map, find, bytes_eq, option_copied, IfOk, IsTrue, MatchOption};
-ghost use Rattle.mds_page.specs.File.{files, path_of};
-ghost use Rattle.mds_page.specs.Response.{IsNoFile, Tells};
+//! The page: its files with their tags.
+ghost use Rattle.std.specs.Prelude.{◌≡◌, map, IfOk};
+ghost use Rattle.mds_page.specs.File.{files, text_of};
+ghost use Rattle.mds_page.specs.Response.{Says};
+ghost use Rattle.mds_page.specs.Tag.{tag_of};
+ghost use Rattle.mds_page.specs.Told.{told_of};
 
 use crate::file::{FILES, File};
 use crate::leaf::Leaf;
@@ -30,47 +32,32 @@ impl Page {
         })
     }
 
-    /// The first file at a path.
-    fn find(&self, path: &[u8]) -> Option<&Leaf>
-        ensures { option_copied result ≡ find (λ leaf. bytes_eq (path_of leaf.file) path.now) self.now.leaves.items }
+    /// A file with its tag.
+    fn leaf(&self, file: File) -> &Leaf
+        ensures { result.now.file ≡ file }
     {
-        self.leaves
-            .iter()
-            .find(|leaf| leaf.file.path().as_bytes() == path)
+        let index = file.index();
+        &self.leaves[index]
     }
 
-    /// The file at a path.
-    fn leaf_at(&self, path: &[u8]) -> Option<&Leaf>
-        ensures { MatchOption result (IsNoFile path.now) (λ leaf. path_of leaf.now.file ≡ path.now) }
-    {
-        self.find(path)
-    }
-
-    /// Whether the page has a file at a path.
-    pub fn has(&self, path: &[u8]) -> bool
-        ensures { IsTrue result ↔ ((file : File) × (path_of file ≡ path.now)) }
-    {
-        self.leaf_at(path).is_some()
-    }
-
-    /// What is told to a request with this method, path (without its query) and fields: nothing, where the page has no file
-    /// at the path. To `HEAD` the same is told as to `GET`, and the server sends it without the body.
+    /// What is told to a request for a file with this method and these fields. To `HEAD` the same is told as to `GET`, and the
+    /// server sends it without the body.
     ///
     /// # Errors
     ///
-    /// The response is an error where memory ran out.
+    /// Memory ran out.
     pub fn respond(
         &self,
         alloc: Global,
+        file: File,
         method: &[u8],
-        path: &[u8],
         headers: &HeaderMap,
-    ) -> Option<HttpResult>
-        ensures { Tells method.now path.now headers.now result }
+    ) -> HttpResult
+        ensures { IfOk result (Says (told_of method.now headers.now (tag_of (text_of file))) file) }
     {
-        let leaf = self.leaf_at(path)?;
+        let leaf = self.leaf(file);
         let told = told_of(method, headers, leaf.tag.as_slice());
-        Some(response_of(alloc, told, leaf))
+        response_of(alloc, told, leaf)
     }
 }
 

@@ -1,4 +1,5 @@
 //! The page as it is told.
+use crate::file::File;
 use crate::page::Page;
 use crate::tag::{is_named, tag_of};
 use http::header::IF_NONE_MATCH;
@@ -25,7 +26,7 @@ fn a_line_names_a_tag(rt: HostRuntime) {
     assert!(rt; !is_named(b"", b"\"a\""));
 }
 
-/// The status of what is told.
+/// The status of what is told of the file at a path, if there is one.
 fn asked(
     page: &Page,
     alloc: Global,
@@ -33,7 +34,8 @@ fn asked(
     path: &[u8],
     fields: &HeaderMap,
 ) -> Option<u16> {
-    let told = page.respond(alloc, method, path, fields)?.ok()?;
+    let file = File::at(path)?;
+    let told = page.respond(alloc, file, method, fields).ok()?;
     Some(told.status().as_u16())
 }
 

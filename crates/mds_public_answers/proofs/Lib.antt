@@ -1,4 +1,3 @@
 mod Alike
-mod Apart
 pub mod Publics
 mod Telling

@@ -1,18 +1,12 @@
 -- What holds of what everyone is told.
-use Rattle.std.specs.Prelude.{◌≡◌, ◌==◌, ℕ, List, [], codes, filter, length, map, IsSome}
+use Rattle.std.specs.Prelude.{◌≡◌, ◌==◌, List, codes, filter, length, map}
 use Rattle.http_header.specs.HeaderMap.{get_all}
 use Rattle.http.specs.declared.request.Parts.{Parts}
 use Rattle.mds_catalog.specs.Publication.{Publication}
 use Rattle.mds_desk.specs.Room.{RoomState}
-use Rattle.mds_public.specs.Asked.{asked_by}
 use Rattle.mds_public.specs.Face.{face_of}
 use Rattle.mds_public.specs.declared.asked.Asked.{Asked}
-use Rattle.mds_request.specs.Call.{rows_at, segments_in}
 use Rattle.mds_public_answers.specs.Told.{answer_to}
-
--- No route has a path of what everyone is told, so that what is answered at a path of the protocol is answered as ever.
-abbrev pub PublicAndProtocolAreApart : Type 0
-PublicAndProtocolAreApart = (path : List ℕ) → IsSome (asked_by path) → rows_at (segments_in path) ≡ []
 
 -- Two author's rooms with the same publications have the same answer to requests with the same method, target and `accept`: whatever their
 -- drafts, their configurations and the other fields are, an access token among them.

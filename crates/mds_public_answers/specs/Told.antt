@@ -1,13 +1,10 @@
 -- What everyone is told: of the publications of the author's room, and of nothing else.
-use Rattle.std.specs.Prelude.{◌≡◌, ◌⊎◌, ℕ, List, Option, Some, None, Result, IfOk}
-use Rattle.std.specs.declared.alloc.AllocError.{AllocError}
-use Rattle.http_uri.specs.Uri.{uri_path}
+use Rattle.std.specs.Prelude.{◌≡◌, ℕ, List, Result}
 use Rattle.http.specs.declared.request.Parts.{Parts}
 use Rattle.http.specs.declared.response.Response.{Response}
 use Rattle.http_body_util.specs.declared.full.Full.{Full}
 use Rattle.mds_catalog.specs.Publication.{Publication}
 use Rattle.mds_public.specs.Answer.{answer_of}
-use Rattle.mds_public.specs.Asked.{asked_by}
 use Rattle.mds_public.specs.Face.{face_of}
 use Rattle.mds_public.specs.View.{face}
 use Rattle.mds_public.specs.declared.asked.Asked.{Asked}
@@ -32,10 +29,3 @@ answer_to publications asked parts = answer_of (face_of publications) asked part
 -- the response says the answer, of the publications of the author's room of this configuration
 abbrev pub IsTold : Configuration → Asked → Parts → Response (Full (List ℕ)) → Type 0
 IsTold configuration asked parts response = ∥ RoomTells configuration (λ drafts publications told. Says (answer_to publications asked parts) told) response ∥₁
-
--- Where there is a window, a request for what everyone is told is told it; any other, and each one where there is no window, is told nothing
--- here.
-abbrev pub IsToldTo : {W : Type 0} → Configuration → Option W → Parts → Option (Result (Response (Full (List ℕ))) AllocError) → Type 0
-IsToldTo configuration window parts None = (window ≡ None) ⊎ (asked_by (uri_path parts.uri) ≡ None)
-IsToldTo configuration window parts (Some response) =
-    (asked : Asked) × (asked_by (uri_path parts.uri) ≡ Some asked) × IfOk response (IsTold configuration asked parts)

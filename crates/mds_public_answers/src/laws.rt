@@ -1,10 +1,5 @@
 //! What holds of what everyone is told. The functions do nothing: their contracts are the laws.
-ghost use Rattle.mds_public_answers.specs.Laws.{EveryoneIsToldThePublications, OneOperatorsPoliciesAreNotTold, PublicAndProtocolAreApart};
-
-/// Nothing that everyone is told stands at a path of the protocol: the table of calls has no row for its path.
-pub fn public_and_protocol_are_apart()
-    ensures { PublicAndProtocolAreApart }
-{}
+ghost use Rattle.mds_public_answers.specs.Laws.{EveryoneIsToldThePublications, OneOperatorsPoliciesAreNotTold};
 
 /// The answer to a request depends on the publications and on its method, target and `accept` alone.
 pub fn everyone_is_told_the_publications()

@@ -1,10 +1,14 @@
 //! What everyone is told now.
 ghost use Rattle.std.specs.Prelude.{◌≡◌, is_some, IfOk};
 ghost use Rattle.mds_public_answers.specs.Configured.{is_public};
+ghost use Rattle.mds_public_answers.specs.Told.{IsTold};
 
 use crate::configured::is_public;
 use crate::shown::{Shown, Shows};
+use http::request::Parts;
 use mds_hall::Named;
+use mds_public::Asked;
+use mds_responses::HttpResult;
 use std::alloc::{AllocError, Global};
 use std::sync::{Arc, Mutex, Wait};
 
@@ -77,11 +81,7 @@ impl<K: Named> Window<K> {
     }
 
     /// What is shown by now; what was shown before, while another request makes it.
-    ///
-    /// # Errors
-    ///
-    /// Memory ran out.
-    pub fn latest<R: Wait, A: Shows<K>>(
+    fn latest<R: Wait, A: Shows<K>>(
         &self,
         rt: &R,
         alloc: Global,
@@ -95,5 +95,24 @@ impl<K: Named> Window<K> {
             Some(_making) => self.renewed(rt, alloc, answers),
             None => Ok(current),
         }
+    }
+
+    /// The response to a request for this, of what is shown by now; of what was shown before, while another request makes it.
+    ///
+    /// # Errors
+    ///
+    /// Memory ran out.
+    pub fn respond<R: Wait, A: Shows<K>>(
+        &self,
+        rt: &R,
+        alloc: Global,
+        answers: &A,
+        asked: Asked,
+        parts: &Parts,
+    ) -> HttpResult
+        ensures { IfOk result (IsTold K.configuration asked parts.now) }
+    {
+        let shown = self.latest(rt, alloc, answers)?;
+        shown.respond(alloc, asked, parts)
     }
 }

@@ -14,7 +14,7 @@ use Rattle.mds_refusals.specs.declared.methods.Methods.{Methods}
 abbrev pub with_missing : List ℕ → List ℕ → Entries FieldValue → Entries FieldValue
 with_missing name text headers = if is_some (get headers name) then headers else insert headers name (plain_value text)
 
--- the fields of a response with this status to a request whose path has these methods: 401 names the scheme of
+-- the fields of a response with this status, where a refusal has these methods to name: 401 names the scheme of
 -- credentials (RFC 9110, section 11.6.1), and 405 the methods (section 10.2.1)
 abbrev pub guided_fields : Option Methods → ℕ → Entries FieldValue → Entries FieldValue
 guided_fields None status headers =

@@ -54,7 +54,7 @@ fn methods_are_listed(rt: HostRuntime) {
 #[test]
 fn a_401_names_the_scheme(rt: HostRuntime) {
     let plain = empty(rt.alloc(), StatusCode::UNAUTHORIZED);
-    let told = guided(plain, Guide::of("/policies")).expect(&rt, "memory");
+    let told = guided(plain, Guide::without_methods()).expect(&rt, "memory");
     assert!(rt; told.status().as_u16() == 401);
     assert!(rt; has(&told, WWW_AUTHENTICATE, b"Bearer"));
     assert!(rt; !told.headers().contains_key(ALLOW));
@@ -85,7 +85,7 @@ fn a_field_is_kept(rt: HostRuntime) {
 #[test]
 fn a_reply_is_guided(rt: HostRuntime) {
     let plain = empty(rt.alloc(), StatusCode::UNAUTHORIZED);
-    let reply = GuidedReply::new(ready(Ok(plain)), Guide::of("/"));
+    let reply = GuidedReply::new(ready(Ok(plain)), Guide::without_methods());
     let given = block_on(&rt, reply).expect(&rt, "memory");
     let told = given.expect(&rt, "memory");
     assert!(rt; has(&told, WWW_AUTHENTICATE, b"Bearer"));
@@ -95,5 +95,12 @@ fn a_reply_is_guided(rt: HostRuntime) {
 fn another_status_is_left(rt: HostRuntime) {
     let plain = empty(rt.alloc(), StatusCode::OK);
     let told = guided(plain, Guide::of("/policies")).expect(&rt, "memory");
+    assert!(rt; told.headers().is_empty());
+}
+
+#[test]
+fn a_405_without_methods_names_none(rt: HostRuntime) {
+    let plain = empty(rt.alloc(), StatusCode::METHOD_NOT_ALLOWED);
+    let told = guided(plain, Guide::without_methods()).expect(&rt, "memory");
     assert!(rt; told.headers().is_empty());
 }

@@ -6,7 +6,7 @@ ghost use Rattle.mds_hall.specs.Early.{early};
 ghost use Rattle.mds_hall.specs.Asker.{IsWithin};
 ghost use Rattle.mds_hall.specs.Respond.{Responds};
 ghost use Rattle.mds_hall.specs.Response.{Says};
-ghost use Rattle.mds_hall.specs.declared.early.Arrived.TheVariants.{Whole, Broken, TooLong, NoMemory};
+ghost use Rattle.mds_limits.specs.declared.arrival.Arrived.TheVariants.{Whole, Broken, TooLong, NoMemory};
 ghost use Rattle.mds_request.specs.declared.code.Code.TheVariants as code;
 ghost use Rattle.mds_request.specs.declared.config.Actor.TheVariants.{Author, Operator, Nobody};
 ghost use Rattle.mds_examples.specs.Machine.{error, done};

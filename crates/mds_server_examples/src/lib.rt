@@ -11,4 +11,5 @@ pub mod fronts;
 pub mod histories;
 pub mod learning;
 pub mod limits;
+pub mod resolved;
 pub mod rooms;

@@ -6,10 +6,10 @@ use futures::future::{Ready, ready};
 use http::Response;
 use http::request::Parts;
 use http_body_util::Full;
-use mds_connections::{Answers, Crowded, Taken};
+use mds_connections::{Answers, Crowded};
 use mds_doors::{Closing, Ended, Queues, bound, serve_by};
-use mds_limits::Asker;
-use mds_request::Config;
+use mds_limits::{Arrived, Cost};
+use mds_request::{Actor, Config};
 use std::alloc::{AllocError, Global};
 use std::io::{self, Read, Write};
 use std::net::TcpStream;
@@ -33,17 +33,23 @@ struct Parrot {
 }
 
 impl Answers for Parrot {
+    type Head = Parts;
+
     type Reply = Ready<Result<Response<Full<Bytes>>, AllocError>>;
 
-    fn asker(&self, _parts: &Parts) -> Asker {
-        Asker::Author
+    fn resolve(&self, parts: Parts) -> Parts {
+        parts
     }
 
-    fn answer(
-        &self,
-        _parts: &Parts,
-        _taken: &Taken,
-    ) -> Result<Ready<Result<Response<Full<Bytes>>, AllocError>>, Crowded>
+    fn actor(_head: &Parts) -> Actor {
+        Actor::Author
+    }
+
+    fn cost(_head: &Parts, _length: usize) -> Cost {
+        Cost::Shared
+    }
+
+    fn answer(&self, _head: &Parts, _body: &Arrived) -> Result<Self::Reply, Crowded>
         ensures { IfOk result (λ reply. IsSome reply.0) }
     {
         let body = Full::new(Bytes::from_static(ANSWER));

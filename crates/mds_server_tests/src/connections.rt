@@ -5,7 +5,8 @@ use http::header::CONNECTION;
 use http::{Response, StatusCode};
 use http_body_util::Full;
 use mds_connections::{Admittance, Register, Seat, busy, finished};
-use mds_limits::{Arrival, Asker, MOST_OF_ASKER, MOST_STRANGERS, MOST_WAITING};
+use mds_limits::{Arrived, MOST_OF_ASKER, MOST_STRANGERS, MOST_WAITING};
+use mds_request::Actor;
 use std::alloc::{AllocError, AllocGlobal, Global};
 use std::sync::Arc;
 use std::sync::atomic::{AtomicU64, Ordering};
@@ -26,10 +27,10 @@ fn strangers_have_half_of_the_seats(rt: HostRuntime) -> Result<(), Fail> {
         entered(&mut register, alloc)?.ok_or("no seat")?;
     }
     let last = entered(&mut register, alloc)?.ok_or("no seat for one more")?;
-    let first = register.ask(0, Asker::Stranger, 0);
+    let first = register.ask(0, Actor::Nobody, 0);
     assert!(rt; first == Admittance::Busy);
-    let asked = register.ask(last, Asker::Author, 0);
-    assert!(rt; asked == Admittance::Admitted(Asker::Author));
+    let asked = register.ask(last, Actor::Author, 0);
+    assert!(rt; asked == Admittance::Admitted(Actor::Author));
     Ok(())
 }
 
@@ -40,14 +41,14 @@ fn so_many_requests_wait(rt: HostRuntime) -> Result<(), Fail> {
     let mut register = Register::new(alloc, 3)?;
     for _ in 0..MOST_WAITING {
         let key = entered(&mut register, alloc)?.ok_or("no seat")?;
-        let asked = register.ask(key, Asker::Stranger, 0);
-        assert!(rt; asked == Admittance::Admitted(Asker::Stranger));
+        let asked = register.ask(key, Actor::Nobody, 0);
+        assert!(rt; asked == Admittance::Admitted(Actor::Nobody));
     }
     let key = entered(&mut register, alloc)?.ok_or("no seat")?;
-    assert!(rt; register.ask(key, Asker::Stranger, 0) == Admittance::Busy);
+    assert!(rt; register.ask(key, Actor::Nobody, 0) == Admittance::Busy);
     register.answered(0);
-    let asked = register.ask(key, Asker::Stranger, 0);
-    assert!(rt; asked == Admittance::Admitted(Asker::Stranger));
+    let asked = register.ask(key, Actor::Nobody, 0);
+    assert!(rt; asked == Admittance::Admitted(Actor::Nobody));
     Ok(())
 }
 
@@ -56,7 +57,7 @@ fn so_many_requests_wait(rt: HostRuntime) -> Result<(), Fail> {
 fn one_has_so_many_seats(rt: HostRuntime) -> Result<(), Fail> {
     let alloc = rt.alloc();
     let mut register = Register::new(alloc, 3)?;
-    let alfa = Asker::Operator(0);
+    let alfa = Actor::Operator(0);
     for _ in 0..MOST_OF_ASKER {
         let key = entered(&mut register, alloc)?.ok_or("no seat")?;
         assert!(rt; register.ask(key, alfa, 0) == Admittance::Admitted(alfa));
@@ -76,7 +77,7 @@ fn a_closed_register_lets_nothing_in(rt: HostRuntime) -> Result<(), Fail> {
     let mut register = Register::new(alloc, 3)?;
     let key = entered(&mut register, alloc)?.ok_or("no seat")?;
     register.close();
-    assert!(rt; register.ask(key, Asker::Author, 0) == Admittance::Busy);
+    assert!(rt; register.ask(key, Actor::Author, 0) == Admittance::Busy);
     assert!(rt; entered(&mut register, alloc)?.is_none());
     Ok(())
 }
@@ -110,10 +111,10 @@ fn busy_says_so(rt: HostRuntime) -> Result<(), Fail> {
 fn a_last_reply_says_so(rt: HostRuntime) -> Result<(), Fail> {
     let alloc = rt.alloc();
     let long = Response::new(alloc, Full::new(Bytes::new()));
-    let long = finished(long, Arrival::TooLong)?;
+    let long = finished(long, &Arrived::TooLong)?;
     assert!(rt; long.headers().get(CONNECTION).is_some());
     let whole = Response::new(alloc, Full::new(Bytes::new()));
-    let whole = finished(whole, Arrival::Whole)?;
+    let whole = finished(whole, &Arrived::Whole(Bytes::new()))?;
     assert!(rt; whole.headers().get(CONNECTION).is_none());
     Ok(())
 }

@@ -6,10 +6,10 @@ use futures::future::{Ready, ready};
 use http::Response;
 use http::request::Parts;
 use http_body_util::Full;
-use mds_connections::{Answers, Crowded, Taken};
+use mds_connections::{Answers, Crowded};
 use mds_doors::{Closing, Ended, Queues, bound, serve_by};
-use mds_limits::Asker;
-use mds_request::Config;
+use mds_limits::{Arrived, Cost};
+use mds_request::{Actor, Config};
 use std::alloc::{AllocError, Global};
 use std::io::{self, Read, Write};
 use std::net::TcpStream;
@@ -36,23 +36,35 @@ struct Echo {
 }
 
 impl Answers for Echo {
+    type Head = Parts;
+
     type Reply = Ready<Result<Response<Full<Bytes>>, AllocError>>;
 
-    fn asker(&self, _parts: &Parts) -> Asker {
-        Asker::Author
+    fn resolve(&self, parts: Parts) -> Parts {
+        parts
     }
 
-    fn answer(&self, _parts: &Parts, taken: &Taken) -> Result<Self::Reply, Crowded>
+    fn actor(_head: &Parts) -> Actor {
+        Actor::Author
+    }
+
+    fn cost(_head: &Parts, _length: usize) -> Cost {
+        Cost::Exclusive
+    }
+
+    fn answer(&self, _head: &Parts, body: &Arrived) -> Result<Self::Reply, Crowded>
         ensures { IfOk result (λ reply. IsSome reply.0) }
     {
         if self.asked.fetch_add(1, Ordering::SeqCst) < CROWDED {
             return Err(Crowded);
         }
-        let response = match taken.body.clone() {
-            Ok(body) => Ok(Response::new(self.alloc, Full::new(body))),
-            Err(fault) => Err(fault),
+        let Arrived::Whole(body) = body else {
+            return Ok(ready(Err(AllocError)));
         };
-        Ok(ready(response))
+        Ok(ready(match body.clone() {
+            Ok(body) => Ok(Response::new(self.alloc, Full::new(body))),
+            Err(_) => Err(AllocError),
+        }))
     }
 }
 

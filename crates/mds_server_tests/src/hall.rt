@@ -25,6 +25,7 @@ use std::thread::Threads;
 
 mod early;
 mod overlapping;
+mod resolving;
 mod session;
 
 /// A status, and a body that is JSON.
@@ -124,6 +125,8 @@ enum Visit {
     LatestNote,
     Judged,
     RefusedBesideLocks,
+    EachHead,
+    LargeReport,
 }
 
 fn visited<R: Host + Sync>(rt: &R, visit: Visit) -> Result<(), Fail> {
@@ -154,6 +157,8 @@ fn opened<K: Named + Send + Sync, R: Host + Sync>(
         Visit::LatestNote => session::latest_note(rt, alloc, &hall),
         Visit::Judged => session::judged(rt, alloc, &hall),
         Visit::RefusedBesideLocks => early::refused_beside_locks(rt, alloc, &hall),
+        Visit::EachHead => resolving::each_head(rt, alloc, &hall),
+        Visit::LargeReport => resolving::large_report(rt, alloc, &hall),
     }
     hall.finish(rt);
     // A room that isn't ended keeps its share.

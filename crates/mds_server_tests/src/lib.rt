@@ -19,6 +19,8 @@ mod hall;
 #[cfg(test)]
 mod loopback;
 #[cfg(test)]
+mod queues;
+#[cfg(test)]
 mod snapshot;
 #[cfg(test)]
 mod waiting;

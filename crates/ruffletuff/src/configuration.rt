@@ -31,7 +31,7 @@ pub fn text_in<S: Read + Drop>(alloc: Global, source: S) -> Result<Vec<u8>, Endi
             _ => Ending::Misconfigured(Detail::Unreadable),
         });
     }
-    limited(text)
+    check_length(text)
 }
 
 /// A text that is no longer than a configuration may be.
@@ -39,7 +39,7 @@ pub fn text_in<S: Read + Drop>(alloc: Global, source: S) -> Result<Vec<u8>, Endi
 /// # Errors
 ///
 /// `Misconfigured` where it is longer.
-pub fn limited(text: Vec<u8>) -> Result<Vec<u8>, Ending>
+pub fn check_length(text: Vec<u8>) -> Result<Vec<u8>, Ending>
     ensures { IfOk result (λ text. length text.items ≤ LINE_LIMIT) }
 {
     if text.len() > LINE_LIMIT {

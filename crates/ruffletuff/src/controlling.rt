@@ -3,16 +3,14 @@
 use crate::board::Board;
 use crate::ending::Ending;
 use crate::errand::{Errand, beside};
-use crate::folders::Folders;
+use crate::host::Host;
 use crate::opening::{Given, serve_city};
 use mds_command::Service;
 use mds_control::{Port, PortWaker, Stop, serve_control};
 use mds_doors::Closing;
 use std::alloc::AllocGlobal;
 use std::fs::{File, Files};
-use std::io::{Eprint, Print};
 use std::net::{Net, TcpListener, TcpStream};
-use std::random::RandomSource;
 use std::sync::Wait;
 use std::thread::Threads;
 use std::time::Clock;
@@ -64,20 +62,7 @@ struct Controlled<'a> {
 /// before the port has woken wakes nobody.
 fn serve_and_end<R>(rt: &R, controlled: Controlled<'_>) -> (Result<(), Ending>, PortWaker)
 where
-    R: Wait
-        + Threads
-        + Clock
-        + RandomSource
-        + AllocGlobal
-        + Net
-        + Files<File = File>
-        + Folders
-        + Print
-        + Eprint
-        + Sync
-        + Send
-        + Copy
-        + Drop,
+    R: Host + Wait + Threads + Net + Files<File = File>,
 {
     let Controlled {
         service,
@@ -103,20 +88,7 @@ pub fn serve_controlled<R>(
     board: Board<'_>,
 ) -> Result<(), Ending>
 where
-    R: Wait
-        + Threads
-        + Clock
-        + RandomSource
-        + AllocGlobal
-        + Net<Listener = TcpListener, Stream = TcpStream>
-        + Files<File = File>
-        + Folders
-        + Print
-        + Eprint
-        + Sync
-        + Send
-        + Copy
-        + Drop,
+    R: Host + Wait + Threads + Net<Listener = TcpListener, Stream = TcpStream> + Files<File = File>,
 {
     let Ok(port) = Port::bind(rt, address, service.control_host) else {
         return Err(Ending::NoControl);

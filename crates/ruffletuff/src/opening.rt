@@ -1,4 +1,4 @@
-//! A city is opened: its folder, its journal, its room and desks.
+//! A city is opened: its folder, where it is connected to, its journal, its room and desks.
 ghost use Rattle.std.specs.Prelude.{◌≡◌, ℕ, List, IfOk};
 ghost use Rattle.mds_request.specs.Configuration.{configuration};
 ghost use Rattle.mds_snapshot.specs.Opening.{book_of};
@@ -9,10 +9,12 @@ use crate::board::Board;
 use crate::ending::Ending;
 use crate::errand::beside;
 use crate::folders::Folders;
+use crate::host::Host;
+use crate::listening::{Listening, listen};
 use crate::room::ReportedRoom;
-use crate::serving::{Stage, kept};
+use crate::serving::{Stage, keep_and_serve};
 use crate::standing::{Filed, Standing, Table};
-use crate::starting::{left_out, started};
+use crate::starting::{ids_left_out, start};
 use crate::thinner::Thinner;
 use crate::thinning::clear;
 use mds_command::Service;
@@ -29,15 +31,13 @@ use mds_snapshot::{Blank, prepare};
 use mds_start::workers;
 use mds_text::Id;
 use mds_thinning::Found;
-use std::alloc::{AllocGlobal, Global};
+use std::alloc::AllocGlobal;
 use std::fs::{self, File, Files};
-use std::io::{Eprint, Print};
+use std::io::Eprint;
 use std::marker::Brand;
 use std::net::Net;
-use std::random::RandomSource;
 use std::sync::{Arc, Wait};
 use std::thread::{Threads, available_parallelism};
-use std::time::Clock;
 
 /// How many bytes a folder's journal has; none, where it can't be seen.
 pub fn journal_length<R: Files<File = File> + AllocGlobal>(rt: &R, folder: &str) -> Option<u64> {
@@ -81,9 +81,9 @@ pub struct Given<'a> {
 #[derive(Drop)]
 struct Opening<'a> {
     /// The city's folder.
-    state: &'a str,
-    /// Where to listen.
-    listen: &'a str,
+    folder: &'a str,
+    /// Where the server is connected to.
+    listening: Listening,
     /// The operator whose entries are left out.
     dropped: Option<Id>,
     config: Config,
@@ -106,17 +106,18 @@ impl Opening<'_> {
     ) -> Result<Standing<R>, Ending> {
         let meeting = Arc::try_clone(self.meeting)?;
         let counters = Arc::try_clone(self.board.shared)?;
-        Standing::new(*rt, rt.alloc(), self.state, meeting, counters)
+        Standing::new(*rt, rt.alloc(), self.folder, meeting, counters)
     }
 }
 
-/// Opens the city of a service's folder, which it locks, and serves it until it is to end. Its journal is thinned meanwhile, in
-/// a thread of its own, each time that it has grown enough.
+/// Opens the city of a service's folder, which it locks, and serves it until it is to end. Where it is connected to is known
+/// before its journal is read: connections that come meanwhile wait until the city is open. Its journal is thinned while it is
+/// served, in a thread of its own, each time that it has grown enough.
 ///
 /// # Errors
 ///
-/// The first fault, in the order in which things are opened: the folder, its journal, its ballast, what a server starts
-/// from, the listener; then what ended the server.
+/// The first fault, in the order in which things are opened: the folder with its files, the listener, the ballast,
+/// the journal, what a server starts from; then what ended the server.
 pub fn serve_city<'a, R>(
     rt: &R,
     service: &'a Service<'a>,
@@ -124,20 +125,7 @@ pub fn serve_city<'a, R>(
     board: Board<'a>,
 ) -> Result<(), Ending>
 where
-    R: Wait
-        + Threads
-        + Clock
-        + RandomSource
-        + AllocGlobal
-        + Net
-        + Files<File = File>
-        + Folders
-        + Print
-        + Eprint
-        + Sync
-        + Send
-        + Copy
-        + Drop,
+    R: Host + Wait + Threads + Net + Files<File = File>,
 {
     let Given { config, text } = given;
     let Folder {
@@ -145,6 +133,7 @@ where
         journal,
         ballast,
     } = open_folder(rt, rt.alloc(), service.state)?;
+    let listening = listen(rt, service.listen, threads_for(rt, &config))?;
     clear(rt, service.state);
     let Ok(meeting) = Arc::new(rt.alloc(), Meeting::new(Pace::new(service.thin_at))) else {
         return Err(Ending::NoMemory);
@@ -156,8 +145,8 @@ where
         meeting: &*meeting,
     };
     let opening = Opening {
-        state: service.state,
-        listen: service.listen,
+        folder: service.state,
+        listening,
         dropped: service.dropped,
         config,
         board,
@@ -174,23 +163,10 @@ where
 /// # Errors
 ///
 /// As `serve_city`.
-fn serve_and_close<R>(rt: &R, opening: Opening<'_>) -> Result<(), Ending>
-where
-    R: Wait
-        + Threads
-        + Clock
-        + RandomSource
-        + AllocGlobal
-        + Net
-        + Files<File = File>
-        + Folders
-        + Print
-        + Eprint
-        + Sync
-        + Send
-        + Copy
-        + Drop,
-{
+fn serve_and_close<R: Host + Wait + Threads + Files<File = File>>(
+    rt: &R,
+    opening: Opening<'_>,
+) -> Result<(), Ending> {
     let meeting = opening.meeting;
     let served = open_and_serve(rt, opening);
     meeting.close(rt);
@@ -202,23 +178,10 @@ where
 /// # Errors
 ///
 /// As `serve_city`.
-fn open_and_serve<R>(rt: &R, opening: Opening<'_>) -> Result<(), Ending>
-where
-    R: Wait
-        + Threads
-        + Clock
-        + RandomSource
-        + AllocGlobal
-        + Net
-        + Files<File = File>
-        + Folders
-        + Print
-        + Eprint
-        + Sync
-        + Send
-        + Copy
-        + Drop,
-{
+fn open_and_serve<R: Host + Wait + Threads + Files<File = File>>(
+    rt: &R,
+    opening: Opening<'_>,
+) -> Result<(), Ending> {
     match opening.standing(rt) {
         Ok(standing) => serve_beside(rt, opening, standing),
         Err(ending) => Err(ending),
@@ -231,30 +194,14 @@ where
 /// # Errors
 ///
 /// As `serve_city`.
-fn serve_beside<B: Beside<Filed, Found> + Send, R>(
+fn serve_beside<B: Beside<Filed, Found> + Send, R: Host + Wait + Threads + Files<File = File>>(
     rt: &R,
     opening: Opening<'_>,
     beside: B,
-) -> Result<(), Ending>
-where
-    R: Wait
-        + Threads
-        + Clock
-        + RandomSource
-        + AllocGlobal
-        + Net
-        + Files<File = File>
-        + Print
-        + Eprint
-        + Sync
-        + Send
-        + Copy
-        + Drop,
-{
-    let alloc = rt.alloc();
+) -> Result<(), Ending> {
     let Opening {
-        state,
-        listen,
+        folder,
+        listening,
         dropped,
         config,
         board,
@@ -266,34 +213,51 @@ where
     let Ok(space) = Ballast::new(ballast) else {
         return Err(Ending::Folder(FolderFault::Unusable));
     };
-    let mut aside = CutFiles::new(*rt, alloc, state)?;
-    let log = match Journal::recover(alloc, Stored::new(journal), &mut aside) {
+    let dropped = ids_left_out(rt.alloc(), dropped)?;
+    let stage = Stage {
+        folder,
+        listening,
+        dropped: &dropped,
+        queues: Queues::new(rt.alloc(), &config)?,
+        board,
+    };
+    let space = ReportedRoom::new(*rt, space);
+    serve_journal(rt, journal, beside, space, config, stage)
+}
+
+/// Reads the journal of a folder, cuts off what wasn't synced, and serves its city until it is to end.
+///
+/// # Errors
+///
+/// As `serve_city`.
+fn serve_journal<B: Beside<Filed, Found> + Send, S: Space + Send, R>(
+    rt: &R,
+    journal: File,
+    beside: B,
+    space: S,
+    config: Config,
+    stage: Stage<'_>,
+) -> Result<(), Ending>
+where
+    R: Host + Wait + Threads + Files<File = File>,
+    requires { S.aside space ≡ 0 }
+{
+    let mut aside = CutFiles::new(*rt, rt.alloc(), stage.folder)?;
+    let log = match Journal::recover(rt.alloc(), Stored::new(journal), &mut aside) {
         Ok(log) => log,
         Err(fault) => return Err(Ending::Folder(FolderFault::from(fault))),
     };
     tell_cut(rt, log.cut());
-    count_bytes(rt, state, board.counters);
-    let dropped = left_out(alloc, dropped)?;
-    let stage = Stage {
-        listen,
-        dropped: &dropped,
-        queues: Queues::new(alloc, &config)?,
-        askers: config.operators().len() + 2,
-        threads: threads_for(rt, &config),
-        board,
-    };
-    rolling(
-        rt,
-        log,
-        beside,
-        ReportedRoom::new(*rt, space),
-        config,
-        stage,
-    )
+    count_bytes(rt, stage.folder, stage.board.counters);
+    serve_rolling(rt, log, beside, space, config, stage)
 }
 
 /// Starts the server of a log again whose file is exchanged from now on by what stands beside it, and serves it.
-fn rolling<L: Sealed + Send, B: Beside<L, Found> + Send, S: Space + Send, R>(
+///
+/// # Errors
+///
+/// As `serve_opening`, and `NoMemory`.
+fn serve_rolling<L: Sealed + Send, B: Beside<L, Found> + Send, S: Space + Send, R>(
     rt: &R,
     log: L,
     beside: B,
@@ -302,27 +266,20 @@ fn rolling<L: Sealed + Send, B: Beside<L, Found> + Send, S: Space + Send, R>(
     stage: Stage<'_>,
 ) -> Result<(), Ending>
 where
-    R: Wait
-        + Threads
-        + Clock
-        + RandomSource
-        + AllocGlobal
-        + Net
-        + Print
-        + Eprint
-        + Sync
-        + Send
-        + Copy
-        + Drop,
+    R: Host + Wait + Threads,
     requires listed { (first : List (List ℕ)) × L.may_be log first }
     requires space { S.aside space ≡ 0 }
 {
     let log = Rolling::new(rt.alloc(), log, beside);
-    prepared::<Rolling<L, Found, B>, S, R>(rt, log, space, config, stage)
+    serve_log::<Rolling<L, Found, B>, S, R>(rt, log, space, config, stage)
 }
 
 /// Starts the server of a log again and serves it.
-fn prepared<L: Log + Send, S: Space + Send, R>(
+///
+/// # Errors
+///
+/// As `serve_opening`, and `NoMemory`.
+fn serve_log<L: Log + Send, S: Space + Send, R>(
     rt: &R,
     log: L,
     space: S,
@@ -330,23 +287,12 @@ fn prepared<L: Log + Send, S: Space + Send, R>(
     stage: Stage<'_>,
 ) -> Result<(), Ending>
 where
-    R: Wait
-        + Threads
-        + Clock
-        + RandomSource
-        + AllocGlobal
-        + Net
-        + Print
-        + Eprint
-        + Sync
-        + Send
-        + Copy
-        + Drop,
+    R: Host + Wait + Threads,
     requires listed { (first : List (List ℕ)) × L.may_be log first }
     requires space { S.aside space ≡ 0 }
 {
     let blank = prepare(rt.alloc())?;
-    opened::<Brand, L, S, R>(rt, log, space, config, blank, stage)
+    serve_opening::<Brand, L, S, R>(rt, log, space, config, blank, stage)
 }
 
 /// The author's room and the desks, as the server left them whose log this is. Of an empty log the configuration's head is the
@@ -354,8 +300,8 @@ where
 ///
 /// # Errors
 ///
-/// `Folder` where the log couldn't be read or begun, or as `started`.
-fn resumed<K: Named, L: Log, R: Wait + Eprint + AllocGlobal + Copy>(
+/// `Folder` where the log couldn't be read or begun, or as `start`.
+fn resume<K: Named, L: Log, R: Wait + Eprint + AllocGlobal + Copy>(
     rt: &R,
     log: &mut L,
     config: Config,
@@ -371,11 +317,15 @@ fn resumed<K: Named, L: Log, R: Wait + Eprint + AllocGlobal + Copy>(
         Ok(texts) => texts,
         Err(fault) => return Err(Ending::Folder(fault)),
     };
-    started::<K, R>(rt, &texts, config, blank, dropped, counters)
+    start::<K, R>(rt, &texts, config, blank, dropped, counters)
 }
 
 /// Starts the server of a log again, as this opening, and serves it.
-fn opened<K: Named + Send + Sync, L: Log + Send, S: Space + Send, R>(
+///
+/// # Errors
+///
+/// As `resume`, `Folder` where the log couldn't be gone on from, or as `keep_and_serve`.
+fn serve_opening<K: Named + Send + Sync, L: Log + Send, S: Space + Send, R>(
     rt: &R,
     log: L,
     space: S,
@@ -384,18 +334,7 @@ fn opened<K: Named + Send + Sync, L: Log + Send, S: Space + Send, R>(
     stage: Stage<'_>,
 ) -> Result<(), Ending>
 where
-    R: Wait
-        + Threads
-        + Clock
-        + RandomSource
-        + AllocGlobal
-        + Net
-        + Print
-        + Eprint
-        + Sync
-        + Send
-        + Copy
-        + Drop,
+    R: Host + Wait + Threads,
     requires book { book_of blank ≡ K.book }
     requires configured { configuration config ≡ K.configuration }
     requires listed { (first : List (List ℕ)) × L.may_be log first }
@@ -403,11 +342,11 @@ where
 {
     let mut log = log;
     let counters = stage.board.counters;
-    let (room, desks) = resumed::<K, L, R>(rt, &mut log, config, blank, stage.dropped, counters)?;
+    let (room, desks) = resume::<K, L, R>(rt, &mut log, config, blank, stage.dropped, counters)?;
     let hall = Hall::<K>::of(rt, rt.alloc(), room, desks)?;
     let Ok(history) = Opened::new(&mut log) else {
         hall.finish(rt);
         return Err(Ending::Folder(FolderFault::Unusable));
     };
-    kept::<K, Brand, L, S, R>(rt, hall, history, log, space, stage)
+    keep_and_serve::<K, Brand, L, S, R>(rt, hall, history, log, space, stage)
 }

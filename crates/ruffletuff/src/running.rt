@@ -10,7 +10,7 @@ use crate::configuration::{configuration_in, told_text};
 use crate::controlling::serve_controlled;
 use crate::counting::counters_of;
 use crate::ending::Ending;
-use crate::folders::Folders;
+use crate::host::Host;
 use crate::opening::{Given, serve_city};
 use crate::source::Source;
 use crate::thinning::thin;
@@ -25,10 +25,8 @@ use std::fs::{File, Files};
 use std::io::{Eprint, Print};
 use std::mem::drop;
 use std::net::{Net, TcpListener, TcpStream};
-use std::random::RandomSource;
 use std::sync::{Arc, Wait};
 use std::thread::Threads;
-use std::time::Clock;
 
 /// The exit status of what was done.
 fn status_of(done: Result<u8, Ending>) -> u8
@@ -43,21 +41,12 @@ fn status_of(done: Result<u8, Ending>) -> u8
 /// Does what the arguments ask for, says on standard error what went wrong, and gives the exit status.
 pub fn run<R>(rt: &R) -> u8
 where
-    R: Wait
+    R: Host
+        + Wait
         + Threads
-        + Clock
         + Net<Listener = TcpListener, Stream = TcpStream>
-        + RandomSource
-        + AllocGlobal
         + Files<File = File>
-        + Folders
-        + Print
-        + Eprint
-        + Env
-        + Sync
-        + Send
-        + Copy
-        + Drop,
+        + Env,
 {
     let words = match read_words(rt) {
         Ok(words) => words,
@@ -70,7 +59,7 @@ where
         tell_usage(rt, &Ending::Usage);
         return Ending::Usage.status();
     };
-    let done = done(rt, &asked);
+    let done = carry_out(rt, &asked);
     if let Err(ending) = &done {
         tell(rt, &asked, ending);
     }
@@ -78,32 +67,19 @@ where
 }
 
 /// Does what is asked for, and gives the exit status that comes of it.
-fn done<R>(rt: &R, asked: &Asked<'_>) -> Result<u8, Ending>
+fn carry_out<R>(rt: &R, asked: &Asked<'_>) -> Result<u8, Ending>
 where
-    R: Wait
-        + Threads
-        + Clock
-        + RandomSource
-        + AllocGlobal
-        + Net<Listener = TcpListener, Stream = TcpStream>
-        + Files<File = File>
-        + Folders
-        + Print
-        + Eprint
-        + Sync
-        + Send
-        + Copy
-        + Drop,
+    R: Host + Wait + Threads + Net<Listener = TcpListener, Stream = TcpStream> + Files<File = File>,
 {
     let done = match asked {
-        Asked::Help => printed(rt, HELP),
-        Asked::Version => said_version(rt),
+        Asked::Help => print_text(rt, HELP),
+        Asked::Version => print_version(rt),
         Asked::Serve(service) => serve(rt, service),
         Asked::Check(folder) => check(rt, *folder),
         Asked::CheckConfig(path) => check_configuration(rt, *path),
         Asked::Audit(extract) => audit(rt, extract),
         Asked::Thin(thinning) => thin(rt, thinning),
-        Asked::Stop(address) => stopped(rt, *address),
+        Asked::Stop(address) => stop_server(rt, *address),
         Asked::Errand(errand) => return Ok(run_errand(rt, errand)),
     };
     match done {
@@ -117,7 +93,7 @@ where
 /// # Errors
 ///
 /// `NotPrinted`.
-fn printed<R: Print>(rt: &R, text: &str) -> Result<(), Ending> {
+fn print_text<R: Print>(rt: &R, text: &str) -> Result<(), Ending> {
     match print!(rt; "{text}") {
         Ok(()) => Ok(()),
         Err(_) => Err(Ending::NotPrinted),
@@ -129,7 +105,7 @@ fn printed<R: Print>(rt: &R, text: &str) -> Result<(), Ending> {
 /// # Errors
 ///
 /// `NotPrinted`, `NoMemory`.
-fn said_version<R: Print + AllocGlobal>(rt: &R) -> Result<(), Ending> {
+fn print_version<R: Print + AllocGlobal>(rt: &R) -> Result<(), Ending> {
     let line = version_line(rt.alloc(), VERSION, COMMIT)?;
     match println!(rt; "{line}") {
         Ok(()) => Ok(()),
@@ -150,7 +126,7 @@ fn check_configuration<R: Files<File = File> + Print + Eprint + AllocGlobal>(
     source.tell(rt, path, false)?;
     let text = source.resolve(rt.alloc())?;
     drop(configuration_in(rt.alloc(), &text)?);
-    printed(rt, "a configuration\n")
+    print_text(rt, "a configuration\n")
 }
 
 /// Stops the server whose control port is at this address.
@@ -158,7 +134,7 @@ fn check_configuration<R: Files<File = File> + Print + Eprint + AllocGlobal>(
 /// # Errors
 ///
 /// `NotStopped` where nothing there says that it stops.
-fn stopped<R: Net + AllocGlobal>(rt: &R, address: &str) -> Result<(), Ending> {
+fn stop_server<R: Net + AllocGlobal>(rt: &R, address: &str) -> Result<(), Ending> {
     match stop(rt, address) {
         Ok(true) => Ok(()),
         Ok(false) | Err(_) => Err(Ending::NotStopped),
@@ -172,20 +148,7 @@ fn stopped<R: Net + AllocGlobal>(rt: &R, address: &str) -> Result<(), Ending> {
 /// The configuration's, the control port's, or as the city isn't opened or its server ends.
 fn serve<R>(rt: &R, service: &Service<'_>) -> Result<(), Ending>
 where
-    R: Wait
-        + Threads
-        + Clock
-        + RandomSource
-        + AllocGlobal
-        + Net<Listener = TcpListener, Stream = TcpStream>
-        + Files<File = File>
-        + Folders
-        + Print
-        + Eprint
-        + Sync
-        + Send
-        + Copy
-        + Drop,
+    R: Host + Wait + Threads + Net<Listener = TcpListener, Stream = TcpStream> + Files<File = File>,
 {
     let text = told_text(rt, rt.alloc(), service.config)?;
     let config = configuration_in(rt.alloc(), &text)?;

@@ -2,7 +2,7 @@
 ghost use Rattle.std.specs.Prelude.{◌≤◌, length, IfOk};
 ghost use Rattle.mds_lines.specs.declared.gather.TheConstants.{LINE_LIMIT};
 
-use crate::configuration::{limited, text_in};
+use crate::configuration::{check_length, text_in};
 use crate::ending::Ending;
 use mds_configuration::{Finding, What, Zoned, named_zone, review, with_zone};
 use mds_diagnosis::Detail;
@@ -87,7 +87,7 @@ impl Source {
             Zoned::Rule(rule) => with_zone(alloc, &self.text, rule)?,
             Zoned::Plain | Zoned::Fault(_) => Vec::from_slice(alloc, &self.text)?,
         };
-        limited(text)
+        check_length(text)
     }
 
     /// What is found in it.

@@ -26,7 +26,7 @@ use std::sync::Wait;
 const CONFLICT: u16 = 409;
 
 /// The operators that are left out: the one that is named, or none.
-pub fn left_out(alloc: Global, dropped: Option<Id>) -> Result<Vec<Id>, AllocError>
+pub fn ids_left_out(alloc: Global, dropped: Option<Id>) -> Result<Vec<Id>, AllocError>
     ensures { IfOk result (λ ids. ids.items ≡ option_to_list dropped) }
 {
     let mut ids = Vec::new(alloc);
@@ -84,7 +84,7 @@ fn publications(entries: &[Entry<'_>]) -> usize
 ///
 /// `Folder` where the texts aren't a journal's of this configuration; `Refused` at the first entry that isn't answered with
 /// success; `NoMemory`.
-pub fn started<K: Naming, R: Wait + Eprint + AllocGlobal + Copy>(
+pub fn start<K: Naming, R: Wait + Eprint + AllocGlobal + Copy>(
     rt: &R,
     texts: &[Vec<u8>],
     config: Config,
@@ -107,7 +107,7 @@ pub fn started<K: Naming, R: Wait + Eprint + AllocGlobal + Copy>(
         Ok(entries) => entries,
         Err(_) => return Err(Ending::NoMemory),
     };
-    answered(rt, config, blank, &entries, counters)
+    answer_again(rt, config, blank, &entries, counters)
 }
 
 /// The operator whose report isn't answered again since its fleet is full, where that is the fault.
@@ -136,7 +136,7 @@ fn tell_limit<R: Eprint + AllocGlobal>(rt: &R, limits: &Limits, id: Id) {
 /// # Errors
 ///
 /// `Refused` at the first that isn't answered with success, `NoMemory`.
-fn answered<K: Naming, R: Wait + Eprint + AllocGlobal + Copy>(
+fn answer_again<K: Naming, R: Wait + Eprint + AllocGlobal + Copy>(
     rt: &R,
     config: Config,
     blank: Blank,

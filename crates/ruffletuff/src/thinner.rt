@@ -61,7 +61,7 @@ fn next_bytes(alloc: Global, file: &mut File, count: u64) -> Result<Vec<u8>, Thi
 }
 
 /// Why a shorter journal that can't be brought up isn't offered.
-fn of_catching(fault: CatchFault) -> ThinFault {
+fn catching_fault(fault: CatchFault) -> ThinFault {
     match fault {
         CatchFault::Damaged => ThinFault::Folder(FolderFault::Unusable),
         CatchFault::NoMemory => ThinFault::NoMemory,
@@ -105,7 +105,7 @@ impl<R: Folders + Wait + Clock + AllocGlobal + Eprint + Copy> Thinner<'_, R> {
     }
 
     /// A shorter journal of what a journal's file has up to a seal.
-    fn shortened(&self, file: &mut File, seal: Seal) -> Result<Shorter<Filed, Found>, ThinFault> {
+    fn shorten(&self, file: &mut File, seal: Seal) -> Result<Shorter<Filed, Found>, ThinFault> {
         let alloc = self.rt.alloc();
         let bytes = next_bytes(alloc, file, seal.position)?;
         let log = match Journal::open(alloc, Stored::new(self.beside()?)) {
@@ -122,7 +122,7 @@ impl<R: Folders + Wait + Clock + AllocGlobal + Eprint + Copy> Thinner<'_, R> {
     }
 
     /// Brings a shorter journal up to the next seal up to which the journal is synced, and says how many bytes it lacked.
-    fn brought_up(
+    fn bring_up(
         &self,
         file: &mut File,
         shorter: Shorter<Filed, Found>,
@@ -136,18 +136,18 @@ impl<R: Folders + Wait + Clock + AllocGlobal + Eprint + Copy> Thinner<'_, R> {
         let bytes = next_bytes(alloc, file, lacking)?;
         match shorter.caught_up(alloc, to, &bytes) {
             Ok(shorter) => Ok((shorter, lacking)),
-            Err(fault) => Err(Ceased::Fault(of_catching(fault))),
+            Err(fault) => Err(Ceased::Fault(catching_fault(fault))),
         }
     }
 
     /// Makes a shorter journal of what the journal has up to a seal, brings it up until it lacks little, or often enough, and
     /// offers it. Gives the file of the journal, which is to stay open until the shorter one has its place: what it takes on
     /// the disk is given back by who closes it last.
-    fn offered(&self, seal: Seal) -> Result<File, Ceased> {
+    fn offer(&self, seal: Seal) -> Result<File, Ceased> {
         let mut file = self.journal()?;
-        let mut shorter = self.shortened(&mut file, seal)?;
+        let mut shorter = self.shorten(&mut file, seal)?;
         for _ in 0..MOST_ROUNDS {
-            let (further, lacked) = self.brought_up(&mut file, shorter)?;
+            let (further, lacked) = self.bring_up(&mut file, shorter)?;
             shorter = further;
             if is_little(lacked) {
                 break;
@@ -159,7 +159,7 @@ impl<R: Folders + Wait + Clock + AllocGlobal + Eprint + Copy> Thinner<'_, R> {
 
     /// Thins the journal by what it has up to a seal. What can't be finished is cleared away, and said.
     fn thin(&self, seal: Seal) {
-        match self.offered(seal) {
+        match self.offer(seal) {
             Ok(_file) => match self.meeting.settled(&self.rt) {
                 Some(true) => {
                     let _ = eprintln!(self.rt; "ruffletuff: the journal is thinned");

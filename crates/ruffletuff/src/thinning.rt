@@ -58,7 +58,7 @@ pub fn moment<R: Clock + Copy>(rt: &R) -> Moment {
 /// # Errors
 ///
 /// As `Ending::from` says.
-fn thinned<R: Wait + Files<File = File> + Clock + AllocGlobal + Copy>(
+fn thin_journal<R: Wait + Files<File = File> + Clock + AllocGlobal + Copy>(
     rt: &R,
     folder: &str,
     text: &[u8],
@@ -89,7 +89,7 @@ pub fn thin<R: Wait + Files<File = File> + Clock + Print + AllocGlobal + Copy>(
     let text = configuration_text(rt, alloc, asked.config)?;
     drop(configuration_in(alloc, &text)?);
     let length = bytes_of(rt, asked.folder)?;
-    let counts = thinned(rt, asked.folder, &text)?;
+    let counts = thin_journal(rt, asked.folder, &text)?;
     let left = bytes_of(rt, asked.folder)?;
     // The head is a record too.
     let before = counts.before.saturating_add(1);

@@ -139,7 +139,8 @@ pub(super) fn refused_beside_locks<K: Named, R: Host + Sync>(
     alloc: Global,
     hall: &Hall<K>,
 ) {
-    let Actor::Operator(place) = hall.asker(b"alfa") else {
+    let head = parts(alloc, Method::GET, NOWHERE, Some(ALFA)).expect(rt, "a head");
+    let Actor::Operator(place) = hall.actor_at(&head) else {
         panic!(rt; "alfa is an operator");
     };
     let desk = hall.desk_at(rt, place).expect(rt, "alfa's desk");

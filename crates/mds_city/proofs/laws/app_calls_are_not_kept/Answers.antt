@@ -1,4 +1,4 @@
-use Rattle.mds_city.proofs.Apart.{unkept}
+use Rattle.mds_city.proofs.Unkept.{unkept}
 use Rattle.mds_city.proofs.laws.app_calls_are_not_kept.Goals as goal
 
 pub returns : goal.returns

@@ -1,6 +1,6 @@
 use Rattle.mds_hall.specs.Asked.{request_in}
 use Rattle.mds_hall.specs.Early.{early}
-use Rattle.mds_hall.specs.Heard.{body_in}
+use Rattle.mds_limits.specs.Arrival.{body_in}
 use Rattle.mds_city.proofs.Responses.{as_a_hall}
 use Rattle.mds_city.proofs.laws.responds_as_a_hall.Goals as goal
 

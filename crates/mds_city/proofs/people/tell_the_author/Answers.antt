@@ -1,16 +1,15 @@
 use Rattle.std.proofs.Common.{◌≡◌}
 use Rattle.mds_app.specs.Badges.{badges_view}
 use Rattle.mds_app.specs.Whoami.{who_reply}
-use Rattle.mds_request.specs.Configuration.{configuration}
 use Rattle.mds_request.specs.declared.config.Actor.TheVariants.{Author}
 use Rattle.mds_city.specs.Told.{TellsAuthor}
-use Rattle.mds_city.specs.declared.app.Question.TheVariants.{Whoami}
+use Rattle.mds_routes.specs.declared.app.Question.TheVariants.{Whoami}
 use Rattle.mds_city.proofs.Responses.{waits_kind}
 use Rattle.mds_city.proofs.people.tell_the_author.Goals as goal
 
 pub returns-in-Whoami : goal.returns-in-Whoami
 returns-in-Whoami g c =
-    let own = configuration c.args.city.now.hall.config.value in
+    let own = g.K.Named.configuration in
     let badges = badges_view c.args.city.now.badges in
     rw c.in-Whoami.is (waits_kind (λ reply. reply ≡ who_reply badges Author) (TellsAuthor own badges Whoami) (λ s. s.reply) c.who.result
     (λ reply is drafts publications. is) c.who.ensures)

@@ -1,18 +1,17 @@
-use Rattle.std.proofs.Common.{◌≡◌, Err, inr, sym, ◌∙◌}
-use Rattle.mds_request.specs.Call.{call_of}
-use Rattle.mds_request.specs.Configuration.{configuration}
-use Rattle.mds_request.specs.Reply.{refused}
+use Rattle.std.proofs.Common.{inl}
+use Rattle.mds_request.specs.Configuration.{actor_of}
 use Rattle.mds_hall.specs.Heard.{request_heard}
-use Rattle.mds_city.proofs.Responses.{ok_more, waits_more}
-use Rattle.mds_city.proofs.Turns.{refused_turn}
+use Rattle.mds_city.proofs.Responses.{ok_more, waits_more, waits_turn}
 use Rattle.mds_city.proofs.responding.answer_call.Goals as goal
 
 pub returns-in-Err : goal.returns-in-Err
 returns-in-Err g c =
-    let own = configuration c.args.city.now.hall.config.value in
+    ok_more c.refuse_unheld.result (λ s. waits_more s.reply (λ response says. inl (c.in-Err.why, says))) c.refuse_unheld.ensures.says
+
+pub returns-in-Ok-carry_out : goal.returns-in-Ok-carry_out
+returns-in-Ok-carry_out g c =
+    let own = g.K.Named.configuration in
     let request = request_heard c.args.heard in
-    let code = c.in-Err.code in
-    let resolved : call_of own request ≡ Err code = sym c.call.ensures ∙ c.in-Err.is in
-    ok_more c.refused.result
-    (λ s. waits_more s.reply (λ response says. inr (record { reply = refused code; turn = refused_turn own request code s.stamp resolved c.requires.known; says = says })))
-    c.refused.ensures
+    let answered = c.in-Ok-carry_out.answered in
+    waits_turn (λ s. s.reply) (λ s. s.stamp) own (actor_of own request.token) request c.reply.result answered.answer answered.stamp c.in-Ok-carry_out.ensures
+    c.reply.ensures.says c.reply.ensures.stamp

@@ -1,6 +1,5 @@
 use Rattle.std.proofs.Common.{◌≡◌, Ok, IfOk, sym, ap, subst, ◌∙◌}
 use Rattle.mds_request.specs.Call.{call_of}
-use Rattle.mds_request.specs.Configuration.{configuration}
 use Rattle.mds_request.specs.declared.call.Call.TheVariants as call
 use Rattle.mds_request.specs.declared.config.Actor.{Actor}
 use Rattle.mds_request.proofs.Callers.{call_of-caller}
@@ -10,7 +9,7 @@ use Rattle.mds_city.proofs.responding.carry_out.Goals as goal
 
 pub returns-in-Author : goal.returns-in-Author
 returns-in-Author g c =
-    let own = configuration c.args.city.now.hall.config.value in
+    let own = g.K.Named.configuration in
     let request = request_heard c.args.heard in
     let resolved : call_of own request ≡ Ok (call.Author c.in-Author.call) = c.requires.resolved ∙ ap Ok c.in-Author.is in
     subst (λ (who : Actor). IfOk c.room_turn_of.result (λ answered. IsRecordedTurn own who request answered.answer answered.stamp))
@@ -18,7 +17,7 @@ returns-in-Author g c =
 
 pub returns-in-Operator : goal.returns-in-Operator
 returns-in-Operator g c =
-    let own = configuration c.args.city.now.hall.config.value in
+    let own = g.K.Named.configuration in
     let request = request_heard c.args.heard in
     let resolved : call_of own request ≡ Ok (call.Operator c.in-Operator.place c.in-Operator.call) = c.requires.resolved ∙ ap Ok c.in-Operator.is in
     subst (λ (who : Actor). IfOk c.desk_turn.result (λ answered. IsRecordedTurn own who request answered.answer answered.stamp))

@@ -3,7 +3,7 @@ use Rattle.std.proofs.lemmas.List.{length-replicate}
 use Rattle.mds_request.specs.declared.call.TheConstants.{MOST_BODY}
 use Rattle.mds_request.specs.declared.code.Code.TheVariants as code
 use Rattle.mds_hall.specs.Early.{early}
-use Rattle.mds_hall.specs.declared.early.Arrived.TheVariants.{Whole}
+use Rattle.mds_limits.specs.declared.arrival.Arrived.TheVariants.{Whole}
 use Rattle.mds_examples.specs.Requests.{configuration}
 use Rattle.mds_server_examples.specs.Heads.{by_nobody}
 use Rattle.mds_server_examples.proofs.early.bodies.Goals as goal

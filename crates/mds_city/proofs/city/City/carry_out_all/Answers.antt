@@ -5,6 +5,7 @@ use Rattle.mds_request.specs.Request.{Request, request_of}
 use Rattle.mds_request.specs.Reply.{Reply}
 use Rattle.mds_desk.specs.Desk.{state_of}
 use Rattle.mds_city.specs.Many.{IsAnsweredInPart}
+use Rattle.mds_city.proofs.Askers.{front_asked, rest_asked}
 use Rattle.mds_city.proofs.Reports.{Reached, all_answered, reached_more, reached_none, rest_is, some_answered_of}
 use Rattle.mds_city.proofs.city.City.carry_out_all.Goals as goal
 
@@ -18,6 +19,15 @@ chunks-init g c =
       place = c.requires.place;
       within = omega arith;
     }
+
+pub carry_out_chunk-requires-clause-asked : goal.carry_out_chunk-requires-clause-asked
+carry_out_chunk-requires-clause-asked g c =
+    let requests = c.args.requests.now in
+    let done = c.chunks.done in
+    let rest = take (length requests - done) (drop done requests) in
+    front_asked g.K.Named.configuration c.args.place request_of c.chunk_length-length.result rest
+    (front_asked g.K.Named.configuration c.args.place request_of (length requests - done) (drop done requests)
+    (rest_asked g.K.Named.configuration c.args.place request_of done requests c.requires.asked))
 
 pub returns-in-Err : goal.returns-in-Err
 returns-in-Err g c =

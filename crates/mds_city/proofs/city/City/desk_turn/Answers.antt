@@ -1,6 +1,6 @@
-use Rattle.std.proofs.Common.{◌≡◌, ℕ, Ok, sym, ap, subst, ◌∙◌}
+use Rattle.std.proofs.Common.{◌≡◌, ◌<◌, ℕ, length, Ok, sym, ap, subst, ◌∙◌}
 use Rattle.mds_request.specs.Call.{call_of}
-use Rattle.mds_request.specs.Configuration.{Configuration, configuration}
+use Rattle.mds_request.specs.Configuration.{Configuration}
 use Rattle.mds_request.specs.declared.call.Call.TheVariants.{Operator as OperatorAt}
 use Rattle.mds_request.specs.declared.config.Actor.TheVariants.{Operator}
 use Rattle.mds_hall.proofs.Askers.{caller_within}
@@ -12,23 +12,19 @@ use Rattle.mds_city.proofs.city.City.desk_turn.Goals as goal
 
 pub desk_at-requires : goal.desk_at-requires
 desk_at-requires g c =
-    caller_within (configuration c.args.self.now.hall.config.value) (request_heard c.args.heard) c.args.place c.args.call c.requires.resolved
+    subst (λ (own : Configuration). c.args.place < length own.operators) (sym c.args.self.now.hall.configured)
+    (caller_within g.K.Named.configuration (request_heard c.args.heard) c.args.place c.args.call c.requires.resolved)
 
 pub carry_out-answer-requires-clause-resolved : goal.carry_out-answer-requires-clause-resolved
 carry_out-answer-requires-clause-resolved g c =
-    let hall = c.args.self.now.hall in
-    let request = request_heard c.args.heard in
     let here : c.deref_mut.result.now.place ≡ c.args.place = ap (λ desk. desk.place) c.deref_mut.ensures.value ∙ c.in-Some.ensures in
-    subst (λ (own : Configuration). call_of own request ≡ Ok (OperatorAt c.deref_mut.result.now.place c.args.call)) hall.configured
-    (subst (λ (place : ℕ). call_of (configuration hall.config.value) request ≡ Ok (OperatorAt place c.args.call)) (sym here) c.requires.resolved)
+    subst (λ (place : ℕ). call_of g.K.Named.configuration (request_heard c.args.heard) ≡ Ok (OperatorAt place c.args.call)) (sym here) c.requires.resolved
 
 pub returns-in-Ok : goal.returns-in-Ok
 returns-in-Ok g c =
-    let hall = c.args.self.now.hall in
     let request = request_heard c.args.heard in
     let reply = c.carry_out-answer.result in
     let here : c.deref_mut.result.now.place ≡ c.args.place = ap (λ desk. desk.place) c.deref_mut.ensures.value ∙ c.in-Some.ensures in
-    let there = subst (λ (place : ℕ). DeskReplies g.K.Named.configuration place request reply) here c.carry_out-answer.ensures.replies in
-    let turn = subst (λ (own : Configuration). DeskReplies own c.args.place request reply) (sym hall.configured) there in
+    let turn = subst (λ (place : ℕ). DeskReplies g.K.Named.configuration place request reply) here c.carry_out-answer.ensures.replies in
     let settled = subst (λ (status : ℕ). IsSettled c.args.reserved status c.in-Ok.stamp) c.status-status.ensures c.in-Ok.ensures in
-    recorded (configuration hall.config.value) (Operator c.args.place) request reply c.args.reserved c.in-Ok.stamp turn c.requires.reserved settled
+    recorded g.K.Named.configuration (Operator c.args.place) request reply c.args.reserved c.in-Ok.stamp turn c.requires.reserved settled

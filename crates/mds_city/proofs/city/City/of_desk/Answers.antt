@@ -1,11 +1,10 @@
 use Rattle.mds_app.specs.Badges.{badges_view}
-use Rattle.mds_request.specs.Configuration.{configuration}
 use Rattle.mds_city.specs.Told.{TellsOperator}
-use Rattle.mds_city.specs.declared.app.Question.TheVariants.{Withdrawals}
+use Rattle.mds_routes.specs.declared.app.Question.TheVariants.{Withdrawals}
 use Rattle.mds_city.proofs.Responses.{waits_told}
 use Rattle.mds_city.proofs.city.City.of_desk.Goals as goal
 
 pub returns-in-Ok : goal.returns-in-Ok
 returns-in-Ok g c =
-    waits_told (TellsOperator (configuration c.args.self.now.hall.config.value) (badges_view c.args.self.now.badges) c.args.place Withdrawals) (λ s. s.reply) c.told.result
-    c.in-Ok.answered.answer c.told.ensures.says c.in-Ok.ensures
+    waits_told (TellsOperator g.K.Named.configuration (badges_view c.args.self.now.badges) c.args.place Withdrawals) (λ s. s.reply) c.reply.result
+    c.in-Ok.answered.answer c.reply.ensures.says c.in-Ok.ensures

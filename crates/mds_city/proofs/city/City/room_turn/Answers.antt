@@ -1,15 +1,12 @@
-use Rattle.std.proofs.Common.{◌≡◌, ℕ, option_map, inl, inr, sym, ap, subst, ◌∙◌, arith}
-use Rattle.mds_request.specs.Configuration.{Configuration, configuration}
+use Rattle.std.proofs.Common.{◌≡◌, ℕ, option_map, inl, inr, ap, subst, ◌∙◌, arith}
 use Rattle.mds_request.specs.declared.config.Actor.TheVariants.{Author}
 use Rattle.mds_hall.specs.Heard.{request_heard}
-use Rattle.mds_hall.specs.Turn.{RoomReplies}
 use Rattle.mds_city.specs.Records.{IsSettled}
 use Rattle.mds_city.proofs.Turns.{of_some, recorded, settled_refused, settled_shown, settled_unasked}
 use Rattle.mds_city.proofs.city.City.room_turn.Goals as goal
 
 pub returns-in-Ok : goal.returns-in-Ok
 returns-in-Ok g c =
-    let hall = c.args.self.now.hall in
     let request = request_heard c.args.heard in
     let answered = c.carry_out-answer in
     let reply = answered.result.0 in
@@ -18,7 +15,6 @@ returns-in-Ok g c =
     let text = g.T.Titled.text in
     let leave = answered.new.leave in
     let status = c.status.result in
-    let turn = subst (λ (own : Configuration). RoomReplies own request reply) (sym hall.configured) answered.ensures.replies in
     let settled : IsSettled reserved status stamp = elim answered.ensures.asked [
       | inl same ↦
           settled_unasked (λ held. held.place) text reserved leave.held leave.shown status stamp c.requires.title
@@ -32,5 +28,5 @@ returns-in-Ok g c =
             settled_refused reserved status stamp (λ success. omega (arith, success, c.status.ensures, failed))
       ]
     ] in
-    recorded (configuration hall.config.value) Author request reply reserved stamp turn c.requires.reserved
+    recorded g.K.Named.configuration Author request reply reserved stamp answered.ensures.replies c.requires.reserved
     (subst (λ (n : ℕ). IsSettled reserved n stamp) c.status.ensures settled)

@@ -1,0 +1,96 @@
+-- Who makes a call, and the records of requests by who asks.
+use Rattle.std.proofs.Common.{◌≡◌, ◌<◌, ◌+◌, ℕ, zero, suc, List, [], ◌∷◌, ◌++◌, length, map, take, drop, get_or, Option, Some, None, option_map, Ok, refl, sym, ap, subst, ◌∙◌}
+use Rattle.std.proofs.lemmas.List.{map-append}
+use Rattle.mds_entries.specs.Requests.{asked_by, asker_at}
+use Rattle.mds_entries.specs.declared.entry.Asker.{Asker}
+use Rattle.mds_entries.specs.declared.entry.Asker.TheVariants.{Operator as OperatorBy}
+use Rattle.mds_request.specs.Call.{call_of}
+use Rattle.mds_request.specs.Configuration.{Configuration, Operator as Named, actor_of}
+use Rattle.mds_request.specs.Request.{Request}
+use Rattle.mds_request.specs.declared.call.Call.{Call}
+use Rattle.mds_request.specs.declared.call.Call.TheVariants as call
+use Rattle.mds_request.specs.declared.config.Actor.{Actor}
+use Rattle.mds_request.specs.declared.config.Actor.TheVariants.{Operator}
+use Rattle.mds_request.proofs.Callers.{call_of-caller, caller}
+use Rattle.mds_hall.specs.Asker.{IsWithin}
+use Rattle.mds_hall.proofs.Askers.{is_within}
+use Rattle.mds_city.specs.Many.{AreAskedBy, AreRecordsOf, report_of}
+use Rattle.mds_city.specs.Records.{IsRecordOf, caller_of, record_by}
+use Rattle.mds_city.proofs.Accepted.{taken_more}
+
+-- an operator's name in a record, by its identifier
+pub asker_named : (operator : Option Named) (id : List ℕ) → option_map (λ o. o.id) operator ≡ Some id → option_map (λ o. OperatorBy o.id) operator ≡ Some (OperatorBy id)
+asker_named None id is = absurd cc
+asker_named (Some operator) id is = ap (option_map OperatorBy) is
+
+caller_is : (own : Call) → caller own ≡ caller_of own
+caller_is (call.Author what) = refl
+caller_is (call.Operator place what) = refl
+
+module _ (configuration : Configuration) (request : Request) where
+  asks : (own : Call) → call_of configuration request ≡ Ok own → actor_of configuration request.token ≡ caller_of own
+  asks own is = call_of-caller configuration request own is ∙ caller_is own
+
+  -- an operator that makes a call has its place in the configuration
+  pub caller_within : (own : Call) → call_of configuration request ≡ Ok own → IsWithin (length configuration.operators) (caller_of own)
+  caller_within own is = subst (IsWithin (length configuration.operators)) (asks own is) (is_within configuration request.token)
+
+  -- so does one whose access token it is
+  pub place_within : (place : ℕ) → actor_of configuration request.token ≡ Operator place → place < length configuration.operators
+  place_within place is = subst (IsWithin (length configuration.operators)) is (is_within configuration request.token)
+
+  -- the record is by who asks
+  pub record_of : (actor : Actor) (asker : Asker) (text : List ℕ) → actor_of configuration request.token ≡ actor → asker_at configuration actor ≡ Some asker
+      → text ≡ record_by asker request → IsRecordOf configuration request text
+  record_of actor asker text is known text_is =
+      record {
+        entry = asked_by request asker;
+        is_its = ap (λ who. option_map (asked_by request) (asker_at configuration who)) is ∙ ap (option_map (asked_by request)) known;
+        text_is = text_is;
+      }
+
+  -- which is known by the call
+  pub record_of_call : (own : Call) (asker : Asker) (text : List ℕ) → call_of configuration request ≡ Ok own → asker_at configuration (caller_of own) ≡ Some asker
+      → text ≡ record_by asker request → IsRecordOf configuration request text
+  record_of_call own asker text is = record_of (caller_of own) asker text (asks own is)
+
+module _ (configuration : Configuration) (place : ℕ) where
+  -- the records of an operator's requests
+  pub records_of : (asker : Asker) (requests : List Request) → asker_at configuration (Operator place) ≡ Some asker → AreAskedBy configuration place requests
+      → AreRecordsOf configuration requests (map (record_by asker) requests)
+  records_of asker [] known asked = tt
+  records_of asker (request ∷ requests) known asked = (
+    record_of configuration request (Operator place) asker (record_by asker request) asked.0 known refl,
+    records_of asker requests known asked.1,
+  )
+
+  -- an operator's reports are asked by it
+  pub reports_asked : (request : Request) (lines : List (List ℕ)) → actor_of configuration request.token ≡ Operator place
+      → AreAskedBy configuration place (map (report_of request) lines)
+  reports_asked request [] is = tt
+  reports_asked request (line ∷ lines) is = (is, reports_asked request lines is)
+
+  -- so are those at the front of its requests, and those behind
+  pub front_asked : {A : Type 0} (request : A → Request) (n : ℕ) (lent : List A) → AreAskedBy configuration place (map request lent)
+      → AreAskedBy configuration place (map request (take n lent))
+  front_asked request zero lent asked = tt
+  front_asked request (suc n) [] asked = tt
+  front_asked request (suc n) (item ∷ lent) asked = (asked.0, front_asked request n lent asked.1)
+
+  pub rest_asked : {A : Type 0} (request : A → Request) (n : ℕ) (lent : List A) → AreAskedBy configuration place (map request lent)
+      → AreAskedBy configuration place (map request (drop n lent))
+  rest_asked request zero lent asked = asked
+  rest_asked request (suc n) [] asked = tt
+  rest_asked request (suc n) (item ∷ lent) asked = rest_asked request n lent asked.1
+
+-- one text more is that of the next request's record
+pub texts_more : {A V : Type 0} (request : A → Request) (text : V → List ℕ) (own : Request → List ℕ) (lent : List A) (i : ℕ) (item : A) (was now : List V) (it : V)
+    → i < length lent → item ≡ get_or lent i item → now ≡ was ++ it ∷ [] → map text was ≡ map own (map request (take i lent)) → text it ≡ own (request item)
+    → map text now ≡ map own (map request (take (i + 1) lent))
+texts_more request text own lent i item was now it within here more are is =
+    ap (map text) more ∙ map-append text was (it ∷ [])
+    ∙ ap (λ (xs : List (List ℕ)). xs ++ text it ∷ []) are
+    ∙ ap (λ (t : List ℕ). map own (map request (take i lent)) ++ t ∷ []) is
+    ∙ sym (map-append own (map request (take i lent)) (request item ∷ []))
+    ∙ ap (map own) (sym (map-append request (take i lent) (item ∷ [])))
+    ∙ ap (λ xs. map own (map request xs)) (sym (taken_more lent i item within here))

@@ -1,0 +1,195 @@
+-- What is told of the request of a head, by what the head is resolved to.
+use Rattle.std.proofs.Common.{◌≡◌, ◌<◌, ℕ, List, length, Option, Some, None, option_map, unwrap_or, IfSome, MatchOption, Result, Ok, Err, IfOk, inl, inr, refl, sym, ap, subst, ◌∙◌}
+use Rattle.http.specs.declared.request.Parts.{Parts}
+use Rattle.http.specs.declared.response.Response.{Response}
+use Rattle.http_body_util.specs.declared.full.Full.{Full}
+use Rattle.mds_app.specs.Badges.{Badges}
+use Rattle.mds_limits.specs.Arrival.{body_in}
+use Rattle.mds_limits.specs.declared.arrival.Arrived.{Arrived}
+use Rattle.mds_request.specs.Call.{call_of, called_at, segments_of}
+use Rattle.mds_request.specs.Configuration.{Configuration, actor_of}
+use Rattle.mds_request.specs.Request.{Request, verb_of}
+use Rattle.mds_request.specs.Reply.{refused}
+use Rattle.mds_request.specs.declared.call.Call.{Call}
+use Rattle.mds_request.specs.declared.code.Code.{Code}
+use Rattle.mds_request.specs.declared.code.Code.TheVariants.{Role}
+use Rattle.mds_request.specs.declared.config.Actor.{Actor}
+use Rattle.mds_request.specs.declared.config.Actor.TheVariants.{Author, Operator, Nobody}
+use Rattle.mds_hall.specs.Asked.{request_in, target_of, token_of}
+use Rattle.mds_hall.specs.Asker.{IsWithin}
+use Rattle.mds_hall.specs.Early.{or_else, unheard, unknown}
+use Rattle.mds_hall.specs.Heard.{IsHeard, request_heard}
+use Rattle.mds_hall.specs.Response.{Says}
+use Rattle.mds_hall.specs.declared.heard.Heard.{Heard}
+use Rattle.mds_hall.proofs.Askers.{is_within}
+use Rattle.mds_hall.proofs.Resolving.{heard_call}
+use Rattle.mds_routes.specs.App.{app_of}
+use Rattle.mds_routes.specs.State.{app_call, own_call, state_call}
+use Rattle.mds_routes.specs.declared.app.AppCall.{AppCall}
+use Rattle.mds_routes.specs.declared.app.AppCall.TheVariants.{Events, Told}
+use Rattle.mds_routes.specs.declared.app.Question.{Question}
+use Rattle.mds_routes.specs.declared.app.Question.TheVariants.{Whoami, Withdrawals, Drafts}
+use Rattle.mds_routes.specs.declared.state.StateCall.{StateCall}
+use Rattle.mds_routes.specs.declared.state.StateCall.TheVariants.{Call as OfProtocol, Reports, AuthorAsks, OperatorAsks}
+use Rattle.mds_city.specs.City.{Answers, IsAnswered, IsAnsweredBy, IsRecordedTurn, IsTold}
+use Rattle.mds_city.specs.Many.{ManyAreAnswered}
+use Rattle.mds_city.specs.Told.{SaysTold, TellsAuthor, TellsOperator}
+use Rattle.mds_city.specs.Unstored.{Waits}
+use Rattle.mds_city.proofs.Responses.{ok_more, waits_more}
+use Rattle.mds_city.proofs.Turns.{refused_turn}
+
+-- by the path a request is a call beside the protocol's, or one of it
+abbrev way : Actor → Option (Result AppCall Code) → Result Call Code → Result StateCall Code
+way actor found called = unwrap_or (option_map (app_call actor) found) (own_call called)
+
+-- ---- what a call at the city's state says of who asks, or of the call of the protocol
+
+abbrev IsWay : Actor → Result Call Code → Result StateCall Code → Type 0
+IsWay actor called (Ok (OfProtocol call)) = called ≡ Ok call
+IsWay actor called (Ok (Reports place)) = actor ≡ Operator place
+IsWay actor called (Ok (AuthorAsks question)) = actor ≡ Author
+IsWay actor called (Ok (OperatorAsks place question)) = actor ≡ Operator place
+IsWay actor called (Err code) = Unit {0}
+
+beside : (actor : Actor) (call : Result AppCall Code) (called : Result Call Code) → IsWay actor called (app_call actor call)
+beside Nobody call called = tt
+beside Author (Err code) called = tt
+beside Author (Ok Events) called = tt
+beside Author (Ok (Told question)) called = refl
+beside (Operator place) (Err code) called = tt
+beside (Operator place) (Ok Events) called = refl
+beside (Operator place) (Ok (Told Whoami)) called = refl
+beside (Operator place) (Ok (Told Withdrawals)) called = refl
+beside (Operator place) (Ok (Told Drafts)) called = tt
+
+of_protocol : (actor : Actor) (called : Result Call Code) → IsWay actor called (own_call called)
+of_protocol actor (Ok call) = refl
+of_protocol actor (Err code) = tt
+
+is_way : (actor : Actor) (found : Option (Result AppCall Code)) (called : Result Call Code) → IsWay actor called (way actor found called)
+is_way actor None called = of_protocol actor called
+is_way actor (Some call) called = beside actor call called
+
+-- the head of this request is resolved to this
+pub record IsResolved (configuration : Configuration) (request : Request) (call : Result StateCall Code) : Type 0 where
+  pub is_it : call ≡ state_call (actor_of configuration request.token) request.verb request.target
+  pub called : call_of configuration request ≡ called_at (actor_of configuration request.token) request.verb (segments_of request.target)
+
+pub resolved : (configuration : Configuration) (heard : Heard) (parts : Parts) (actor : Actor) (call : Result StateCall Code) → heard.parts.now ≡ parts
+    → actor ≡ actor_of configuration (token_of parts.headers) → call ≡ state_call actor (verb_of parts.method) (target_of parts.uri)
+    → IsResolved configuration (request_heard heard) call
+resolved configuration heard parts actor call same asks calls =
+    record {
+      is_it =
+          calls ∙ ap (λ who. state_call who (verb_of parts.method) (target_of parts.uri)) asks
+          ∙ ap (λ (p : Parts). state_call (actor_of configuration (token_of p.headers)) (verb_of p.method) (target_of p.uri)) (sym same);
+      called = heard_call configuration heard;
+    }
+
+module _ (configuration : Configuration) (request : Request) (call : Result StateCall Code) (head : IsResolved configuration request call) where
+  its_way : (other : Result StateCall Code) → call ≡ other
+      → IsWay (actor_of configuration request.token) (called_at (actor_of configuration request.token) request.verb (segments_of request.target)) other
+  its_way other is =
+      let actor = actor_of configuration request.token in
+      let called = called_at actor request.verb (segments_of request.target) in
+      subst (IsWay actor called) (sym head.is_it ∙ is) (is_way actor (app_of request) called)
+
+  -- one of the protocol is what the request calls for
+  pub called_is : (own : Call) → call ≡ Ok (OfProtocol own) → call_of configuration request ≡ Ok own
+  called_is own is = head.called ∙ its_way (Ok (OfProtocol own)) is
+
+  -- reports are sent by an operator
+  pub reporter_is : (place : ℕ) → call ≡ Ok (Reports place) → actor_of configuration request.token ≡ Operator place
+  reporter_is place is = its_way (Ok (Reports place)) is
+
+  -- an operator that asks has its place in the configuration
+  pub asker_within : (place : ℕ) (question : Question) → call ≡ Ok (OperatorAsks place question) → place < length configuration.operators
+  asker_within place question is =
+      subst (IsWithin (length configuration.operators)) (its_way (Ok (OperatorAsks place question)) is) (is_within configuration request.token)
+
+-- ---- what is told
+
+-- what the response is by what the head is resolved to
+abbrev pub Gives : Configuration → Badges → Actor → Request → List (List ℕ) → Response (Full (List ℕ)) → Result StateCall Code → Type 0
+Gives configuration badges actor request stamp response (Ok (OfProtocol call)) = IsAnsweredBy configuration actor request stamp response
+Gives configuration badges actor request stamp response (Ok (Reports place)) = ManyAreAnswered configuration place request stamp response
+Gives configuration badges actor request stamp response (Ok (AuthorAsks question)) = SaysTold (TellsAuthor configuration badges question) response
+Gives configuration badges actor request stamp response (Ok (OperatorAsks place question)) = SaysTold (TellsOperator configuration badges place question) response
+Gives configuration badges actor request stamp response (Err code) = Says response (refused code)
+
+module _ (configuration : Configuration) (badges : Badges) (request : Request) (stamp : List (List ℕ)) (response : Response (Full (List ℕ))) where
+  -- nobody's request is refused for its access token; else the path says what is told
+  abbrev Tells : Actor → Option (Result AppCall Code) → Type 0
+  Tells actor found =
+      MatchOption (unknown actor)
+      (MatchOption found (IsAnsweredBy configuration actor request stamp response) (λ call. IsTold configuration badges actor request call stamp response))
+      (λ code. Says response (refused code))
+
+  module _ (calls : call_of configuration request ≡ called_at (actor_of configuration request.token) request.verb (segments_of request.target)) where
+    -- what the table of calls refuses is what a turn gives
+    by_turn : (actor : Actor) → actor_of configuration request.token ≡ actor → unknown actor ≡ None → (called : Result Call Code)
+        → called_at actor request.verb (segments_of request.target) ≡ called → Gives configuration badges actor request stamp response (own_call called)
+        → IsAnsweredBy configuration actor request stamp response
+    by_turn actor asks known (Ok call) is gives = gives
+    by_turn actor asks known (Err code) is says =
+        let refuses : call_of configuration request ≡ Err code =
+        calls ∙ ap (λ who. called_at who request.verb (segments_of request.target)) asks ∙ is in
+        let turn = refused_turn configuration request code stamp refuses (ap unknown asks ∙ known) in
+        inr (record { reply = refused code; turn = subst (λ (who : Actor). IsRecordedTurn configuration who request (refused code) stamp) asks turn; says = says })
+
+    tells : (actor : Actor) (found : Option (Result AppCall Code)) → actor_of configuration request.token ≡ actor
+        → Gives configuration badges actor request stamp response (way actor found (called_at actor request.verb (segments_of request.target)))
+        → Tells actor found
+    tells Nobody None asks says = says
+    tells Nobody (Some call) asks says = says
+    tells Author None asks gives = by_turn Author asks refl (called_at Author request.verb (segments_of request.target)) refl gives
+    tells Author (Some (Err code)) asks says = says
+    tells Author (Some (Ok Events)) asks says = says
+    tells Author (Some (Ok (Told question))) asks says = says
+    tells (Operator place) None asks gives = by_turn (Operator place) asks refl (called_at (Operator place) request.verb (segments_of request.target)) refl gives
+    tells (Operator place) (Some (Err code)) asks says = says
+    tells (Operator place) (Some (Ok Events)) asks answered = answered
+    tells (Operator place) (Some (Ok (Told Whoami))) asks says = says
+    tells (Operator place) (Some (Ok (Told Withdrawals))) asks says = says
+    tells (Operator place) (Some (Ok (Told Drafts))) asks says = (refused Role, inl (λ publications. refl), says)
+
+  told_by : (call : Result StateCall Code) → IsResolved configuration request call
+      → Gives configuration badges (actor_of configuration request.token) request stamp response call → Tells (actor_of configuration request.token) (app_of request)
+  told_by call head gives =
+      let actor = actor_of configuration request.token in
+      tells head.called actor (app_of request) refl (subst (Gives configuration badges actor request stamp response) head.is_it gives)
+
+module _ (configuration : Configuration) (badges : Badges) (parts : Parts) (arrived : Arrived) (stamp : List (List ℕ)) (response : Response (Full (List ℕ))) where
+  -- what is told of a request that is heard is what is answered
+  heard_answers : (at : Option ℕ) (request : Request) → IsHeard parts arrived at request
+      → Tells configuration badges request stamp response (actor_of configuration request.token) (app_of request)
+      → Answers configuration badges parts arrived at stamp response
+  heard_answers None request heard told = absurd (let no = heard.allowed in cc)
+  heard_answers (Some moment) request heard told =
+      let one = request_in parts (body_in arrived) moment in
+      subst (λ (first : Option Code). MatchOption (or_else first (unknown (actor_of configuration one.token))) (IsAnswered configuration badges one stamp response) (λ code. Says response (refused code)))
+      (sym heard.allowed)
+      (subst (λ (r : Request). Tells configuration badges r stamp response (actor_of configuration r.token) (app_of r)) heard.is_it told)
+
+  -- so is the refusal of one that isn't
+  unheard_answers : (at : Option ℕ) (code : Code) → unheard arrived at ≡ Some code → Says response (refused code)
+      → Answers configuration badges parts arrived at stamp response
+  unheard_answers at code is says =
+      subst (λ (first : Option Code). MatchOption (or_else first (unknown (actor_of configuration (token_of parts.headers))))
+      (IfSome at (λ moment. IsAnswered configuration badges (request_in parts (body_in arrived) moment) stamp response)) (λ refusal. Says response (refused refusal)))
+      (sym is) says
+
+module _ {V E : Type 0} (reply : V → Option (Response (Full (List ℕ)))) (stamp : V → List (List ℕ)) (configuration : Configuration) (badges : Badges) (parts : Parts) (arrived : Arrived) (at : Option ℕ) where
+  -- the reply that waits is such an answer
+  pub answered : (result : Result V E) (request : Request) (call : Result StateCall Code) → IsHeard parts arrived at request → IsResolved configuration request call
+      → IfOk result (λ s. Waits (λ response. Gives configuration badges (actor_of configuration request.token) request (stamp s) response call) (reply s))
+      → IfOk result (λ s. Waits (Answers configuration badges parts arrived at (stamp s)) (reply s))
+  answered result request call heard head =
+      ok_more result (λ s. waits_more (reply s) (λ response gives.
+      heard_answers configuration badges parts arrived (stamp s) response at request heard (told_by configuration badges request (stamp s) response call head gives)))
+
+  pub refused_early : (result : Result V E) (code : Code) → unheard arrived at ≡ Some code
+      → IfOk result (λ s. Waits (λ response. Says response (refused code)) (reply s))
+      → IfOk result (λ s. Waits (Answers configuration badges parts arrived at (stamp s)) (reply s))
+  refused_early result code is =
+      ok_more result (λ s. waits_more (reply s) (λ response. unheard_answers configuration badges parts arrived (stamp s) response at code is))

@@ -1,0 +1,7 @@
+use Rattle.mds_hall.specs.Response.{Says}
+use Rattle.mds_city.proofs.Responses.{waits_for}
+use Rattle.mds_city.proofs.city.City.reply.Goals as goal
+
+pub returns-clause-says : goal.returns-clause-says
+returns-clause-says g c =
+    waits_for (λ plain. Says plain c.args.answered.answer) (λ s. s.reply) c.await_sync.result c.in_ok-response.response c.await_sync.ensures.reply c.in_ok-response.ensures

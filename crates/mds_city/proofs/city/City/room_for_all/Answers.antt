@@ -1,0 +1,23 @@
+use Rattle.std.proofs.Common.{◌≡◌, ◌<◌, length, map, Some, sym, ap, subst, ◌∙◌}
+use Rattle.mds_entries.specs.Requests.{asker_at}
+use Rattle.mds_request.specs.Configuration.{Configuration, configuration}
+use Rattle.mds_request.specs.Request.{request_of}
+use Rattle.mds_request.specs.declared.config.Actor.TheVariants.{Operator}
+use Rattle.mds_city.specs.Many.{AreRecordsOf}
+use Rattle.mds_city.proofs.Askers.{records_of}
+use Rattle.mds_city.proofs.city.City.room_for_all.Goals as goal
+
+pub operator_asker-asker-requires : goal.operator_asker-asker-requires
+operator_asker-asker-requires g c =
+    let shared : configuration c.deref.result.now ≡ g.K.Named.configuration = ap configuration c.deref.ensures ∙ c.in_ok-config.ensures ∙ c.args.self.now.hall.configured in
+    subst (λ (own : Configuration). c.args.place < length own.operators) (sym shared) c.requires.place
+
+pub returns-in-Ok : goal.returns-in-Ok
+returns-in-Ok g c =
+    let own = g.K.Named.configuration in
+    let requests = map request_of c.args.requests.now in
+    let asker = c.operator_asker-asker.result in
+    let shared : configuration c.deref.result.now ≡ own = ap configuration c.deref.ensures ∙ c.in_ok-config.ensures ∙ c.args.self.now.hall.configured in
+    let known = subst (λ (cfg : Configuration). asker_at cfg (Operator c.args.place) ≡ Some asker) shared c.operator_asker-asker.ensures in
+    subst (AreRecordsOf own requests) (sym (ap (λ texts. map (λ text. text.items) texts.items) c.in-Ok.ensures ∙ c.in_ok-texts.ensures))
+    (records_of own c.args.place asker requests known c.requires.asked)

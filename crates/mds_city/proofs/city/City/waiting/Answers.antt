@@ -1,5 +1,0 @@
-use Rattle.std.proofs.Common.{refl}
-use Rattle.mds_city.proofs.city.City.waiting.Goals as goal
-
-pub returns-clause-reply : goal.returns-clause-reply
-returns-clause-reply g c = (c.in_ok-marked.marked, c.args.response, c.new.ensures.reply, c.in_ok-marked.ensures, refl)

@@ -1,0 +1,29 @@
+use Rattle.std.proofs.Common.{◌≡◌, List, Some, option_map, sym, ap, ◌∙◌}
+use Rattle.std.specs.List.{slice_get}
+use Rattle.mds_app.specs.Badges.{badges_view}
+use Rattle.mds_app.specs.Withdrawals.{withdrawals_reply}
+use Rattle.mds_catalog.specs.Publication.{Publication}
+use Rattle.mds_request.specs.Configuration.{Configuration, configuration}
+use Rattle.mds_request.specs.Reply.{Reply}
+use Rattle.mds_hall.specs.Told.{DeskTells}
+use Rattle.mds_city.specs.Told.{TellsOperator, own_withdrawals}
+use Rattle.mds_routes.specs.declared.app.Question.TheVariants.{Withdrawals}
+use Rattle.mds_city.proofs.Own.{by_refusal, desk_tells, ok_kind, own_is}
+use Rattle.mds_city.proofs.city.City.withdrawals_at.Goals as goal
+
+pub returns : goal.returns
+returns g c =
+    let own = g.K.Named.configuration in
+    let badges = badges_view c.args.self.now.badges in
+    let id = c.id_at.result in
+    let here : c.deref_mut.result.now.place ≡ c.args.place = ap (λ desk. desk.place) c.deref_mut.ensures.value ∙ c.in-Some.ensures in
+    let shared : configuration c.deref.result.now ≡ own = ap configuration c.deref.ensures ∙ c.in_ok-config.ensures ∙ c.args.self.now.hall.configured in
+    let named : option_map (λ o. o.id) (slice_get own.operators c.args.place) ≡ Some id =
+    ap (λ (cfg : Configuration). option_map (λ o. o.id) (slice_get cfg.operators c.args.place)) (sym shared) ∙ c.id_at.ensures in
+    let asked : List Publication → Reply → Type 0 = λ publications reply. reply ≡ withdrawals_reply publications (Some id) in
+    let wanted : List Publication → Reply → Type 0 = λ publications reply. reply ≡ own_withdrawals publications (slice_get own.operators c.args.place) in
+    by_refusal (TellsOperator own badges c.args.place Withdrawals) c.told.result c.or_refused-answer.result c.or_refused-answer.ensures.told c.or_refused-answer.ensures.refused
+    c.told.ensures.refused
+    (ok_kind (DeskTells own c.deref_mut.result.now.place asked) (TellsOperator own badges c.args.place Withdrawals) c.told.result
+    (λ reply. desk_tells own c.deref_mut.result.now.place c.args.place asked wanted reply here
+    (λ publications is. is ∙ own_is publications (slice_get own.operators c.args.place) id named)) c.told.ensures.tells)

@@ -1,0 +1,56 @@
+//! A request whose body has arrived.
+ghost use Rattle.std.specs.Prelude.{◌≤◌, length};
+ghost use Rattle.mds_text.specs.Fields.{last_moment};
+ghost use Rattle.mds_request.specs.declared.call.TheConstants.{MOST_BODY};
+
+use crate::asked::request;
+use http::request::Parts;
+use mds_request::Request;
+use mds_text::Moment;
+
+/// A request whose body has arrived, at its moment. Its head and its body, which is within its limit, are
+/// lent. `hear` alone makes one. It can't be copied, and the turn that answers it takes it, so that none
+/// takes two.
+#[derive(Drop)]
+pub struct Heard<'a> {
+    parts: &'a Parts,
+    body: &'a [u8],
+    /// In milliseconds of the Unix epoch.
+    at: u64,
+    ghost within: { length body.now ≤ MOST_BODY },
+    ghost in_range: { at ≤ last_moment },
+}
+
+impl<'a> Heard<'a> {
+    ghost use Rattle.std.specs.Prelude.{◌≡◌};
+    ghost use Rattle.mds_request.specs.Request.{request_of};
+    ghost use Rattle.mds_hall.specs.Asked.{request_in};
+    ghost use Rattle.mds_hall.specs.Heard.{request_heard};
+
+    /// The request of this head and this body, at this moment.
+    pub(crate) fn new(parts: &'a Parts, body: &'a [u8], at: Moment) -> Heard<'a>
+        requires { length body.now ≤ MOST_BODY }
+        ensures request { request_heard result ≡ request_in parts.now body.now at }
+        ensures head { result.parts.now ≡ parts.now }
+    {
+        Heard {
+            parts,
+            body,
+            at: at.get() as u64,
+        }
+    }
+
+    /// The moment.
+    fn moment(&self) -> Moment
+        ensures { result ≡ self.now.at }
+    {
+        Moment::new(self.at as i64).unwrap()
+    }
+
+    /// The request, to be read.
+    pub fn request(&self) -> Request<'_>
+        ensures { request_of result ≡ request_heard self.now }
+    {
+        request(self.parts, self.body, self.moment())
+    }
+}

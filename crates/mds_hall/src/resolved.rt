@@ -1,0 +1,111 @@
+//! A head that is resolved: who asks, and what for.
+ghost use Rattle.std.specs.Prelude.{◌≡◌, IfOk};
+ghost use Rattle.mds_request.specs.Call.{call_of};
+ghost use Rattle.mds_request.specs.Configuration.{actor_of};
+ghost use Rattle.mds_hall.specs.Asked.{token_of};
+ghost use Rattle.mds_hall.specs.Heard.{request_heard};
+ghost use Rattle.mds_hall.specs.Resolved.{call_in, cost_in};
+ghost use Rattle.mds_hall.specs.Respond.{Responds};
+
+use crate::answering::{HallContext, carry_out};
+use crate::early::hear;
+use crate::heard::Heard;
+use crate::named::Named;
+use crate::responding::response;
+use http::request::Parts;
+use mds_catalog::Catalogue;
+use mds_desk::OpenGate;
+use mds_limits::{Arrived, Cost, cost_of};
+use mds_request::{Actor, Call, Code};
+use mds_responses::HttpResult;
+use mds_shelf::Answer;
+use mds_text::Moment;
+use mds_verdict::Evaluator;
+use std::marker::PhantomData;
+use std::sync::Wait;
+
+/// A head that is resolved, once: who asks, and what for. `Hall::resolve` alone makes one.
+#[derive(Drop)]
+pub struct ResolvedCall<K: Named> {
+    parts: Parts,
+    actor: Actor,
+    call: Result<Call, Code>,
+    of: PhantomData<K>,
+    ghost asks: { actor ≡ actor_of K.configuration (token_of parts.headers) },
+    ghost calls: { call ≡ call_in K.configuration parts },
+}
+
+impl<K: Named> ResolvedCall<K> {
+    /// A head with who asks, and what for.
+    pub(crate) fn new(parts: Parts, actor: Actor, call: Result<Call, Code>) -> ResolvedCall<K>
+        requires asks { actor ≡ actor_of K.configuration (token_of parts.headers) }
+        requires calls { call ≡ call_in K.configuration parts }
+        ensures { result.parts ≡ parts }
+    {
+        ResolvedCall {
+            parts,
+            actor,
+            call,
+            of: PhantomData,
+        }
+    }
+
+    /// Who asks.
+    pub fn actor(&self) -> Actor
+        ensures { result ≡ actor_of K.configuration (token_of self.now.parts.headers) }
+    {
+        self.actor
+    }
+
+    /// The head.
+    pub fn parts(&self) -> &Parts
+        ensures { result.now ≡ self.now.parts }
+    {
+        &self.parts
+    }
+
+    /// What the answer takes of the queue of who asks, where the body has so many bytes. A refusal takes
+    /// nothing.
+    pub fn cost(&self, length: usize) -> Cost
+        ensures { result ≡ cost_in (call_in K.configuration self.now.parts) length }
+    {
+        match &self.call {
+            Ok(call) => cost_of(call, length),
+            Err(_) => Cost::Free,
+        }
+    }
+
+    /// What the request of this head calls for whose body has arrived.
+    ///
+    /// # Errors
+    ///
+    /// The first refusal of the table of calls, as `mds_request::read_call` says.
+    pub fn call(&self, heard: &Heard<'_>) -> Result<Call, Code>
+        requires { heard.now.parts.now ≡ self.now.parts }
+        ensures { result ≡ call_of K.configuration (request_heard heard.now) }
+    {
+        self.call
+    }
+
+    /// Answers the request of this head whose body has arrived so, at this moment of the machine's clock.
+    /// What the table of calls refuses is answered without a lock.
+    ///
+    /// # Errors
+    ///
+    /// There was no memory for the response. The request may have been carried out.
+    pub fn respond<R: Wait, E: Evaluator<Catalogue>>(
+        &self,
+        context: &HallContext<'_, K, R, E>,
+        arrived: &Arrived,
+        at: Option<Moment>,
+    ) -> HttpResult
+        requires { E.may_judge }
+        ensures { IfOk result (Responds K.configuration self.now.parts arrived.now at) }
+    {
+        let heard = match hear(&self.parts, arrived, at) {
+            Ok(heard) => heard,
+            Err(code) => return response(context.alloc, Answer::from(code)),
+        };
+        carry_out(context, self.call(&heard), heard, &mut OpenGate)
+    }
+}

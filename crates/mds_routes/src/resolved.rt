@@ -1,0 +1,108 @@
+//! A head, and what it asks for.
+ghost use Rattle.std.specs.Prelude.{◌≡◌};
+ghost use Rattle.mds_limits.specs.declared.cost.Cost.TheVariants.{Free};
+ghost use Rattle.mds_request.specs.declared.config.Actor.TheVariants.{Nobody};
+ghost use Rattle.mds_request.specs.Configuration.{actor_of};
+ghost use Rattle.mds_request.specs.Request.{verb_of};
+ghost use Rattle.mds_hall.specs.Asked.{target_of, token_of};
+ghost use Rattle.mds_public.specs.declared.asked.Asked.{Asked};
+ghost use Rattle.http_uri.specs.Uri.{uri_path};
+ghost use Rattle.mds_routes.specs.Endpoint.{AsksFile, AsksPublic, AsksState, public_at};
+ghost use Rattle.mds_routes.specs.State.{state_call, state_cost};
+ghost use Rattle.mds_routes.specs.declared.resolved.Resolved.TheVariants.{Asset, Public, State};
+
+use crate::app::{app_at, path_of};
+use crate::state::{ResolvedState, StateCall, app_call, own_call};
+use http::request::Parts;
+use mds_hall::{Hall, Named, target};
+use mds_limits::Cost;
+use mds_page::File;
+use mds_public::Asked;
+use mds_request::{Actor, Code, Verb};
+
+/// A head, and what it asks for: found once, before its body is taken in.
+#[derive(Drop)]
+pub enum Resolved<K: Named> {
+    /// A file of the page.
+    Asset(Parts, File),
+    /// What everyone may read of what is published (MDS 2.0 Policy and Geography).
+    Public(Parts, Asked),
+    /// Anything else, which is asked of the city's state.
+    State(ResolvedState<K>),
+}
+
+/// What everyone may read at a path, where the configuration has it so.
+fn public_at(is_public: bool, path: &[u8]) -> Option<Asked>
+    ensures { result ≡ public_at is_public path.now }
+{
+    if is_public { Asked::by(path) } else { None }
+}
+
+/// Who asks, and for which call of the city's state.
+fn state_of<K: Named>(hall: &Hall<K>, parts: &Parts) -> (Actor, Result<StateCall, Code>)
+    ensures asks { result.0 ≡ actor_of K.configuration (token_of parts.now.headers) }
+    ensures calls { result.1 ≡ state_call result.0 (verb_of parts.now.method) (target_of parts.now.uri) }
+{
+    let verb = Verb::read(parts.method.as_str().as_bytes());
+    match app_at(verb, path_of(target(&parts.uri))) {
+        Some(found) => {
+            let actor = hall.actor_at(parts);
+            (actor, app_call(actor, found))
+        }
+        None => {
+            let call = hall.call_at(parts);
+            let actor = hall.caller(parts, &call);
+            (actor, own_call(&call))
+        }
+    }
+}
+
+/// Resolves a head: the first table that has its path has the request. Who asks is looked up once, where the city's state
+/// is asked.
+pub fn resolve<K: Named>(hall: &Hall<K>, is_public: bool, parts: Parts) -> Resolved<K>
+    ensures { elim result [
+      | Asset own file ↦ (own ≡ parts) × AsksFile parts file
+      | Public own asked ↦ (own ≡ parts) × AsksPublic is_public parts asked
+      | State head ↦ (head.parts ≡ parts) × AsksState is_public parts
+    ] }
+{
+    let path = parts.uri.path().as_bytes();
+    if let Some(file) = File::at(path) {
+        return Resolved::Asset(parts, file);
+    }
+    if let Some(asked) = public_at(is_public, path) {
+        return Resolved::Public(parts, asked);
+    }
+    let (actor, call) = state_of(hall, &parts);
+    Resolved::State(ResolvedState::new(parts, actor, call))
+}
+
+impl<K: Named> Resolved<K> {
+    /// Who asks. A file, and what everyone may read, is told to all alike: their access token isn't looked at.
+    pub fn actor(&self) -> Actor
+        ensures { elim self.now [
+          | Asset parts file ↦ result ≡ Nobody
+          | Public parts asked ↦ result ≡ Nobody
+          | State head ↦ result ≡ head.actor
+        ] }
+    {
+        match self {
+            Resolved::Asset(..) | Resolved::Public(..) => Actor::Nobody,
+            Resolved::State(head) => head.actor(),
+        }
+    }
+
+    /// What the answer takes of its asker's queue, where the body has so many bytes.
+    pub fn cost(&self, length: usize) -> Cost
+        ensures { elim self.now [
+          | Asset parts file ↦ result ≡ Free
+          | Public parts asked ↦ result ≡ Free
+          | State head ↦ result ≡ state_cost head.call length
+        ] }
+    {
+        match self {
+            Resolved::Asset(..) | Resolved::Public(..) => Cost::Free,
+            Resolved::State(head) => head.cost(length),
+        }
+    }
+}

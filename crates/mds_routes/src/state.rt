@@ -1,0 +1,131 @@
+//! What is asked of the city's state.
+ghost use Rattle.std.specs.Prelude.{◌≡◌};
+ghost use Rattle.mds_request.specs.Configuration.{actor_of};
+ghost use Rattle.mds_request.specs.Request.{verb_of};
+ghost use Rattle.mds_hall.specs.Asked.{target_of, token_of};
+ghost use Rattle.mds_routes.specs.State.{app_call, own_call, state_call, state_cost};
+
+use crate::app::{AppCall, Question};
+use http::request::Parts;
+use mds_hall::Named;
+use mds_limits::{Cost, cost_of};
+use mds_request::{Actor, Call, Code};
+use std::marker::PhantomData;
+
+/// A call of who asks, at the city's state.
+#[derive(Clone, Copy)]
+pub enum StateCall {
+    /// One of the protocol.
+    Call(Call),
+    /// Many reports of the operator at this place in one body, one a line.
+    Reports(usize),
+    /// What the author asks beside the protocol.
+    AuthorAsks(Question),
+    /// What the operator at this place asks beside the protocol.
+    OperatorAsks(usize, Question),
+}
+
+/// A head that asks for something of the city's state: who asks, and for which call, or the first refusal of the table.
+#[derive(Drop)]
+pub struct ResolvedState<K: Named> {
+    parts: Parts,
+    actor: Actor,
+    call: Result<StateCall, Code>,
+    of: PhantomData<K>,
+    ghost asks: { actor ≡ actor_of K.configuration (token_of parts.headers) },
+    ghost calls: { call ≡ state_call actor (verb_of parts.method) (target_of parts.uri) },
+}
+
+/// What who asks may call for beside the protocol. Reports are an operator's to send, and drafts the author's to see.
+///
+/// # Errors
+///
+/// `Token` for nobody, else the refusal that was found, else `Role`.
+pub(crate) fn app_call(actor: Actor, found: Result<AppCall, Code>) -> Result<StateCall, Code>
+    ensures { result ≡ app_call actor found }
+{
+    match (actor, found) {
+        (Actor::Nobody, _) => Err(Code::Token),
+        (_, Err(code)) => Err(code),
+        (Actor::Author, Ok(AppCall::Events)) => Err(Code::Role),
+        (Actor::Author, Ok(AppCall::Told(question))) => Ok(StateCall::AuthorAsks(question)),
+        (Actor::Operator(place), Ok(AppCall::Events)) => Ok(StateCall::Reports(place)),
+        (Actor::Operator(_), Ok(AppCall::Told(Question::Drafts))) => Err(Code::Role),
+        (Actor::Operator(place), Ok(AppCall::Told(question))) => {
+            Ok(StateCall::OperatorAsks(place, question))
+        }
+    }
+}
+
+/// A call of the protocol, as one at the city's state.
+pub(crate) fn own_call(call: &Result<Call, Code>) -> Result<StateCall, Code>
+    ensures { result ≡ own_call call.now }
+{
+    match call {
+        Ok(call) => Ok(StateCall::Call(*call)),
+        Err(code) => Err(*code),
+    }
+}
+
+/// What the answer takes of its asker's queue, where the body has so many bytes.
+fn cost(call: &Result<StateCall, Code>, length: usize) -> Cost
+    ensures { result ≡ state_cost call.now length }
+{
+    match call {
+        Err(_)
+        | Ok(StateCall::AuthorAsks(Question::Whoami))
+        | Ok(StateCall::OperatorAsks(_, Question::Whoami)) => Cost::Free,
+        Ok(StateCall::Call(call)) => cost_of(call, length),
+        Ok(StateCall::Reports(_)) => Cost::Exclusive,
+        Ok(StateCall::AuthorAsks(_)) | Ok(StateCall::OperatorAsks(_, _)) => Cost::Shared,
+    }
+}
+
+impl<K: Named> ResolvedState<K> {
+    /// A head that was resolved so.
+    pub(crate) fn new(parts: Parts, actor: Actor, call: Result<StateCall, Code>) -> ResolvedState<K>
+        requires asks { actor ≡ actor_of K.configuration (token_of parts.headers) }
+        requires calls { call ≡ state_call actor (verb_of parts.method) (target_of parts.uri) }
+        ensures { result.parts ≡ parts }
+    {
+        ResolvedState {
+            parts,
+            actor,
+            call,
+            of: PhantomData,
+        }
+    }
+
+    /// The head.
+    pub fn parts(&self) -> &Parts
+        ensures { result.now ≡ self.now.parts }
+    {
+        &self.parts
+    }
+
+    /// Who asks.
+    pub fn actor(&self) -> Actor
+        ensures { result ≡ self.now.actor }
+    {
+        self.actor
+    }
+
+    /// What for.
+    ///
+    /// # Errors
+    ///
+    /// The first refusal of the table: the access token is nobody's (`Token`), no call has the path (`NoRoute`), none there
+    /// has the method (`Method`), the call isn't for the one who asks (`Role`), the identifier in the path is none (`BadId`).
+    pub fn call(&self) -> Result<StateCall, Code>
+        ensures { result ≡ self.now.call }
+    {
+        self.call
+    }
+
+    /// What the answer takes of its asker's queue, where the body has so many bytes. A refusal of the table takes nothing.
+    pub fn cost(&self, length: usize) -> Cost
+        ensures { result ≡ state_cost self.now.call length }
+    {
+        cost(&self.call, length)
+    }
+}

@@ -1,0 +1,38 @@
+//! What heads are resolved to, and what their answers take of the queue of who asks.
+#![tactic(auto, unfolding(mds_examples::specs::Computed::documents))]
+
+ghost use Rattle.std.specs.Prelude.{◌≡◌, ◌∷◌, [], codes, Ok, Err};
+ghost use Rattle.mds_hall.specs.Resolved.{call_in, cost_in};
+ghost use Rattle.mds_limits.specs.declared.cost.Cost.TheVariants.{Free, Shared, Exclusive};
+ghost use Rattle.mds_request.specs.declared.call.AuthorCall.TheVariants as author;
+ghost use Rattle.mds_request.specs.declared.call.Call.TheVariants as call;
+ghost use Rattle.mds_request.specs.declared.call.OperatorCall.TheVariants as operator;
+ghost use Rattle.mds_request.specs.declared.code.Code.TheVariants.{Token, NoRoute, Method, Role, BadId};
+ghost use Rattle.mds_examples.specs.Requests.{configuration};
+ghost use Rattle.mds_server_examples.specs.Heads.{origin, with_credentials, head, by_alfa, by_nobody};
+
+/// A head calls for something by its access token, its method and its path. Its query doesn't count.
+pub fn calls()
+    ensures author { call_in configuration (head (codes "POST") (origin (codes "/publish")) (with_credentials (codes "Bearer city" ∷ []))) ≡ Ok (call.Author author.Publish) }
+    ensures operator { call_in configuration (by_alfa (codes "/compliance?at=5")) ≡ Ok (call.Operator 0 operator.Compliance) }
+    ensures second { call_in configuration (head (codes "GET") (origin (codes "/fleet/vehicles")) (with_credentials (codes "Bearer bravo" ∷ []))) ≡ Ok (call.Operator 1 operator.Vehicles) }
+{}
+
+/// What the table of calls refuses: an access token that is nobody's, a path, a method, a role and an identifier.
+pub fn refusals()
+    ensures token { call_in configuration by_nobody ≡ Err Token }
+    ensures path { call_in configuration (by_alfa (codes "/nowhere")) ≡ Err NoRoute }
+    ensures method { call_in configuration (head (codes "DELETE") (origin (codes "/compliance")) (with_credentials (codes "Bearer alfa" ∷ []))) ≡ Err Method }
+    ensures role { call_in configuration (by_alfa (codes "/drafts/policies/x")) ≡ Err Role }
+    ensures identifier { call_in configuration (by_alfa (codes "/compliance/x")) ≡ Err BadId }
+{}
+
+/// What is published is told beside other short answers, as a report of at most 16 KiB is taken. What is judged takes a turn
+/// of its own, and a refusal takes none.
+pub fn costs()
+    ensures published { cost_in (call_in configuration (by_alfa (codes "/policies"))) 0 ≡ Shared }
+    ensures small { cost_in (Ok (call.Operator 0 operator.Report)) 16384 ≡ Shared }
+    ensures large { cost_in (Ok (call.Operator 0 operator.Report)) 16385 ≡ Exclusive }
+    ensures judged { cost_in (call_in configuration (by_alfa (codes "/compliance"))) 0 ≡ Exclusive }
+    ensures refused { cost_in (call_in configuration (by_alfa (codes "/nowhere"))) 1048576 ≡ Free }
+{}

@@ -1,0 +1,146 @@
+//! Turns in the queue of one who asks.
+ghost use Rattle.std.specs.Prelude.{IfSome};
+ghost use Rattle.futures.specs.Task.{Keeps};
+ghost use Rattle.mds_connections.specs.Turn.{IsWaiting};
+
+use futures::Future;
+use futures::executor::block_on;
+use futures::task::{Context, Poll};
+use mds_connections::{Permits, Turn};
+use mds_doors::Queues;
+use mds_limits::Cost;
+use mds_request::{Actor, Config};
+use std::test::Fail;
+
+const CONFIGURATION: &[u8] =
+    br#"{"author":"city","operators":[{"id":"00000000-0000-4000-8000-0000000000a1","limit":2,"token":"alfa"}],"zone":"Z"}"#;
+
+const ALFA: Actor = Actor::Operator(0);
+
+/// What a turn holds that is had at once; none, where it has to wait and where it is over.
+fn permits(turn: &mut Option<Turn>, cx: &mut Context<'_>) -> Option<Permits>
+    requires { IfSome turn.old IsWaiting }
+    ensures waits { IfSome turn.new IsWaiting }
+    ensures kept { Keeps cx.old cx.new }
+{
+    let Some(waiting) = turn else {
+        return None;
+    };
+    match waiting.poll(cx) {
+        Poll::Pending => None,
+        Poll::Ready(outcome) => {
+            *turn = None;
+            outcome.ok()
+        }
+    }
+}
+
+/// What happens in the queue of alfa, who is asked for nothing else.
+#[derive(Drop)]
+struct Alfa<'a> {
+    queues: &'a Queues,
+    scene: Scene,
+}
+
+/// Who waits.
+#[derive(Clone, Copy)]
+enum Scene {
+    /// Two short answers.
+    Short,
+    /// Three long answers, and short ones.
+    Long,
+}
+
+impl Alfa<'_> {
+    /// A turn of alfa.
+    fn turn(&self, cost: Cost) -> Option<Turn>
+        ensures { IfSome result IsWaiting }
+    {
+        self.queues.turn(ALFA, cost)
+    }
+
+    /// Whether two short answers are given side by side.
+    fn are_side_by_side(&self, cx: &mut Context<'_>) -> bool
+        ensures { Keeps cx.old cx.new }
+    {
+        let first = permits(&mut self.turn(Cost::Shared), cx);
+        let second = permits(&mut self.turn(Cost::Shared), cx);
+        first.is_some() && second.is_some()
+    }
+
+    /// Whether a short answer is next behind the long one that is given, before two long ones that waited first, and another
+    /// short one behind the next of these.
+    fn are_in_order(&self, cx: &mut Context<'_>) -> bool
+        ensures { Keeps cx.old cx.new }
+    {
+        let mut second = self.turn(Cost::Exclusive);
+        let mut third = self.turn(Cost::Exclusive);
+        let mut short = self.turn(Cost::Shared);
+        let mut later = self.turn(Cost::Shared);
+        let first = permits(&mut self.turn(Cost::Exclusive), cx);
+        let mut is_so = first.is_some();
+        is_so &= permits(&mut second, cx).is_none();
+        is_so &= permits(&mut third, cx).is_none();
+        is_so &= permits(&mut short, cx).is_none();
+        drop(first);
+        let held = permits(&mut short, cx);
+        is_so &= held.is_some();
+        is_so &= permits(&mut second, cx).is_none();
+        is_so &= permits(&mut third, cx).is_none();
+        is_so &= permits(&mut later, cx).is_none();
+        drop(held);
+        is_so &= permits(&mut third, cx).is_none();
+        is_so &= permits(&mut later, cx).is_none();
+        let held = permits(&mut second, cx);
+        is_so &= held.is_some();
+        drop(held);
+        is_so &= permits(&mut third, cx).is_none();
+        let held = permits(&mut later, cx);
+        is_so &= held.is_some();
+        drop(held);
+        is_so & permits(&mut third, cx).is_some()
+    }
+}
+
+impl Future for Alfa<'_> {
+    type Output = bool;
+
+    fn poll(&mut self, cx: &mut Context<'_>) -> Poll<bool> {
+        Poll::Ready(match self.scene {
+            Scene::Short => self.are_side_by_side(cx),
+            Scene::Long => self.are_in_order(cx),
+        })
+    }
+}
+
+/// Short answers to one who asks are given side by side.
+#[test]
+fn short_answers_are_given_side_by_side(rt: HostRuntime) -> Result<(), Fail> {
+    let alloc = rt.alloc();
+    let queues = &Queues::new(alloc, &Config::read(alloc, CONFIGURATION)?)?;
+    let scene = Scene::Short;
+    assert!(rt; block_on(&rt, Alfa { queues, scene })?);
+    Ok(())
+}
+
+/// A short answer waits for one long answer at most, however many wait.
+#[test]
+fn a_short_answer_waits_for_one_long(rt: HostRuntime) -> Result<(), Fail> {
+    let alloc = rt.alloc();
+    let queues = &Queues::new(alloc, &Config::read(alloc, CONFIGURATION)?)?;
+    let scene = Scene::Long;
+    assert!(rt; block_on(&rt, Alfa { queues, scene })?);
+    Ok(())
+}
+
+/// What takes nothing of a queue has no turn, nor has what is told to who has no known access token.
+#[test]
+fn what_is_free_takes_no_turn(rt: HostRuntime) -> Result<(), Fail> {
+    let alloc = rt.alloc();
+    let queues = Queues::new(alloc, &Config::read(alloc, CONFIGURATION)?)?;
+    assert!(rt; queues.turn(ALFA, Cost::Free).is_none());
+    assert!(rt; queues.turn(Actor::Author, Cost::Free).is_none());
+    assert!(rt; queues.turn(Actor::Nobody, Cost::Exclusive).is_none());
+    assert!(rt; queues.turn(Actor::Author, Cost::Shared).is_some());
+    Ok(())
+}

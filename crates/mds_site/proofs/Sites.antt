@@ -1,0 +1,36 @@
+-- A site may be shared by threads, where the handle and what judges may be, and where room for records may be passed to another thread.
+use denote.RattleType.{RattleType}
+use denote.Ref.{NamedLft}
+use denote.Param.Send.{IsSend, IsSync, sendable}
+use denote.Param.SendFields.{declared_send, declared_sync}
+use Rattle.std.proofs.Crossing.{crosses}
+use Rattle.mds_snapshot.specs.declared.history.Naming.{Ghosts as Openings}
+use Rattle.mds_hall.specs.declared.named.Named.{Ghosts as Names}
+use Rattle.mds_records.specs.declared.log.Log.{Ghosts as Logs}
+use Rattle.mds_commit.specs.declared.history.Naming.{Ghosts as Books}
+use Rattle.mds_commit.specs.declared.space.Space.{Ghosts as Spaces}
+use Rattle.mds_control.proofs.counters.Counters.TheSendSync as counters
+use Rattle.mds_page.proofs.page.Page.TheSendSync as page
+use Rattle.mds_doors.proofs.moments.MachineClock.TheSendSync as clock
+use Rattle.mds_public_answers.proofs.Publics.{window_send, window_sync}
+use Rattle.mds_city.proofs.Cities.{reception_send, reception_sync}
+use Rattle.mds_site.specs.contracts.site.Site as Site
+
+module _ (κ : NamedLft) (K N L S R E : RattleType) (k : Names K.Denot) (o : Openings K.Denot) (n : Books N.Denot) (l : Logs L.Denot) (s : Spaces S.Denot) where
+  pub site_send : IsSend R → IsSend E → IsSend S → IsSend (Site.the_row κ K N L S R E k o n l s)
+  site_send r e space =
+      let p = page.the_send in
+      let w = window_send K k o in
+      let c = counters.the_sync in
+      let state = reception_send K N R E _ L S k o n l s r e (clock.the_send _ r) space in
+      declared_send (Site.the_type κ K N L S R E k o n l s)
+      (search (sendable, crosses) depth 20, (search (sendable, crosses) depth 20, (state, (search (sendable, crosses) depth 20, tt))))
+
+  pub site_sync : IsSync R → IsSync E → IsSend S → IsSync (Site.the_row κ K N L S R E k o n l s)
+  site_sync r e space =
+      let p = page.the_sync in
+      let w = window_sync K k o in
+      let c = counters.the_sync in
+      let state = reception_sync K N R E _ L S k o n l s r e (clock.the_sync _ r) space in
+      declared_sync (Site.the_type κ K N L S R E k o n l s)
+      (search (sendable, crosses) depth 20, (search (sendable, crosses) depth 20, (state, (search (sendable, crosses) depth 20, tt))))

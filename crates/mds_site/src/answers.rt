@@ -1,0 +1,192 @@
+//! How a site answers requests.
+ghost use Rattle.std.specs.Prelude.{◌≡◌, ⊤, ℕ, Option, is_some, option_map, IfOk, IfSome, IsSome, MatchResult};
+ghost use Rattle.futures.specs.declared.future.either.Either.TheVariants.{Left, Right};
+ghost use Rattle.http_uri.specs.Uri.{uri_path};
+ghost use Rattle.mds_app.specs.Badges.{badges_view};
+ghost use Rattle.mds_city.specs.City.{CityResponds};
+ghost use Rattle.mds_limits.specs.declared.cost.Cost.TheVariants.{Free};
+ghost use Rattle.mds_page.specs.File.{text_of};
+ghost use Rattle.mds_page.specs.Response.{Says};
+ghost use Rattle.mds_page.specs.Tag.{tag_of};
+ghost use Rattle.mds_page.specs.Told.{told_of};
+ghost use Rattle.mds_public_answers.specs.Told.{IsTold};
+ghost use Rattle.mds_refusals.specs.Methods.{text_of as methods_text};
+ghost use Rattle.mds_request.specs.declared.config.Actor.TheVariants.{Nobody};
+ghost use Rattle.mds_routes.specs.Endpoint.{AsksFile, AsksPublic, AsksState};
+ghost use Rattle.mds_routes.specs.State.{state_cost};
+ghost use Rattle.mds_routes.specs.declared.resolved.Resolved.TheVariants.{Asset, Public, State};
+ghost use Rattle.mds_site.specs.Calls.{methods_for};
+
+use crate::calls::{guide_for, kind_of};
+use crate::site::Site;
+use futures::future::{Either, Ready, ready};
+use http::request::Parts;
+use mds_catalog::Catalogue;
+use mds_city::Leaving;
+use mds_commit::{Naming, Space};
+use mds_connections::{Answers, Crowded};
+use mds_hall::Named;
+use mds_limits::{Arrived, Cost};
+use mds_meter::{MeteredReply, Ticket};
+use mds_page::File;
+use mds_public::Asked;
+use mds_records::Log;
+use mds_refusals::GuidedReply;
+use mds_request::Actor;
+use mds_responses::HttpResult;
+use mds_routes::{Resolved, ResolvedState};
+use mds_verdict::Evaluator;
+use std::alloc::AllocError;
+use std::sync::Wait;
+use std::time::Clock;
+
+/// A response that is there at once.
+pub type AtOnce = Ready<HttpResult>;
+
+/// A response of the city: it waits until all that it shows is synced, its refusal names what it has to, and it is counted as
+/// it leaves.
+pub type CityReply<'a, N, L, S, R> = GuidedReply<MeteredReply<'a, Leaving<N, L, S>, R>>;
+
+/// A response of a site.
+pub type SiteReply<'a, N, L, S, R> = Either<AtOnce, CityReply<'a, N, L, S, R>>;
+
+impl<'a, K: Named, N: Naming, L: Log, S: Space, R: Wait, E> Site<'a, K, N, L, S, R, E> {
+    /// The response to a request for a file of the page.
+    fn respond_with_file(&self, parts: &Parts, file: File) -> HttpResult
+        ensures { IfOk result (Says (told_of parts.now.method parts.now.headers (tag_of (text_of file))) file) }
+    {
+        let method = parts.method.as_str().as_bytes();
+        self.page
+            .respond(self.state.alloc, file, method, &parts.headers)
+    }
+
+    /// The response to a request for what everyone may read.
+    fn respond_to_everyone(&self, parts: &Parts, asked: Asked) -> HttpResult
+        ensures { IfOk result (IsTold K.configuration asked parts.now) }
+    {
+        match &self.window {
+            Some(window) => window.respond(&self.state.rt, self.state.alloc, self, asked, parts),
+            None => Err(AllocError),
+        }
+    }
+}
+
+impl<'a, K, N, L, S, R, E> Site<'a, K, N, L, S, R, E>
+where
+    K: Named,
+    N: Naming,
+    L: Log,
+    S: Space,
+    R: Wait + Clock + Copy + Drop,
+    E: Evaluator<Catalogue> + Drop,
+{
+    /// The response of the city, on its way.
+    ///
+    /// # Errors
+    ///
+    /// The share of who asks is used up: nothing was carried out.
+    fn answer_by_city(
+        &self,
+        head: &ResolvedState<K>,
+        body: &Arrived,
+    ) -> Result<CityReply<'a, N, L, S, R>, Crowded>
+        requires { E.may_judge }
+        ensures names { IfOk result (λ reply.
+            option_map methods_text reply.guide.methods ≡ methods_for head.now.call (uri_path head.now.parts.uri)) }
+        ensures responds { IfOk result (λ reply. IfSome reply.reply.reply.told (λ s. (at : Option ℕ)
+            × CityResponds K.configuration (badges_view self.now.state.city.badges) head.now.parts body.now at s.reply s.stamp)) }
+    {
+        let call = head.call();
+        let ticket = Ticket::new(self.counters, self.state.rt, kind_of(&call));
+        let leaving = self.state.answer(head, body)?;
+        let guide = guide_for(&call, head.parts().uri.path());
+        Ok(GuidedReply::new(MeteredReply::new(leaving, ticket), guide))
+    }
+}
+
+impl<'a, K, N, L, S, R, E> Answers for Site<'a, K, N, L, S, R, E>
+where
+    K: Named,
+    N: Naming,
+    L: Log,
+    S: Space,
+    R: Wait + Clock + Copy + Drop,
+    E: Evaluator<Catalogue> + Drop,
+{
+    type Head = Resolved<K>;
+
+    type Reply = SiteReply<'a, N, L, S, R>;
+
+    ghost may_answer = { E.may_judge };
+
+    /// What everyone may read is asked for only where there is a window.
+    fn resolve(&self, parts: Parts) -> Resolved<K>
+        ensures { elim result [
+          | Asset own file ↦ (own ≡ parts) × AsksFile parts file
+          | Public own asked ↦ (own ≡ parts) × AsksPublic (is_some self.now.window) parts asked
+          | State head ↦ (head.parts ≡ parts) × AsksState (is_some self.now.window) parts
+        ] }
+    {
+        self.state.resolve(self.window.is_some(), parts)
+    }
+
+    fn actor(head: &Resolved<K>) -> Actor
+        ensures { elim head.now [
+          | Asset parts file ↦ result ≡ Nobody
+          | Public parts asked ↦ result ≡ Nobody
+          | State head ↦ result ≡ head.actor
+        ] }
+    {
+        head.actor()
+    }
+
+    fn cost(head: &Resolved<K>, length: usize) -> Cost
+        ensures { elim head.now [
+          | Asset parts file ↦ result ≡ Free
+          | Public parts asked ↦ result ≡ Free
+          | State head ↦ result ≡ state_cost head.call length
+        ] }
+    {
+        head.cost(length)
+    }
+
+    /// A file, and what everyone may read, is told at once.
+    ///
+    /// # Errors
+    ///
+    /// The city is asked, and the share of who asks is used up.
+    fn answer(
+        &self,
+        head: &Resolved<K>,
+        body: &Arrived,
+    ) -> Result<SiteReply<'a, N, L, S, R>, Crowded>
+        requires ready { E.may_judge }
+        ensures poll { IfOk result (elim [ Left told ↦ IsSome told.0 | Right reply ↦ ⊤ ]) }
+        ensures tells { elim head.now [
+          | Asset parts file ↦ MatchResult result (elim [
+            | Left told ↦ IfSome told.0 (λ r. IfOk r (Says (told_of parts.method parts.headers (tag_of (text_of file))) file))
+            | Right reply ↦ ⊥
+          ]) (λ _. ⊥)
+          | Public parts asked ↦ MatchResult result (elim [
+            | Left told ↦ IfSome told.0 (λ r. IfOk r (IsTold K.configuration asked parts))
+            | Right reply ↦ ⊥
+          ]) (λ _. ⊥)
+          | State head ↦ IfOk result (elim [
+            | Left told ↦ ⊥
+            | Right reply ↦ (option_map methods_text reply.guide.methods ≡ methods_for head.call (uri_path head.parts.uri))
+                × IfSome reply.reply.reply.told (λ s. (at : Option ℕ)
+                × CityResponds K.configuration (badges_view self.now.state.city.badges) head.parts body.now at s.reply s.stamp)
+          ])
+        ] }
+    {
+        match head {
+            Resolved::Asset(parts, file) => {
+                Ok(Either::Left(ready(self.respond_with_file(parts, *file))))
+            }
+            Resolved::Public(parts, asked) => {
+                Ok(Either::Left(ready(self.respond_to_everyone(parts, *asked))))
+            }
+            Resolved::State(head) => Ok(Either::Right(self.answer_by_city(head, body)?)),
+        }
+    }
+}

@@ -1,0 +1,10 @@
+//! What answers the requests of a server: the page, what everyone may read, or the city, by what a head was resolved to.
+#![tactic(auto)]
+
+mod answers;
+mod calls;
+mod site;
+
+pub use answers::{AtOnce, CityReply, SiteReply};
+pub use calls::{guide_for, kind_of};
+pub use site::Site;

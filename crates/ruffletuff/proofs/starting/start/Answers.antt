@@ -1,0 +1,18 @@
+use Rattle.std.proofs.Common.{map, ap, ◌∙◌}
+use Rattle.mds_request.specs.Configuration.{configuration}
+use Rattle.mds_entries.specs.Entries.{entry_of}
+use Rattle.mds_folder.specs.Choosing.{without}
+use Rattle.mds_recovery.specs.Recovery.{server_of}
+use Rattle.ruffletuff.proofs.Starts.{if_ok, texts_of, started_from}
+use Rattle.ruffletuff.proofs.starting.start.Goals as goal
+
+pub returns : goal.returns
+returns g c =
+    let of = configuration c.args.config in
+    let dropped = c.args.dropped.now in
+    let all = c.in-Ok-entries_in.all.items in
+    let left = ap (map entry_of) c.deref-2.ensures.value ∙ (c.in-Ok-without.ensures ∙ ap (λ es. without dropped (map entry_of es)) c.deref.ensures.value) in
+    if_ok _ _ c.answer_again.result
+    (λ r again. started_from of dropped (map (λ t. t.items) c.args.texts.now) (map (λ t. t.items) c.in-Ok.rest.now) (map entry_of all) _
+    (server_of r.0 r.1.items) c.in-Ok.ensures (texts_of all ∙ c.in-Ok-entries_in.ensures) left again)
+    c.answer_again.ensures

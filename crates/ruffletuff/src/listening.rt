@@ -1,0 +1,37 @@
+//! Where a server is connected to.
+ghost use Rattle.std.specs.Prelude.{◌≡◌, IfErr};
+ghost use Rattle.ruffletuff.specs.declared.ending.Ending.TheVariants.{NoListener};
+
+use crate::ending::Ending;
+use crate::host::Host;
+use mds_doors::bound;
+use std::net::Net;
+use tokio::net::TcpListener;
+use tokio::runtime::Runtime;
+
+/// A socket that is listened to, and the threads that are to serve its connections. Those that come before it is served wait
+/// in its backlog.
+#[derive(Drop)]
+pub struct Listening {
+    /// The threads.
+    pub runtime: Runtime,
+    /// The socket.
+    pub listener: TcpListener,
+}
+
+/// Listens at this address, for so many threads to serve, or one where that is none.
+///
+/// # Errors
+///
+/// `NoListener` where nothing can be listened to there, or the waiting for events couldn't be had.
+pub fn listen<R: Host + Net>(rt: &R, address: &str, threads: usize) -> Result<Listening, Ending>
+    ensures { IfErr result (λ ending. ending ≡ NoListener) }
+{
+    let Ok(runtime) = Runtime::with_worker_threads(rt, threads.max(1)) else {
+        return Err(Ending::NoListener);
+    };
+    match bound(rt, address, runtime.handle().reactor()) {
+        Ok(listener) => Ok(Listening { runtime, listener }),
+        Err(_) => Err(Ending::NoListener),
+    }
+}
