@@ -3,7 +3,7 @@
 ghost use Rattle.std.specs.Thread.{IsSync};
 
 use crate::square::{NOON, Square, device, instant, known, one_square, position, words};
-use mds_match::{Vehicle, Words};
+use mds_match::{LocalMoment, Vehicle, Words};
 use mds_parallel::{Chunked, by_threads};
 use mds_policy::Policy;
 use mds_text::Moment;
@@ -168,7 +168,11 @@ fn by_several<R: Threads + Sync>(
     vehicles: &[&Vehicle],
 ) -> Result<Vec<RuleVerdict>, AllocError> {
     let (policy, places) = (&city.policy, &city.places);
-    by_threads(rt, alloc, policy, places, vehicles, NOON, city.moment)
+    let at = LocalMoment {
+        moment: city.moment,
+        local: NOON,
+    };
+    by_threads(rt, alloc, policy, places, vehicles, &at)
 }
 
 /// The verdicts by threads where the work is worth them.

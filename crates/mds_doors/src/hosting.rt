@@ -6,7 +6,7 @@ use futures::StreamExt;
 use hyper::rt::TokioTimer;
 use hyper::server::conn::http1::Builder;
 use mds_connections::{Admission, Answers, Closing, House, Queues, Register, Seating, serve_all};
-use mds_hall::{Hall, Named};
+use mds_hall::Named;
 use mds_parallel::Chunked;
 use std::alloc::AllocGlobal;
 use std::hash::RandomState;
@@ -107,7 +107,7 @@ where
     })
 }
 
-/// Serves so many connections of a listener, or all, and ends the hall.
+/// Serves so many connections of a listener, or all, by this reception, and ends its hall.
 ///
 /// # Errors
 ///
@@ -116,28 +116,20 @@ pub fn serve<K: Named + Send + Sync, R, M: Moments + Send + Sync>(
     rt: &R,
     runtime: &mut Runtime,
     listener: TcpListener,
-    hall: Hall<K>,
+    reception: Reception<K, R, Chunked<R>, M>,
     queues: Queues,
-    moments: M,
     connections: Option<usize>,
 ) -> io::Result<()>
 where
     R: Wait + Threads + Clock + RandomSource + AllocGlobal + Sync + Send + Copy + Drop,
 {
-    let answers = Reception {
-        rt: *rt,
-        alloc: rt.alloc(),
-        hall,
-        evaluator: Chunked(*rt),
-        moments,
-    };
     let Opened {
         http,
         seating,
         pauses,
         house,
         shared,
-    } = open_house(rt, runtime, answers, queues)?;
+    } = open_house(rt, runtime, reception, queues)?;
     let sockets = listener
         .incoming()
         .take(connections.unwrap_or(usize::MAX))

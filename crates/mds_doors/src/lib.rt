@@ -8,3 +8,4 @@ mod reception;
 pub use hosting::{Ended, bound, serve, serve_by};
 pub use mds_connections::{Closing, Queues};
 pub use moments::{MachineClock, Moments};
+pub use reception::Reception;

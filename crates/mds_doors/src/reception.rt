@@ -12,11 +12,13 @@ use mds_catalog::Catalogue;
 use mds_connections::{Answers, Crowded};
 use mds_hall::{Hall, HallContext, Named, ResolvedCall};
 use mds_limits::{Arrived, Cost};
+use mds_parallel::Chunked;
 use mds_request::Actor;
 use mds_responses::HttpResult;
 use mds_verdict::Evaluator;
-use std::alloc::Global;
+use std::alloc::{AllocGlobal, Global};
 use std::sync::Wait;
+use std::thread::Threads;
 
 /// A hall, what judges its vehicles, and the clock that gives each request its moment.
 #[derive(Drop)]
@@ -26,6 +28,20 @@ pub struct Reception<K: Named, R, E, M> {
     pub hall: Hall<K>,
     pub evaluator: E,
     pub moments: M,
+}
+
+impl<K: Named, R: Threads + Sync + AllocGlobal + Copy, M> Reception<K, R, Chunked<R>, M> {
+    /// The reception of a hall whose vehicles are judged by as many threads as there are processors, each
+    /// request at the moment that this clock tells.
+    pub fn new(rt: R, hall: Hall<K>, moments: M) -> Reception<K, R, Chunked<R>, M> {
+        Reception {
+            rt,
+            alloc: rt.alloc(),
+            hall,
+            evaluator: Chunked(rt),
+            moments,
+        }
+    }
 }
 
 impl<K: Named, R: Wait + Drop, E: Evaluator<Catalogue> + Drop, M: Moments> Answers

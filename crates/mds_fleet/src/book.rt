@@ -16,7 +16,7 @@ ghost use Rattle.mds_fleet.specs.Reading.{read_report};
 use crate::report::Report;
 use crate::shares::Shares;
 use mds_kept::Kept;
-use mds_match::{Local, Places, Vehicle};
+use mds_match::{Local, LocalMoment, Places, Vehicle};
 use mds_policy::Policy;
 use mds_reading::KeptScratch;
 use mds_text::{Id, Moment, TextFault, Token};
@@ -200,8 +200,8 @@ impl Book {
             IsPublished published (policy_document policy.now) (P.polygons places.now) → Fits published self.new }
     {
         let (alloc, vehicles) = (self.alloc, &self.vehicles);
-        self.kept
-            .verdicts(alloc, policy, places, vehicles, local, moment)
+        let at = LocalMoment { moment, local };
+        self.kept.verdicts(alloc, policy, places, vehicles, at)
     }
 
     /// What is held of a device, for who asks for one alone. Takes no memory.

@@ -8,9 +8,9 @@ use crate::columns::{Columns, verdicts_by};
 use crate::places::{arrived, departed};
 use crate::words::{Mask, Since, fresh};
 use mds_masks::{MOST_RULES, MaskedPolicy};
-use mds_match::{Local, Places, Vehicle};
+use mds_match::{LocalMoment, Places, Vehicle};
 use mds_policy::Policy;
-use mds_text::{Id, Moment};
+use mds_text::Id;
 use mds_verdict::RuleVerdict;
 use std::alloc::Global;
 use std::collections::BTreeMap;
@@ -116,8 +116,8 @@ impl Kept {
         self.asked = None;
     }
 
-    /// The verdict on each rule of a policy, in their order, at a local time and at the moment up to which
-    /// a vehicle's time in its state counts: what is kept is brought up to date and looked at alone. `None`
+    /// The verdict on each rule of a policy, in their order, at the local time of a moment, up to which a
+    /// vehicle's time in its state counts: what is kept is brought up to date and looked at alone. `None`
     /// where the policy wasn't asked about since all was dropped, where it has more than 64 rules, where
     /// there are more than 4,194,304 vehicles, where its masks have no room beside those that are kept, or
     /// where memory ran out; then the vehicles themselves are to be asked. So what is asked once, or can't be
@@ -128,13 +128,12 @@ impl Kept {
         policy: &Policy,
         places: &P,
         vehicles: &BTreeMap<Id, Box<Vehicle>>,
-        local: Local,
-        moment: Moment,
+        at: LocalMoment,
     ) -> Option<Vec<RuleVerdict>>
         requires own { AreOwn vehicles.now }
         requires asked { MayAsk self.old (policy_document policy.now) (P.polygons places.now) vehicles.now }
         ensures exact { IfSome result (λ found. map verdict_document found.items
-            ≡ verdicts (policy_document policy.now) (P.polygons places.now) (rows_in vehicles.now) local moment) }
+            ≡ verdicts (policy_document policy.now) (P.polygons places.now) (rows_in vehicles.now) at.local at.moment) }
         ensures fits { IfSome result (λ found. All (λ v. v.measure < 2 ^ 63) found.items) }
         ensures room { IfSome result (λ found. HasRoom self.old.listed (policy_document policy.now).id (btree_map_len vehicles.now)) }
         ensures kept { (published : Published) → Fits published vehicles.now self.old →
@@ -163,7 +162,7 @@ impl Kept {
             sinces: &listed.sinces,
             masks: &column.masks,
         };
-        let found = verdicts_by(alloc, policy, &columns, local, moment);
+        let found = verdicts_by(alloc, policy, &columns, at.local, at.moment);
         self.listed = Some(put_back(listed, column));
         found.ok()
     }

@@ -11,7 +11,7 @@ mod vehicle;
 mod window;
 mod zone;
 
-pub use local::Local;
+pub use local::{Local, LocalMoment};
 pub use matching::{first, meets};
 pub use places::Places;
 pub use resolved::ResolvedPolicy;

@@ -8,7 +8,7 @@ ghost use Rattle.mds_verdict.specs.Verdict.{verdict_document, verdicts};
 ghost use Rattle.mds_parallel.specs.Chunks.{AreOfPieces, AreTallies, IsResolved, IsTallyBy};
 
 use crate::table::Table;
-use mds_match::{Local, Places, ResolvedPolicy, Vehicle};
+use mds_match::{Local, LocalMoment, Places, ResolvedPolicy, Vehicle};
 use mds_policy::Policy;
 use mds_text::Moment;
 use mds_verdict::{Evaluator, Plain, RuleVerdict, Tally};
@@ -59,7 +59,8 @@ impl<R: Threads + Sync, P: Places> Evaluator<P> for Chunked<R> {
         if vehicles.len().saturating_mul(policy.rules().len()) < LEAST_WORK {
             return Plain.verdicts(alloc, policy, places, vehicles, local, moment);
         }
-        match by_threads(&self.0, alloc, policy, places, vehicles, local, moment) {
+        let at = LocalMoment { moment, local };
+        match by_threads(&self.0, alloc, policy, places, vehicles, &at) {
             Ok(found) => Ok(found),
             Err(_) => Plain.verdicts(alloc, policy, places, vehicles, local, moment),
         }
@@ -77,16 +78,15 @@ pub fn by_threads<R: Threads + Sync, P: Places>(
     policy: &Policy,
     places: &P,
     vehicles: &[&Vehicle],
-    local: Local,
-    moment: Moment,
+    at: &LocalMoment,
 ) -> Result<Vec<RuleVerdict>, AllocError>
     ensures exact { IfOk result (λ found. map verdict_document found.items
-        ≡ verdicts (policy_document policy.now) (P.polygons places.now) (map (λ v. row_of v.now) vehicles.now) local moment) }
+        ≡ verdicts (policy_document policy.now) (P.polygons places.now) (map (λ v. row_of v.now) vehicles.now) at.now.local at.now.moment) }
     ensures fits { IfOk result (λ found. All (λ v. v.measure < 2 ^ 63) found.items) }
 {
-    let resolved = ResolvedPolicy::new(alloc, policy, places, local)?;
-    let parts = tallies(rt, alloc, &resolved, policy, vehicles, local, moment)?;
-    let tally = joined(alloc, policy, &parts, local)?;
+    let resolved = ResolvedPolicy::new(alloc, policy, places, at.local)?;
+    let parts = tallies(rt, alloc, &resolved, policy, vehicles, at)?;
+    let tally = joined(alloc, policy, &parts, at.local)?;
     Ok(tally.verdicts())
 }
 
@@ -101,14 +101,14 @@ fn tallies<R: Threads + Sync>(
     resolved: &ResolvedPolicy<'_>,
     policy: &Policy,
     vehicles: &[&Vehicle],
-    local: Local,
-    moment: Moment,
+    at: &LocalMoment,
 ) -> Result<Vec<Result<Tally, AllocError>>, AllocError>
-    requires resolved { IsResolved resolved.now (policy_document policy.now) local }
+    requires resolved { IsResolved resolved.now (policy_document policy.now) at.now.local }
     ensures { IfOk result (λ parts. (pieces : List (List Row)) × (flat_map (λ piece. piece) pieces ≡ map (λ v. row_of v.now) vehicles.now)
-        × ((polygons : List ℕ → List (List (List Position))) → Finds resolved.now (policy_document policy.now) polygons local →
-        AreTallies (policy_document policy.now) polygons pieces local moment parts.items)) }
+        × ((polygons : List ℕ → List (List (List Position))) → Finds resolved.now (policy_document policy.now) polygons at.now.local →
+        AreTallies (policy_document policy.now) polygons pieces at.now.local at.now.moment parts.items)) }
 {
+    let (moment, local) = (at.moment, at.local);
     let size = (vehicles.len() / CHUNKS).max(LEAST_CHUNK);
     vehicles
         .par_chunks(size)

@@ -7,7 +7,7 @@ use crate::arguments::{Arguments, read_words};
 use crate::configuration::read_configuration;
 use crate::ending::Ending;
 use crate::runtime::ServerRuntime;
-use mds_doors::{MachineClock, Moments, Queues, bound, serve};
+use mds_doors::{MachineClock, Moments, Queues, Reception, bound, serve};
 use mds_hall::{Hall, Named};
 use mds_request::Config;
 use mds_snapshot::{Blank, prepare};
@@ -95,13 +95,13 @@ fn listen<K: Named + Send + Sync, R: ServerRuntime, M: Moments + Send + Sync>(
     let mut runtime = Runtime::with_worker_threads(rt, threads)?;
     let listener = bound(rt, arguments.address, runtime.handle().reactor())?;
     let _ = println!(rt; "ready");
+    let reception = Reception::new(*rt, hall, moments);
     serve(
         rt,
         &mut runtime,
         listener,
-        hall,
+        reception,
         queues,
-        moments,
         arguments.connections,
     )
 }

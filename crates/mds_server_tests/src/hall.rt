@@ -242,7 +242,6 @@ fn is_answer<R: Host>(
 /// one, and to what arrived with it.
 fn gives<K: Named, R: Host + Sync>(
     rt: &R,
-    alloc: Global,
     hall: &Hall<K>,
     parts: Option<Parts>,
     arrived: Arrived,
@@ -252,7 +251,7 @@ fn gives<K: Named, R: Host + Sync>(
     let Some(parts) = parts else {
         return false;
     };
-    let response = respond(rt, alloc, &parts, arrived, at, hall, &Chunked(*rt));
+    let response = respond(rt, rt.alloc(), &parts, arrived, at, hall, &Chunked(*rt));
     is_answer(rt, response, answer)
 }
 
@@ -267,7 +266,7 @@ fn answers<K: Named, R: Host + Sync>(
     let parts = parts(alloc, method, exchange.target, exchange.credentials);
     let body = whole(exchange.body);
     let at = Moment::new(exchange.at);
-    gives(rt, alloc, hall, parts, body, at, exchange.answer)
+    gives(rt, hall, parts, body, at, exchange.answer)
 }
 
 /// The hall gives the exchange's answer to its request with this method.

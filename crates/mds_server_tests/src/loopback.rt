@@ -3,7 +3,7 @@ ghost use Rattle.std.specs.Prelude.{◌≡◌};
 ghost use Rattle.mds_request.specs.Configuration.{configuration};
 ghost use Rattle.mds_snapshot.specs.Opening.{book_of};
 
-use mds_doors::{Moments, Queues, bound, serve};
+use mds_doors::{Moments, Queues, Reception, bound, serve};
 use mds_hall::{Hall, Named};
 use mds_request::Config;
 use mds_snapshot::{Blank, prepare};
@@ -268,18 +268,11 @@ where
         clients,
     } = scene;
     let (alloc, count) = (rt.alloc(), clients.len());
+    let reception = Reception::new(*rt, hall, moments);
     join(
         rt,
         move || are_answered(alloc, clients),
-        || serve(
-            rt,
-            &mut runtime,
-            listener,
-            hall,
-            queues,
-            moments,
-            Some(count),
-        ),
+        || serve(rt, &mut runtime, listener, reception, queues, Some(count)),
     )
 }
 

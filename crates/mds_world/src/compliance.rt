@@ -20,12 +20,20 @@ use crate::bodies::compliance_reply;
 use crate::denied::Denied;
 use mds_catalog::{Catalogue, Published};
 use mds_fleet::Book;
-use mds_match::{Local, Vehicle, Zone};
+use mds_match::{Local, LocalMoment, Vehicle, Zone};
 use mds_policy::{Policy, Rule};
-use mds_request::{Code, Operator, Reply};
+use mds_request::{Code, Operator, Reply, Request};
 use mds_text::{Id, Moment, Tree, list_tree};
 use mds_verdict::{Evaluator, RuleVerdict, report_tree};
 use std::alloc::{AllocError, Global};
+
+/// A request of an operator, with the zone by whose local time its policies' rules are judged.
+#[derive(Clone, Copy)]
+pub(crate) struct OperatorRequest<'a> {
+    pub(crate) zone: &'a Zone,
+    pub(crate) operator: &'a Operator,
+    pub(crate) request: &'a Request<'a>,
+}
 
 /// The vehicles of a book, ascending by device id.
 #[tactic(auto, using(crate::proofs::Ascending::ascends))]
@@ -93,24 +101,24 @@ fn policy_verdicts<E: Evaluator<Catalogue>>(
     book: &mut Book,
     catalogue: &Catalogue,
     policy: &Policy,
-    local: Local,
-    at: Moment,
+    at: &LocalMoment,
 ) -> Result<Vec<RuleVerdict>, AllocError>
     requires ready { E.may_judge }
     requires published { IsOfItsId (publications_of catalogue.now) (policy_document policy.now) }
     requires fits { Fits (lasting_in (publications_of catalogue.now)) book.old }
     ensures exact { IfOk result (λ found. map verdict_document found.items ≡ verdicts (policy_document policy.now)
-        (published_area (publications_of catalogue.now)) (finite.values book.old.rows) local at) }
+        (published_area (publications_of catalogue.now)) (finite.values book.old.rows) at.now.local at.now.moment) }
     ensures within { IfOk result (λ found. All (λ v. v.measure < 2 ^ 63) found.items) }
     ensures rows { book.new.rows ≡ book.old.rows }
     ensures limit { book.new.limit ≡ book.old.limit }
     ensures fits { Fits (lasting_in (publications_of catalogue.now)) book.new }
 {
-    if let Some(found) = kept_verdicts(book, catalogue, policy, local, at) {
+    let (moment, local) = (at.moment, at.local);
+    if let Some(found) = kept_verdicts(book, catalogue, policy, local, moment) {
         return Ok(found);
     }
     let vehicles = fleet(book)?;
-    evaluator.verdicts(alloc, policy, catalogue, &vehicles, local, at)
+    evaluator.verdicts(alloc, policy, catalogue, &vehicles, local, moment)
 }
 
 /// The report on a published policy.
@@ -120,19 +128,18 @@ fn policy_report<E: Evaluator<Catalogue>>(
     book: &mut Book,
     catalogue: &Catalogue,
     policy: &Policy,
-    local: Local,
-    at: Moment,
+    at: &LocalMoment,
 ) -> Result<Tree, AllocError>
     requires ready { E.may_judge }
     requires published { IsOfItsId (publications_of catalogue.now) (policy_document policy.now) }
     requires fits { Fits (lasting_in (publications_of catalogue.now)) book.old }
     ensures report { IfOk result (λ t. view t ≡ reported (policy_document policy.now)
-        (verdicts (policy_document policy.now) (published_area (publications_of catalogue.now)) (finite.values book.old.rows) local at)) }
+        (verdicts (policy_document policy.now) (published_area (publications_of catalogue.now)) (finite.values book.old.rows) at.now.local at.now.moment)) }
     ensures rows { book.new.rows ≡ book.old.rows }
     ensures limit { book.new.limit ≡ book.old.limit }
     ensures fits { Fits (lasting_in (publications_of catalogue.now)) book.new }
 {
-    let verdicts = policy_verdicts(alloc, evaluator, book, catalogue, policy, local, at)?;
+    let verdicts = policy_verdicts(alloc, evaluator, book, catalogue, policy, at)?;
     report_tree(alloc, policy, &verdicts)
 }
 
@@ -143,29 +150,20 @@ fn policy_reports<E: Evaluator<Catalogue>>(
     book: &mut Book,
     catalogue: &Catalogue,
     policies: &[Published<'_, Policy>],
-    local: Local,
-    at: Moment,
+    at: &LocalMoment,
 ) -> Result<Tree, AllocError>
     requires ready { E.may_judge }
     requires published { All (λ p. IsOfItsId (publications_of catalogue.now) (lent_policy p).document) policies.now }
     requires fits { Fits (lasting_in (publications_of catalogue.now)) book.old }
     ensures reports { IfOk result (λ t. view t ≡ list_json (map (λ p. reported p.document
-        (verdicts p.document (published_area (publications_of catalogue.now)) (finite.values book.old.rows) local at)) (map lent_policy policies.now))) }
+        (verdicts p.document (published_area (publications_of catalogue.now)) (finite.values book.old.rows) at.now.local at.now.moment)) (map lent_policy policies.now))) }
     ensures rows { book.new.rows ≡ book.old.rows }
     ensures limit { book.new.limit ≡ book.old.limit }
     ensures fits { Fits (lasting_in (publications_of catalogue.now)) book.new }
 {
     let mut reports = Vec::with_capacity(alloc, policies.len())?;
     for policy in policies {
-        let report = policy_report(
-            alloc,
-            evaluator,
-            book,
-            catalogue,
-            policy.document,
-            local,
-            at,
-        )?;
+        let report = policy_report(alloc, evaluator, book, catalogue, policy.document, at)?;
         reports.push(report)?;
     }
     Ok(list_tree(reports))
@@ -177,22 +175,22 @@ pub(crate) fn compliance<E: Evaluator<Catalogue>>(
     evaluator: &E,
     book: &mut Book,
     catalogue: &Catalogue,
-    zone: &Zone,
-    operator: &Operator,
-    at: Moment,
+    asked: &OperatorRequest<'_>,
 ) -> Result<Reply, AllocError>
     requires ready { E.may_judge }
     requires lawful { AreLawful (publications_of catalogue.now) }
     requires fits { Fits (lasting_in (publications_of catalogue.now)) book.old }
-    ensures reply { IfOk result (λ r. r ≡ compliance_reply zone.now (operator_of operator.now) (publications_of catalogue.now) book.old.rows at) }
+    ensures reply { IfOk result (λ r. r ≡ compliance_reply asked.now.zone.now (operator_of asked.now.operator.now) (publications_of catalogue.now) book.old.rows asked.now.request.now.at) }
     ensures rows { book.new.rows ≡ book.old.rows }
     ensures limit { book.new.limit ≡ book.old.limit }
     ensures fits { Fits (lasting_in (publications_of catalogue.now)) book.new }
 {
-    let local = zone.local(at)?;
-    let policies = catalogue.in_force(alloc, operator.id, at)?;
-    let reports = policy_reports(alloc, evaluator, book, catalogue, &policies, local, at)?;
-    let reply = compliance_reply(alloc, at, "policies", reports, catalogue.revision())?;
+    let moment = asked.request.at;
+    let local = asked.zone.local(moment)?;
+    let policies = catalogue.in_force(alloc, asked.operator.id, moment)?;
+    let at = LocalMoment { moment, local };
+    let reports = policy_reports(alloc, evaluator, book, catalogue, &policies, &at)?;
+    let reply = compliance_reply(alloc, moment, "policies", reports, catalogue.revision())?;
     Ok(reply)
 }
 
@@ -202,15 +200,13 @@ pub(crate) fn policy_compliance<E: Evaluator<Catalogue>>(
     evaluator: &E,
     book: &mut Book,
     catalogue: &Catalogue,
-    zone: &Zone,
-    operator: &Operator,
-    at: Moment,
+    asked: &OperatorRequest<'_>,
     id: Id,
 ) -> Result<Reply, Denied>
     requires ready { E.may_judge }
     requires fits { Fits (lasting_in (publications_of catalogue.now)) book.old }
     ensures answer { Meets (λ r. r) result
-        (policy_compliance_answer zone.now (operator_of operator.now) (publications_of catalogue.now) book.old.rows at id) }
+        (policy_compliance_answer asked.now.zone.now (operator_of asked.now.operator.now) (publications_of catalogue.now) book.old.rows asked.now.request.now.at id) }
     ensures rows { book.new.rows ≡ book.old.rows }
     ensures limit { book.new.limit ≡ book.old.limit }
     ensures fits { Fits (lasting_in (publications_of catalogue.now)) book.new }
@@ -218,11 +214,13 @@ pub(crate) fn policy_compliance<E: Evaluator<Catalogue>>(
     let Some(found) = catalogue.policy(id) else {
         return Err(Denied::Refused(Code::NotFound));
     };
-    if !catalogue.is_in_force(operator.id, at, &found) {
+    let moment = asked.request.at;
+    if !catalogue.is_in_force(asked.operator.id, moment, &found) {
         return Err(Denied::Refused(Code::NotFound));
     }
-    let local = zone.local(at)?;
-    let report = policy_report(alloc, evaluator, book, catalogue, found.document, local, at)?;
-    let reply = compliance_reply(alloc, at, "policy", report, catalogue.revision())?;
+    let local = asked.zone.local(moment)?;
+    let at = LocalMoment { moment, local };
+    let report = policy_report(alloc, evaluator, book, catalogue, found.document, &at)?;
+    let reply = compliance_reply(alloc, moment, "policy", report, catalogue.revision())?;
     Ok(reply)
 }

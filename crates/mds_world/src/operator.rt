@@ -17,12 +17,12 @@ ghost use Rattle.mds_world.specs.Lasting.{lasting_in};
 ghost use Rattle.mds_world.specs.declared.bodies.TheConstants.{ROOM};
 
 use crate::bodies::{in_room, removed_reply, room, vehicles_reply};
-use crate::compliance::{compliance, policy_compliance};
+use crate::compliance::{OperatorRequest, compliance, policy_compliance};
 use crate::denied::Denied;
 use crate::published::{geographies, geography, policies, policy};
 use mds_catalog::Catalogue;
 use mds_fleet::{Book, Taken};
-use mds_request::{Code, Config, Operator, OperatorCall, Reply, Request};
+use mds_request::{Code, Config, OperatorCall, Reply, Request};
 use mds_text::Id;
 use mds_verdict::Evaluator;
 use std::alloc::{AllocError, Global};
@@ -76,40 +76,36 @@ fn remove(alloc: Global, book: &mut Book, device: Id) -> Result<Reply, Denied>
 }
 
 /// What an operator's call is answered, and what becomes of its book.
-fn answered<E: Evaluator<Catalogue>>(
+fn carry_out<E: Evaluator<Catalogue>>(
     alloc: Global,
+    evaluator: &E,
     book: &mut Book,
     catalogue: &Catalogue,
-    config: &Config,
-    operator: &Operator,
+    asked: &OperatorRequest<'_>,
     call: &OperatorCall,
-    request: &Request<'_>,
-    evaluator: &E,
 ) -> Result<Reply, Denied>
     requires ready { E.may_judge }
-    requires limit { book.old.limit ≡ (operator_of operator.now).limit }
+    requires limit { book.old.limit ≡ (operator_of asked.now.operator.now).limit }
     requires lawful { AreLawful (publications_of catalogue.now) }
     requires fits { Fits (lasting_in (publications_of catalogue.now)) book.old }
-    ensures answer { Meets (λ r. (r, book.new.rows)) result (operator_does (configuration config.now).zone (operator_of operator.now)
-        (publications_of catalogue.now) book.old.rows call.now (request_of request.now)) }
+    ensures answer { Meets (λ r. (r, book.new.rows)) result (operator_does asked.now.zone.now (operator_of asked.now.operator.now)
+        (publications_of catalogue.now) book.old.rows call.now (request_of asked.now.request.now)) }
     ensures refused { OnErr result (book.new.rows ≡ book.old.rows) }
     ensures limit { book.new.limit ≡ book.old.limit }
     ensures fits { Fits (lasting_in (publications_of catalogue.now)) book.new }
 {
-    let (zone, at) = (config.zone(), request.at);
+    let operator = Some(asked.operator.id);
     match *call {
-        OperatorCall::Policies => Ok(policies(alloc, catalogue, Some(operator.id))?),
-        OperatorCall::Policy(id) => policy(alloc, catalogue, Some(operator.id), id),
+        OperatorCall::Policies => Ok(policies(alloc, catalogue, operator)?),
+        OperatorCall::Policy(id) => policy(alloc, catalogue, operator, id),
         OperatorCall::Geographies => Ok(geographies(alloc, catalogue)?),
         OperatorCall::Geography(id) => geography(alloc, catalogue, id),
-        OperatorCall::Report => report(alloc, book, request),
+        OperatorCall::Report => report(alloc, book, asked.request),
         OperatorCall::Vehicles => Ok(vehicles(alloc, book)?),
         OperatorCall::RemoveVehicle(device) => remove(alloc, book, device),
-        OperatorCall::Compliance => Ok(compliance(
-            alloc, evaluator, book, catalogue, zone, operator, at,
-        )?),
+        OperatorCall::Compliance => Ok(compliance(alloc, evaluator, book, catalogue, asked)?),
         OperatorCall::PolicyCompliance(id) => {
-            policy_compliance(alloc, evaluator, book, catalogue, zone, operator, at, id)
+            policy_compliance(alloc, evaluator, book, catalogue, asked, id)
         }
     }
 }
@@ -141,10 +137,12 @@ pub fn operator_step<E: Evaluator<Catalogue>>(
     ensures limit { book.new.limit ≡ book.old.limit }
     ensures fits { Fits (lasting_in (publications_of catalogue.now)) book.new }
 {
-    let operator = &config.operators()[operator];
-    match answered(
-        alloc, book, catalogue, config, operator, call, request, evaluator,
-    ) {
+    let asked = OperatorRequest {
+        zone: config.zone(),
+        operator: &config.operators()[operator],
+        request,
+    };
+    match carry_out(alloc, evaluator, book, catalogue, &asked, call) {
         Ok(reply) => reply,
         Err(denied) => Reply::from(denied),
     }

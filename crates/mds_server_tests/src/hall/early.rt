@@ -36,7 +36,7 @@ fn tells_alfa<K: Named, R: Host + Sync>(
     answer: &Answer,
 ) -> bool {
     let parts = parts(alloc, Method::GET, COMPLIANCE, Some(ALFA));
-    gives(rt, alloc, hall, parts, arrived, at, answer)
+    gives(rt, hall, parts, arrived, at, answer)
 }
 
 pub(super) fn each_arrival<K: Named, R: Host + Sync>(rt: &R, alloc: Global, hall: &Hall<K>) {
@@ -96,7 +96,7 @@ fn tells_nobody<K: Named, R: Host + Sync>(
         return false;
     };
     let parts = parts(alloc, Method::GET, NOWHERE, Some(NOBODY));
-    gives(rt, alloc, hall, parts, spaces, Moment::new(2000), answer)
+    gives(rt, hall, parts, spaces, Moment::new(2000), answer)
 }
 
 pub(super) fn large_and_unknown<K: Named, R: Host + Sync>(rt: &R, alloc: Global, hall: &Hall<K>) {
@@ -122,15 +122,7 @@ fn finds_nowhere<K: Named, R: Host + Sync>(
     credentials: &'static str,
 ) -> bool {
     let parts = parts(alloc, Method::GET, NOWHERE, Some(credentials));
-    gives(
-        rt,
-        alloc,
-        hall,
-        parts,
-        whole(""),
-        Moment::new(2000),
-        NO_ROUTE,
-    )
+    gives(rt, hall, parts, whole(""), Moment::new(2000), NO_ROUTE)
 }
 
 /// Alfa's desk and the author's room are taken all the while.

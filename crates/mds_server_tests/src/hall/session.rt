@@ -138,7 +138,7 @@ fn lists<K: Named, R: Host + Sync>(
     answer: &Answer,
 ) -> bool {
     let at = Moment::new(2000);
-    gives(rt, alloc, hall, parts, whole(""), at, answer)
+    gives(rt, hall, parts, whole(""), at, answer)
 }
 
 /// A head with alfa's credentials in each of two fields.

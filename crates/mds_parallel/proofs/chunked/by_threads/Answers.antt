@@ -23,8 +23,8 @@ joined-requires g c =
     let few : length c.args.vehicles.now < 2 ^ 63 = omega arith in (
       polygons,
       made.0,
-      c.args.moment,
-      subst (AreTallies policy polygons made.0 c.args.local c.args.moment) (sym c.deref.ensures.value) (made.2 polygons c.in_ok-resolved.ensures),
+      c.args.at.now.moment,
+      subst (AreTallies policy polygons made.0 c.args.at.now.local c.args.at.now.moment) (sym c.deref.ensures.value) (made.2 polygons c.in_ok-resolved.ensures),
       omega (arith, few, ap length made.1, length-map c.args.vehicles.now row),
     )
 
@@ -33,10 +33,10 @@ returns-clause-exact g c =
     let polygons = g.P.Places.polygons c.args.places.now in
     let policy = policy_document c.args.policy.now in
     let made = c.in_ok-parts.ensures in
-    c.verdicts.ensures policy polygons (map row c.args.vehicles.now) c.args.local c.args.moment
-    (subst (λ rows. IsTally c.in_ok-tally.tally policy polygons rows c.args.local c.args.moment) made.1
-    (c.in_ok-tally.ensures polygons made.0 c.args.moment
-    (subst (AreTallies policy polygons made.0 c.args.local c.args.moment) (sym c.deref.ensures.value) (made.2 polygons c.in_ok-resolved.ensures))))
+    c.verdicts.ensures policy polygons (map row c.args.vehicles.now) c.args.at.now.local c.args.at.now.moment
+    (subst (λ rows. IsTally c.in_ok-tally.tally policy polygons rows c.args.at.now.local c.args.at.now.moment) made.1
+    (c.in_ok-tally.ensures polygons made.0 c.args.at.now.moment
+    (subst (AreTallies policy polygons made.0 c.args.at.now.local c.args.at.now.moment) (sym c.deref.ensures.value) (made.2 polygons c.in_ok-resolved.ensures))))
 
 pub returns-clause-fits : goal.returns-clause-fits
 returns-clause-fits g c =
@@ -44,5 +44,5 @@ returns-clause-fits g c =
     let policy = policy_document c.args.policy.now in
     let polygons = g.P.Places.polygons c.args.places.now in
     let rows = map row c.args.vehicles.now in
-    measures_fit (verdicts policy polygons rows c.args.local c.args.moment) (length rows) (2 ^ 63) _ (returns-clause-exact g c) (verdicts_at_most policy polygons rows rows c.args.local c.args.moment)
+    measures_fit (verdicts policy polygons rows c.args.at.now.local c.args.at.now.moment) (length rows) (2 ^ 63) _ (returns-clause-exact g c) (verdicts_at_most policy polygons rows rows c.args.at.now.local c.args.at.now.moment)
     (omega (arith, few, length-map c.args.vehicles.now row))

@@ -11,14 +11,14 @@ use Rattle.mds_world.proofs.compliance.compliance.Goals as goal
 
 pub policy_reports-requires-clause-published : goal.policy_reports-requires-clause-published
 policy_reports-requires-clause-published g c =
-    all_own (publications_of c.args.catalogue.now) c.args.operator.now.id c.args.at c.deref.result.now c.requires.lawful (ap (map lent_policy) c.deref.ensures.value ∙ c.in_ok-policies.ensures)
+    all_own (publications_of c.args.catalogue.now) c.args.asked.now.operator.now.id c.args.asked.now.request.now.at c.deref.result.now c.requires.lawful (ap (map lent_policy) c.deref.ensures.value ∙ c.in_ok-policies.ensures)
 
 pub returns-clause-reply : goal.returns-clause-reply
 returns-clause-reply g c =
     let rows = values c.args.book.now.rows in
-    let policies : map lent_policy c.deref.result.now ≡ in_force (publications_of c.args.catalogue.now) c.args.operator.now.id c.args.at =
+    let policies : map lent_policy c.deref.result.now ≡ in_force (publications_of c.args.catalogue.now) c.args.asked.now.operator.now.id c.args.asked.now.request.now.at =
     ap (map lent_policy) c.deref.ensures.value ∙ c.in_ok-policies.ensures in
-    let local : c.in_ok-local.local ≡ local_of c.args.zone.now c.args.at = local_told _ _ _ c.in_ok-local.was c.local.ensures in
-    all_told c.args.zone.now (operator c.args.operator.now) (publications_of c.args.catalogue.now) c.args.book.now.rows c.args.at rows _ _ _ _ refl local
-    (c.in_ok-reports.ensures.reports ∙ ap (λ ps. list_json (map (report c.args.zone.now (operator c.args.operator.now) (publications_of c.args.catalogue.now) c.args.book.now.rows c.args.at rows c.in_ok-local.local) ps)) policies)
+    let local : c.in_ok-local.local ≡ local_of c.args.asked.now.zone.now c.args.asked.now.request.now.at = local_told _ _ _ c.in_ok-local.was c.local.ensures in
+    all_told c.args.asked.now.zone.now (operator c.args.asked.now.operator.now) (publications_of c.args.catalogue.now) c.args.book.now.rows c.args.asked.now.request.now.at rows _ _ _ _ refl local
+    (c.in_ok-reports.ensures.reports ∙ ap (λ ps. list_json (map (report c.args.asked.now.zone.now (operator c.args.asked.now.operator.now) (publications_of c.args.catalogue.now) c.args.book.now.rows c.args.asked.now.request.now.at rows c.in_ok-local.local) ps)) policies)
     c.revision.ensures.count c.in_ok-reply.ensures

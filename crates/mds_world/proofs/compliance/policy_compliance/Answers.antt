@@ -14,6 +14,6 @@ policy_report-requires-clause-published g c =
 
 pub returns-clause-answer : goal.returns-clause-answer
 returns-clause-answer g c =
-    let local : c.in_ok-local.local ≡ local_of c.args.zone.now c.args.at = local_told _ _ _ c.in_ok-local.was c.local.ensures in
-    let binds : is_in_force (publications_of c.args.catalogue.now) c.args.operator.now.id c.args.at (lent_policy c.in-Some.found) ≡ true = sym c.is_in_force.ensures ∙ c.if-not-is_in_force.false in
-    one_told c.args.zone.now (operator c.args.operator.now) (publications_of c.args.catalogue.now) c.args.book.now.rows c.args.at c.args.id (lent_policy c.in-Some.found) (values c.args.book.now.rows) _ _ _ _ c.in-Some.ensures binds refl local c.in_ok-report.ensures.report c.revision.ensures.count c.in_ok-reply.ensures
+    let local : c.in_ok-local.local ≡ local_of c.args.asked.now.zone.now c.args.asked.now.request.now.at = local_told _ _ _ c.in_ok-local.was c.local.ensures in
+    let binds : is_in_force (publications_of c.args.catalogue.now) c.args.asked.now.operator.now.id c.args.asked.now.request.now.at (lent_policy c.in-Some.found) ≡ true = sym c.is_in_force.ensures ∙ c.if-not-is_in_force.false in
+    one_told c.args.asked.now.zone.now (operator c.args.asked.now.operator.now) (publications_of c.args.catalogue.now) c.args.book.now.rows c.args.asked.now.request.now.at c.args.id (lent_policy c.in-Some.found) (values c.args.book.now.rows) _ _ _ _ c.in-Some.ensures binds refl local c.in_ok-report.ensures.report c.revision.ensures.count c.in_ok-reply.ensures

@@ -11,7 +11,7 @@ use Rattle.mds_world.proofs.compliance.policy_reports.Given as goal
 abbrev pub invariant-loop-policy : goal.invariant-loop-policy
 invariant-loop-policy g l = record {
   told : map view l.reports.items
-      ≡ map (λ p. reported p.document (verdicts p.document (published_area (publications_of l.catalogue)) (values l.fn.book.rows) l.local l.at)) (map lent_policy (take l.policy-index l.policies));
+      ≡ map (λ p. reported p.document (verdicts p.document (published_area (publications_of l.catalogue)) (values l.fn.book.rows) l.at.local l.at.moment)) (map lent_policy (take l.policy-index l.policies));
   rows : l.book.rows ≡ l.fn.book.rows;
   limit : l.book.limit ≡ l.fn.book.limit;
   fits : Fits (lasting_in (publications_of l.catalogue)) l.book;

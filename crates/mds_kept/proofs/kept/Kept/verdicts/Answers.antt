@@ -56,10 +56,10 @@ returns-clause-exact g c =
     let sinces = subst (AreRead IsSince rows) (sym c.deref-2.ensures.value) c.in_ok-listed-2.ensures.sinces in
     let masks = subst (AreRead (λ row word. IsMask policy polygons row word) rows) (sym c.deref-3.ensures.value) c.in_ok-column.ensures.masks in
     let are = columns_of c.args.vehicles.now c.len.ensures.ordered c.requires.own policy polygons devices c.deref-2.result.now c.deref-3.result.now (c.deref.ensures.value ∙ c.in_ok-listed-2.ensures.devices) sinces masks in
-    let Exact : Vec RuleVerdict Global → Type 0 = λ found. map verdict_document found.items ≡ verdicts policy polygons rows c.args.local c.args.moment in
+    let Exact : Vec RuleVerdict Global → Type 0 = λ found. map verdict_document found.items ≡ verdicts policy polygons rows c.args.at.local c.args.at.moment in
     subst (λ o. IfSome o Exact) (sym c.ok.ensures.value)
     (if_ok_as c.verdicts_by-found.result
-    (λ found. (places : List ℕ → List (List (List Position))) (others : List Row) → AreOf policy places others devices c.deref-2.result.now c.deref-3.result.now → map verdict_document found.items ≡ verdicts policy places others c.args.local c.args.moment)
+    (λ found. (places : List ℕ → List (List (List Position))) (others : List Row) → AreOf policy places others devices c.deref-2.result.now c.deref-3.result.now → map verdict_document found.items ≡ verdicts policy places others c.args.at.local c.args.at.moment)
     Exact (λ found exact. exact polygons rows are) c.verdicts_by-found.ensures.exact)
 
 pub returns-clause-kept : goal.returns-clause-kept
