@@ -109,7 +109,7 @@ stress: build plain
 	python3 -B tests/stress.py
 
 openapi:
-	@GATE=1 python3 -B tests/openapi.py docs/PROTOCOL.md
+	@GATE=1 python3 -B tests/openapi.py
 
 dist: build server plain
 	@echo "make dist takes $(DIST_TIME)"

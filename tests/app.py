@@ -3,7 +3,7 @@
 
     app.py PROGRAM
 
-Expects the bodies that docs/PROTOCOL.md gives, byte for byte, worked out by hand: of the author, of operators with a name, with none and
+Expects the bodies that docs/HTTP.md gives, byte for byte, worked out by hand: of the author, of operators with a name, with none and
 with one that is no name, and of nobody; the withdrawn policies before and after withdrawals, for the author, for an operator that a policy
 is meant for and for one that it isn't; the drafts in their order; the refusals of other methods and roles; that each answer of the city
 may be stored by no cache; that none of it makes an entry in the journal; and the same answers after SIGKILL and another start. Prints

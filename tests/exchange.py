@@ -11,7 +11,7 @@ other types or cut within a character, and identifiers that stand twice, are tol
 MDS and of GBFS become the reports that are worked out here, many in one request, and those that are away are taken away; that what is
 exported and imported again is exported as the same; that no byte of a file reaches standard output or standard error that could move a
 cursor; that a reply counts only where it is whole by its head (RFC 9112, section 6.3); that an access token is read from a file and shown
-nowhere; that a FIFO, a socket, a device and a folder are refused at once; and the exit statuses of docs/PROTOCOL.md. Prints what is
+nowhere; that a FIFO, a socket, a device and a folder are refused at once; and the exit statuses of docs/OPERATIONS.md. Prints what is
 otherwise, and last 'N passed, M failed'; ends with 1 where one failed.
 """
 

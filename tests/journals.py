@@ -153,7 +153,7 @@ def is_as_replayed(server, city, replay, tokens=(AUTHOR, ALFA, BRAVO)):
 
 
 def has_its_layout(small):
-    """The journal's bytes are what docs/PROTOCOL.md says, and no access token is among them."""
+    """The journal's bytes are what docs/FILES.md says, and no access token is among them."""
     found = records.read(small.bytes)
     texts = [records.head([(ALFA_ID, 3), (BRAVO_ID, 3)])]
     for line, (token, method, target, body) in zip(small.lines, SMALL):

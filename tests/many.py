@@ -3,7 +3,7 @@
 
     many.py PROGRAM
 
-Expects the answers that docs/PROTOCOL.md gives for each line, worked out by hand, and those that single requests have at a second city
+Expects the answers that docs/HTTP.md gives for each line, worked out by hand, and those that single requests have at a second city
 that was asked the same before; that an answer of many lines has one line for each that isn't empty, in order; that a body over the limit,
 the author, another method, a stranger and more lines than may wait are refused and change nothing; that after SIGKILL behind the answer
 all that was taken is there again, and that the journal has an entry for each report that was taken, in the order of the lines; and that a

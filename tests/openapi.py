@@ -4,9 +4,9 @@
     openapi.py [PROTOCOL ..]
 
 Every reference resolves, and every component is referred to. The routes, who may ask, and the statuses and codes are those of the
-protocol (docs/PROTOCOL.md, or the files that are named). Every example fits its schema, and examples of replies and of bodies stand
-in the scripts of tests/replays, but for those of paths beside the routes, which no script asks. There each reply fits the schema of
-its route and status, and so does each body that was taken.
+protocol (docs/PROTOCOL.md and docs/HTTP.md, or the files that are named). Every example fits its schema, and examples of replies and of
+bodies stand in the scripts of tests/replays, but for those of paths beside the routes, which no script asks. There each reply fits the
+schema of its route and status, and so does each body that was taken.
 Prints what was checked in numbers, and each fault, and last 'N passed, M failed', of kinds of checks and of faults; ends with 1 where there
 is one. Any python3 of the PATH that has the modules yaml and jsonschema is taken (packages.py); without one it is left out.
 """
@@ -28,7 +28,7 @@ import jsonschema
 import yaml
 
 DESCRIPTION = f"{HERE}/../docs/openapi.yaml"
-PROTOCOL = f"{HERE}/../docs/PROTOCOL.md"
+PROTOCOL = [f"{HERE}/../docs/{name}.md" for name in ("PROTOCOL", "HTTP")]
 SCRIPTS = f"{HERE}/replays"
 
 LAST_MOMENT = 4102444799999
@@ -345,4 +345,4 @@ def tell(check):
 
 
 if __name__ == "__main__":
-    sys.exit(main(sys.argv[1:] or [PROTOCOL]))
+    sys.exit(main(sys.argv[1:] or PROTOCOL))

@@ -1,6 +1,6 @@
 """A journal's bytes, written and read apart from the programs: records with chained sums, groups behind marks, heads and entries.
 
-This is a second reading of docs/PROTOCOL.md's layout, by which the tests say what a changed journal may be read as.
+This is a second reading of docs/FILES.md's layout, by which the tests say what a changed journal may be read as.
 """
 
 MASK = (1 << 64) - 1

@@ -1,4 +1,5 @@
-"""What is answered to each method at each path, by who asks: worked out by hand from docs/PROTOCOL.md, and never from a program's answers.
+"""What is answered to each method at each path, by who asks: worked out by hand from docs/PROTOCOL.md and docs/HTTP.md, and never from a
+program's answers.
 
 A table has blocks. A block's first line has targets, which all are answered alike, and behind a bar the methods that they have, which the
 field `allow` of a 405 lists (RFC 9110, section 15.5.6). Each further line has methods, and what the author, an operator and a stranger are

@@ -4,7 +4,7 @@
     thinning.py PROGRAM [--replay FILE] [--vehicles NUMBER] [--kills NUMBER]
 
 A city is run: three operators report, remove and report again, while its author publishes, supersedes, withdraws and keeps drafts. Which
-entries stay of its journal is worked out here a second time, from what is said in docs/PROTOCOL.md. A server of the thinned journal is
+entries stay of its journal is worked out here a second time, from what is said in docs/OPERATIONS.md. A server of the thinned journal is
 compared with one of the journal before, over HTTP in all that is asked for, and by mds_replay at the same moments. Then come configurations,
 folders and journals that are refused, a disk without room, a file that can't grow, and a journal of a day's reports, made by
 tests/records.py, whose thinning is killed at several moments. Then the journal is thinned while its city is served, under load, with

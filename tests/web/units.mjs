@@ -122,9 +122,10 @@ is("bounds in words", [{ maximum: 0 }, { minimum: 2, maximum: 1500 }, { minimum:
 
 // --- The sources --------------------------------------------------------------------------------------------------------
 
-const protocol = readFileSync(join(TOP, "docs", "PROTOCOL.md"), "utf8");
+const read = (name) => readFileSync(join(TOP, "docs", name), "utf8");
+const protocol = read("PROTOCOL.md");
 const refusals = protocol.slice(protocol.indexOf("## Refusals"), protocol.indexOf("## Limits"));
-const table = refusals + protocol.slice(protocol.indexOf("Before the refusals"));
+const table = refusals + read("HTTP.md");
 const codes = [...table.matchAll(/^\| [45]\d\d .*?\|/gm)].flatMap(([cell]) => [...cell.matchAll(/`([a-z_]+)`/g)].map((it) => it[1]));
 ok("the protocol's refusals are found", codes.length > 25, codes.length);
 is("each refusal is told in words", [...new Set(codes)].filter((it) => !WORDS[it]).join(), "");

@@ -1,0 +1,120 @@
+#!/usr/bin/env python3
+"""The table of crates in docs/ARCHITECTURE.md, by layer: what each crate says it is, and what it stands on.
+
+    python3 tests/crates.py            prints the table
+    python3 tests/crates.py --write    puts it between the two marks in the document
+    python3 tests/crates.py --check    compares the document with it, and ends with 1 where they differ
+
+What a crate is, is the first sentence of its src/lib.rt or src/main.rt. Of the crates that crates.txt lists for it, the table has those
+that no other of them stands on. Each crate stands in one layer of LAYERS, and uses crates of that layer and of those before it alone.
+The last line of --write and --check is 'N passed, M failed', over the rows of the table and whatever is wrong with the crates.
+"""
+import difflib
+import re
+import sys
+from pathlib import Path
+
+ROOT = Path(__file__).resolve().parent.parent
+PAGE = ROOT / "docs" / "ARCHITECTURE.md"
+BEGIN, END = "<!-- crates: begin (tests/crates.py --write) -->", "<!-- crates: end -->"
+HEAD = ["| Crate | What it says it is | Stands on |", "|---|---|---|"]
+LAYERS = (
+    ("Core", "the protocol and its state", """
+        mds_text mds_reading mds_geometry mds_geography mds_policy mds_match mds_verdict mds_masks mds_kept mds_fleet mds_parallel
+        mds_catalog mds_drafts mds_snapshot mds_request mds_diagnosis mds_zones mds_configuration mds_machine mds_fronts mds_world
+        mds_shelf mds_desk mds_lines"""),
+    ("Journal", "what a disk keeps", """
+        mds_restarts mds_records mds_rolling mds_entries mds_keeping mds_commit mds_recovery mds_folder mds_thinning"""),
+    ("Server", "from a socket to the core", """
+        mds_limits mds_public mds_app mds_responses mds_hall mds_connections mds_doors mds_routes mds_control mds_city mds_page
+        mds_public_answers mds_meter mds_refusals mds_site"""),
+    ("Command line", "what a shell asks for", """
+        mds_start mds_command mds_client mds_import mds_feeds mds_errands"""),
+    ("Programs", "what is run", """
+        mds_replay mds_serve ruffletuff"""),
+    ("Tests", "tests and worked examples", """
+        mds_exchanges mds_core_tests mds_examples mds_server_tests mds_server_examples mds_keeping_tests mds_thinning_tests"""),
+)
+
+
+def own_crates():
+    """Each crate of crates.txt with those of this repository that are listed for it, in the order of the file."""
+    lines = [line for line in (ROOT / "crates.txt").read_text().splitlines() if line and not line.startswith("#")]
+    listed = {name: rest.split() for name, _, rest in (line.partition(":") for line in lines)}
+    return {name: [it for it in rest if it in listed] for name, rest in listed.items()}
+
+
+def all_below(crates, name):
+    """All crates that a crate stands on, through others too."""
+    return set(crates[name]).union(*(all_below(crates, it) for it in crates[name]))
+
+
+def highest(crates, name):
+    """Those crates listed for a crate that no other of them stands on."""
+    through = set().union(*(all_below(crates, it) for it in crates[name]))
+    return [it for it in crates[name] if it not in through]
+
+
+def first_sentence(name):
+    """The first sentence of a crate's own text, without its full stop; empty where there is none."""
+    for file in ("lib.rt", "main.rt"):
+        path = ROOT / "crates" / name / "src" / file
+        if path.is_file():
+            block = re.match(r"(?://! ?.*\n)*", path.read_text())[0].split("//!\n")[0]
+            text = " ".join(line.removeprefix("//!").strip() for line in block.splitlines())
+            return re.split(r"\.(?=\s+[A-Z]|\s*$)", text)[0].replace("|", "\\|")
+    return ""
+
+
+def table(crates):
+    """The lines of the table, and what is wrong with the crates."""
+    lines, wrong, seen = list(HEAD), [], []
+    for layer, what, names in LAYERS:
+        lines.append(f"| **{layer}** | **{what}** | |")
+        names = names.split()
+        seen += names
+        for name in (it for it in crates if it in names):
+            sentence = first_sentence(name)
+            if not sentence:
+                wrong.append(f"{name}: its source doesn't say what it is")
+            wrong += [f"{name}, of {layer}, uses {it}, of no layer up to it" for it in crates[name] if it not in seen]
+            lines.append(f"| `{name}` | {sentence} | {', '.join(f'`{it}`' for it in highest(crates, name)) or 'none'} |")
+    folders = {it.name for it in (ROOT / "crates").iterdir() if (it / "src").is_dir()}
+    wrong += [f"{it}: in LAYERS {seen.count(it)} times" for it in crates if seen.count(it) != 1]
+    wrong += [f"{it}: in LAYERS, and not in crates.txt" for it in seen if it not in crates]
+    wrong += [f"{it}: in one of crates.txt and crates/ alone" for it in sorted(folders ^ set(crates))]
+    return lines, wrong
+
+
+def compared(made, found):
+    """How many rows of the table the document has, and the lines that differ: those it lacks by '+', those it has in their place by '-'."""
+    differing = [it for it in difflib.ndiff(found, made) if it[0] in "+-"]
+    rows = len(made) - len(HEAD)
+    return rows - sum(it.startswith("+ | ") for it in differing if it[2:] not in HEAD), differing
+
+
+def main():
+    lines, wrong = table(own_crates())
+    if not sys.argv[1:]:
+        print("\n".join(lines))
+        return 0
+    if sys.argv[1:] not in (["--write"], ["--check"]):
+        sys.exit(__doc__)
+    text = PAGE.read_text()
+    if text.count(BEGIN) != 1 or text.count(END) != 1 or text.index(BEGIN) > text.index(END):
+        passed, differing = 0, [f"{PAGE.relative_to(ROOT)} hasn't the two marks, once each: {BEGIN} {END}"]
+    else:
+        before, _, rest = text.partition(BEGIN)
+        found, _, after = rest.partition(END)
+        if sys.argv[1] == "--write":
+            found = "\n" + "\n".join(lines) + "\n"
+            PAGE.write_text(before + BEGIN + found + END + after)
+        passed, differing = compared(lines, found.strip("\n").split("\n"))
+    for line in wrong + differing:
+        print(line)
+    print(f"{passed} passed, {len(wrong) + len(differing)} failed")
+    return 1 if wrong or differing else 0
+
+
+if __name__ == "__main__":
+    sys.exit(main())
