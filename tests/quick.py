@@ -10,7 +10,8 @@ ruffletuff on the messages that wait for no deadline and on the short loads (htt
 (journals.py, damages.py, thinning.py), the control port (control.py), configurations (config.py), many reports at once (many.py), also
 beside the changes of others (shares.py), each path by each method and asker (routes.py), files that are imported (exchange.py), what
 people are told (app.py), what everyone is told (public.py), the counts in docs/audit/DEFINITIONS.md (definitions.py), the table of
-crates in docs/ARCHITECTURE.md (crates.py), links and lengths of all documents (documents.py), nginx before a server (nginx.py), the
+crates in docs/ARCHITECTURE.md (crates.py), links and lengths of all documents (documents.py), whether each edit can be
+made (mutations.py), nginx before a server (nginx.py), the
 page (page.py), in a browser too (web/run.py), a short stress (stress.py), some refused growths of memory (growths.py) and the check of
 docs/openapi.yaml (openapi.py). The other messages, and mds_serve, which serves by the same crates, are tried by `make prove` alone.
 
@@ -149,6 +150,7 @@ def parts(room):
     add("the counts of definitions", 0.1, [], lambda: script("definitions.py"))
     add("the table of crates", 0.1, [], lambda: script("crates.py", "--check"))
     add("links and lengths of documents", 0.1, [], lambda: script("documents.py"))
+    add("the texts of mutation tests", 0.1, [], lambda: script("mutations.py"))
     add("nginx before a server", 0.3, [], lambda: script("nginx.py", slow=False))
     add("thinned journals", 1, kept + replayed, lambda: script("thinning.py", keep, "--replay", replay, *DAY, slow=slowly))
     for part in range(1, SCRIPT_PARTS + 1):
