@@ -1,4 +1,4 @@
--- Each configuration's text has badges, those of its operators in their order.
+-- Each configuration's text can be read for names, those of its operators in their order.
 use Rattle.std.proofs.Common.{◌≡◌, ℕ, Bool, true, false, cond, nat_le, List, [], ◌∷◌, length, map, Option, Some, None, option_and_then, Result, Ok, Err, refl, sym, ap, subst, ◌∙◌}
 use Rattle.mds_text.specs.Fault.{Fault, ◌>>=◌, alike, too_many_operators}
 use Rattle.mds_text.specs.Fields.{document_of, each, id_of, list_of, member_at, object_of, required_at, text_of}
@@ -11,7 +11,7 @@ use Rattle.mds_request.specs.declared.config.TheConstants.{MOST_OPERATORS}
 use Rattle.mds_app.specs.Badges.{Badge, Badges, as_name, badge_of, badges_of, name_at, read_badges}
 use Rattle.mds_app.specs.Laws.{IsBadged}
 
--- of two readings one after another that give something, the first does
+-- of two readings one after another that succeed, the first does
 first_ok : {A B : Type 0} (r : Result A Fault) (f : A → Result B Fault) (b : B) → (r >>= f) ≡ Ok b → (a : A) × (r ≡ Ok a) × (f a ≡ Ok b)
 first_ok (Ok a) f b is = (a, refl, is)
 first_ok (Err fault) f b is = absurd cc
@@ -22,7 +22,7 @@ then_ok r f a b is here = ap (λ x. x >>= f) is ∙ here
 same_ok : {A : Type 0} (a b : A) → ◌≡◌ {A = Result A Fault} (Ok a) (Ok b) → a ≡ b
 same_ok a b is = cc
 
--- what has an identifier is an object, which has a name or has none
+-- a value with an identifier is an object, which has a name or has none
 named : (entry : Json) (id : List ℕ) → required_at id_of entry Id ≡ Ok id → (name : Option (List ℕ)) × (name_at entry ≡ Ok name)
 named null id is = absurd cc
 named (boolean b) id is = absurd cc

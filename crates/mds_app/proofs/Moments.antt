@@ -1,4 +1,4 @@
--- From which moment on a policy is withdrawn.
+-- The moment from which on a policy is withdrawn.
 use Rattle.std.proofs.Common.{◌≡◌, ℕ, ◌+◌, ◌<◌, suc, nat_le, min, ◌&&◌, ◌||◌, Bool, true, false, cond, List, [], ◌∷◌, ◌++◌, length, get_or, take, map, Option, Some, None, refl, sym, ap, ◌∙◌, add-one, arith}
 use Rattle.std.specs.List.{cons_option, filter_map, list_any}
 use Rattle.std.specs.Option.{option_map_or, option_to_list}
@@ -42,14 +42,14 @@ never_before m is = grind (arith, nat_tests)
 one_moment : (m n : ℕ) → nat_le m m ≡ nat_le n m → nat_le m n ≡ nat_le n n → m ≡ n
 one_moment m n there back = grind (arith, nat_tests)
 
--- what has come at the same moments is one moment
+-- two optional moments that have come at the same moments are equal
 same_moment : (one other : Option ℕ) → ((t : ℕ) → come t one ≡ come t other) → one ≡ other
 same_moment None None same = refl
 same_moment None (Some n) same = absurd (never_before n (same n))
 same_moment (Some m) None same = absurd (never_before m (sym (same m)))
 same_moment (Some m) (Some n) same = ap Some (one_moment m n (same m) (same n))
 
--- there is one such moment alone
+-- there is only one such moment
 pub is_from : (publications : List Publication) (id : List ℕ) (from : Option ℕ) → IsWithdrawnFrom publications id from → from ≡ withdrawn_from publications id
 is_from publications id from is = same_moment from (withdrawn_from publications id) (λ t. sym (is t) ∙ from_is_right publications id t)
 
@@ -57,7 +57,7 @@ one_of : {A : Type 0} (o : Option A) → cons_option o [] ≡ option_to_list o
 one_of None = refl
 one_of (Some x) = refl
 
--- what is told of one more
+-- one more is listed
 pub told_more : {A B C : Type 0} (see : A → B) (tell : B → Option C) (xs : List A) (i : ℕ) (x : A) (old new : List C) (told : Option C) → i < length xs → x ≡ get_or xs i x
     → old ≡ filter_map tell (map see (take i xs)) → new ≡ old ++ option_to_list told → told ≡ tell (see x)
     → new ≡ filter_map tell (map see (take (i + 1) xs))

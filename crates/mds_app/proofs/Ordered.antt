@@ -1,4 +1,4 @@
--- Identifiers that are put in their places one after another, and the keys of a map that is made so.
+-- Identifiers that are inserted in their order one after another, and the keys of a map that is made so.
 use Rattle.std.proofs.Common.{◌≡◌, ℕ, ◌+◌, ◌<◌, suc, zero, List, [], ◌∷◌, ◌++◌, length, get_or, drop, map, Option, Some, None, Result, Ok, Err, IfOk, refl, sym, ap, ◌∙◌, arith, add-one, drop-cons}
 use Rattle.std.specs.declared.cmp.Ordering.{Ordering}
 use Rattle.std.specs.declared.cmp.Ordering.TheVariants.{Less, Equal, Greater}
@@ -18,7 +18,7 @@ use Rattle.mds_drafts.specs.Drafts.{id_cmp}
 use Rattle.mds_drafts.specs.Entries.{document_of, drafts_in, policy_entry, geography_entry}
 use Rattle.mds_app.specs.Listed.{ids_of, own_id}
 
--- identifiers with one more in its place
+-- identifiers with one more in its order
 abbrev pub placed : List ℕ → List (List ℕ) → List (List ℕ)
 placed k [] = k ∷ []
 placed k (x ∷ xs) = by_order (id_cmp k x) (k ∷ x ∷ xs) (x ∷ xs) (x ∷ placed k xs)
@@ -38,7 +38,7 @@ keys_put k v (e ∷ es) =
       | Greater ↦ ap (λ ks. e.0 ∷ ks) (keys_put k v es)
     ]
 
--- what a tree does with a new key
+-- the keys of a map after an insertion
 pub keys_inserted : {X : Type 0} (k : List ℕ) (v : X) (es : List (List ℕ × X)) → map (λ e. e.0) (insert_entry id_cmp es k v) ≡ placed k (map (λ e. e.0) es)
 keys_inserted k v [] = refl
 keys_inserted k v (e ∷ es) =
@@ -60,7 +60,7 @@ keys_from (e ∷ es) =
     ∙ keys_put e.0 e.1 (entries (from_entries {R = id_cmp} es))
     ∙ ap (placed e.0) (keys_from es)
 
--- the identifiers of the drafts of a kind, as they stand
+-- the identifiers of the drafts of a kind, in the drafts' order
 abbrev pub own_ids : DraftKind → List Draft → List (List ℕ)
 own_ids kind items = filter_map (λ d. own_id kind (document_of d)) items
 
@@ -74,7 +74,7 @@ geography_ids [] = refl
 geography_ids (drafts.Policy share ∷ items) = geography_ids items
 geography_ids (drafts.Geography share ∷ items) = ap (λ (ids : List (List ℕ)). cons_option (own_id kinds.Geography (document_of (drafts.Geography share))) ids) (geography_ids items)
 
--- the identifiers that are listed are those, each in its place
+-- the listed identifiers are those, in their order
 pub ids_are : (kind : DraftKind) (items : List Draft) → all_placed (own_ids kind items) ≡ ids_of (drafts_in items) kind
 ids_are kinds.Policy items = sym (keys_from (filter_map policy_entry items) ∙ ap all_placed (policy_ids items))
 ids_are kinds.Geography items = sym (keys_from (filter_map geography_entry items) ∙ ap all_placed (geography_ids items))
@@ -87,14 +87,14 @@ with_own : (kind : DraftKind) (items : List Draft) (i : ℕ) (d : Draft) (o : Op
 with_own kind items i d o within here is =
     ap (own_ids kind) (from_here items i d within here) ∙ ap (λ x. cons_option x (own_ids kind (drop (i + 1) items))) is
 
--- one draft more from the back: of this kind
+-- one more draft from the back: of this kind
 pub one_placed : (kind : DraftKind) (items : List Draft) (i : ℕ) (d : Draft) (id : List ℕ) (old new : List (List ℕ × Unit {0})) → i < length items → d ≡ get_or items i d
     → own_id kind (document_of d) ≡ Some id → map (λ e. e.0) old ≡ all_placed (own_ids kind (drop (i + 1) items)) → new ≡ insert_entry id_cmp old id tt
     → map (λ e. e.0) new ≡ all_placed (own_ids kind (drop i items))
 one_placed kind items i d id old new within here is was grown =
     ap (map (λ e. e.0)) grown ∙ keys_inserted id tt old ∙ ap (placed id) was ∙ sym (ap all_placed (with_own kind items i d (Some id) within here is))
 
--- of another
+-- of another kind
 pub none_placed : (kind : DraftKind) (items : List Draft) (i : ℕ) (d : Draft) (old : List (List ℕ × Unit {0})) → i < length items → d ≡ get_or items i d
     → own_id kind (document_of d) ≡ None → map (λ e. e.0) old ≡ all_placed (own_ids kind (drop (i + 1) items))
     → map (λ e. e.0) old ≡ all_placed (own_ids kind (drop i items))

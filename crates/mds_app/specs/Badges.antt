@@ -1,4 +1,4 @@
--- What a configuration's text says for people: by what name each operator goes, and the zone as it is written.
+-- The operators' names and the zone in a configuration's text, for people.
 use Rattle.std.specs.Prelude.{ℕ, List, nat_le, length, if◌then◌else◌, Option, Some, None, option_and_then, option_map, map, string_bytes, Result, Ok}
 use Rattle.mds_text.specs.Fault.{Fault, ◌>>=◌}
 use Rattle.mds_text.specs.Fields.{object_of, document_of, member_at, required_at, id_of, text_of, list_of, each}
@@ -9,7 +9,7 @@ use Rattle.mds_app.specs.declared.badges.Badge as program
 use Rattle.mds_app.specs.declared.badges.Badges as program'
 use Rattle.mds_app.specs.declared.badges.TheConstants.{MOST_NAME}
 
--- an operator's identifier, and the name that it goes by, where it has one
+-- an operator's identifier, and its name, where it has one
 pub record Badge : Type 0 where
   pub id : List ℕ
   pub name : Option (List ℕ)
@@ -19,15 +19,15 @@ pub record Badges : Type 0 where
   pub operators : List Badge
   pub zone : List ℕ
 
--- what a `Badge` stands for
+-- the definition's value of a `Badge`
 abbrev pub badge_view : program.Badge → Badge
 badge_view b = record { id = b.id; name = option_map string_bytes b.name }
 
--- what a `Badges` stands for
+-- the definition's value of a `Badges`
 abbrev pub badges_view : program'.Badges → Badges
 badges_view b = record { operators = map badge_view b.operators.items; zone = string_bytes b.zone }
 
--- a text of at most 256 bytes is a name; any other value is read past, as members are that a configuration doesn't have
+-- a text of at most 256 bytes is a name; any other value is ignored, as members are that a configuration doesn't have
 abbrev pub as_name : Json → Option (List ℕ)
 as_name (text s) = if nat_le (length s) MOST_NAME then Some s else None
 as_name value = None
@@ -35,7 +35,7 @@ as_name value = None
 abbrev pub name_at : Json → Result (Option (List ℕ)) Fault
 name_at entry = member_at entry Name >>= λ value. Ok (option_and_then as_name value)
 
--- an operator's badge
+-- an operator's identifier and name
 abbrev pub badge_of : Json → Result Badge Fault
 badge_of value = do
   entry ← object_of Operators value
@@ -51,6 +51,6 @@ badges_of value = do
   zone ← required_at text_of document Zone
   Ok (record { operators = operators; zone = zone })
 
--- the badges of a configuration's text
+-- the operators' names and the zone of a configuration's text
 abbrev pub read_badges : List ℕ → Result Badges Fault
 read_badges bytes = read_text bytes >>= badges_of

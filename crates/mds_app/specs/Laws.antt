@@ -1,4 +1,4 @@
--- What the definitions are good for.
+-- The laws of the answers for people.
 use Rattle.std.specs.Prelude.{◌≡◌, ℕ, List, map, slice_get, Result, Ok}
 use Rattle.mds_catalog.specs.Publication.{Publication, IsWithdrawnFrom}
 use Rattle.mds_request.specs.Configuration.{Configuration, ids, read_configuration}
@@ -7,22 +7,23 @@ use Rattle.mds_app.specs.Badges.{Badges, read_badges}
 use Rattle.mds_app.specs.Whoami.{who_reply}
 use Rattle.mds_app.specs.Withdrawals.{withdrawn_from}
 
--- A policy is withdrawn at a moment exactly where that isn't before the moment that is told of it.
+-- A policy is withdrawn at a moment exactly if that isn't before the moment that is reported.
 abbrev pub WithdrawnFromIsRight : Type 0
 WithdrawnFromIsRight = (publications : List Publication) (id : List ℕ) → IsWithdrawnFrom publications id (withdrawn_from publications id)
 
--- these are the badges of the configuration's operators, in its order
+-- these are the names of the configuration's operators, in its order
 pub record IsBadged (text : List ℕ) (configuration : Configuration) : Type 0 where
   pub badges : Badges
   pub are_its : read_badges text ≡ Ok badges
   pub each : map (λ b. b.id) badges.operators ≡ ids configuration.operators
 
--- Each configuration's text has badges.
+-- Each configuration's text can be read for names.
 abbrev pub ConfigurationsAreBadged : Type 0
 ConfigurationsAreBadged =
     (text : List ℕ) (configuration : Configuration) → read_configuration text ≡ Ok configuration → IsBadged text configuration
 
--- Who an operator is told to be depends on its own badge and the zone alone, whatever the other operators are called.
+-- The answer to an operator about who it is depends on its own identifier and name, and on the zone, alone, whatever
+-- the other operators' names are.
 abbrev pub WhoGoesByOwnBadge : Type 0
 WhoGoesByOwnBadge =
     (one other : Badges) (place : ℕ) → slice_get one.operators place ≡ slice_get other.operators place → one.zone ≡ other.zone

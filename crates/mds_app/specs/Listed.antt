@@ -10,7 +10,7 @@ use Rattle.mds_request.specs.Reply.{Reply}
 use Rattle.mds_machine.specs.Answer.{told}
 use Rattle.mds_machine.specs.Bodies.{list_json}
 
--- what a kind is called
+-- the name of a kind
 abbrev pub kind_word : DraftKind → List ℕ
 kind_word kinds.Policy = codes "policy"
 kind_word kinds.Geography = codes "geography"

@@ -1,4 +1,5 @@
--- Who asks, as it is told. The members of each object are in the byte order of their names.
+-- The answer about who the client is. The members of each object are in the byte order of their
+-- names.
 use Rattle.std.specs.Prelude.{ℕ, List, [], ◌∷◌, ◌++◌, map, codes, Option, Some, None, slice_get}
 use Rattle.std.specs.Option.{option_map_or}
 use Rattle.mds_text.specs.Tree.{Json, text, object, members_of}
@@ -16,31 +17,31 @@ abbrev pub name_members : Option (List ℕ) → List (List ℕ × Json)
 name_members None = []
 name_members (Some name) = (codes "name", text name) ∷ []
 
--- an operator's identifier and its name
+-- an operator's identifier, and its name where it has one
 abbrev pub badge_members : Badge → List (List ℕ × Json)
 badge_members badge = (codes "id", printed_id badge.id) ∷ name_members badge.name
 
 abbrev pub badge_json : Badge → Json
 badge_json badge = object (members_of (badge_members badge))
 
--- what one is, and the zone in which rules are open
+-- the client's role, and the zone in which rules are open
 abbrev pub role_members : List ℕ → List ℕ → List (List ℕ × Json)
 role_members role zone = (codes "role", text role) ∷ (codes "zone", text zone) ∷ []
 
--- an operator is told of itself
+-- an operator, for itself
 abbrev pub operator_json : List ℕ → Badge → Json
 operator_json zone badge = object (members_of (badge_members badge ++ role_members (codes "operator") zone))
 
--- the author is told of all operators
+-- the author, with all operators
 abbrev pub author_json : Badges → Json
 author_json badges =
     object (members_of ((codes "operators", list_json (map badge_json badges.operators)) ∷ role_members (codes "author") badges.zone))
 
--- what the operator with this badge is told, or whoever has none
+-- the reply to the operator with this identifier and name; a refusal where there is none
 abbrev pub told_operator : List ℕ → Option Badge → Reply
 told_operator zone badge = option_map_or (λ b. told (operator_json zone b)) badge (refused Token)
 
--- Who one is. It depends on the configuration's text and on who asks, and on nothing else.
+-- Who the client is. It depends on the configuration's text and on the client, and on nothing else.
 abbrev pub who_reply : Badges → Actor → Reply
 who_reply badges Author = told (author_json badges)
 who_reply badges (Operator place) = told_operator badges.zone (slice_get badges.operators place)

@@ -24,11 +24,11 @@ withdrawn_from (p ∷ ps) id =
 abbrev pub withdrawal_json : List ℕ → ℕ → Json
 withdrawal_json id moment = object (members_of ((codes "policy_id", printed_id id) ∷ (codes "withdrawn", number_json moment) ∷ []))
 
--- what is told of a policy: nothing, where it isn't withdrawn
+-- the withdrawal of a policy: none, where it isn't withdrawn
 abbrev pub withdrawal_of : List Publication → Published Policy → Option Json
 withdrawal_of publications p = option_map (withdrawal_json p.document.id) (withdrawn_from publications p.document.id)
 
--- those that are withdrawn of the policies that the reader is shown, in order of publication; a reader is an operator's
+-- those that are withdrawn of the policies that the reader sees, in order of publication; a reader is an operator's
 -- identifier, or none for the author
 abbrev pub withdrawals : List Publication → Option (List ℕ) → List Json
 withdrawals publications reader = filter_map (withdrawal_of publications) (policies_for publications reader)

@@ -1,4 +1,4 @@
-//! Who asks.
+//! Who the client is.
 ghost use Rattle.std.specs.Prelude.{◌≡◌, ◌++◌, IfOk, OnOk, map, option_map, string_bytes};
 ghost use Rattle.mds_text.specs.View.{view, member_view};
 ghost use Rattle.mds_app.specs.Badges.{badge_view, badges_view};
@@ -25,7 +25,7 @@ fn add_name(
     }
 }
 
-/// An operator's identifier and its name.
+/// An operator's identifier, and its name where it has one.
 fn badge_members(alloc: Global, badge: &Badge) -> Result<Vec<Member>, AllocError>
     ensures { IfOk result (λ v. map member_view v.items ≡ badge_members (badge_view badge.now)) }
 {
@@ -35,7 +35,7 @@ fn badge_members(alloc: Global, badge: &Badge) -> Result<Vec<Member>, AllocError
     Ok(members)
 }
 
-/// Adds what one is, and the zone.
+/// Adds the client's role, and the zone.
 fn add_role(
     alloc: Global,
     members: &mut Vec<Member>,
@@ -48,7 +48,7 @@ fn add_role(
     add_member(members, "zone", text_tree(alloc, zone)?)
 }
 
-/// Each operator's badge.
+/// Each operator's identifier and name.
 fn badge_trees(alloc: Global, badges: &[Badge]) -> Result<Vec<Tree>, AllocError>
     ensures { IfOk result (λ v. map view v.items ≡ map badge_json (map badge_view badges.now)) }
 {
@@ -70,7 +70,7 @@ fn author_tree(alloc: Global, badges: &Badges) -> Result<Tree, AllocError>
     Ok(object_tree(members))
 }
 
-/// An operator, as it is told of itself.
+/// An operator, for itself.
 fn operator_tree(alloc: Global, zone: &str, badge: &Badge) -> Result<Tree, AllocError>
     ensures { IfOk result (λ t. view t ≡ operator_json zone.now (badge_view badge.now)) }
 {
@@ -79,7 +79,7 @@ fn operator_tree(alloc: Global, zone: &str, badge: &Badge) -> Result<Tree, Alloc
     Ok(object_tree(members))
 }
 
-/// What the operator with this badge is told.
+/// The reply to the operator with this identifier and name; a refusal where there is none.
 fn told_operator(alloc: Global, zone: &str, badge: Option<&Badge>) -> Result<Reply, AllocError>
     ensures { IfOk result (λ r. r ≡ told_operator zone.now (option_map (λ b. badge_view b.now) badge.entry)) }
 {
@@ -89,12 +89,12 @@ fn told_operator(alloc: Global, zone: &str, badge: Option<&Badge>) -> Result<Rep
     }
 }
 
-/// Who asks: the author, with the operators' identifiers and names, or an operator, with its own; both with the zone. An
-/// operator that the badges don't have, and nobody, are told `token`.
+/// Who the client is: the author, with the operators' identifiers and names, or an operator, with its own; both with
+/// the zone. An operator that isn't among them, and an anonymous client, are refused with `token`.
 ///
 /// # Errors
 ///
-/// Memory ran out.
+/// Out of memory.
 pub fn whoami(alloc: Global, badges: &Badges, asker: Actor) -> Result<Reply, AllocError>
     ensures { IfOk result (λ r. r ≡ who_reply (badges_view badges.now) asker) }
 {

@@ -1,4 +1,4 @@
-//! What a configuration's text says for people.
+//! The operators' names and the zone in a configuration's text, for people.
 ghost use Rattle.std.specs.Prelude.{◌≡◌, IfSome, map, option_and_then, option_map, string_bytes};
 ghost use Rattle.mds_text.specs.Fault.{Gives, text_cause};
 ghost use Rattle.mds_text.specs.Fields.{each};
@@ -14,15 +14,15 @@ use std::alloc::{AllocError, Global};
 /// The most bytes of an operator's name.
 pub const MOST_NAME: usize = 256;
 
-/// An operator as people know it.
+/// An operator's identifier and name.
 #[derive(Drop)]
 pub struct Badge {
     pub id: Id,
-    /// The name that it goes by, where the configuration gives one: at most `MOST_NAME` bytes.
+    /// The operator's name, where the configuration gives one: at most `MOST_NAME` bytes.
     pub name: Option<String>,
 }
 
-/// The operators as people know them, in the configuration's order, and the zone as it is written.
+/// The operators' identifiers and names, in the configuration's order, and the zone as it is written.
 #[derive(Drop)]
 pub struct Badges {
     pub(crate) operators: Vec<Badge>,
@@ -30,8 +30,9 @@ pub struct Badges {
 }
 
 impl Badges {
-    /// The badges of a configuration's text: of each operator its `id` and its `name`, and the `zone`. A name is a text of at
-    /// most 256 bytes; any other value of that member is read past. The text of each `mds_request::Config` has badges.
+    /// Reads a configuration's text: of each operator its `id` and its `name`, and the `zone`. A name is a text of at
+    /// most 256 bytes; any other value of that member is ignored. The text of each `mds_request::Config` can be read
+    /// so.
     ///
     /// # Errors
     ///
@@ -55,7 +56,7 @@ fn badges_of(alloc: Global, tree: &Node<'_>) -> Result<Badges, TextFault>
     Ok(Badges { operators, zone })
 }
 
-/// Each operator's badge in its order, up to the first fault.
+/// Each operator's identifier and name, in their order, up to the first fault.
 fn badges_in(alloc: Global, entries: &[Node<'_>]) -> Result<Vec<Badge>, TextFault>
     ensures { Gives text_cause (λ v. map badge_view v.items) result (each badge_of (map node_view entries.now)) }
 {
@@ -85,7 +86,7 @@ fn name_at(alloc: Global, entry: &Node<'_>) -> Result<Option<String>, TextFault>
     }
 }
 
-/// The name that a value is, if it is one.
+/// The name in a value, if it is one.
 fn name_in<'a>(value: Option<&Node<'a>>) -> Option<&'a str>
     ensures { option_map (λ s. s.now) result ≡ option_and_then as_name (option_map (λ t. node_view t.now) value.entry) }
 {

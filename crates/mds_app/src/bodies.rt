@@ -1,4 +1,4 @@
-//! The bodies of what is told.
+//! The bodies of replies.
 ghost use Rattle.std.specs.Prelude.{◌≡◌, ◌∷◌, [], IfOk};
 ghost use Rattle.mds_text.specs.Tree.{object, list, members_of, items_of};
 ghost use Rattle.mds_text.specs.View.{view};

@@ -1,4 +1,4 @@
-//! What people are told beside the protocol's calls: who they are, which policies are withdrawn, and which drafts are held.
+//! Answers for people, outside the protocol: who the client is, which policies are withdrawn, which drafts are held.
 #![tactic(auto)]
 
 mod asker;

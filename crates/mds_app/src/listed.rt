@@ -17,7 +17,7 @@ use std::collections::BTreeMap;
 /// Identifiers in the order of their bytes, each once.
 type Ids = BTreeMap<Id, ()>;
 
-/// Puts an identifier in its place.
+/// Inserts an identifier in its order.
 fn place(ids: &mut Ids, id: Id) -> Result<(), AllocError>
     ensures { OnOk result (ids.new.entries ≡ insert_entry id_cmp ids.old.entries id tt) }
 {
@@ -60,7 +60,7 @@ fn ids_of(alloc: Global, drafts: &[Draft], kind: DraftKind) -> Result<Vec<Id>, A
     in_order(alloc, &ids)
 }
 
-/// What a kind is called.
+/// The name of a kind.
 fn kind_word(kind: DraftKind) -> &'static str
     ensures { result.now ≡ kind_word kind }
 {
@@ -100,7 +100,7 @@ fn push_listed(
 ///
 /// # Errors
 ///
-/// Memory ran out.
+/// Out of memory.
 pub fn listed_drafts(alloc: Global, drafts: &Drafts) -> Result<Reply, AllocError>
     ensures { IfOk result (λ r. r ≡ drafts_reply (drafts_of drafts.now)) }
 {

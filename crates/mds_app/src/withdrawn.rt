@@ -29,7 +29,7 @@ fn withdrawal_tree(alloc: Global, id: Id, moment: Moment) -> Result<Tree, AllocE
     Ok(object_tree(members))
 }
 
-/// Adds what is told of a policy that may be withdrawn from a moment on.
+/// Adds the withdrawal of a policy, where it is withdrawn from a moment on.
 fn push_withdrawal(
     alloc: Global,
     trees: &mut Vec<Tree>,
@@ -46,7 +46,7 @@ fn push_withdrawal(
     Ok(())
 }
 
-/// What is told of each of these policies that is withdrawn.
+/// The withdrawal of each of these policies that is withdrawn.
 fn withdrawal_trees(
     alloc: Global,
     catalogue: &Catalogue,
@@ -62,12 +62,12 @@ fn withdrawal_trees(
     Ok(trees)
 }
 
-/// The policies that are withdrawn, each with the moment from which on it is, in order of publication: of all, or of those
-/// that are meant for an operator (MDS 2.0 Policy, `provider_ids`).
+/// The withdrawn policies, each with the moment from which on it is withdrawn, in order of publication: of all, or of
+/// those that are meant for an operator (MDS 2.0 Policy, `provider_ids`).
 ///
 /// # Errors
 ///
-/// Memory ran out.
+/// Out of memory.
 pub fn withdrawals(
     alloc: Global,
     catalogue: &Catalogue,

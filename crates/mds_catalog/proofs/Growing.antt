@@ -1,4 +1,4 @@
--- Publications grow at the end, and a successor stays effective.
+-- Publications are appended, and a successor stays effective.
 use Rattle.std.proofs.Common.{◌≡◌, ℕ, ◌≤◌, nat_le, ◌&&◌, ◌||◌, Bool, true, false, cond, List, [], ◌∷◌, ◌++◌, refl, sym, ap, ◌∙◌, bytes_eq, find, map, arith}
 use Rattle.std.specs.List.{list_any}
 use Rattle.std.proofs.lemmas.Bool.{and_parts}
@@ -10,7 +10,7 @@ use Rattle.mds_catalog.specs.Publication.{Publication, Published, published_poli
 use Rattle.mds_catalog.specs.Laws.{FoldKeepsLawful, FoldGoesOn, folded_onto, StaysPublished, StaysOver}
 use Rattle.mds_catalog.proofs.Found.{find_early}
 
--- publications are lawful behind those that were taken
+-- publications are lawful after those that were taken
 LawfulBehind : List Publication → List Publication → Type 0
 LawfulBehind taken ps = (before rest : List Publication) (p : Publication) → ps ≡ before ++ p ∷ rest → is_lawful (taken ++ before) p ≡ true
 
@@ -52,7 +52,7 @@ or_right false b h = h
 le_later : (a t later : ℕ) → t ≤ later → nat_le a t ≡ true → nat_le a later ≡ true
 le_later a t later h k = grind (arith, nat_tests)
 
--- a successor that is effective at a moment is so later
+-- a successor that is effective at a moment is effective later
 later_too : (t later : ℕ) (id : List ℕ) (s : Published Policy) → t ≤ later → supersedes t id s ≡ true → supersedes later id s ≡ true
 later_too t later id s h is =
     let parts = and_parts (is_effective t s) (is_among s.document.previous id) is in
@@ -69,7 +69,7 @@ any_more p q more (x ∷ xs) ys h =
       | false ↦ λ is k. or_right (q x) (list_any q (xs ++ ys)) (any_more p q more xs ys k)
     ] refl h
 
--- a publication that withdraws at a moment does so later
+-- a publication that withdraws at a moment withdraws later
 withdraws_later : (t later : ℕ) (id : List ℕ) (p : Publication) → t ≤ later → (nat_le p.moment t && is_among p.withdrawn id) ≡ true → (nat_le p.moment later && is_among p.withdrawn id) ≡ true
 withdraws_later t later id p h is =
     let parts = and_parts (nat_le p.moment t) (is_among p.withdrawn id) is in

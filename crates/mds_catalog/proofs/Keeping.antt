@@ -1,4 +1,4 @@
--- What a catalogue keeps stays right under one lawful publication more.
+-- The index stays right with one more lawful publication.
 use Rattle.std.proofs.Common.{◌≡◌, ℕ, ◌+◌, ◌≤◌, nat_le, ◌&&◌, ◌||◌, Bool, true, false, not, cond, List, [], ◌∷◌, ◌++◌, Option, Some, None, is_some, is_none, length, map, find, take, bytes_eq, refl, sym, ap, subst, ◌∙◌, arith}
 use Rattle.std.specs.List.{list_any}
 use Rattle.std.specs.Option.{option_or, option_map}
@@ -33,7 +33,7 @@ none_is : {A : Type 0} (o : Option A) → is_none o ≡ true → o ≡ None
 none_is None h = refl
 none_is (Some x) h = absurd (false≢true h)
 
--- where none is missing each one is there
+-- where none is missing, each one is there
 all_there : (p : List ℕ → Bool) (ids : List (List ℕ)) (id : List ℕ) → find (λ x. not (p x)) ids ≡ None → is_among ids id ≡ true → p id ≡ true
 all_there p [] id none among = absurd (false≢true among)
 all_there p (x ∷ xs) id none among =
@@ -45,7 +45,7 @@ all_there p (x ∷ xs) id none among =
       | false ↦ λ is some. absurd (cc)
     ] refl none
 
--- a policy that is published has an entry
+-- a published policy has an entry
 has_entry : (ps : List Publication) (es : List Entry) (id : List ℕ) → option_map (λ (e : Entry). e.spot) (entry es id) ≡ find (has (λ (s : Spot). s.id) id) (spots_in policy_ids 0 ps) → is_policy_published ps id ≡ true → is_some (entry es id) ≡ true
 has_entry ps es id found published =
     sym (some_of (λ (e : Entry). e.spot) (entry es id)) ∙ ap is_some found
@@ -57,17 +57,17 @@ has_entry ps es id found published =
 published_push : (ps : List Publication) (p : Publication) → published_policies (ps ++ p ∷ []) ≡ published_policies ps ++ map (dated p.moment) p.policies
 published_push ps p = sym (flat_map_more (λ (q : Publication). map (dated q.moment) q.policies) [] ps p)
 
--- what is superseded after one publication more
+-- what is superseded with one more publication
 superseded_push : (ps : List Publication) (p : Publication) (t : ℕ) (id : List ℕ) → is_superseded (ps ++ p ∷ []) t id ≡ (is_superseded ps t id || list_any (supersedes t id) (map (dated p.moment) p.policies))
 superseded_push ps p t id = ap (list_any (supersedes t id)) (published_push ps p) ∙ list_any-append (supersedes t id) (published_policies ps) (map (dated p.moment) p.policies)
 
--- what is withdrawn
+-- what is withdrawn with one more publication
 withdrawn_push : (ps : List Publication) (p : Publication) (t : ℕ) (id : List ℕ) → is_withdrawn (ps ++ p ∷ []) t id ≡ (is_withdrawn ps t id || nat_le p.moment t && is_among p.withdrawn id)
 withdrawn_push ps p t id =
     list_any-append (λ (q : Publication). nat_le q.moment t && is_among q.withdrawn id) ps (p ∷ [])
     ∙ ap (λ b. is_withdrawn ps t id || b) (or-false (nat_le p.moment t && is_among p.withdrawn id))
 
--- the spots of a kind after one publication more
+-- the spots of a kind with one more publication
 spots_push : (ids : Publication → List (List ℕ)) (ps : List Publication) (p : Publication) (number : ℕ) (id : List ℕ) → number ≡ length ps → option_or (find (has (λ (s : Spot). s.id) id) (spots_in ids 0 ps)) (find (has (λ (s : Spot). s.id) id) (spots_from number 0 (ids p))) ≡ find (has (λ (s : Spot). s.id) id) (spots_in ids 0 (ps ++ p ∷ []))
 spots_push ids ps p number id is =
     ap (λ n. option_or (find (has (λ (s : Spot). s.id) id) (spots_in ids 0 ps)) (find (has (λ (s : Spot). s.id) id) (spots_from n 0 (ids p)))) (omega (arith, is))
@@ -171,7 +171,7 @@ module _ (batches : List (Arc Batch Global)) (share : Arc Batch Global) (old lis
         length-map share.value.geographies.items (λ (g : Arc program'.Geography Global). geography_document g.value),
       )
 
-  -- what is kept of publications and one lawful one more
+  -- the invariant of the index with one more lawful publication
   pub kept_push : (batches' : List (Arc Batch Global)) (n m : ℕ) → batches' ≡ batches ++ share ∷ [] → n ≡ length share.value.policies.items → m ≡ length share.value.geographies.items → IsKept (publications_in batches') made spots' (policy_count + n) (geography_count + m)
   kept_push batches' n m pushed ns ms =
       let all : publications_in batches' ≡ ps ++ p ∷ [] = ap publications_in pushed ∙ publications_push batches share in

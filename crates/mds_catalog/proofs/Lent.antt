@@ -1,7 +1,7 @@
--- What is kept of documents that are lent.
+-- Filters of borrowed documents.
 use Rattle.std.proofs.Common.{◌≡◌, Bool, true, false, cond, List, [], ◌∷◌, map, filter, refl, ap}
 
--- keeping by what elements stand for, before or after they are seen as that
+-- filtering by the values of elements, before or after they are mapped to these
 pub map-filter : {A B : Type 0} (see : A → B) (test : B → Bool) (xs : List A) → map see (filter (λ x. test (see x)) xs) ≡ filter test (map see xs)
 map-filter see test [] = refl
 map-filter {A} {B} see test (x ∷ xs) =

@@ -1,4 +1,4 @@
--- Entries under one publication more: from when on their policies are superseded and withdrawn.
+-- Entries with one more publication: from when on their policies are superseded and withdrawn.
 use Rattle.std.proofs.Common.{◌≡◌, ℕ, nat_le, ◌&&◌, ◌||◌, Bool, true, false, cond, min, max, List, [], ◌∷◌, Option, Some, None, is_some, length, map, find, bytes_eq, refl, sym, ap, ◌∙◌, arith}
 use Rattle.std.specs.List.{flat_map, list_any}
 use Rattle.std.specs.Option.{option_or, option_map, option_map_or}
@@ -18,11 +18,11 @@ use Rattle.mds_catalog.proofs.Ordered.{ascends_map, find-map, found_has}
 abbrev entry_id : Entry → List ℕ
 entry_id e = e.spot.id
 
--- the entry of an identifier
+-- the entry with an identifier
 abbrev pub entry : List Entry → List ℕ → Option Entry
 entry es key = find (has entry_id key) es
 
--- it has a moment, and that has come
+-- the entry has such a moment, and it has come
 abbrev pub is_come : (Entry → Option ℕ) → List Entry → ℕ → List ℕ → Bool
 is_come moment es t key = option_map_or (λ e. has_come t (moment e)) (entry es key) false
 
@@ -38,7 +38,7 @@ superseding_withdraws m ids e = elim (is_among ids e.spot.id) as (λ b. (cond b 
 withdrawal_supersedes : (m : ℕ) (ids : List (List ℕ)) (e : Entry) → (after_withdrawal m ids e).superseded ≡ e.superseded
 withdrawal_supersedes m ids e = elim (is_among ids e.spot.id) as (λ b. (cond b (record e { withdrawn = Some (option_map_or (min m) e.withdrawn m) }) e).superseded ≡ e.superseded) [ true ↦ refl | false ↦ refl ]
 
--- a least moment after one more
+-- the least of moments, with one more
 le_min : (m w t : ℕ) → nat_le (min m w) t ≡ (nat_le w t || nat_le m t && true)
 le_min m w t = grind (arith, nat_tests)
 
@@ -78,13 +78,13 @@ module _ (f : Entry → Entry) (keeps : (e : Entry) → (f e).spot ≡ e.spot) w
       ap (option_map (λ (e : Entry). e.spot)) (mapped es key)
       ∙ elim (entry es key) as (λ o. option_map (λ (e : Entry). e.spot) (option_map f o) ≡ option_map (λ (e : Entry). e.spot) o) [ None ↦ refl | Some e ↦ ap Some (keeps e) ]
 
-  -- a moment that f doesn't touch
+  -- a moment that `f` leaves alone
   pub come_stays : (moment : Entry → Option ℕ) → ((e : Entry) → moment (f e) ≡ moment e) → (es : List Entry) (t : ℕ) (key : List ℕ) → is_come moment (map f es) t key ≡ is_come moment es t key
   come_stays moment same es t key =
       ap (λ o. option_map_or (λ e. has_come t (moment e)) o false) (mapped es key)
       ∙ elim (entry es key) as (λ o. option_map_or (λ e. has_come t (moment e)) (option_map f o) false ≡ option_map_or (λ e. has_come t (moment e)) o false) [ None ↦ refl | Some e ↦ ap (has_come t) (same e) ]
 
-  -- a moment to which f adds one for the entries of some identifiers, which are there
+  -- a moment to which `f` adds one for the entries with some identifiers, which have entries
   pub come_more : (moment : Entry → Option ℕ) (hit : List ℕ → Bool) (t : ℕ) → ((e : Entry) → has_come t (moment (f e)) ≡ (has_come t (moment e) || hit e.spot.id)) → (es : List Entry) (key : List ℕ) → (hit key ≡ true → is_some (entry es key) ≡ true)
       → is_come moment (map f es) t key ≡ (is_come moment es t key || hit key)
   come_more moment hit t more es key there =
@@ -101,7 +101,7 @@ pub some_of : {A B : Type 0} (f : A → B) (o : Option A) → is_some (option_ma
 some_of f None = refl
 some_of f (Some x) = refl
 
--- an entry is there still
+-- an entry is still there
 there_still : (f : Entry → Entry) (keeps : (e : Entry) → (f e).spot ≡ e.spot) (es : List Entry) (key : List ℕ) → is_some (entry (map f es) key) ≡ is_some (entry es key)
 there_still f keeps es key = ap is_some (mapped f keeps es key) ∙ some_of f (entry es key)
 
@@ -175,7 +175,7 @@ pub withdrawal_withdraws : (m : ℕ) (ids : List (List ℕ)) (es : List Entry) (
 withdrawal_withdraws m ids es t key there =
     come_more (after_withdrawal m ids) (withdrawn_spot m ids) (λ e. e.withdrawn) (λ id. nat_le m t && is_among ids id) t (withdrawn_come t m ids) es key (λ hit. there (and_second (nat_le m t) (is_among ids key) hit))
 
--- policies that are new
+-- entries of new policies
 pub fresh_come : (moment : Entry → Option ℕ) → ((s : Spot) → moment (fresh s) ≡ None) → (old new : List Entry) (spots : List Spot) → Lists entry_id old new (map fresh spots) → (t : ℕ) (key : List ℕ) → is_come moment new t key ≡ is_come moment old t key
 fresh_come moment none old new spots listed t key =
     ap (λ o. option_map_or (λ e. has_come t (moment e)) o false) (listed.found key ∙ ap (option_or (entry old key)) (find-map (λ (s : Spot). s.id) entry_id fresh (λ s. refl) key spots))
@@ -184,7 +184,7 @@ fresh_come moment none old new spots listed t key =
       | None ↦ elim (find (has (λ (s : Spot). s.id) key) spots) as (λ o. option_map_or (λ e. has_come t (moment e)) (option_map fresh o) false ≡ false) [ None ↦ refl | Some s ↦ ap (has_come t) (none s) ]
     ]
 
--- their spots
+-- the spots of new policies
 pub fresh_spots : (old new : List Entry) (spots : List Spot) → Lists entry_id old new (map fresh spots) → (key : List ℕ) → option_map (λ (e : Entry). e.spot) (entry new key) ≡ option_or (option_map (λ (e : Entry). e.spot) (entry old key)) (find (has (λ (s : Spot). s.id) key) spots)
 fresh_spots old new spots listed key =
     ap (option_map (λ (e : Entry). e.spot)) (listed.found key ∙ ap (option_or (entry old key)) (find-map (λ (s : Spot). s.id) entry_id fresh (λ s. refl) key spots))
@@ -193,7 +193,7 @@ fresh_spots old new spots listed key =
       | None ↦ elim (find (has (λ (s : Spot). s.id) key) spots) as (λ o. option_map (λ (e : Entry). e.spot) (option_map fresh o) ≡ o) [ None ↦ refl | Some s ↦ refl ]
     ]
 
--- what is listed stays listed
+-- an identifier that has an element still has one
 pub old_there : (old new more : List Entry) → Lists entry_id old new more → (key : List ℕ) → is_some (entry old key) ≡ true → is_some (entry new key) ≡ true
 old_there old new more listed key there =
     ap is_some (listed.found key)

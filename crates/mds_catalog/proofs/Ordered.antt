@@ -1,4 +1,4 @@
--- Lists that ascend by identifier: what a search finds in them, and what an insertion at its place leaves.
+-- Lists that ascend by identifier: what a search finds in them, and the list after an insertion at the index found.
 use Rattle.std.proofs.Common.{◌≡◌, ℕ, zero, suc, ◌+◌, ◌-◌, ◌<◌, ◌≤◌, Bool, true, false, cond, List, [], ◌∷◌, ◌++◌, length, map, find, get_or, Option, Some, None, option_map, Result, Ok, Err, IfOk, IfErr, OnErr, is_ok, bytes_eq, inl, inr, refl, sym, ap, subst, ◌∙◌, arith}
 use Rattle.std.specs.Option.{option_or, option_map_or}
 use Rattle.std.proofs.lemmas.List.Folds.{find-append}
@@ -23,7 +23,7 @@ total = nat_list_cmp_total
 exact : IsAntisymmetric id_cmp
 exact = slice_cmp-IsAntisymmetric nat_cmp-IsAntisymmetric
 
--- identifiers that are apart in the order are not equal
+-- identifiers that differ in the order aren't equal
 apart : (x y : List ℕ) (r : Ordering) → id_cmp x y ≡ r → (r ≡ Equal → false ≡ true) → bytes_eq x y ≡ false
 apart x y r is other = elim (bytes_eq x y) as (λ b. bytes_eq x y ≡ b → b ≡ false) [
   | true ↦ λ same. absurd (false≢true (other (sym is ∙ ap (λ z. id_cmp z y) ((bytes_eq-Decides x y).0 same) ∙ tied_itself total y)))
@@ -53,7 +53,7 @@ index_rises x y k less =
     ] refl
 
 module _ {A : Type 0} (id : A → List ℕ) where
-  -- an element of another identifier goes by
+  -- an element with another identifier is skipped
   pub next : (key : List ℕ) (x : A) (xs : List A) → bytes_eq (id x) key ≡ false → find (has id key) (x ∷ xs) ≡ find (has id key) xs
   next key x xs other = ap (λ b. cond b (Some x) (find (has id key) xs)) other
 
@@ -70,19 +70,19 @@ module _ {A : Type 0} (id : A → List ℕ) where
   found_nowhere key [] other = refl
   found_nowhere key (x ∷ xs) other = next key x xs (other zero x (omega arith)) ∙ found_nowhere key xs (λ j d lt. other (suc j) d (omega arith))
 
-  -- what stands at an identifier's place is found
+  -- the element with the identifier is found
   pub find_at : (xs : List A) (key : List ℕ) (at : ℕ) (d : A) → Ascends id xs → IsAt id xs key at → find (has id key) xs ≡ Some (get_or xs at d)
   find_at xs key at d up place =
       found_here key xs at d place.within (λ j lt. apart_less (id (get_or xs j d)) key (ap (id_cmp (id (get_or xs j d))) (sym (place.here d)) ∙ up j at d lt place.within)) (place.here d)
 
-  -- nothing is found where the identifier would go
+  -- nothing is found at an identifier that has no element
   pub find_gap : (xs : List A) (key : List ℕ) (at : ℕ) → IsGap id xs key at → find (has id key) xs ≡ None
   find_gap xs key at gap = found_nowhere key xs (λ j d within. elim (cases_lt j at) [
     | inl lt ↦ apart_less (id (get_or xs j d)) key (gap.before j d lt)
     | inr le ↦ apart_greater (id (get_or xs j d)) key (gap.after j d le within)
   ])
 
-  -- an insertion of an element whose identifier isn't found
+  -- inserting an element whose identifier isn't found
   or_none : {B : Type 0} (o : Option B) → o ≡ option_or o None
   or_none None = refl
   or_none (Some x) = refl
@@ -102,7 +102,7 @@ module _ {A : Type 0} (id : A → List ℕ) where
       behind key x y (find (has id key) (insert ys at x)) (find (has id key) ys) (has id key y)
       (λ other. find_insert key x ys at (omega arith) (λ same. sym (next key y ys other) ∙ none same))
 
-  -- an insertion in the gap keeps the order
+  -- inserting in the gap keeps the order
   pub ascends_insert : (xs : List A) (x : A) (at : ℕ) → Ascends id xs → IsGap id xs (id x) at → Ascends id (insert xs at x)
   ascends_insert xs x at up gap i j d lt within =
       let n = length-insert xs at x gap.within in
@@ -138,7 +138,7 @@ module _ {A : Type 0} (id : A → List ℕ) where
         ]
       ]
 
-  -- one element more, in its gap
+  -- one more element, in its gap
   pub lists_inserted : (xs : List A) (x : A) (at : ℕ) → Ascends id xs → IsGap id xs (id x) at → Lists id xs (insert xs at x) (x ∷ [])
   lists_inserted xs x at up gap = record {
     ascends = ascends_insert xs x at up gap;
@@ -146,7 +146,7 @@ module _ {A : Type 0} (id : A → List ℕ) where
     few = omega (arith, length-insert xs at x gap.within);
   }
 
-  -- one whose identifier is listed already
+  -- one whose identifier is already in the list
   stays_found : (key : List ℕ) (xs : List A) (x y : A) (b : Bool) → (b ≡ true → find (has id key) xs ≡ Some y) → find (has id key) xs ≡ option_or (find (has id key) xs) (cond b (Some x) None)
   stays_found key xs x y true is = is refl ∙ sym (ap (λ o. option_or o (Some x)) (is refl))
   stays_found key xs x y false is = or_none (find (has id key) xs)
@@ -158,7 +158,7 @@ module _ {A : Type 0} (id : A → List ℕ) where
     few = omega arith;
   }
 
-  -- none more
+  -- no further element
   pub lists_none : (xs : List A) → Ascends id xs → Lists id xs xs []
   lists_none xs up = record { ascends = up; found = λ key. or_none (find (has id key) xs); few = omega arith }
 
@@ -166,7 +166,7 @@ module _ {A : Type 0} (id : A → List ℕ) where
   or_assoc None b c = refl
   or_assoc (Some x) b c = refl
 
-  -- one more behind others
+  -- one more element after others
   pub lists_more : (xs ys zs ms : List A) (x : A) → Lists id xs ys ms → Lists id ys zs (x ∷ []) → Lists id xs zs (ms ++ x ∷ [])
   lists_more xs ys zs ms x before step = record {
     ascends = step.ascends;
@@ -203,7 +203,7 @@ module _ {A : Type 0} (id : A → List ℕ) where
         subst (λ n. ordering_index (id_cmp (id (get_or xs i d)) key) ≤ ordering_index (id_cmp (id (get_or xs n d)) key)) same (omega arith)
   ]
 
-  -- what a binary search by identifier answers
+  -- the result of a binary search by identifier
   pub searched : (xs : List A) (key : List ℕ) → Ascends id xs → (r : Result ℕ ℕ) → IsSearchInRange r (length xs) → IsBinarySearchResult (λ x. id_cmp (id x) key) xs r → record { found : IfOk r (IsAt id xs key); gap : IfErr r (IsGap id xs key) }
   searched xs key up (Ok at) in_range equal = record { found = record { within = in_range; here = λ d. exact _ key (equal d) }; gap = tt }
   searched xs key up (Err at) in_range parted = record {
@@ -215,7 +215,7 @@ module _ {A : Type 0} (id : A → List ℕ) where
     };
   }
 
--- what is found among elements that are made of others with the same identifiers
+-- a search among elements that are made of others with the same identifiers
 pub find-map : {A B : Type 0} (id : A → List ℕ) (id' : B → List ℕ) (f : A → B) → ((x : A) → id' (f x) ≡ id x) → (key : List ℕ) (xs : List A) → find (has id' key) (map f xs) ≡ option_map f (find (has id key) xs)
 find-map id id' f keeps key [] = refl
 find-map id id' f keeps key (x ∷ xs) =
@@ -225,7 +225,7 @@ find-map id id' f keeps key (x ∷ xs) =
       | false ↦ find-map id id' f keeps key xs
     ]
 
--- an insertion that finds room isn't refused
+-- an insertion with room doesn't fail
 pub inserted : {X E : Type 0} {cap len : ℕ} (r : Result X E) → len < cap → OnErr r (cap ≤ len) → is_ok r ≡ true
 inserted (Ok x) room full = refl
 inserted (Err e) room full = absurd (omega (arith, full))

@@ -1,4 +1,4 @@
--- Where published documents stand.
+-- Where published documents are.
 use Rattle.std.proofs.Common.{◌≡◌, ℕ, suc, ◌+◌, ◌<◌, true, false, cond, List, [], ◌∷◌, ◌++◌, length, map, find, get_or, take, Some, None, bytes_eq, refl, sym, ap, subst, ◌∙◌, arith}
 use Rattle.std.specs.Option.{option_or, option_map, option_map_or}
 use Rattle.std.specs.List.{flat_map}
@@ -24,14 +24,14 @@ spots_push batch place (x ∷ ids) id =
     ap (λ ss. record { id = x; batch = batch; place = place } ∷ ss) (spots_push batch (place + 1) ids id
     ∙ ap (λ n. spots_from batch (place + 1) ids ++ record { id = id; batch = batch; place = n } ∷ []) (omega arith))
 
--- one document more of a batch
+-- one more document of a batch
 pub spots_more : {S : Type 0} (f : S → List ℕ) (batch : ℕ) (xs : List S) (i : ℕ) (x : S) (id : List ℕ) → i < length xs → x ≡ get_or xs i x → id ≡ f x → spots_from batch 0 (map f (take (i + 1) xs)) ≡ spots_from batch 0 (map f (take i xs)) ++ record { id = id; batch = batch; place = i } ∷ []
 spots_more f batch xs i x id within is named =
     ap (spots_from batch 0) (map_more f xs i x within ∙ ap (λ y. map f (take i xs) ++ y ∷ []) (ap f (sym is) ∙ sym named))
     ∙ spots_push batch 0 (map f (take i xs)) id
     ∙ ap (λ n. spots_from batch 0 (map f (take i xs)) ++ record { id = id; batch = batch; place = n } ∷ []) (omega (arith, length-map (take i xs) f, length-take-le i xs (omega arith)))
 
--- one publication more
+-- one more publication
 pub spots_in_push : (ids : Publication → List (List ℕ)) (batch : ℕ) (ps : List Publication) (p : Publication) → spots_in ids batch (ps ++ p ∷ []) ≡ spots_in ids batch ps ++ spots_from (batch + length ps) 0 (ids p)
 spots_in_push ids batch [] p = append-nil (spots_from batch 0 (ids p)) ∙ ap (λ n. spots_from n 0 (ids p)) (omega arith)
 spots_in_push ids batch (q ∷ ps) p =
@@ -39,7 +39,7 @@ spots_in_push ids batch (q ∷ ps) p =
     ∙ sym (append_assoc (spots_from batch 0 (ids q)) (spots_in ids (batch + 1) ps) (spots_from (batch + suc (length ps)) 0 (ids p)))
 
 module _ {A : Type 0} (id : A → List ℕ) (key : List ℕ) where
-  -- the document that a spot of a batch is of
+  -- the document of a batch that a spot refers to
   record Stands (batch place : ℕ) (ds : List A) (s : Spot) : Type 0 where
     pub at : ℕ
     pub in_batch : s.batch ≡ batch
@@ -84,7 +84,7 @@ module _ {A : Type 0} (id : A → List ℕ) (key : List ℕ) where
     abbrev spots : ℕ → List Publication → List Spot
     spots batch ps = spots_in (λ p. map id (documents p)) batch ps
 
-    -- the published document that a spot is of
+    -- the published document that a spot refers to
     pub record StandsIn (batch : ℕ) (ps : List Publication) (s : Spot) : Type 0 where
       pub at : ℕ
       pub is_batch : s.batch ≡ batch + at
@@ -132,7 +132,7 @@ module _ {A : Type 0} (id : A → List ℕ) (key : List ℕ) where
           | None ↦ λ here e. none_first p ps (nowhere batch 0 (documents p) here) ∙ nowhere_in (batch + 1) ps e
         ] refl (sym (find-append (has (λ (s : Spot). s.id) key) (spots_from batch 0 (map id (documents p))) (spots (batch + 1) ps)) ∙ is)
 
-    -- the published document that a spot of shared batches is of, in sight of its batch
+    -- the published document that a spot of shared batches refers to, seen from its batch
     pub placed : (batches : List (Arc Batch Global)) (s : Spot) (x : Arc Batch Global) → x ≡ get_or batches s.batch x → find (has (λ (s : Spot). s.id) key) (spots 0 (publications_in batches)) ≡ Some s
         → record {
           place : s.place < length (documents (publication_of x.value));

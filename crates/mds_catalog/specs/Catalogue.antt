@@ -1,4 +1,4 @@
--- What a `Catalogue` and the documents that it lends stand for.
+-- The values of a `Catalogue` and of the documents that it lends.
 use Rattle.std.specs.Prelude.{ℕ, List}
 use Rattle.mds_policy.specs.Policy.{policy_document, Policy}
 use Rattle.mds_geography.specs.Geography.{geography_document, Geography}
@@ -9,15 +9,15 @@ use Rattle.mds_catalog.specs.declared.published.Published as lent
 use Rattle.mds_catalog.specs.Publication.{Publication, Published, publications_in}
 use Rattle.mds_catalog.specs.Texts.{policy_text, geography_text}
 
--- the publications of a catalogue in their order
+-- the publications of a catalogue, in order
 abbrev pub publications_of : Catalogue → List Publication
 publications_of c = publications_in c.batches.items
 
--- the published policy that is lent
+-- the published policy that is borrowed
 abbrev pub lent_policy : lent.Published program.Policy → Published Policy
 lent_policy p = record { document = policy_document p.document.now; moment = p.moment }
 
--- the published geography that is lent
+-- the published geography that is borrowed
 abbrev pub lent_geography : lent.Published program'.Geography → Published Geography
 lent_geography g = record { document = geography_document g.document.now; moment = g.moment }
 

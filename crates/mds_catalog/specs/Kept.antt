@@ -1,4 +1,4 @@
--- What a catalogue keeps beside its publications.
+-- The index that a catalogue has next to its publications.
 use Rattle.std.specs.Prelude.{◌≡◌, ℕ, ◌≤◌, List, [], ◌∷◌, map, length, find, Bool, false, nat_le, min, max, Option, Some, None, option_map, if◌then◌else◌}
 use Rattle.std.specs.Option.{option_map_or}
 use Rattle.mds_policy.specs.Policy.{Policy}
@@ -8,30 +8,30 @@ use Rattle.mds_catalog.specs.declared.entries.Entry.{Entry}
 use Rattle.mds_catalog.specs.Publication.{Publication, published_policies, published_geographies, policy_ids, geography_ids, is_among, is_superseded, is_withdrawn}
 use Rattle.mds_catalog.specs.Listed.{Ascends, has, spots_in}
 
--- the entry of a policy that is new
+-- the entry of a newly published policy
 abbrev pub fresh : Spot → Entry
 fresh spot = record { spot = spot; superseded = None; withdrawn = None }
 
--- a moment that may be known isn't after t
+-- a known moment isn't after t
 abbrev pub has_come : ℕ → Option ℕ → Bool
 has_come t known = option_map_or (λ least. nat_le least t) known false
 
--- an entry after a policy that takes the place of these from a moment on
+-- an entry after a policy replaces those with these identifiers from a moment on
 abbrev pub after_superseding : ℕ → List (List ℕ) → Entry → Entry
 after_superseding moment ids e = if is_among ids e.spot.id then record e { superseded = Some (option_map_or (min moment) e.superseded moment) } else e
 
--- an entry after a publication of this moment that withdraws these policies
+-- an entry after a publication at this moment withdraws the policies with these identifiers
 abbrev pub after_withdrawal : ℕ → List (List ℕ) → Entry → Entry
 after_withdrawal moment ids e = if is_among ids e.spot.id then record e { withdrawn = Some (option_map_or (min moment) e.withdrawn moment) } else e
 
--- entries after policies that are published at this moment: each takes the place of its predecessors from its
--- publication and its start on
+-- entries after policies are published at this moment: each replaces its predecessors from its publication and its
+-- start on
 abbrev pub after_successors : ℕ → List Policy → List Entry → List Entry
 after_successors moment [] entries = entries
 after_successors moment (p ∷ ps) entries = after_successors moment ps (map (after_superseding (max moment p.start) p.previous) entries)
 
--- the policies and the geographies by identifier, each with its place; from when on each policy is superseded
--- and withdrawn; and how many of each are published; all within the limits
+-- The invariant of the index: where each policy and each geography is, by identifier; from when on each policy is
+-- superseded and withdrawn; how many of each are published; all within the limits.
 pub record IsKept (publications : List Publication) (policies : List Entry) (geographies : List Spot) (policy_count geography_count : ℕ) : Type 0 where
   pub policies_ascend : Ascends (λ e. e.spot.id) policies
   pub policies_found : (id : List ℕ) → option_map (λ e. e.spot) (find (has (λ e. e.spot.id) id) policies) ≡ find (has (λ s. s.id) id) (spots_in policy_ids 0 publications)

@@ -1,3 +1,4 @@
+//! A batch: what one publication publishes and withdraws.
 ghost use Rattle.std.specs.Prelude.{◌≡◌, find, bytes_eq, option_map, map, IfOk};
 ghost use Rattle.mds_policy.specs.Policy.{policy_document};
 ghost use Rattle.mds_geography.specs.Geography.{geography_document};
@@ -11,9 +12,9 @@ use mds_text::{Id, Moment};
 use std::alloc::{AllocError, Global};
 use std::sync::Arc;
 
-/// Documents that are published whole at one moment, and the published policies that are withdrawn
-/// from then on, each list in the order of the request. It keeps the text of each document as it is
-/// served from that moment on, so that it is printed once.
+/// Documents that are published together at one moment, and the published policies that are withdrawn from then on,
+/// each list in the order of the request. The batch has the text of each document as it is served from that moment on,
+/// so that it is printed once.
 #[derive(Drop)]
 pub struct Batch {
     /// When it is published, in milliseconds since the Unix epoch.
@@ -24,7 +25,7 @@ pub struct Batch {
     pub policies: Vec<Arc<Policy>>,
     /// The identifiers of the published policies that are withdrawn.
     pub withdrawn: Vec<Id>,
-    // of each geography and of each policy, in their order
+    // of each geography and each policy, in the order of the lists above
     pub(crate) geography_texts: Vec<Vec<u8>>,
     pub(crate) policy_texts: Vec<Vec<u8>>,
     ghost geographies_printed: { map (λ t. t.items) geography_texts.items
@@ -36,12 +37,12 @@ pub struct Batch {
 impl Batch {
     ghost use Rattle.mds_catalog.specs.Publication.{publication_of, is_empty, policy_ids, geography_ids, is_among, are_distinct};
 
-    /// The batch of these documents and of these withdrawals. It prints each document as it is served
-    /// with the moment as its `published_date`.
+    /// The batch of these documents and withdrawals. Prints each document as it is served, with the moment as its
+    /// `published_date`.
     ///
     /// # Errors
     ///
-    /// Memory for the texts ran out.
+    /// Out of memory for the texts.
     pub fn new(
         alloc: Global,
         moment: Moment,
@@ -66,14 +67,14 @@ impl Batch {
         })
     }
 
-    /// Whether it holds no document and withdraws no policy.
+    /// Whether the batch has no document and withdraws no policy.
     pub(crate) fn is_empty(&self) -> bool
         ensures { result ≡ is_empty (publication_of self.now) }
     {
         self.geographies.is_empty() && self.policies.is_empty() && self.withdrawn.is_empty()
     }
 
-    /// The first policy of this identifier.
+    /// The first policy with this identifier.
     pub(crate) fn policy(&self, id: Id) -> Option<&Policy>
         ensures { option_map (λ p. policy_document p.now) result
             ≡ find (λ p. bytes_eq p.id id) (publication_of self.now).policies }
@@ -86,7 +87,7 @@ impl Batch {
         None
     }
 
-    /// The first geography of this identifier.
+    /// The first geography with this identifier.
     pub(crate) fn geography(&self, id: Id) -> Option<&Geography>
         ensures { option_map (λ g. geography_document g.now) result
             ≡ find (λ g. bytes_eq g.id id) (publication_of self.now).geographies }
@@ -99,14 +100,14 @@ impl Batch {
         None
     }
 
-    /// Whether a geography of this identifier is in it.
+    /// Whether a geography with this identifier is in the batch.
     pub(crate) fn has_geography(&self, id: Id) -> bool
         ensures { result ≡ is_among (geography_ids (publication_of self.now)) id }
     {
         stands_in_geographies(&self.geographies, id)
     }
 
-    /// Whether no policy's identifier stands twice.
+    /// Whether the identifiers of the policies are distinct.
     pub(crate) fn policies_differ(&self) -> bool
         ensures { result ≡ are_distinct (policy_ids (publication_of self.now)) }
     {
@@ -118,7 +119,7 @@ impl Batch {
         true
     }
 
-    /// Whether no geography's identifier stands twice.
+    /// Whether the identifiers of the geographies are distinct.
     pub(crate) fn geographies_differ(&self) -> bool
         ensures { result ≡ are_distinct (geography_ids (publication_of self.now)) }
     {

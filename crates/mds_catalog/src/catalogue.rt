@@ -1,3 +1,4 @@
+//! The catalogue: all published batches, with an index of their documents.
 ghost use Rattle.std.specs.Prelude.{◌≤◌, vec_capacity};
 ghost use Rattle.mds_catalog.specs.Publication.{publications_in};
 ghost use Rattle.mds_catalog.specs.Kept.{IsKept};
@@ -16,25 +17,24 @@ use mds_text::{Id, Moment};
 use std::alloc::{AllocError, Global};
 use std::sync::Arc;
 
-/// The most publications.
+/// The most publications of a catalogue.
 pub const MOST_PUBLICATIONS: usize = 1024;
 
-/// The most published policies.
+/// The most published policies of a catalogue.
 pub const MOST_POLICIES: usize = 512;
 
-/// The most published geographies.
+/// The most published geographies of a catalogue.
 pub const MOST_GEOGRAPHIES: usize = 512;
 
-/// All published batches in their order, and beside them, by identifier, where each document stands and
-/// from which moment on each policy is superseded and withdrawn. Contracts see the list of the
-/// publications.
+/// All published batches in their order, and an index by identifier: where each document is, and from which moment on
+/// each policy is superseded and withdrawn. Contracts see the list of the publications.
 #[derive(Drop)]
 pub struct Catalogue {
-    // in the order of their publication
+    // in the order of publication
     batches: Vec<Arc<Batch>>,
-    // of each policy, ascending by identifier
+    // an entry for each policy, ascending by identifier
     entries: Vec<Entry>,
-    // of each geography, ascending by identifier
+    // an entry for each geography, ascending by identifier
     spots: Vec<Spot>,
     policy_count: usize,
     geography_count: usize,
@@ -51,11 +51,11 @@ impl Catalogue {
     ghost use Rattle.mds_catalog.specs.Publication.{find_policy, find_geography, is_policy_published, is_geography_published, policy_ids, geography_ids, first_published, is_geography_there, missing_geography, missing_predecessor, first_unpublished, fits, is_lawful, extended, publication_of, is_in_force, is_superseded, is_withdrawn, IsWithdrawnFrom, policies_for, published_geographies, in_force};
     ghost use Rattle.mds_catalog.specs.Catalogue.{publications_of, lent_policy, lent_geography, served_policy, served_geography};
 
-    /// An empty catalogue with room for all publications.
+    /// An empty catalogue with memory for all publications.
     ///
     /// # Errors
     ///
-    /// The room was refused.
+    /// Out of memory.
     pub fn with_room(alloc: Global) -> Result<Catalogue, AllocError>
         ensures { IfOk result (λ c. publications_of c ≡ []) }
     {
@@ -68,7 +68,7 @@ impl Catalogue {
         })
     }
 
-    /// The number of batches published.
+    /// The number of published batches.
     pub fn revision(&self) -> u64
         ensures count { result ≡ length (publications_of self.now) }
         ensures few { result ≤ MOST_PUBLICATIONS }
@@ -76,9 +76,9 @@ impl Catalogue {
         self.batches.len() as u64
     }
 
-    /// Whether a published policy is in force for an operator at a moment: it is published and started,
-    /// hasn't ended, is meant for the operator, no published policy that is effective then replaces it
-    /// (MDS 2.0 Policy, `prev_policies`), and no batch of that moment or an earlier one withdraws it.
+    /// Whether a published policy is in force for an operator at a moment: it is published and has started, hasn't
+    /// ended, is meant for the operator, no published policy that is effective then replaces it (MDS 2.0 Policy,
+    /// `prev_policies`), and no batch of that moment or an earlier one withdraws it.
     pub fn is_in_force(&self, operator: Id, at: Moment, policy: &Published<'_, Policy>) -> bool
         ensures { result ≡ is_in_force (publications_of self.now) operator at (lent_policy policy.now) }
     {
@@ -88,8 +88,8 @@ impl Catalogue {
             && !self.is_over(at, document.id())
     }
 
-    /// From which moment on the policy of this identifier is withdrawn, where a publication withdraws it: the
-    /// least moment of such a one.
+    /// The moment from which on the policy with this identifier is withdrawn: the least moment of the publications that
+    /// withdraw it, if there are any.
     pub fn withdrawn_from(&self, id: Id) -> Option<Moment>
         ensures { IsWithdrawnFrom (publications_of self.now) id result }
     {
@@ -99,7 +99,7 @@ impl Catalogue {
         }
     }
 
-    /// Whether the policy of this identifier is superseded or withdrawn at a moment.
+    /// Whether the policy with this identifier is superseded or withdrawn at a moment.
     fn is_over(&self, at: Moment, id: Id) -> bool
         ensures { result ≡ (is_superseded (publications_of self.now) at id || is_withdrawn (publications_of self.now) at id) }
     {
@@ -109,12 +109,12 @@ impl Catalogue {
         }
     }
 
-    /// The published policies in the order of their publication: all, or those that are meant for an
-    /// operator (MDS 2.0 Policy, `provider_ids`).
+    /// The published policies in the order of publication: all, or those that are meant for an operator (MDS 2.0
+    /// Policy, `provider_ids`).
     ///
     /// # Errors
     ///
-    /// Memory ran out.
+    /// Out of memory.
     pub fn policies(
         &self,
         alloc: Global,
@@ -129,22 +129,22 @@ impl Catalogue {
         Ok(policies)
     }
 
-    /// The published geographies in the order of their publication.
+    /// The published geographies in the order of publication.
     ///
     /// # Errors
     ///
-    /// Memory ran out.
+    /// Out of memory.
     pub fn geographies(&self, alloc: Global) -> Result<Vec<Published<'_, Geography>>, AllocError>
         ensures { IfOk result (λ v. map lent_geography v.items ≡ published_geographies (publications_of self.now)) }
     {
         lend_geographies(alloc, &self.batches)
     }
 
-    /// The policies in force for an operator at a moment, in the order of their publication.
+    /// The policies in force for an operator at a moment, in the order of publication.
     ///
     /// # Errors
     ///
-    /// Memory ran out.
+    /// Out of memory.
     pub fn in_force(
         &self,
         alloc: Global,
@@ -158,7 +158,7 @@ impl Catalogue {
         Ok(policies)
     }
 
-    /// The published policy of this identifier.
+    /// The published policy with this identifier.
     pub fn policy(&self, id: Id) -> Option<Published<'_, Policy>>
         ensures { option_map lent_policy result ≡ find_policy (publications_of self.now) id }
     {
@@ -171,7 +171,7 @@ impl Catalogue {
         })
     }
 
-    /// The published geography of this identifier.
+    /// The published geography with this identifier.
     pub fn geography(&self, id: Id) -> Option<Published<'_, Geography>>
         ensures { option_map lent_geography result ≡ find_geography (publications_of self.now) id }
     {
@@ -184,13 +184,12 @@ impl Catalogue {
         })
     }
 
-    /// The texts of the published policies as they are served, with their `published_date`, in the order
-    /// of their publication: of all, or of those that are meant for an operator (MDS 2.0 Policy,
-    /// `provider_ids`).
+    /// The texts of the published policies as they are served, with their `published_date`, in the order of
+    /// publication: all, or those that are meant for an operator (MDS 2.0 Policy, `provider_ids`).
     ///
     /// # Errors
     ///
-    /// Memory for the list ran out; the texts are lent.
+    /// Out of memory for the list; the texts are borrowed.
     pub fn policy_texts(
         &self,
         alloc: Global,
@@ -202,12 +201,12 @@ impl Catalogue {
         lend_policy_texts(alloc, self.policy_count, &self.batches, &operator)
     }
 
-    /// The texts of the published geographies as they are served, with their `published_date`, in the
-    /// order of their publication.
+    /// The texts of the published geographies as they are served, with their `published_date`, in the order of
+    /// publication.
     ///
     /// # Errors
     ///
-    /// Memory for the list ran out; the texts are lent.
+    /// Out of memory for the list; the texts are borrowed.
     pub fn geography_texts(&self, alloc: Global) -> Result<Vec<&[u8]>, AllocError>
         ensures { IfOk result (λ v. map (λ t. t.now) v.items
             ≡ map served_geography (published_geographies (publications_of self.now))) }
@@ -215,7 +214,7 @@ impl Catalogue {
         lend_geography_texts(alloc, self.geography_count, &self.batches)
     }
 
-    /// The text of the published policy of this identifier as it is served, with its `published_date`.
+    /// The text of the published policy with this identifier as it is served, with its `published_date`.
     pub fn policy_text(&self, id: Id) -> Option<&[u8]>
         ensures { option_map (λ t. t.now) result ≡ option_map served_policy (find_policy (publications_of self.now) id) }
     {
@@ -225,8 +224,7 @@ impl Catalogue {
         Some(text)
     }
 
-    /// The text of the published geography of this identifier as it is served, with its
-    /// `published_date`.
+    /// The text of the published geography with this identifier as it is served, with its `published_date`.
     pub fn geography_text(&self, id: Id) -> Option<&[u8]>
         ensures { option_map (λ t. t.now) result
             ≡ option_map served_geography (find_geography (publications_of self.now) id) }
@@ -237,21 +235,21 @@ impl Catalogue {
         Some(text)
     }
 
-    /// Whether a policy of this identifier is published.
+    /// Whether a policy with this identifier is published.
     fn has_policy(&self, id: Id) -> bool
         ensures { result ≡ is_policy_published (publications_of self.now) id }
     {
         self.policy(id).is_some()
     }
 
-    /// Whether a geography of this identifier is published.
+    /// Whether a geography with this identifier is published.
     fn has_geography(&self, id: Id) -> bool
         ensures { result ≡ is_geography_published (publications_of self.now) id }
     {
         self.geography(id).is_some()
     }
 
-    /// The batch's first geography that is published already.
+    /// The first geography of the batch that is already published.
     fn published_geography(&self, batch: &Batch) -> Option<Id>
         ensures { result ≡ find (is_geography_published (publications_of self.now))
             (geography_ids (publication_of batch.now)) }
@@ -265,7 +263,7 @@ impl Catalogue {
         None
     }
 
-    /// The batch's first policy that is published already.
+    /// The first policy of the batch that is already published.
     fn published_policy(&self, batch: &Batch) -> Option<Id>
         ensures { result ≡ find (is_policy_published (publications_of self.now))
             (policy_ids (publication_of batch.now)) }
@@ -279,8 +277,8 @@ impl Catalogue {
         None
     }
 
-    /// The batch's first identifier that is published already, geographies before policies. A
-    /// geography may have a policy's identifier.
+    /// The first identifier of the batch that is already published, geographies before policies. A geography may have
+    /// the identifier of a policy.
     pub fn first_published(&self, batch: &Batch) -> Option<Id>
         ensures { result ≡ first_published (publications_of self.now) (publication_of batch.now) }
     {
@@ -304,7 +302,7 @@ impl Catalogue {
         None
     }
 
-    /// The first geography of these rules that is neither published nor in the batch.
+    /// The first geography that these rules name and that is neither published nor in the batch.
     fn missing_in_rules(&self, batch: &Batch, rules: &[Rule]) -> Option<Id>
         ensures { result ≡ find
             (λ id. not (is_geography_there (publications_of self.now) (publication_of batch.now) id))
@@ -318,8 +316,8 @@ impl Catalogue {
         None
     }
 
-    /// The first geography that a rule of the batch names and that is neither published nor in the
-    /// batch, in the order of policies, rules and entries.
+    /// The first geography that a rule of the batch names and that is neither published nor in the batch, in the order
+    /// of policies, rules and entries.
     pub fn missing_geography(&self, batch: &Batch) -> Option<Id>
         ensures { result ≡ missing_geography (publications_of self.now) (publication_of batch.now) }
     {
@@ -331,7 +329,7 @@ impl Catalogue {
         None
     }
 
-    /// The first of these policies that isn't published.
+    /// The first of these identifiers with no published policy.
     pub fn first_unpublished(&self, ids: &[Id]) -> Option<Id>
         ensures { result ≡ first_unpublished (publications_of self.now) ids.now }
     {
@@ -343,8 +341,8 @@ impl Catalogue {
         None
     }
 
-    /// The first policy that a policy of the batch replaces and that isn't published already, in the
-    /// order of policies and entries.
+    /// The first policy that a policy of the batch replaces and that isn't already published, in the order of policies
+    /// and entries.
     pub fn missing_predecessor(&self, batch: &Batch) -> Option<Id>
         ensures { result ≡ missing_predecessor (publications_of self.now) (publication_of batch.now) }
     {
@@ -356,8 +354,8 @@ impl Catalogue {
         None
     }
 
-    /// Whether the batch stays within the limits: 512 policies, 512 geographies and 1,024 batches
-    /// published in all.
+    /// Whether the catalogue with the batch stays within the limits: 512 policies, 512 geographies and 1,024 batches in
+    /// all.
     pub fn fits(&self, batch: &Batch) -> bool
         ensures { result ≡ fits (publications_of self.now) (publication_of batch.now) }
     {
@@ -366,9 +364,9 @@ impl Catalogue {
             && self.batches.len() < MOST_PUBLICATIONS
     }
 
-    /// Whether the batch may be published: it holds a document or withdraws a policy, no identifier
-    /// stands twice in a list, its documents are new, the geographies of its rules are published or in
-    /// it, the policies that it replaces and withdraws are published, and it fits.
+    /// Whether the batch may be published: it has a document or withdraws a policy, no identifier is twice in a list,
+    /// its documents are new, the geographies of its rules are published or in it, the policies that it replaces and
+    /// withdraws are published, and it is within the limits.
     pub fn lawful(&self, batch: &Batch) -> bool
         ensures { result ≡ is_lawful (publications_of self.now) (publication_of batch.now) }
     {
@@ -383,7 +381,7 @@ impl Catalogue {
             && self.fits(batch)
     }
 
-    /// Adds a lawful batch at the end.
+    /// Appends a lawful batch.
     fn append(&mut self, batch: Arc<Batch>)
         requires { IsTrue (is_lawful (publications_of self.old) (publication_of batch.value)) }
         ensures { publications_of self.new ≡ publications_of self.old ++ publication_of batch.value ∷ [] }
@@ -400,8 +398,7 @@ impl Catalogue {
         self.geography_count = geography_count;
     }
 
-    /// Adds the batch at the end where it is lawful, and changes nothing for any other. It can't be
-    /// refused.
+    /// Appends the batch where it is lawful, and else changes nothing. It can't fail.
     pub fn adopt(&mut self, batch: Arc<Batch>)
         ensures { publications_of self.new ≡ extended (publications_of self.old) (publication_of batch.value) }
     {
@@ -410,12 +407,12 @@ impl Catalogue {
         }
     }
 
-    /// Adds a share of the batch at the end where it is lawful, and changes nothing for any other: for a
-    /// catalogue that follows another's list of batches. `adopt` is handed a share of its own.
+    /// Appends a further reference to the batch where it is lawful, and else changes nothing: for a catalogue that
+    /// follows another's list of batches. `adopt` takes over a reference instead.
     ///
     /// # Errors
     ///
-    /// A lawful batch gives no further share; nothing is changed.
+    /// No further reference to a lawful batch could be made; nothing is changed.
     pub fn absorb(&mut self, batch: &Arc<Batch>) -> Result<(), AllocError>
         ensures ok { OnOk result (publications_of self.new
             ≡ extended (publications_of self.old) (publication_of batch.now.value)) }

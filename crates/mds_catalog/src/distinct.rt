@@ -1,4 +1,4 @@
-//! Which identifiers stand in a list.
+//! Whether identifiers are in a list, and whether they are distinct.
 ghost use Rattle.std.specs.Prelude.{◌≡◌, map};
 ghost use Rattle.mds_policy.specs.Policy.{policy_document};
 ghost use Rattle.mds_geography.specs.Geography.{geography_document};
@@ -9,7 +9,7 @@ use mds_policy::Policy;
 use mds_text::Id;
 use std::sync::Arc;
 
-/// Whether a policy of this identifier is in the list.
+/// Whether a policy with this identifier is in the list.
 pub(crate) fn stands_in_policies(policies: &[Arc<Policy>], id: Id) -> bool
     ensures { result
         ≡ is_among (map (λ d. d.id) (map (λ share. policy_document share.value) policies.now)) id }
@@ -22,7 +22,7 @@ pub(crate) fn stands_in_policies(policies: &[Arc<Policy>], id: Id) -> bool
     false
 }
 
-/// Whether a geography of this identifier is in the list.
+/// Whether a geography with this identifier is in the list.
 pub(crate) fn stands_in_geographies(geographies: &[Arc<Geography>], id: Id) -> bool
     ensures { result
         ≡ is_among (map (λ d. d.id) (map (λ share. geography_document share.value) geographies.now)) id }
@@ -35,7 +35,7 @@ pub(crate) fn stands_in_geographies(geographies: &[Arc<Geography>], id: Id) -> b
     false
 }
 
-/// Whether no identifier stands twice in the list.
+/// Whether the identifiers are distinct.
 pub fn are_distinct(ids: &[Id]) -> bool
     ensures { result ≡ are_distinct ids.now }
 {

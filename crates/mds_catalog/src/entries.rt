@@ -1,4 +1,5 @@
-//! The published policies in the order of their identifiers, and from when on each is over.
+//! Index of the published policies by identifier, with the moments from which on they are
+//! superseded and withdrawn.
 ghost use Rattle.std.specs.Prelude.{◌≡◌, ◌+◌, ◌≤◌, ◌<◌, ◌∷◌, ◌||◌, [], find, map, min, max, length, vec_len, vec_capacity, IfOk, IfErr};
 ghost use Rattle.std.specs.Option.{option_map_or};
 ghost use Rattle.mds_policy.specs.Policy.{policy_document};
@@ -10,17 +11,17 @@ use mds_policy::Policy;
 use mds_text::{Id, Moment};
 use std::sync::Arc;
 
-/// A published policy: where it stands, and the least moments from which on it is superseded and
-/// withdrawn, where there are any.
+/// The index entry of a published policy: where it is, and the least moments from which on it is
+/// superseded and withdrawn, if any.
 #[derive(Clone, Copy)]
 pub(crate) struct Entry {
-    /// Where the policy stands.
+    /// Where the policy is in the batches.
     pub(crate) spot: Spot,
     superseded: Option<Moment>,
     pub(crate) withdrawn: Option<Moment>,
 }
 
-/// The lesser of a moment and one that may be known.
+/// The least of a moment and one that may be known.
 fn least(known: Option<Moment>, moment: Moment) -> Moment
     ensures { result ≡ option_map_or (min moment) known moment }
 {
@@ -30,7 +31,7 @@ fn least(known: Option<Moment>, moment: Moment) -> Moment
     }
 }
 
-/// Whether a moment that may be known isn't after another.
+/// Whether a known moment isn't after another; false where none is known.
 fn has_come(known: Option<Moment>, at: Moment) -> bool
     ensures { result ≡ has_come at known }
 {
@@ -41,7 +42,7 @@ fn has_come(known: Option<Moment>, at: Moment) -> bool
 }
 
 impl Entry {
-    /// The entry of a policy that is new.
+    /// The entry of a newly published policy.
     fn new(spot: Spot) -> Entry
         ensures { result ≡ fresh spot }
     {
@@ -52,7 +53,7 @@ impl Entry {
         }
     }
 
-    /// The entry after a policy that takes the place of these from a moment on.
+    /// The entry after a policy replaces those with these identifiers from a moment on.
     fn after_superseding(self, moment: Moment, ids: &[Id]) -> Entry
         ensures { result ≡ after_superseding moment ids.now self }
     {
@@ -66,7 +67,7 @@ impl Entry {
         }
     }
 
-    /// The entry after a publication of this moment that withdraws these policies.
+    /// The entry after a publication at this moment withdraws the policies with these identifiers.
     fn after_withdrawal(self, moment: Moment, ids: &[Id]) -> Entry
         ensures { result ≡ after_withdrawal moment ids.now self }
     {
@@ -88,7 +89,7 @@ impl Entry {
     }
 }
 
-/// Where an identifier stands among entries, or where it would go.
+/// The index of the entry with this identifier, or the index at which it would be inserted.
 fn place_of(entries: &[Entry], id: Id) -> Result<usize, usize>
     requires { Ascends (λ e. e.spot.id) entries.now }
     ensures found { IfOk result (IsAt (λ e. e.spot.id) entries.now id) }
@@ -97,7 +98,7 @@ fn place_of(entries: &[Entry], id: Id) -> Result<usize, usize>
     entries.binary_search_by_key(&id, |entry| entry.spot.id)
 }
 
-/// The entry of the policy of this identifier.
+/// The entry of the policy with this identifier.
 pub(crate) fn entry_of(entries: &[Entry], id: Id) -> Option<Entry>
     requires { Ascends (λ e. e.spot.id) entries.now }
     ensures { result ≡ find (has (λ e. e.spot.id) id) entries.now }
@@ -108,7 +109,7 @@ pub(crate) fn entry_of(entries: &[Entry], id: Id) -> Option<Entry>
     }
 }
 
-/// Lists a policy that is new, unless one of its identifier is listed.
+/// Inserts the entry of a new policy, unless there is one with its identifier.
 fn list_entry(entries: &mut Vec<Entry>, spot: Spot)
     requires ascends { Ascends (λ e. e.spot.id) entries.old.items }
     requires room { vec_len entries.old < vec_capacity entries.old }
@@ -120,7 +121,7 @@ fn list_entry(entries: &mut Vec<Entry>, spot: Spot)
     }
 }
 
-/// Lists the policies of a batch.
+/// Inserts entries for the policies of a batch.
 pub(crate) fn list_policies(entries: &mut Vec<Entry>, batch: usize, policies: &[Arc<Policy>])
     requires ascends { Ascends (λ e. e.spot.id) entries.old.items }
     requires room { vec_len entries.old + length policies.now ≤ vec_capacity entries.old }
@@ -134,7 +135,7 @@ pub(crate) fn list_policies(entries: &mut Vec<Entry>, batch: usize, policies: &[
     }
 }
 
-/// Marks the policies of these identifiers as superseded from a moment on.
+/// Marks the policies with these identifiers as superseded from a moment on.
 fn supersede_each(entries: &mut [Entry], moment: Moment, ids: &[Id])
     ensures { entries.new ≡ map (after_superseding moment ids.now) entries.old }
 {
@@ -143,8 +144,8 @@ fn supersede_each(entries: &mut [Entry], moment: Moment, ids: &[Id])
     }
 }
 
-/// Marks what policies that are published at this moment take the place of: each from its own start
-/// on, and not before the publication (MDS 2.0 Policy, `prev_policies`).
+/// Marks as superseded what policies that are published at this moment replace: each from its own
+/// start on, and not before the publication (MDS 2.0 Policy, `prev_policies`).
 pub(crate) fn supersede(entries: &mut [Entry], moment: Moment, policies: &[Arc<Policy>])
     ensures { entries.new
         ≡ after_successors moment (map (λ share. policy_document share.value) policies.now) entries.old }
@@ -162,7 +163,7 @@ fn later(moment: Moment, other: Moment) -> Moment
     if moment < other { other } else { moment }
 }
 
-/// Marks the policies of these identifiers as withdrawn from a moment on.
+/// Marks the policies with these identifiers as withdrawn from a moment on.
 pub(crate) fn withdraw(entries: &mut [Entry], moment: Moment, ids: &[Id])
     ensures { entries.new ≡ map (after_withdrawal moment ids.now) entries.old }
 {

@@ -9,15 +9,15 @@ use crate::published::Published;
 use mds_policy::Policy;
 use mds_text::{Id, Moment};
 
-/// Whether the policy is meant for the operator: it names the operator, or nobody (MDS 2.0 Policy,
-/// `provider_ids`).
+/// Whether the policy is meant for the operator: it names the operator, or names none (MDS 2.0
+/// Policy, `provider_ids`).
 pub fn is_meant_for(policy: &Policy, operator: Id) -> bool
     ensures { result ≡ is_meant_for operator (policy_document policy.now) }
 {
     policy.providers().is_empty() || policy.providers().contains(&operator)
 }
 
-/// Whether the policy is meant for an operator; where none is given, any policy is.
+/// Whether the policy is meant for an operator; true where no operator is given.
 pub(crate) fn is_shown(policy: &Policy, operator: &Option<Id>) -> bool
     ensures { result ≡ option_map_or (λ o. is_meant_for o (policy_document policy.now)) operator.now true }
 {
@@ -27,7 +27,7 @@ pub(crate) fn is_shown(policy: &Policy, operator: &Option<Id>) -> bool
     }
 }
 
-/// Whether a policy that was published at this moment has begun and hasn't ended at another.
+/// Whether a policy is published, has started and hasn't ended at a moment.
 pub(crate) fn is_running(policy: &Published<'_, Policy>, at: Moment) -> bool
     ensures { result ≡ (is_effective at (lent_policy policy.now) && option_map_or (nat_lt at) (lent_policy policy.now).document.end true) }
 {

@@ -1,13 +1,13 @@
-//! Laws of publications. Each function's contract is the law; the functions themselves do nothing.
+//! Laws of publications. Each function's contract is the law; the functions do nothing.
 ghost use Rattle.mds_catalog.specs.Laws.{FoldKeepsLawful, FoldGoesOn, StaysPublished, StaysOver};
 
-/// A list of publications, each lawful on those before it, is what its fold comes to.
+/// The fold of a list of publications, each lawful after those before it, is that list.
 pub fn fold_keeps_lawful()
     ensures { FoldKeepsLawful }
 {}
 
-/// The fold of a list of publications that is continued by one more is what `Catalogue::absorb` at Ok
-/// and `Catalogue::adopt` make of the fold.
+/// The fold of a list with one more publication is what `Catalogue::absorb` at Ok and `Catalogue::adopt` make of the
+/// fold of the list.
 pub fn fold_goes_on()
     ensures { FoldGoesOn }
 {}
@@ -17,8 +17,7 @@ pub fn stays_published()
     ensures { StaysPublished }
 {}
 
-/// A policy that is superseded or withdrawn at a moment is so at every later one, whatever is published
-/// after.
+/// A policy that is superseded or withdrawn at a moment is so at every later one, whatever is published afterwards.
 pub fn stays_over()
     ensures { StaysOver }
 {}

@@ -1,5 +1,5 @@
-//! The published policies and geographies, which policies are withdrawn, and which are in force (MDS 2.0
-//! Policy, publication and immutability).
+//! The published policies and geographies, which policies are withdrawn, and which are in force (MDS 2.0 Policy,
+//! publication and immutability).
 #![tactic(auto)]
 
 mod batch;

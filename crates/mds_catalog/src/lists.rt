@@ -1,4 +1,4 @@
-//! The published documents, lent in the order of their publication.
+//! Lists of the published documents and of their texts, borrowed, in the order of publication.
 ghost use Rattle.std.specs.Prelude.{◌≡◌, [], ◌∷◌, ◌++◌, if◌then◌else◌, map, IfOk, OnOk};
 ghost use Rattle.mds_catalog.specs.Publication.{publications_in, published_policies, published_geographies, policies_for};
 ghost use Rattle.mds_catalog.specs.Catalogue.{lent_policy, lent_geography, served_policy, served_geography};
@@ -12,7 +12,7 @@ use mds_text::Id;
 use std::alloc::{AllocError, Global};
 use std::sync::Arc;
 
-/// All policies of the batches.
+/// The policies of all batches.
 pub(crate) fn lend_policies(
     alloc: Global,
     batches: &[Arc<Batch>],
@@ -34,7 +34,7 @@ pub(crate) fn lend_policies(
     Ok(lent)
 }
 
-/// All geographies of the batches.
+/// The geographies of all batches.
 pub(crate) fn lend_geographies(
     alloc: Global,
     batches: &[Arc<Batch>],
@@ -56,7 +56,7 @@ pub(crate) fn lend_geographies(
     Ok(lent)
 }
 
-/// Lends a text behind others, if it is shown.
+/// Appends a text to the list, where it is visible.
 fn lend<'a>(lent: &mut Vec<&'a [u8]>, text: &'a [u8], shown: bool) -> Result<(), AllocError>
     ensures { OnOk result (map (λ t. t.now) lent.new.items
         ≡ map (λ t. t.now) lent.old.items ++ (if shown then text.now ∷ [] else [])) }
@@ -70,8 +70,8 @@ fn lend<'a>(lent: &mut Vec<&'a [u8]>, text: &'a [u8], shown: bool) -> Result<(),
     }
 }
 
-/// The texts of the policies of the batches: of all, or of those that are meant for an operator. There
-/// are no more than `most`.
+/// The texts of the policies of the batches: all, or those that are meant for an operator. There are no more than
+/// `most`.
 pub(crate) fn lend_policy_texts<'a>(
     alloc: Global,
     most: usize,
@@ -95,7 +95,7 @@ pub(crate) fn lend_policy_texts<'a>(
     Ok(lent)
 }
 
-/// The texts of all geographies of the batches. There are no more than `most`.
+/// The texts of the geographies of all batches. There are no more than `most`.
 pub(crate) fn lend_geography_texts(
     alloc: Global,
     most: usize,

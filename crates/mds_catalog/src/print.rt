@@ -1,4 +1,4 @@
-//! The texts of documents, as they are served from a publication on.
+//! Prints documents as they are served once they are published.
 ghost use Rattle.std.specs.Prelude.{◌≡◌, map, IfOk};
 ghost use Rattle.mds_policy.specs.Policy.{policy_document};
 ghost use Rattle.mds_geography.specs.Geography.{geography_document};
@@ -10,7 +10,7 @@ use mds_text::{Moment, print_tree};
 use std::alloc::{AllocError, Global};
 use std::sync::Arc;
 
-/// The text of each of these policies, published at this moment. It takes no more room than its bytes.
+/// The text of each of these policies, published at this moment, without spare capacity.
 #[tactic(auto, unfolding(crate::specs::Texts::policy_text))]
 pub(crate) fn print_policies(
     alloc: Global,
@@ -30,7 +30,7 @@ pub(crate) fn print_policies(
     Ok(texts)
 }
 
-/// The text of each of these geographies, published at this moment. It takes no more room than its bytes.
+/// The text of each of these geographies, published at this moment, without spare capacity.
 #[tactic(auto, unfolding(crate::specs::Texts::geography_text))]
 pub(crate) fn print_geographies(
     alloc: Global,

@@ -1,3 +1,4 @@
+//! A published document with its moment.
 use mds_text::Moment;
 
 /// A published document and the moment of its publication.

@@ -1,9 +1,10 @@
+//! The catalogue as a source of geographies for evaluation.
 use crate::catalogue::Catalogue;
 use mds_geometry::{Area, Position};
 use mds_match::Places;
 use mds_text::Id;
 
-/// The published geographies, whatever the moment of their publication.
+/// A catalogue as a source of geographies, whatever the moment of their publication.
 impl Places for Catalogue {
     ghost use Rattle.mds_catalog.specs.Publication.{published_area};
     ghost use Rattle.mds_catalog.specs.Catalogue.{publications_of};

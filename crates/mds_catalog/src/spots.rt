@@ -1,4 +1,4 @@
-//! Where published documents stand, in the order of their identifiers.
+//! Index of the published documents by identifier: where each one is.
 ghost use Rattle.std.specs.Prelude.{◌≡◌, ◌+◌, ◌≤◌, ◌<◌, ◌∷◌, [], find, map, length, vec_len, vec_capacity, IfOk, IfErr};
 ghost use Rattle.mds_geography.specs.Geography.{geography_document};
 ghost use Rattle.mds_catalog.specs.Listed.{Ascends, IsAt, IsGap, Lists, has, spots_from};
@@ -7,18 +7,18 @@ use mds_geography::Geography;
 use mds_text::Id;
 use std::sync::Arc;
 
-/// Where a published document stands: its batch, and its place among the batch's documents of its kind.
+/// Where a published document is: its batch, and its index among the batch's documents of its kind.
 #[derive(Clone, Copy)]
 pub(crate) struct Spot {
     /// The document's identifier.
     pub(crate) id: Id,
-    /// How many batches stand before its own.
+    /// How many batches are before its own.
     pub(crate) batch: usize,
-    /// How many of the batch's documents of its kind stand before it.
+    /// How many of the batch's documents of its kind are before it.
     pub(crate) place: usize,
 }
 
-/// Where an identifier stands among spots, or where it would go.
+/// The index of the spot with this identifier, or the index at which it would be inserted.
 fn place_of(spots: &[Spot], id: Id) -> Result<usize, usize>
     requires { Ascends (λ s. s.id) spots.now }
     ensures found { IfOk result (IsAt (λ s. s.id) spots.now id) }
@@ -27,7 +27,7 @@ fn place_of(spots: &[Spot], id: Id) -> Result<usize, usize>
     spots.binary_search_by_key(&id, |spot| spot.id)
 }
 
-/// Where the document of this identifier stands.
+/// Where the document with this identifier is.
 pub(crate) fn spot_of(spots: &[Spot], id: Id) -> Option<Spot>
     requires { Ascends (λ s. s.id) spots.now }
     ensures { result ≡ find (has (λ s. s.id) id) spots.now }
@@ -38,7 +38,7 @@ pub(crate) fn spot_of(spots: &[Spot], id: Id) -> Option<Spot>
     }
 }
 
-/// Lists where a document stands, unless one of its identifier is listed.
+/// Inserts the spot of a document, unless there is one with its identifier.
 fn list_spot(spots: &mut Vec<Spot>, spot: Spot)
     requires ascends { Ascends (λ s. s.id) spots.old.items }
     requires room { vec_len spots.old < vec_capacity spots.old }
@@ -50,7 +50,7 @@ fn list_spot(spots: &mut Vec<Spot>, spot: Spot)
     }
 }
 
-/// Lists where the geographies of a batch stand.
+/// Inserts the spots of the geographies of a batch.
 pub(crate) fn list_geographies(spots: &mut Vec<Spot>, batch: usize, geographies: &[Arc<Geography>])
     requires ascends { Ascends (λ s. s.id) spots.old.items }
     requires room { vec_len spots.old + length geographies.now ≤ vec_capacity spots.old }

@@ -21,7 +21,7 @@ by_flag : (configuration : Configuration) (e : Exchange) (history : List Exchang
 by_flag configuration e history text texts true is are = (is, are)
 by_flag configuration e history text texts false is are = are
 
--- the records of the requests that were accepted are those that are chosen
+-- the records of the accepted requests are those that are chosen
 pub chosen_are_theirs : (configuration : Configuration) (requests : List Request) (replies : List Reply) (texts : List (List ℕ))
     → AreRecordsOf configuration requests texts
     → AreRecordsOf configuration (requests_in (accepted (exchanges requests replies))) (chosen (map (λ reply. reply.status == 200) replies) texts)
@@ -35,7 +35,7 @@ chosen_are_theirs configuration (request ∷ requests) (reply ∷ replies) (text
     (chosen (map (λ r. r.status == 200) replies) texts) (reply.status == 200) are.0
     (chosen_are_theirs configuration requests replies texts are.1)
 
--- each exchange that was accepted has its record among these texts
+-- each exchange that was accepted has its record among these payloads
 abbrev pub Recorded : Configuration → List (List ℕ) → Exchange → Type 0
 Recorded configuration texts e = e.reply.status ≡ 200 → HasRecord configuration e.request texts
 

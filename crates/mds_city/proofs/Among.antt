@@ -1,4 +1,4 @@
--- A text among others.
+-- A payload among others.
 use Rattle.std.proofs.Common.{ℕ, List, [], ◌∷◌, ◌++◌, sym, ap, ◌∙◌, append_assoc}
 use mathlib.Core.List.{IsPrefix}
 use Rattle.mds_commit.specs.Durable.{IsLast}
@@ -8,12 +8,12 @@ use Rattle.mds_city.specs.Records.{IsAmong}
 pub last_among : (text : List ℕ) (texts : List (List ℕ)) → IsLast text texts → IsAmong text texts
 last_among text texts last = (last.0, [], last.1)
 
--- what is among them is among more
+-- what is among a prefix is among the whole
 pub later_among : (text : List ℕ) (texts more : List (List ℕ)) → IsAmong text texts → IsPrefix texts more → IsAmong text more
 later_among text texts more among front =
     (among.0, among.1 ++ front.0, sym front.1 ∙ ap (λ (xs : List (List ℕ)). xs ++ front.0) among.2 ∙ append_assoc among.0 (text ∷ among.1) front.0)
 
--- and among these behind others
+-- what is among these is among them after others
 pub behind_among : (first : List (List ℕ)) (text : List ℕ) (texts : List (List ℕ)) → IsAmong text texts → IsAmong text (first ++ texts)
 behind_among first text texts among =
     (first ++ among.0, among.1, ap (λ (xs : List (List ℕ)). first ++ xs) among.2 ∙ sym (append_assoc first among.0 (text ∷ among.1)))

@@ -1,4 +1,4 @@
--- Who makes a call, and the records of requests by who asks.
+-- The client that makes a call, and the records of requests by client.
 use Rattle.std.proofs.Common.{◌≡◌, ◌<◌, ◌+◌, ℕ, zero, suc, List, [], ◌∷◌, ◌++◌, length, map, take, drop, get_or, Option, Some, None, option_map, Ok, refl, sym, ap, subst, ◌∙◌}
 use Rattle.std.proofs.lemmas.List.{map-append}
 use Rattle.mds_entries.specs.Requests.{asked_by, asker_at}
@@ -18,7 +18,7 @@ use Rattle.mds_city.specs.Many.{AreAskedBy, AreRecordsOf, report_of}
 use Rattle.mds_city.specs.Records.{IsRecordOf, caller_of, record_by}
 use Rattle.mds_city.proofs.Accepted.{taken_more}
 
--- an operator's name in a record, by its identifier
+-- an operator in a record, by its identifier
 pub asker_named : (operator : Option Named) (id : List ℕ) → option_map (λ o. o.id) operator ≡ Some id → option_map (λ o. OperatorBy o.id) operator ≡ Some (OperatorBy id)
 asker_named None id is = absurd cc
 asker_named (Some operator) id is = ap (option_map OperatorBy) is
@@ -35,11 +35,11 @@ module _ (configuration : Configuration) (request : Request) where
   pub caller_within : (own : Call) → call_of configuration request ≡ Ok own → IsWithin (length configuration.operators) (caller_of own)
   caller_within own is = subst (IsWithin (length configuration.operators)) (asks own is) (is_within configuration request.token)
 
-  -- so does one whose access token it is
+  -- so does an operator whose access token the request carries
   pub place_within : (place : ℕ) → actor_of configuration request.token ≡ Operator place → place < length configuration.operators
   place_within place is = subst (IsWithin (length configuration.operators)) is (is_within configuration request.token)
 
-  -- the record is by who asks
+  -- the record names the client
   pub record_of : (actor : Actor) (asker : Asker) (text : List ℕ) → actor_of configuration request.token ≡ actor → asker_at configuration actor ≡ Some asker
       → text ≡ record_by asker request → IsRecordOf configuration request text
   record_of actor asker text is known text_is =
@@ -49,7 +49,7 @@ module _ (configuration : Configuration) (request : Request) where
         text_is = text_is;
       }
 
-  -- which is known by the call
+  -- the call says which client
   pub record_of_call : (own : Call) (asker : Asker) (text : List ℕ) → call_of configuration request ≡ Ok own → asker_at configuration (caller_of own) ≡ Some asker
       → text ≡ record_by asker request → IsRecordOf configuration request text
   record_of_call own asker text is = record_of (caller_of own) asker text (asks own is)
@@ -64,13 +64,13 @@ module _ (configuration : Configuration) (place : ℕ) where
     records_of asker requests known asked.1,
   )
 
-  -- an operator's reports are asked by it
+  -- the reports of an operator's request are requests of that operator
   pub reports_asked : (request : Request) (lines : List (List ℕ)) → actor_of configuration request.token ≡ Operator place
       → AreAskedBy configuration place (map (report_of request) lines)
   reports_asked request [] is = tt
   reports_asked request (line ∷ lines) is = (is, reports_asked request lines is)
 
-  -- so are those at the front of its requests, and those behind
+  -- so are a prefix of its requests, and the rest
   pub front_asked : {A : Type 0} (request : A → Request) (n : ℕ) (lent : List A) → AreAskedBy configuration place (map request lent)
       → AreAskedBy configuration place (map request (take n lent))
   front_asked request zero lent asked = tt
@@ -83,7 +83,7 @@ module _ (configuration : Configuration) (place : ℕ) where
   rest_asked request (suc n) [] asked = tt
   rest_asked request (suc n) (item ∷ lent) asked = rest_asked request n lent asked.1
 
--- one text more is that of the next request's record
+-- one payload more is that of the next request's record
 pub texts_more : {A V : Type 0} (request : A → Request) (text : V → List ℕ) (own : Request → List ℕ) (lent : List A) (i : ℕ) (item : A) (was now : List V) (it : V)
     → i < length lent → item ≡ get_or lent i item → now ≡ was ++ it ∷ [] → map text was ≡ map own (map request (take i lent)) → text it ≡ own (request item)
     → map text now ≡ map own (map request (take (i + 1) lent))

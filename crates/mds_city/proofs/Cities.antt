@@ -1,5 +1,5 @@
--- A city, and what answers for it, may be shared by threads, where the handle, what judges and the clock may be, and where room for records may
--- be passed to another thread. A response on its way may be passed too.
+-- A city and its service may be shared by threads, where the runtime handle, the evaluator and the clock may be, and
+-- where reserved disk space may be passed to another thread. A pending response may be passed too.
 use denote.RattleType.{RattleType}
 use denote.Struct.Field.{row_field}
 use denote.Param.Send.{IsSend, IsSync, sendable}

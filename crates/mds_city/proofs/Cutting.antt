@@ -26,7 +26,7 @@ filter_first : {A : Type 0} (test : A → Bool) (x : A) (xs : List A) → filter
 filter_first test x xs = by_test (test x) x (filter test xs)
 
 module _ {A : Type 0} (report : List ℕ → A) where
-  -- what is reported by these lines
+  -- the reports of these lines
   abbrev pub reported : List (List ℕ) → List A
   reported ls = map report (filter is_filled ls)
 
@@ -47,17 +47,17 @@ module _ {A : Type 0} (report : List ℕ → A) where
   by_filled true line is = ap (λ t. map report (cond t (line ∷ []) [])) is
   by_filled false line is = ap (λ t. map report (cond t (line ∷ []) [])) is
 
-  -- an empty line is none
+  -- an empty line is no report
   pub reports_none : (line : List ℕ) (so_far : List A) → is_filled line ≡ false → so_far ≡ so_far ++ reported (line ∷ [])
   reports_none line so_far is = sym (ap (λ xs. so_far ++ xs) (by_filled false line is) ∙ append-nil so_far)
 
-  -- any other is one
+  -- any other is one report
   pub reports_one : (line : List ℕ) (so_far now : List A) (it : A) → is_filled line ≡ true → it ≡ report line → now ≡ so_far ++ it ∷ []
       → now ≡ so_far ++ reported (line ∷ [])
   reports_one line so_far now it is it_is more =
       more ∙ ap (λ x. so_far ++ x ∷ []) it_is ∙ sym (ap (λ xs. so_far ++ xs) (by_filled true line is))
 
-  -- a line behind as many as there may be makes them too many
+  -- one more line after as many as there may be makes them too many
   pub more_than : (so_far all : List A) (line rest behind : List ℕ) (most : ℕ) → lines rest ≡ line ∷ lines behind → so_far ++ reported (lines rest) ≡ all
       → is_filled line ≡ true → most ≤ length so_far → most < length all
   more_than so_far all line rest behind most first was is least =

@@ -1,4 +1,4 @@
--- What an operator is told beside the protocol's calls, by its own place.
+-- An operator's answers outside the protocol's calls, by its own place.
 use Rattle.std.proofs.Common.{◌≡◌, ◌⊎◌, ℕ, List, Option, Some, None, option_map, Result, Ok, Err, IfOk, IfErr, inl, inr, refl, sym, ap, subst, ◌∙◌}
 use Rattle.std.specs.List.{slice_get}
 use Rattle.mds_app.specs.Badges.{Badges}
@@ -28,7 +28,7 @@ pub own_is : (publications : List Publication) (operator : Option Named) (id : L
 own_is publications None id is = absurd cc
 own_is publications (Some operator) id is = ap (λ o. withdrawals_reply publications o) (sym is)
 
--- what is told of a front, by another name for the place, and of another kind
+-- an answer of a front, with the place by another name, and a kind that the first one implies
 pub desk_tells : {T : Type 0} (configuration : Configuration) (place there : ℕ) (tells also : List Publication → T → Type 0) (told : T)
     → place ≡ there → ((publications : List Publication) → tells publications told → also publications told)
     → DeskTells configuration place tells told → DeskTells configuration there also told
@@ -41,13 +41,13 @@ desk_tells configuration place there tells also told here imply it =
       tells = imply it.after.known it.tells;
     }
 
--- an answer that tells this, or that memory ran out
+-- the reply, or the refusal for being out of memory
 pub by_memory : {E : Type 0} (Kind : Reply → Type 0) (told : Result Reply E) (answer : Reply) → IfOk told (λ reply. answer ≡ reply) → IfErr told (λ _. answer ≡ refused NoMemory)
     → IfOk told Kind → IsToldReply Kind answer
 by_memory Kind (Ok reply) answer is none kind = inl (subst Kind (sym is) kind)
 by_memory Kind (Err e) answer is none kind = inr (inl none)
 
--- or that nothing is shown
+-- or the refusal for there being no snapshot
 pub by_refusal : (Kind : Reply → Type 0) (told : Result Reply Code) (answer : Reply) → IfOk told (λ reply. answer ≡ reply) → IfErr told (λ code. answer ≡ refused code)
     → IfErr told (λ code. (code ≡ NoMemory) ⊎ (code ≡ NoSnapshot)) → IfOk told Kind → IsToldReply Kind answer
 by_refusal Kind (Ok reply) answer is none why kind = inl (subst Kind (sym is) kind)

@@ -1,4 +1,4 @@
--- What many reports are answered.
+-- The answers to many reports.
 use mathlib.Core.List.{IsPrefix}
 use Rattle.std.proofs.Common.{◌≡◌, ◌==◌, ◌<◌, ℕ, zero, suc, Bool, true, false, not, List, [], ◌∷◌, ◌++◌, length, map, take, drop, get_or, ◌+◌, ◌-◌, length-drop, Option, Some, Result, Ok, Err, IfOk, inl, inr, refl, sym, ap, subst, ◌∙◌, arith}
 use Rattle.std.specs.List.{list_all, slice_get}
@@ -46,7 +46,7 @@ as_many d next requests replies within takes =
     let run = takes.run found.0 found.1 in
     ap length (sym run.tells) ∙ length-map run.turns (λ turn. turn.reply) ∙ sym (length-map run.turns (λ turn. turn.request)) ∙ ap length run.asks
 
--- also behind a note
+-- also after a note
 pub as_many_told : (d next : DeskState) (note : Option (List Publication)) (requests : List Request) (replies : List Reply) → d.place < length d.configuration.operators
     → TakesToldRun d note requests replies next → length replies ≡ length requests
 as_many_told d next note requests replies within takes =
@@ -55,7 +55,7 @@ as_many_told d next note requests replies within takes =
     (subst (λ (c : Configuration). takes.told.place < length c.operators) (sym same.configuration)
     (subst (λ (p : ℕ). p < length d.configuration.operators) (sym same.place) within)) takes.run
 
--- the place of a desk of a configuration lies in it
+-- a desk of a configuration has its place in it
 its_place : (configuration : Configuration) (place : ℕ) (d : DeskState) → place < length configuration.operators → IsDeskAt configuration place d
     → d.place < length d.configuration.operators
 its_place configuration place d within its =
@@ -64,7 +64,7 @@ its_place configuration place d within its =
 
 -- ---- records
 
--- a record that stands among texts stands among more of them
+-- a record that is among payloads is among more of them
 pub recorded_later : (configuration : Configuration) (history : List Exchange) (stamp later : List (List ℕ)) → IsPrefix stamp later
     → AreRecorded configuration history stamp → AreRecorded configuration history later
 recorded_later configuration [] stamp later front all = tt
@@ -87,7 +87,7 @@ exchanges_on (request ∷ requests) more (reply ∷ replies) others same =
     ap (λ (history : List Exchange). record { request = request; reply = reply } ∷ history)
     (exchanges_on requests more replies others (let e : length replies ≡ length requests = omega (arith, same) in e))
 
--- those whose places were settled by their answers are recorded
+-- requests whose reservations were completed by their answers are recorded
 pub settled_are_recorded : (configuration : Configuration) (requests : List Request) (replies : List Reply) (texts stamp : List (List ℕ)) (flags : List Bool)
     → AreRecordsOf configuration requests texts → flags ≡ map (λ reply. reply.status == 200) replies → AreLast (chosen flags texts) stamp
     → AreRecorded configuration (exchanges requests replies) stamp
@@ -122,9 +122,9 @@ refused_more request told lent i item was now within here more is =
     ∙ ap (map (λ (r : Request). told)) (sym (map-append request (take i lent) (item ∷ [])))
     ∙ ap (λ xs. map (λ (r : Request). told) (map request xs)) (sym (taken_more lent i item within here))
 
--- ---- one chunk behind another
+-- ---- one chunk after another
 
--- how far it is: these requests were answered by a run of the desk of the operator at this place
+-- the progress: a run of the desk of the operator at this place answered these requests
 pub record Reached (configuration : Configuration) (place : ℕ) (requests : List Request) (replies : List Reply) (stamp : List (List ℕ)) (now : DeskState) : Type 0 where
   pub start : DeskState
   pub is_its : IsDeskAt configuration place start
@@ -176,7 +176,7 @@ all_answered configuration place requests replies stamp now reached =
       rest = inl (refl, refl);
     }
 
--- those at the front are answered, and the others refused
+-- a prefix is answered, and the others are refused
 pub some_answered : (configuration : Configuration) (place : ℕ) (requests rest : List Request) (replies others all : List Reply) (stamp : List (List ℕ)) (now : DeskState)
     → Reached configuration place requests replies stamp now → all ≡ replies ++ others → AreRefusedBehind rest others
     → IsAnsweredInPart configuration place (requests ++ rest) all stamp
@@ -192,7 +192,7 @@ some_answered configuration place requests rest replies others all stamp now rea
       rest = inr refuses;
     }
 
--- the same of what says so
+-- the same of a result that says so
 pub some_answered_of : {V E : Type 0} (replies : V → List Reply) (stamp : V → List (List ℕ)) (configuration : Configuration) (place : ℕ) (requests rest whole : List Request)
     (so_far : List Reply) (texts : List (List ℕ)) (now : DeskState) (result : Result V E) → whole ≡ requests ++ rest → Reached configuration place requests so_far texts now
     → IfOk result (λ all. (others : List Reply) × (replies all ≡ so_far ++ others) × AreRefusedBehind rest others × (stamp all ≡ texts))
@@ -203,7 +203,7 @@ some_answered_of replies stamp configuration place requests rest whole so_far te
     (subst (λ (rs : List Request). IsAnsweredInPart configuration place rs (replies all) texts) (sym is)
     (some_answered configuration place requests rest so_far behind.0 (replies all) texts now reached behind.1 behind.2))) refuses
 
--- ---- what is told
+-- ---- the response
 
 module _ {V E : Type 0} (reply : V → Option (Response (Full (List ℕ)))) (stamp : V → List (List ℕ)) (configuration : Configuration) (place : ℕ) (request : Request) where
   -- the body is refused as a whole

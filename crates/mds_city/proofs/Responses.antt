@@ -1,4 +1,4 @@
--- What a city responds.
+-- A city's responses.
 use Rattle.std.proofs.Common.{◌≡◌, ◌⊎◌, ℕ, List, Option, Some, None, IfSome, MatchOption, Result, Ok, Err, IfOk, inl, inr, sym, subst}
 use Rattle.http.specs.declared.response.Response.{Response}
 use Rattle.http_body_util.specs.declared.full.Full.{Full}
@@ -29,7 +29,7 @@ none_is : {A : Type 0} (P : Type 0) (Q : A → Type 0) (o : Option A) → o ≡ 
 none_is P Q None none is = is
 none_is P Q (Some a) none is = absurd cc
 
--- where the log holds what is needed, the response to a call of the protocol is a hall's
+-- where what is needed of the log is reserved, the response to a call of the protocol is a hall's
 pub as_a_hall : (configuration : Configuration) (badges : Badges) (early : Option Code) (at : Option ℕ) (request : ℕ → Request) (stamp : List (List ℕ)) (response : Response (Full (List ℕ)))
     → ((moment : ℕ) → app_of (request moment) ≡ None)
     → MatchOption early (IfSome at (λ moment. IsAnswered configuration badges (request moment) stamp response)) (λ code. Says response (refused code))
@@ -51,12 +51,12 @@ pub ok_more : {V E : Type 0} {P Q : V → Type 0} (result : Result V E) → ((v 
 ok_more (Ok v) imply p = imply v p
 ok_more (Err e) imply p = tt
 
--- the reply that waits is one of which this holds
+-- this holds of the response that waits
 pub waits_for : {V E : Type 0} (P : Response (Full (List ℕ)) → Type 0) (reply : V → Option (Response (Full (List ℕ)))) (result : Result V E) (response : Response (Full (List ℕ)))
     → IfOk result (λ s. Waits (λ plain. plain ≡ response) (reply s)) → P response → IfOk result (λ s. Waits P (reply s))
 waits_for P reply result response is p = ok_more result (λ s. waits_more (reply s) (λ plain same. subst P (sym same) p)) is
 
--- such a reply is told
+-- the response with such a reply
 pub waits_told : {V E : Type 0} (Kind : Reply → Type 0) (reply : V → Option (Response (Full (List ℕ)))) (result : Result V E) (told : Reply)
     → IfOk result (λ s. Waits (λ response. Says response told) (reply s)) → IsToldReply Kind told → IfOk result (λ s. Waits (SaysTold Kind) (reply s))
 waits_told Kind reply result told says is = ok_more result (λ s. waits_more (reply s) (λ response here. (told, is, here))) says
@@ -65,13 +65,13 @@ told_more : {Kind Other : Reply → Type 0} → ((reply : Reply) → Kind reply 
 told_more imply reply (inl is) = inl (imply reply is)
 told_more imply reply (inr refused) = inr refused
 
--- and one of another kind, that it is too
+-- the same for a kind that this one implies
 pub waits_kind : {V E : Type 0} (Kind Other : Reply → Type 0) (reply : V → Option (Response (Full (List ℕ)))) (result : Result V E)
     → ((r : Reply) → Kind r → Other r) → IfOk result (λ s. Waits (SaysTold Kind) (reply s)) → IfOk result (λ s. Waits (SaysTold Other) (reply s))
 waits_kind Kind Other reply result imply says =
     ok_more result (λ s. waits_more (reply s) (λ response one. (one.0, told_more imply one.0 one.1, one.2))) says
 
--- the reply of a recorded turn, which waits for its stamp
+-- the reply of a recorded turn, which waits for its log position
 pub waits_carried : {V E : Type 0} (reply : V → Option (Response (Full (List ℕ)))) (stamp : V → List (List ℕ)) (configuration : Configuration) (actor : Actor) (request : Request)
     (answer : Reply) (shown : List (List ℕ)) (result : Result V E) → IsRecordedTurn configuration actor request answer shown
     → IfOk result (λ s. Waits (λ response. Says response answer) (reply s)) → IfOk result (λ s. stamp s ≡ shown)
@@ -82,7 +82,7 @@ waits_carried reply stamp configuration actor request answer shown (Ok s) turn s
     says
 waits_carried reply stamp configuration actor request answer shown (Err e) turn says same = tt
 
--- the reply of a recorded turn is what is answered
+-- the response to a request is the reply of its recorded turn
 pub waits_turn : {V E : Type 0} (reply : V → Option (Response (Full (List ℕ)))) (stamp : V → List (List ℕ)) (configuration : Configuration) (actor : Actor) (request : Request)
     (result : Result V E) (told : Reply) (texts : List (List ℕ)) → IsRecordedTurn configuration actor request told texts
     → IfOk result (λ s. Waits (λ response. Says response told) (reply s)) → IfOk result (λ s. stamp s ≡ texts)

@@ -1,4 +1,4 @@
--- Runs of turns of one desk, one behind another.
+-- Runs of turns of one desk, one after another.
 use mathlib.Core.List.{IsPrefix}
 use Rattle.std.proofs.Common.{◌≡◌, ℕ, List, [], ◌∷◌, ◌++◌, Option, Some, None, refl, sym, ap, subst, ◌∙◌}
 use Rattle.std.specs.List.{slice_get}
@@ -15,7 +15,7 @@ use Rattle.mds_fronts.proofs.Views.{last_on, prefix_self}
 use Rattle.mds_desk.specs.Desk.{DeskState, IsSameDesk, TakesRun}
 use Rattle.mds_hall.specs.Turn.{IsTold, TakesToldRun}
 
--- what a desk is told leaves it the same desk, with its rows, and it knows no less
+-- a note leaves it the same desk, with its rows, and it knows no less
 pub same_told : (d : DeskState) (note : Option (List Publication)) (told : DeskState) → IsTold d note told → IsSameDesk d told
 same_told d None told is = record { configuration = ap (λ s. s.configuration) is; place = ap (λ s. s.place) is }
 same_told d (Some list) told learns = learns.same
@@ -28,13 +28,13 @@ known_told : (d : DeskState) (note : Option (List Publication)) (told : DeskStat
 known_told d None told is = subst (IsPrefix d.known) (sym (ap (λ s. s.known) is)) (prefix_self d.known)
 known_told d (Some list) told learns = learns.kept
 
--- behind a turn the last front is the same, wherever one began
+-- after a turn the last front is the same, wherever one began
 last_same : (a b : List Publication) (turns : List Turn) (request : Request) (more : List Request) → requests_in turns ≡ request ∷ more
     → last_front a turns ≡ last_front b turns
 last_same a b [] request more is = absurd cc
 last_same a b (turn ∷ turns) request more is = refl
 
--- a run, and behind it one that begins with what is known then
+-- a run, and after it one that begins with what is known then
 run_on : (configuration : Configuration) (place : ℕ) (operator : Operator) (known met learnt : List Publication) (rows between after : Rows)
     (requests : List Request) (replies : List Reply) (request : Request) (more : List Request) (others : List Reply) (last : List Publication)
     → IsRun configuration place operator known rows requests replies met between → IsPrefix met learnt
@@ -57,7 +57,7 @@ run_on configuration place operator known met learnt rows between after requests
           ∙ sym (last_on known first.turns then.turns);
     }
 
--- the same of a desk, which is told of a note before the second run
+-- the same of a desk that learns a note before the second run
 pub desk_run_on : (d between next : DeskState) (note : Option (List Publication)) (requests : List Request) (replies : List Reply) (request : Request)
     (more : List Request) (others : List Reply) → TakesRun d requests replies between → TakesToldRun between note (request ∷ more) others next
     → TakesRun d (requests ++ request ∷ more) (replies ++ others) next

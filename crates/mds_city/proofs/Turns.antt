@@ -1,4 +1,4 @@
--- What is kept of a turn.
+-- The record of a turn.
 use Rattle.std.proofs.Common.{◌≡◌, ℕ, Bool, true, false, List, Option, Some, None, IfSome, IfNone, IsSome, option_map, Err, refl, sym, ap, subst}
 use Rattle.std.specs.Prelude.{◌&&◌, ◌==◌}
 use Rattle.std.proofs.lemmas.Bool.{eqb-true}
@@ -36,14 +36,14 @@ has_record configuration request reply Reads stamp is settled kept =
 has_record configuration request reply (Holds place) stamp is settled kept =
     (place.text.items, is, settled (eqb-true reply.status 200 (second_true (may_change (call_of configuration request)) (reply.status == 200) kept)))
 
--- a turn whose place was settled is recorded
+-- a turn whose reservation was completed is recorded
 pub recorded : (configuration : Configuration) (actor : Actor) (request : Request) (reply : Reply) (reserved : Reserved) (stamp : List (List ℕ))
     → TurnGives configuration actor request reply → IsReserved configuration request reserved → IsSettled reserved reply.status stamp
     → IsRecordedTurn configuration actor request reply stamp
 recorded configuration actor request reply reserved stamp turn is settled =
     record { turn = turn; recorded = has_record configuration request reply reserved stamp is settled }
 
--- a place is settled where its text is among these
+-- a reservation is completed where its payload is among these
 pub settled_shown : (text : List ℕ) (reserved : Reserved) (status : ℕ) (stamp : List (List ℕ)) → IsTitled text reserved → IsAmong text stamp
     → IsSettled reserved status stamp
 settled_shown text Reads status stamp is among = tt
@@ -54,7 +54,7 @@ pub settled_refused : (reserved : Reserved) (status : ℕ) (stamp : List (List �
 settled_refused Reads status stamp refused = tt
 settled_refused (Holds place) status stamp refused = λ success. absurd (refused success)
 
--- or where what is held of it is
+-- or where what is still reserved is
 pub settled_held : {H : Type 0} (place : H → Place) (text : List ℕ) (reserved : Reserved) (held : Option H) (status : ℕ) (stamp : List (List ℕ))
     → IsTitled text reserved → option_map place held ≡ place_of reserved
     → IfSome held (λ _. status ≡ 200 → IsAmong text stamp) → IsSettled reserved status stamp
@@ -62,14 +62,14 @@ settled_held place text Reads held status stamp is same settled = tt
 settled_held place text (Holds it) None status stamp is same settled = absurd cc
 settled_held place text (Holds it) (Some h) status stamp is same settled = λ success. subst (λ (t : List ℕ). IsAmong t stamp) (sym is) (settled success)
 
--- and where no leave was asked
+-- or where no publication asked to be committed
 pub settled_unasked : {H E : Type 0} (place : H → Place) (text : List ℕ) (reserved : Reserved) (held : Option H) (shown : Option E) (status : ℕ) (stamp : List (List ℕ))
     → IsTitled text reserved → option_map place held ≡ place_of reserved → shown ≡ None
     → IfNone shown (IfSome held (λ _. status ≡ 200 → IsAmong text stamp)) → IsSettled reserved status stamp
 settled_unasked place text reserved held None status stamp is same none settled = settled_held place text reserved held status stamp is same settled
 settled_unasked place text reserved held (Some e) status stamp is same none settled = absurd cc
 
--- what is said of each value of an option that has one
+-- what holds for the value of an option, where there is one
 pub of_some : {A P : Type 0} (o : Option A) → IsSome o → IfSome o (λ _. P) → P
 of_some None some p = absurd cc
 of_some (Some a) some p = p
@@ -80,7 +80,7 @@ somebody Author known = tt
 somebody (Operator place) known = tt
 somebody Nobody known = absurd cc
 
--- what the table of calls refuses of them is what a turn gives, and no journal keeps it
+-- what the table of calls refuses of them is what a turn gives, and no journal persists it
 pub refused_turn : (configuration : Configuration) (request : Request) (code : Code) (stamp : List (List ℕ)) → call_of configuration request ≡ Err code
     → unknown (actor_of configuration request.token) ≡ None
     → IsRecordedTurn configuration (actor_of configuration request.token) request (refused code) stamp

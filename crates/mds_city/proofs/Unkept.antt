@@ -1,4 +1,4 @@
--- No call beside the protocol's is one of the protocol, so that no journal keeps it.
+-- No call outside the protocol is one of the protocol, so no journal persists it.
 use Rattle.std.proofs.Common.{◌≡◌, ◌&&◌, ◌==◌, ℕ, List, [], Bool, true, false, cond, nat_lt, length, IsSome, Option, Some, None, option_map, Err, refl, ap}
 use Rattle.mds_request.specs.Call.{path_of, rows_at, segments_of, call_among, called_at, call_of}
 use Rattle.mds_request.specs.Configuration.{Configuration, actor_of}

@@ -1,4 +1,4 @@
--- What is told of the request of a head, by what the head is resolved to.
+-- The response to the request of a head, by what the head is resolved to.
 use Rattle.std.proofs.Common.{◌≡◌, ◌<◌, ℕ, List, length, Option, Some, None, option_map, unwrap_or, IfSome, MatchOption, Result, Ok, Err, IfOk, inl, inr, refl, sym, ap, subst, ◌∙◌}
 use Rattle.http.specs.declared.request.Parts.{Parts}
 use Rattle.http.specs.declared.response.Response.{Response}
@@ -38,11 +38,11 @@ use Rattle.mds_city.specs.Unstored.{Waits}
 use Rattle.mds_city.proofs.Responses.{ok_more, waits_more}
 use Rattle.mds_city.proofs.Turns.{refused_turn}
 
--- by the path a request is a call beside the protocol's, or one of it
+-- by its path a request is a call outside the protocol, or one of it
 abbrev way : Actor → Option (Result AppCall Code) → Result Call Code → Result StateCall Code
 way actor found called = unwrap_or (option_map (app_call actor) found) (own_call called)
 
--- ---- what a call at the city's state says of who asks, or of the call of the protocol
+-- ---- what a call at the city's state says of the client, or of the call of the protocol
 
 abbrev IsWay : Actor → Result Call Code → Result StateCall Code → Type 0
 IsWay actor called (Ok (OfProtocol call)) = called ≡ Ok call
@@ -94,7 +94,7 @@ module _ (configuration : Configuration) (request : Request) (call : Result Stat
       let called = called_at actor request.verb (segments_of request.target) in
       subst (IsWay actor called) (sym head.is_it ∙ is) (is_way actor (app_of request) called)
 
-  -- one of the protocol is what the request calls for
+  -- a call of the protocol is the request's call
   pub called_is : (own : Call) → call ≡ Ok (OfProtocol own) → call_of configuration request ≡ Ok own
   called_is own is = head.called ∙ its_way (Ok (OfProtocol own)) is
 
@@ -102,14 +102,14 @@ module _ (configuration : Configuration) (request : Request) (call : Result Stat
   pub reporter_is : (place : ℕ) → call ≡ Ok (Reports place) → actor_of configuration request.token ≡ Operator place
   reporter_is place is = its_way (Ok (Reports place)) is
 
-  -- an operator that asks has its place in the configuration
+  -- an operator that asks a question has its place in the configuration
   pub asker_within : (place : ℕ) (question : Question) → call ≡ Ok (OperatorAsks place question) → place < length configuration.operators
   asker_within place question is =
       subst (IsWithin (length configuration.operators)) (its_way (Ok (OperatorAsks place question)) is) (is_within configuration request.token)
 
--- ---- what is told
+-- ---- the response
 
--- what the response is by what the head is resolved to
+-- the response by what the head is resolved to
 abbrev pub Gives : Configuration → Badges → Actor → Request → List (List ℕ) → Response (Full (List ℕ)) → Result StateCall Code → Type 0
 Gives configuration badges actor request stamp response (Ok (OfProtocol call)) = IsAnsweredBy configuration actor request stamp response
 Gives configuration badges actor request stamp response (Ok (Reports place)) = ManyAreAnswered configuration place request stamp response
@@ -118,7 +118,7 @@ Gives configuration badges actor request stamp response (Ok (OperatorAsks place 
 Gives configuration badges actor request stamp response (Err code) = Says response (refused code)
 
 module _ (configuration : Configuration) (badges : Badges) (request : Request) (stamp : List (List ℕ)) (response : Response (Full (List ℕ))) where
-  -- nobody's request is refused for its access token; else the path says what is told
+  -- an anonymous client is refused for its token; otherwise the path says what the response is
   abbrev Tells : Actor → Option (Result AppCall Code) → Type 0
   Tells actor found =
       MatchOption (unknown actor)
@@ -160,7 +160,7 @@ module _ (configuration : Configuration) (badges : Badges) (request : Request) (
       tells head.called actor (app_of request) refl (subst (Gives configuration badges actor request stamp response) head.is_it gives)
 
 module _ (configuration : Configuration) (badges : Badges) (parts : Parts) (arrived : Arrived) (stamp : List (List ℕ)) (response : Response (Full (List ℕ))) where
-  -- what is told of a request that is heard is what is answered
+  -- the response to a request that can be made of head and body is the answer to it
   heard_answers : (at : Option ℕ) (request : Request) → IsHeard parts arrived at request
       → Tells configuration badges request stamp response (actor_of configuration request.token) (app_of request)
       → Answers configuration badges parts arrived at stamp response
@@ -171,7 +171,7 @@ module _ (configuration : Configuration) (badges : Badges) (parts : Parts) (arri
       (sym heard.allowed)
       (subst (λ (r : Request). Tells configuration badges r stamp response (actor_of configuration r.token) (app_of r)) heard.is_it told)
 
-  -- so is the refusal of one that isn't
+  -- so is the refusal where none can be made
   unheard_answers : (at : Option ℕ) (code : Code) → unheard arrived at ≡ Some code → Says response (refused code)
       → Answers configuration badges parts arrived at stamp response
   unheard_answers at code is says =
@@ -180,7 +180,7 @@ module _ (configuration : Configuration) (badges : Badges) (parts : Parts) (arri
       (sym is) says
 
 module _ {V E : Type 0} (reply : V → Option (Response (Full (List ℕ)))) (stamp : V → List (List ℕ)) (configuration : Configuration) (badges : Badges) (parts : Parts) (arrived : Arrived) (at : Option ℕ) where
-  -- the reply that waits is such an answer
+  -- the response that waits is such an answer
   pub answered : (result : Result V E) (request : Request) (call : Result StateCall Code) → IsHeard parts arrived at request → IsResolved configuration request call
       → IfOk result (λ s. Waits (λ response. Gives configuration badges (actor_of configuration request.token) request (stamp s) response call) (reply s))
       → IfOk result (λ s. Waits (Answers configuration badges parts arrived at (stamp s)) (reply s))

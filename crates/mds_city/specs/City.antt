@@ -1,4 +1,4 @@
--- What an HTTP request is answered, and what its reply shows.
+-- The response to an HTTP request, and what it shows.
 use Rattle.std.specs.Prelude.{◌≡◌, ◌⊎◌, ℕ, true, List, Option, IfSome, MatchOption, Result, Ok, Err}
 use Rattle.http.specs.declared.request.Parts.{Parts}
 use Rattle.http.specs.declared.response.Response.{Response}
@@ -27,23 +27,23 @@ use Rattle.mds_city.specs.Unstored.{Waits}
 use Rattle.mds_routes.specs.declared.app.AppCall.{AppCall}
 use Rattle.mds_routes.specs.declared.app.AppCall.TheVariants.{Events, Told}
 
--- One turn of who asks gives the reply. Where a journal keeps that exchange, its record is among these texts.
+-- One turn for the client gives the reply. If a journal persists that exchange, its record is among these payloads.
 pub record IsRecordedTurn (configuration : Configuration) (actor : Actor) (request : Request) (reply : Reply) (stamp : List (List ℕ)) : Type 0 where
   pub turn : TurnGives configuration actor request reply
   pub recorded : is_kept configuration (record { request = request; reply = reply }) ≡ true → HasRecord configuration request stamp
 
--- the response says the reply of such a turn
+-- the response has the reply of such a turn
 pub record IsCarriedOutBy (configuration : Configuration) (actor : Actor) (request : Request) (stamp : List (List ℕ)) (response : Response (Full (List ℕ))) : Type 0 where
   pub reply : Reply
   pub turn : IsRecordedTurn configuration actor request reply stamp
   pub says : Says response reply
 
--- nothing of the log is held, and the request wasn't carried out; or it was
+-- nothing is reserved in the log, and the request wasn't carried out; or it was
 abbrev pub IsAnsweredBy : Configuration → Actor → Request → List (List ℕ) → Response (Full (List ℕ)) → Type 0
 IsAnsweredBy configuration actor request stamp response = SaysUnheld response ⊎ IsCarriedOutBy configuration actor request stamp response
 
--- What is told of a call beside the protocol's: that the path hasn't the method; what the reports of an operator are answered; or
--- what whoever asks is told, of which nothing is kept.
+-- The response to a call outside the protocol: a refusal, where the path doesn't have the method; the answers to an
+-- operator's reports; or the answer to the client's question, which has no record.
 abbrev pub IsTold : Configuration → Badges → Actor → Request → Result AppCall Code → List (List ℕ) → Response (Full (List ℕ)) → Type 0
 IsTold configuration badges actor request (Err code) stamp response = Says response (refused code)
 IsTold configuration badges (Operator place) request (Ok Events) stamp response = ManyAreAnswered configuration place request stamp response
@@ -57,21 +57,22 @@ abbrev pub IsToldBy : Configuration → Badges → Actor → Request → List (L
 IsToldBy configuration badges actor request stamp response =
     MatchOption (app_of request) (IsAnsweredBy configuration actor request stamp response) (λ call. IsTold configuration badges actor request call stamp response)
 
--- who asks is the one whose access token the request carries
+-- the client is the one whose access token the request carries
 abbrev pub IsCarriedOut : Configuration → Request → List (List ℕ) → Response (Full (List ℕ)) → Type 0
 IsCarriedOut configuration request stamp response = IsCarriedOutBy configuration (actor_of configuration request.token) request stamp response
 
 abbrev pub IsAnswered : Configuration → Badges → Request → List (List ℕ) → Response (Full (List ℕ)) → Type 0
 IsAnswered configuration badges request stamp response = IsToldBy configuration badges (actor_of configuration request.token) request stamp response
 
--- The first early refusal that applies is said. Where none does, the request that the head and the body are at this moment is
--- answered: a call of the protocol, or one beside it. The reply waits until all these texts are synced.
+-- The response has the first early refusal that applies. Where none does, the request that the head and the body make
+-- at this moment is answered: a call of the protocol, or one next to it. The response waits until all these payloads
+-- are synced.
 abbrev pub Answers : Configuration → Badges → Parts → Arrived → Option ℕ → List (List ℕ) → Response (Full (List ℕ)) → Type 0
 Answers configuration badges parts arrived at stamp response =
     MatchOption (early configuration parts arrived at)
     (IfSome at (λ moment. IsAnswered configuration badges (request_in parts (body_in arrived) moment) stamp response))
     (λ code. Says response (refused code))
 
--- No cache may keep the response.
+-- No cache may store the response.
 abbrev pub CityResponds : Configuration → Badges → Parts → Arrived → Option ℕ → Option (Response (Full (List ℕ))) → List (List ℕ) → Type 0
 CityResponds configuration badges parts arrived at reply stamp = Waits (Answers configuration badges parts arrived at stamp) reply

@@ -1,4 +1,4 @@
--- What the answers of a city are good for.
+-- The laws of a city's responses.
 use Rattle.std.specs.Prelude.{◌≡◌, ◌⊎◌, ℕ, true, false, List, [], ◌++◌, filter, Option, None, Some, IsSome, slice_get}
 use Rattle.std.specs.List.{AllByRecursion, filter_map}
 use Rattle.http.specs.declared.request.Parts.{Parts}
@@ -32,7 +32,8 @@ module _ {L : Type 0} (may_be : L → List (List ℕ) → Type 0) (is_synced : L
   HasDurableRecord configuration request =
       (log : L) × (texts : List (List ℕ)) × is_synced log × may_be log texts × HasRecord configuration request texts
 
-  -- A response that is told says the reply of a turn of the one who asks. Where a journal keeps that exchange, a synced log has its record.
+  -- A response that is sent has the reply of a turn of the client. If a journal persists that exchange, a synced log
+  -- has its record.
   abbrev pub RecordedAreKept : Type 0
   RecordedAreKept =
       (configuration : Configuration) (request : Request) (response : Response (Full (List ℕ))) (stamp : List (List ℕ))
@@ -40,8 +41,9 @@ module _ {L : Type 0} (may_be : L → List (List ℕ) → Type 0) (is_synced : L
       → (reply : Reply) × TurnGives configuration (actor_of configuration request.token) request reply × Says response reply
       × (is_kept configuration (record { request = request; reply = reply }) ≡ true → HasDurableRecord configuration request)
 
-  -- Many reports that were taken, told by a response: it says the replies of a run of turns of the operator's desk to those at the front, of
-  -- each of which that a journal keeps a synced log has the record. Those behind them, if there are any, were refused and weren't carried out.
+  -- A response to many reports that were taken: it has the replies of a run of turns of the operator's desk to a prefix
+  -- of them. Of each of these that a journal persists a synced log has the record. Those after them, if there are any,
+  -- were refused and weren't carried out.
   abbrev pub ManyAreKept : Type 0
   ManyAreKept =
       (configuration : Configuration) (place : ℕ) (requests : List Request) (response : Response (Full (List ℕ))) (stamp : List (List ℕ))
@@ -51,7 +53,7 @@ module _ {L : Type 0} (may_be : L → List (List ℕ) → Type 0) (is_synced : L
       × ((unasked ≡ [] × others ≡ []) ⊎ AreRefusedBehind unasked others)
       × AllByRecursion (λ e. is_kept configuration e ≡ true → HasDurableRecord configuration e.request) (exchanges asked own)
 
--- Where the log holds what a request needs, a city responds to a call of the protocol as a hall does.
+-- Where what a request needs of the log is reserved, a city responds to a call of the protocol as a hall does.
 abbrev pub RespondsAsAHall : Type 0
 RespondsAsAHall =
     (configuration : Configuration) (badges : Badges) (parts : Parts) (arrived : Arrived) (at : Option ℕ) (stamp : List (List ℕ)) (response : Response (Full (List ℕ)))
@@ -59,14 +61,15 @@ RespondsAsAHall =
     → Answers configuration badges parts arrived at stamp response
     → SaysUnheld response ⊎ Responds configuration parts arrived at response
 
--- No journal keeps a call beside the protocol's: of many reports it keeps each by itself, as a request of the protocol.
+-- No journal persists a call outside the protocol: of many reports it persists each by itself, as a request of the
+-- protocol.
 abbrev pub AppCallsAreNotKept : Type 0
 AppCallsAreNotKept =
     (configuration : Configuration) (request : Request) (reply : Reply)
     → IsSome (app_of request) → is_kept configuration (record { request = request; reply = reply }) ≡ false
 
--- What an operator is told depends on the publications and its own place alone: whoever the other operators are and however they are
--- called, and whatever drafts are held, it is told the same.
+-- What an operator is answered depends on the publications and its own place alone: whoever the other operators are and
+-- whatever their names, and whatever drafts there are, it is answered the same.
 abbrev pub OperatorsAreToldTheirOwn : Type 0
 OperatorsAreToldTheirOwn =
     (one other : Configuration) (named renamed : Badges) (place : ℕ) (publications : List Publication) (question : Question)
@@ -74,7 +77,8 @@ OperatorsAreToldTheirOwn =
     → slice_get named.operators place ≡ slice_get renamed.operators place → named.zone ≡ renamed.zone
     → operator_told one named place publications question ≡ operator_told other renamed place publications question
 
--- What an operator is told of withdrawals is of policies that its own answers show: each of those that are meant for it and are withdrawn.
+-- An operator's withdrawals are of policies that its own answers show: each of those that are meant for it and are
+-- withdrawn.
 abbrev pub WithdrawalsAreOfOwnPolicies : Type 0
 WithdrawalsAreOfOwnPolicies =
     (publications : List Publication) (operator : List ℕ)

@@ -1,4 +1,4 @@
--- Many reports in one body, and what is told of them.
+-- Many reports in one body, and the response to them.
 use mathlib.Core.List.{IsPrefix}
 use Rattle.std.specs.Prelude.{◌≡◌, ◌==◌, ◌<◌, ◌⊎◌, ℕ, List, [], ◌∷◌, ◌++◌, codes, length, map, filter, Option, Some, None, IfOk, Result, Err}
 use Rattle.std.specs.List.{AllByRecursion, flat_map}
@@ -30,7 +30,7 @@ use Rattle.mds_city.specs.declared.pending.Unanswered.{Unanswered}
 use Rattle.mds_city.specs.declared.pending.Unanswered.TheVariants.{NotTold as Untold}
 use Rattle.mds_city.specs.declared.records.Unreserved.TheVariants.{Crowded, NoRoom, Stopping, Failed, NoMemory}
 
--- the report that a line is: by the same asker, at the same moment
+-- the report on a line: by the same client, at the same moment
 abbrev pub report_of : Request → List ℕ → Request
 report_of request line =
     record { at = request.at; token = request.token; verb = Post; target = codes "/fleet/events"; body = line }
@@ -39,11 +39,11 @@ report_of request line =
 abbrev pub reports_of : Request → List Request
 reports_of request = map (report_of request) (filter is_filled (lines request.body))
 
--- the operator at this place asks each of them
+-- each of them is a request of the operator at this place
 abbrev pub AreAskedBy : Configuration → ℕ → List Request → Type 0
 AreAskedBy configuration place requests = AllByRecursion (λ request. actor_of configuration request.token ≡ Operator place) requests
 
--- the line that tells a reply: its body and its status as JSON (RFC 8259), whose members are in the byte order of their names
+-- the line for a reply: its body and its status as JSON (RFC 8259), whose members are in the byte order of their names
 abbrev pub told_line : Reply → List ℕ
 told_line reply = codes "{\"body\":" ++ reply.body ++ codes ",\"status\":" ++ status_text reply.status ++ codes "}" ++ 10 ∷ []
 
@@ -69,25 +69,26 @@ AreRecordsOf configuration [] [] = Unit {0}
 AreRecordsOf configuration (request ∷ requests) (text ∷ texts) = IsRecordOf configuration request text × AreRecordsOf configuration requests texts
 AreRecordsOf configuration requests texts = ⊥
 
--- each that was answered with success has its record among these texts
+-- each that was answered with success has its record among these payloads
 abbrev pub AreRecorded : Configuration → List Exchange → List (List ℕ) → Type 0
 AreRecorded configuration history stamp = AllByRecursion (λ e. e.reply.status ≡ 200 → HasRecord configuration e.request stamp) history
 
--- A turn for each request, in their order and with nothing between, of the desk of the operator at this place gives the replies. Each that
--- was answered with success has its record among these texts.
+-- A turn for each request, in their order and with nothing between, of the desk of the operator at this place gives the
+-- replies. Each that was answered with success has its record among these payloads.
 pub record IsRecordedRun (configuration : Configuration) (place : ℕ) (requests : List Request) (replies : List Reply) (stamp : List (List ℕ)) : Type 0 where
   pub run : DeskRuns configuration place requests replies
   pub recorded : AreRecorded configuration (exchanges requests replies) stamp
 
--- Behind what a desk was asked before, each of these requests has a turn. Each that was answered with success has its record among these later
--- texts, which begin with those that were known.
+-- Each of these requests has a turn, after those that the desk took before. Each that was answered with success has its
+-- record among these later payloads, which begin with the known ones.
 pub record Continues (configuration : Configuration) (before : DeskState) (known : List (List ℕ)) (requests : List Request) (after : DeskState) (replies : List Reply) (later : List (List ℕ)) : Type 0 where
   pub note : Option (List Publication)
   pub run : TakesToldRun before note requests replies after
   pub recorded : AreRecorded configuration (exchanges requests replies) later
   pub longer : IsPrefix known later
 
--- what is told of requests that stand behind others of their body, where nothing more of the log is held; nothing where it failed
+-- the refusal of requests that come after others of their body, where nothing more is reserved in the log; none where
+-- it failed
 abbrev pub refusal_behind : Halt → Option Code
 refusal_behind (Unheld Crowded) = Some code.Busy
 refusal_behind (Unheld Stopping) = Some code.Busy
@@ -96,13 +97,13 @@ refusal_behind (Unheld NoMemory) = Some code.NoMemory
 refusal_behind (Unheld Failed) = None
 refusal_behind (NotTold fault) = None
 
--- these requests aren't carried out, and each is told the same refusal
+-- these requests aren't carried out, and each has the same refusal
 pub record AreRefusedBehind (requests : List Request) (replies : List Reply) : Type 0 where
   pub code : Code
   pub why : (halt : Halt) × (refusal_behind halt ≡ Some code)
   pub replies_are : replies ≡ map (λ _. refused code) requests
 
--- The requests at the front were answered by a run; those behind them, if there are any, aren't carried out.
+-- A prefix of the requests was answered by a run; those after it, if there are any, aren't carried out.
 pub record IsAnsweredInPart (configuration : Configuration) (place : ℕ) (requests : List Request) (replies : List Reply) (stamp : List (List ℕ)) : Type 0 where
   pub asked : List Request
   pub unasked : List Request
@@ -113,13 +114,13 @@ pub record IsAnsweredInPart (configuration : Configuration) (place : ℕ) (reque
   pub run : IsRecordedRun configuration place asked own stamp
   pub rest : (unasked ≡ [] × others ≡ []) ⊎ AreRefusedBehind unasked others
 
--- the response says such replies
+-- the response has such replies
 pub record AreCarriedOutBy (configuration : Configuration) (place : ℕ) (requests : List Request) (stamp : List (List ℕ)) (response : Response (Full (List ℕ))) : Type 0 where
   pub replies : List Reply
   pub answered : IsAnsweredInPart configuration place requests replies stamp
   pub says : SaysAll response replies
 
--- there are more reports than one body may have, or there was no memory for them
+-- there are more reports than one body may have, or out of memory for them
 abbrev pub IsRefusedWhole : Request → Code → Type 0
 IsRefusedWhole request c = (c ≡ code.NoMemory) ⊎ ((c ≡ code.TooLarge) × (MOST_REPORTS < length (reports_of request)))
 
@@ -127,12 +128,13 @@ IsRefusedWhole request c = (c ≡ code.NoMemory) ⊎ ((c ≡ code.TooLarge) × (
 abbrev pub IsUnasked : Request → Response (Full (List ℕ)) → Type 0
 IsUnasked request response = SaysUnheld response ⊎ ((c : Code) × IsRefusedWhole request c × Says response (refused c))
 
--- what is given where none of them was carried out: the reply that waits says the refusal for the reason, or nothing may be told
+-- the result where none of them was carried out: the response that waits has the refusal for the reason, or no response
+-- may be sent
 abbrev pub IsHalted : {V : Type 0} → (V → Option (Response (Full (List ℕ)))) → Halt → Result V Unanswered → Type 0
 IsHalted reply (Unheld why) result = IfOk result (λ s. Waits (SaysUnheldFor why) (reply s))
 IsHalted reply (NotTold fault) result = result ≡ Err (Untold fault)
 
--- what the operator at this place is told of the reports of one body
+-- the response to the operator at this place for the reports of one body
 abbrev pub ManyAreAnswered : Configuration → ℕ → Request → List (List ℕ) → Response (Full (List ℕ)) → Type 0
 ManyAreAnswered configuration place request stamp response =
     IsUnasked request response ⊎ AreCarriedOutBy configuration place (reports_of request) stamp response

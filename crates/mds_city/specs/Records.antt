@@ -1,4 +1,4 @@
--- Records of requests, and their places in a log.
+-- Records of requests, and their reservations in a log.
 use Rattle.std.specs.Prelude.{◌≡◌, ℕ, false, List, [], ◌∷◌, ◌++◌, Option, Some, None, IfSome, Result, Ok}
 use Rattle.mds_commit.specs.Durable.{AreDurable}
 use Rattle.mds_commit.specs.declared.backlog.Place.{Place}
@@ -17,59 +17,60 @@ use Rattle.mds_request.specs.declared.config.Actor.TheVariants as actor
 use Rattle.mds_city.specs.declared.records.Reserved.{Reserved}
 use Rattle.mds_city.specs.declared.records.Reserved.TheVariants.{Reads, Holds}
 
--- who makes a call
+-- the client that makes a call
 abbrev pub caller_of : Call → Actor
 caller_of (Author call) = actor.Author
 caller_of (Operator place call) = actor.Operator place
 
--- the place of who makes a call among those who share the log
+-- the index of the client that makes a call, among those that share the log
 abbrev pub sharer_of : Call → ℕ
 sharer_of call = index_of (caller_of call)
 
--- the text is one of these
+-- the payload is one of these
 abbrev pub IsAmong : List ℕ → List (List ℕ) → Type 0
 IsAmong text texts = (before : List (List ℕ)) × (after : List (List ℕ)) × (texts ≡ before ++ text ∷ after)
 
--- the text of the record of this asker's request
+-- the payload of the record of this client's request
 abbrev pub record_by : Asker → Request → List ℕ
 record_by asker request = entry_text (asked_by request asker)
 
--- the text is that of the request's entry, with who asks and no access token
+-- the payload is that of the request's entry, with its client and no access token
 pub record IsRecordOf (configuration : Configuration) (request : Request) (text : List ℕ) : Type 0 where
   pub entry : Entry
   pub is_its : entry_by configuration request ≡ Some entry
   pub text_is : text ≡ entry_text entry
 
--- the request's record is among these texts
+-- the request's record is among these payloads
 abbrev pub HasRecord : Configuration → Request → List (List ℕ) → Type 0
 HasRecord configuration request texts = (text : List ℕ) × IsRecordOf configuration request text × IsAmong text texts
 
--- what is held is enough for the request: nothing where its call changes nothing, and else a place for its record
+-- what is reserved is enough for the request: nothing where its call changes nothing, and else the reservation for its
+-- record
 abbrev pub IsReserved : Configuration → Request → Reserved → Type 0
 IsReserved configuration request Reads = may_change (call_of configuration request) ≡ false
 IsReserved configuration request (Holds place) = IsRecordOf configuration request place.text.items
 
--- where a request was answered with success, the text that a place was held for is among these
+-- where a request was answered with success, the payload that was reserved for is among these
 abbrev pub IsSettled : Reserved → ℕ → List (List ℕ) → Type 0
 IsSettled Reads status stamp = Unit {0}
 IsSettled (Holds place) status stamp = status ≡ 200 → IsAmong place.text.items stamp
 
--- the place that is held, if there is one
+-- the reservation, if there is one
 abbrev pub place_of : Reserved → Option Place
 place_of Reads = None
 place_of (Holds place) = Some place
 
--- the text that a place is held for
+-- the payload of a reservation
 abbrev pub text_of : Reserved → List ℕ
 text_of Reads = []
 text_of (Holds place) = place.text.items
 
--- a place is held for no other text
+-- the reservation, if there is one, is for this payload
 abbrev pub IsTitled : List ℕ → Reserved → Type 0
 IsTitled text reserved = IfSome (place_of reserved) (λ place. place.text.items ≡ text)
 
 module _ {L : Type 0} (may_be : L → List (List ℕ) → Type 0) (is_synced : L → Type 0) where
-  -- what was appended and synced is the text, with all before it
+  -- what was appended and synced is the payload, with all before it
   abbrev pub IsShown : {E : Type 0} → List ℕ → Option (Result (List (List ℕ)) E) → Type 0
   IsShown text (Some (Ok stamp)) = IsAmong text stamp × AreDurable may_be is_synced stamp
   IsShown text other = ⊥

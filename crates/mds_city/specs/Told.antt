@@ -1,4 +1,4 @@
--- What people are told beside the protocol's calls: by the configuration's text, the publications and the drafts.
+-- Answers for people, outside the protocol's calls: by the configuration's text, the publications and the drafts.
 use Rattle.std.specs.Prelude.{◌≡◌, ◌⊎◌, ℕ, List, Option, Some, None, slice_get}
 use Rattle.http.specs.declared.response.Response.{Response}
 use Rattle.http_body_util.specs.declared.full.Full.{Full}
@@ -24,41 +24,44 @@ abbrev pub own_withdrawals : List Publication → Option Named → Reply
 own_withdrawals publications None = refused Token
 own_withdrawals publications (Some operator) = withdrawals_reply publications (Some operator.id)
 
--- What the operator at this place is told: who it is by its own badge, which of its own policies are withdrawn, and no drafts.
--- It depends on its own badge, on the zone, on its identifier and on the publications, and on nothing else.
+-- The answer to the operator at this place: who it is (its own identifier and name), which of its own policies are
+-- withdrawn, and no drafts. It depends on its own identifier and name, on the zone and on the publications, and on
+-- nothing else.
 abbrev pub operator_told : Configuration → Badges → ℕ → List Publication → Question → Reply
 operator_told configuration badges place publications Whoami = who_reply badges (Operator place)
 operator_told configuration badges place publications Withdrawals = own_withdrawals publications (slice_get configuration.operators place)
 operator_told configuration badges place publications Drafts = refused Role
 
--- what the author is told: who it is, with all badges, all that is withdrawn, and all drafts
+-- the answer to the author: who it is, with all operators' names, all that is withdrawn, and all drafts
 abbrev pub author_told : Badges → Held → List Publication → Question → Reply
 author_told badges drafts publications Whoami = who_reply badges Author
 author_told badges drafts publications Withdrawals = withdrawals_reply publications None
 author_told badges drafts publications Drafts = drafts_reply drafts
 
--- the reply is what the operator at this place is told: of a front that its desk knows afterwards, where it asks what is withdrawn
+-- the reply is the answer to the operator at this place: of a front that its desk knows afterwards, where it asks what
+-- is withdrawn
 abbrev pub TellsOperator : Configuration → Badges → ℕ → Question → Reply → Type 0
 TellsOperator configuration badges place Withdrawals reply =
     DeskTells configuration place (λ publications told. told ≡ operator_told configuration badges place publications Withdrawals) reply
 TellsOperator configuration badges place question reply =
     (publications : List Publication) → reply ≡ operator_told configuration badges place publications question
 
--- the reply is what the author is told: of the drafts and the publications of the author's room, where it asks about these
+-- the reply is the answer to the author: of the drafts and the publications of the author's room, where it asks about
+-- these
 abbrev pub TellsAuthor : Configuration → Badges → Question → Reply → Type 0
 TellsAuthor configuration badges Whoami reply = (drafts : Held) (publications : List Publication) → reply ≡ author_told badges drafts publications Whoami
 TellsAuthor configuration badges question reply =
     RoomTells configuration (λ drafts publications told. told ≡ author_told badges drafts publications question) reply
 
--- what is told of an author's room
+-- the answer about an author's room
 abbrev pub room_told : OfRoom → Held → List Publication → Reply
 room_told room.Withdrawals drafts publications = withdrawals_reply publications None
 room_told room.Drafts drafts publications = drafts_reply drafts
 
--- such a reply, or that there was no memory for it, or that nothing is shown
+-- such a reply, or the refusal for being out of memory or for there being no snapshot
 abbrev pub IsToldReply : (Reply → Type 0) → Reply → Type 0
 IsToldReply Kind reply = Kind reply ⊎ ((reply ≡ refused NoMemory) ⊎ (reply ≡ refused NoSnapshot))
 
--- the response says it
+-- the response has such a reply
 abbrev pub SaysTold : (Reply → Type 0) → Response (Full (List ℕ)) → Type 0
 SaysTold Kind response = SaysOne (IsToldReply Kind) response

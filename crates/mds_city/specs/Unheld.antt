@@ -1,4 +1,5 @@
--- What is said of a request that may change something, and for which nothing of the log is held: it isn't carried out.
+-- The refusal of a request that may change something, and for which nothing is reserved in the log: it isn't carried
+-- out.
 use Rattle.std.specs.Prelude.{◌≡◌, ℕ, List, Result, Ok, Err}
 use Rattle.http.specs.declared.response.Response.{Response}
 use Rattle.http_body_util.specs.declared.full.Full.{Full}
@@ -14,7 +15,7 @@ use Rattle.mds_city.specs.declared.pending.Unanswered.TheVariants as unanswered
 use Rattle.mds_city.specs.declared.records.Unreserved.{Unreserved}
 use Rattle.mds_city.specs.declared.records.Unreserved.TheVariants.{Crowded, NoRoom, Stopping, Failed, NoMemory}
 
--- by what the keeper says; a record that no log takes counts as one for which there is no memory
+-- by the fault of the reservation; a record that no log takes counts as out of memory
 abbrev pub unreserved_by : ReserveFault → Unreserved
 unreserved_by fault.Crowded = Crowded
 unreserved_by fault.NoRoom = NoRoom
@@ -22,8 +23,8 @@ unreserved_by fault.Stopping = Stopping
 unreserved_by fault.Failed = Failed
 unreserved_by fault.Untaken = NoMemory
 
--- A full disk, a program that ends and want of memory are told, each by its name. Whose share is used up is asked again, and where the log failed
--- nothing is told.
+-- A full disk, a program that ends and being out of memory each have a refusal of their own. A request whose client's
+-- share is used up may be tried again, and where the log failed no response is sent.
 abbrev pub refusal_for : Unreserved → Result Code Unanswered
 refusal_for NoRoom = Ok code.NoRoom
 refusal_for Stopping = Ok code.Busy
@@ -31,10 +32,10 @@ refusal_for NoMemory = Ok code.NoMemory
 refusal_for Crowded = Err unanswered.Crowded
 refusal_for Failed = Err (unanswered.NotTold untold.Failed)
 
--- the response says the refusal for this reason
+-- the response has the refusal for this reason
 abbrev pub SaysUnheldFor : Unreserved → Response (Full (List ℕ)) → Type 0
 SaysUnheldFor why response = (c : Code) × (refusal_for why ≡ Ok c) × Says response (refused c)
 
--- the response says the refusal for one of the reasons
+-- the response has the refusal for one of the reasons
 abbrev pub SaysUnheld : Response (Full (List ℕ)) → Type 0
 SaysUnheld response = (why : Unreserved) × SaysUnheldFor why response

@@ -1,4 +1,4 @@
-//! A hall whose accepted changes are kept.
+//! A hall whose accepted changes are persisted.
 ghost use Rattle.std.specs.Prelude.{◌≡◌, IfErr, IfOk, Ok, Err};
 ghost use Rattle.mds_request.specs.Call.{call_of};
 ghost use Rattle.mds_request.specs.Configuration.{configuration};
@@ -36,28 +36,29 @@ use std::alloc::Global;
 use std::marker::Brand;
 use std::sync::{Arc, Wait};
 
-/// A hall whose accepted changes are kept: each has a record in the keeper's log. Its operators are known to people by their
-/// badges. End it by `finish`.
+/// A hall whose accepted changes are persisted: each has a record in the commit log. `badges` has the names under which
+/// people know its operators. End it by `finish`.
 #[derive(Drop)]
 pub struct City<K: Named, N: Naming, L: Log, S: Space> {
     pub(crate) hall: Hall<K>,
     pub(crate) badges: Badges,
     pub(crate) keeper: Arc<Keeper<N, L, S>>,
-    /// The stamp of nothing.
+    /// The empty log position: nothing has to be synced.
     pub(crate) nothing: Stamp<N, L>,
 }
 
-/// What was answered, and the stamp of all that it shows.
+/// An answer, and the log position of all that it shows.
 #[derive(Drop)]
 pub(crate) struct Answered<N: Naming, L: Log> {
-    /// What is answered, once all that it shows is synced.
+    /// The answer. It is sent once all that it shows is synced.
     pub answer: Answer,
-    /// The texts of the journal that have to be synced before it is told.
+    /// The log position that has to be synced before the answer is sent.
     pub stamp: Stamp<N, L>,
 }
 
 impl<K: Named, N: Naming, L: Log, S: Space> City<K, N, L, S> {
-    /// A hall with the badges of its configuration's text, what keeps its changes, and the stamp of nothing.
+    /// A hall with the operators' names of its configuration's text, the log that persists its changes, and the empty
+    /// log position.
     pub fn new(
         hall: Hall<K>,
         badges: Badges,
@@ -86,12 +87,12 @@ impl<K: Named, N: Naming, L: Log, S: Space> City<K, N, L, S> {
         hall.finish(rt);
     }
 
-    /// The stamp of all that was appended by now.
+    /// The log position of all that has been appended by now.
     pub(crate) fn stamp(&self) -> Stamp<N, L> {
         self.keeper.stamp(&self.nothing)
     }
 
-    /// A response that waits until all of a stamp is synced, and that no cache may keep.
+    /// A response that waits until all of a log position is synced, and that no cache may store.
     pub(crate) fn await_sync(
         &self,
         stamp: Stamp<N, L>,
@@ -105,11 +106,11 @@ impl<K: Named, N: Naming, L: Log, S: Space> City<K, N, L, S> {
         Ok(Settling::new(keeper, stamp, marked))
     }
 
-    /// The response that says an answer, once all that it shows is synced.
+    /// The response with an answer, once all that it shows is synced.
     ///
     /// # Errors
     ///
-    /// There was no memory for the response. What was done stays.
+    /// Out of memory for the response. What was done stays.
     pub(crate) fn reply(
         &self,
         alloc: Global,
@@ -123,11 +124,11 @@ impl<K: Named, N: Naming, L: Log, S: Space> City<K, N, L, S> {
         self.await_sync(stamp, response)
     }
 
-    /// A refusal of what isn't carried out: it shows nothing, so it waits for no sync.
+    /// A refusal of a request that isn't carried out: it shows nothing, so it waits for no sync.
     ///
     /// # Errors
     ///
-    /// There was no memory for the response.
+    /// Out of memory for the response.
     pub(crate) fn refuse(&self, alloc: Global, code: Code) -> Result<Pending<N, L, S>, Unanswered>
         ensures { IfOk result (λ s. Waits (λ response. Says response (refused code)) s.reply) }
     {
@@ -136,11 +137,11 @@ impl<K: Named, N: Naming, L: Log, S: Space> City<K, N, L, S> {
         self.reply(alloc, Answered { answer, stamp })
     }
 
-    /// The refusal of a request for which nothing of the log is held.
+    /// The refusal of a request for which nothing is reserved in the log.
     ///
     /// # Errors
     ///
-    /// It isn't refused, since it may be asked again or nothing may be told; or there was no memory for the response.
+    /// It isn't refused, since it may be tried again or no response may be sent; or out of memory for the response.
     pub(crate) fn refuse_unheld(
         &self,
         alloc: Global,
@@ -155,11 +156,11 @@ impl<K: Named, N: Naming, L: Log, S: Space> City<K, N, L, S> {
         }
     }
 
-    /// Holds what a call needs of the log before it is carried out.
+    /// Reserves what a call needs of the log before it is carried out.
     ///
     /// # Errors
     ///
-    /// Nothing is held.
+    /// Nothing is reserved.
     pub(crate) fn room_for<R: Wait>(
         &self,
         rt: &R,
@@ -183,11 +184,12 @@ impl<K: Named, N: Naming, L: Log, S: Space> City<K, N, L, S> {
         }
     }
 
-    /// One turn of the desk of the operator at this place for a call of it, and what is kept of it, all under the desk's lock.
+    /// One turn of the desk of the operator at this place for one of its calls, and its record, all under the desk's
+    /// lock.
     ///
     /// # Errors
     ///
-    /// The keeper failed.
+    /// The log failed.
     pub(crate) fn desk_turn<R: Wait, E: Evaluator<Catalogue>>(
         &self,
         context: &Context<'_, R, E>,
@@ -222,12 +224,12 @@ impl<K: Named, N: Naming, L: Log, S: Space> City<K, N, L, S> {
         }
     }
 
-    /// One turn of the author's room for a call of the author, and what is kept of it, all under the room's lock. A
-    /// publication's record is synced before the publication is shown.
+    /// One turn of the author's room for a call of the author, and its record, all under the room's lock. A
+    /// publication's record is synced before the publication is visible.
     ///
     /// # Errors
     ///
-    /// The keeper failed.
+    /// The log failed.
     pub(crate) fn room_turn<T: Titled, R: Wait + Copy + Drop>(
         &self,
         rt: &R,
@@ -259,7 +261,7 @@ impl<K: Named, N: Naming, L: Log, S: Space> City<K, N, L, S> {
     ///
     /// # Errors
     ///
-    /// The keeper failed, or a share of it couldn't be had: what was held is given back then.
+    /// The log failed, or out of memory for a reference to the commit log: the reservation is released then.
     pub(crate) fn room_turn_of<R: Wait + Copy + Drop>(
         &self,
         rt: &R,

@@ -1,7 +1,8 @@
-//! By what requests are answered.
+//! What requests are answered with.
 use std::alloc::Global;
 
-/// By what requests are answered: what locks and syncs are waited by, where answers are made, and what judges vehicles.
+/// What requests are answered with: the runtime that waits for locks and syncs, the allocator of answers, and the
+/// evaluator of vehicles.
 #[derive(Drop)]
 pub struct Context<'a, R, E> {
     pub rt: &'a R,

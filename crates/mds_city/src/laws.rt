@@ -1,29 +1,29 @@
-//! Laws of what a city answers. The functions do nothing: their contracts are the laws.
+//! Laws of a city's responses. The functions do nothing: their contracts are the laws.
 ghost use Rattle.mds_city.specs.Laws.{AppCallsAreNotKept, ManyAreKept, OperatorsAreToldTheirOwn, RecordedAreKept, RespondsAsAHall, WithdrawalsAreOfOwnPolicies};
 
 use mds_records::Log;
 
-/// Where a journal keeps an exchange that was told, a synced log has its record.
+/// If a journal persists an exchange and its response was sent, a synced log has its record.
 pub fn recorded_are_kept<L: Log>()
     ensures { RecordedAreKept L.may_be L.is_synced }
 {}
 
-/// Of each of many reports that were told and that a journal keeps, a synced log has the record.
+/// Of each of many reports that a journal persists, a synced log has the record once the response was sent.
 pub fn many_are_kept<L: Log>()
     ensures { ManyAreKept L.may_be L.is_synced }
 {}
 
-/// No journal keeps a call beside the protocol's.
+/// No journal persists a call outside the protocol.
 pub fn app_calls_are_not_kept()
     ensures { AppCallsAreNotKept }
 {}
 
-/// What an operator is told beside the protocol depends on the publications and its own place alone.
+/// An operator's responses outside the protocol depend on the publications and its own place alone.
 pub fn operators_are_told_their_own()
     ensures { OperatorsAreToldTheirOwn }
 {}
 
-/// What an operator is told of withdrawals is of the policies that are meant for it.
+/// An operator's withdrawals are of the policies that are meant for it.
 pub fn withdrawals_are_of_own_policies()
     ensures { WithdrawalsAreOfOwnPolicies }
 {}

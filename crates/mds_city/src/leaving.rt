@@ -1,4 +1,4 @@
-//! A response on its way out.
+//! A pending response.
 ghost use Rattle.std.specs.Prelude.{◌≡◌, Some, None};
 
 use crate::pending::Pending;
@@ -11,15 +11,16 @@ use mds_commit::{Naming, Space};
 use mds_records::Log;
 use std::alloc::AllocError;
 
-/// A response, until all that it shows is synced. Where nothing may be told it is an error, and the connection closes.
+/// A response that waits until all that it shows is synced. Where no response may be sent it is an error, and the
+/// connection closes.
 #[derive(Drop)]
 pub struct Leaving<N: Naming, L: Log, S: Space> {
-    /// What waits; none, where nothing may be told.
+    /// The response that waits; none where no response may be sent.
     pub told: Option<Pending<N, L, S>>,
 }
 
 impl<N: Naming, L: Log, S: Space> Leaving<N, L, S> {
-    /// A response on its way.
+    /// A pending response.
     pub(crate) fn of(pending: Pending<N, L, S>) -> Leaving<N, L, S>
         ensures { result.told ≡ Some pending }
     {
@@ -28,7 +29,7 @@ impl<N: Naming, L: Log, S: Space> Leaving<N, L, S> {
         }
     }
 
-    /// Nothing may be told.
+    /// No response may be sent.
     pub(crate) fn nothing() -> Leaving<N, L, S>
         ensures { result.told ≡ None }
     {
@@ -43,11 +44,11 @@ impl<N: Naming, L: Log, S: Space> Future for Leaving<N, L, S> {
 
     type Output = Result<Response<Full<Bytes>>, AllocError>;
 
-    // A response is told once all that it shows is durable.
+    // A response is given once all that it shows is durable.
     ghost gives = { λ leaving told. IfOk told (λ response. IfSome leaving.told (λ s.
         (s.reply ≡ Some response) × AreDurable L.may_be L.is_synced s.stamp)) };
 
-    // While it waits, it hears of the next sync.
+    // While it waits, it is woken at the next sync.
     ghost needs = { λ leaving source. IfSome leaving.told (λ s.
         IfSome s.heard (λ heard. source ≡ owned_notified_source heard)) };
 

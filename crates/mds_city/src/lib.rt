@@ -1,5 +1,5 @@
-//! A hall that keeps its state: each accepted change is a record of a log, and each reply leaves once all that it shows is
-//! synced.
+//! A hall whose accepted changes are persisted: each is a record of a log, and each response is sent once all that it
+//! shows is synced.
 #![tactic(auto)]
 
 mod city;

@@ -1,4 +1,4 @@
-//! Many reports, as the lines of one body.
+//! Many reports, one on each line of a body.
 ghost use Rattle.std.specs.Prelude.{◌≡◌, ◌⊎◌, ◌++◌, ◌∷◌, [], ◌≤◌, ◌<◌, true, IfOk, IfErr, IfSome, OnOk, filter, length, map, position};
 ghost use Rattle.std.specs.Io.BufRead.{strip_last};
 ghost use Rattle.mds_lines.specs.Input.{is_feed, is_filled, lines};
@@ -14,10 +14,10 @@ use std::alloc::Global;
 /// The most reports of one body.
 pub const MOST_REPORTS: usize = 16_384;
 
-/// The most reports for whose records places are held at once.
+/// The most reports for whose records there are reservations at once.
 pub(crate) const CHUNK: usize = 256;
 
-/// Where the first line feed stands.
+/// The position of the first line feed.
 fn line_feed(text: &[u8]) -> Option<usize>
     ensures place { result ≡ position is_feed text.now }
     ensures within { IfSome result (λ end. end < length text.now) }
@@ -35,7 +35,7 @@ fn without_return(line: &[u8]) -> &[u8]
     }
 }
 
-/// The first line, without its end, and what stands behind it.
+/// The first line, without its end, and the text after it.
 fn first_line(text: &[u8]) -> (&[u8], &[u8])
     requires { 0 < length text.now }
     ensures lines { lines text.now ≡ result.0.now ∷ lines result.1.now }
@@ -52,12 +52,12 @@ fn is_space(byte: u8) -> bool {
     matches!(byte, b' ' | b'\t' | b'\n' | b'\r')
 }
 
-/// Whether a line may be a report: behind white space it begins as an object of JSON does (RFC 8259, section 4).
+/// Whether a line may be a report: after white space it begins as an object of JSON does (RFC 8259, section 4).
 pub(crate) fn may_be_report(line: &[u8]) -> bool {
     matches!(line.iter().find(|byte| !is_space(**byte)), Some(b'{'))
 }
 
-/// How many of these requests, from the first on, may all be reports, or may none be; fewer than places are held for at once.
+/// How many of these requests, from the first on, may all be reports, or may none be: fewer than `CHUNK`.
 fn alike(requests: &[Request<'_>], may_be_reports: bool) -> usize
     ensures { result ≤ length requests.now }
 {
@@ -71,19 +71,18 @@ fn alike(requests: &[Request<'_>], may_be_reports: bool) -> usize
     count
 }
 
-/// How many requests the first chunk has: all of them may be reports, or none, and they are as many as places are held for
-/// at once, at the most.
+/// How many requests the first chunk has: all of them may be reports, or none, and they are `CHUNK` at most.
 pub(crate) fn chunk_length(requests: &[Request<'_>]) -> usize
     requires { 0 < length requests.now }
     ensures some { 0 < result }
     ensures within { result ≤ length requests.now }
 {
     let may_be_reports = may_be_report(requests[0].body);
-    // The first one is of the chunk by itself.
+    // The first one always belongs to the chunk.
     1 + alike(&requests[1..], may_be_reports)
 }
 
-/// Adds the report that a line is, unless the line is empty.
+/// Adds the report on a line, unless the line is empty.
 fn push_report<'a>(
     reports: &mut Vec<Request<'a>>,
     request: &Request<'a>,
@@ -116,7 +115,7 @@ fn push_report<'a>(
 ///
 /// # Errors
 ///
-/// `TooLarge` where there are more than one body may have, `NoMemory` where memory ran out.
+/// `TooLarge` where there are more than one body may have, `NoMemory` where out of memory.
 pub(crate) fn reports<'a>(alloc: Global, request: &Request<'a>) -> Result<Vec<Request<'a>>, Code>
     ensures refused { IfErr result (IsRefusedWhole (request_of request.now)) }
     ensures reports { IfOk result (λ reports. map request_of reports.items ≡ reports_of (request_of request.now)) }

@@ -30,7 +30,7 @@ use mds_verdict::Evaluator;
 use std::alloc::{AllocError, Global};
 use std::sync::Wait;
 
-/// What requests were answered so far, in their order, and the stamp of all that it shows.
+/// The answers to requests so far, in their order, and the log position of all that they show.
 #[derive(Drop)]
 pub(crate) struct Replies<N: Naming, L: Log> {
     answers: Vec<Answer>,
@@ -40,9 +40,9 @@ pub(crate) struct Replies<N: Naming, L: Log> {
 /// Why a chunk of requests isn't answered.
 #[derive(Clone, Copy, Debug, PartialEq, Eq)]
 pub(crate) enum Halt {
-    /// Nothing of the log is held for it, and none of it was carried out.
+    /// Nothing is reserved in the log for it, and none of it was carried out.
     Unheld(Unreserved),
-    /// Nothing may be told.
+    /// No response may be sent.
     NotTold(NotTold),
 }
 
@@ -64,8 +64,8 @@ impl From<NotTold> for Halt {
     }
 }
 
-/// The refusal of requests that stand behind others of their body, where nothing more is held. None where nothing may be
-/// told.
+/// The refusal of requests that come after others of their body, where nothing more is reserved. None where no response
+/// may be sent.
 fn refusal_behind(halt: Halt) -> Option<Code>
     ensures { result ≡ refusal_behind halt }
 {
@@ -91,11 +91,11 @@ fn refusals(alloc: Global, code: Code, requests: &[Request<'_>]) -> Result<Vec<A
     Ok(answers)
 }
 
-/// The texts of the records of this asker's requests.
+/// The payloads of the records of this client's requests.
 ///
 /// # Errors
 ///
-/// `NoMemory`: a request's target is too long for a record, or memory ran out.
+/// `NoMemory`: a request's target is too long for a record, or out of memory.
 fn record_texts(
     alloc: Global,
     asker: &Asker,
@@ -129,7 +129,7 @@ fn are_refused(answers: &[Answer]) -> bool
     answers.iter().all(|answer| !is_accepted(answer.status()))
 }
 
-/// Notes of each answer whether its request was accepted.
+/// Adds for each answer whether its request was accepted.
 fn note_accepted(flags: &mut Vec<bool>, answers: &[Answer])
     requires empty { length flags.old.items ≡ 0 }
     requires room { length answers.now ≤ vec_capacity flags.old }
@@ -141,11 +141,11 @@ fn note_accepted(flags: &mut Vec<bool>, answers: &[Answer])
 }
 
 impl<N: Naming, L: Log> Replies<N, L> {
-    /// Adds what further requests were answered.
+    /// Adds the answers to further requests.
     ///
     /// # Errors
     ///
-    /// Memory ran out, though they were carried out.
+    /// Out of memory, though they were carried out.
     fn extend(&mut self, further: Replies<N, L>) -> Result<(), NotTold>
         ensures { OnOk result ((self.new.answers.items ≡ self.old.answers.items ++ further.answers.items) × (self.new.stamp ≡ further.stamp)) }
     {
@@ -155,11 +155,11 @@ impl<N: Naming, L: Log> Replies<N, L> {
         Ok(())
     }
 
-    /// The same replies, and behind them a refusal of each of these requests, which aren't carried out.
+    /// The same answers, and after them a refusal of each of these requests, which aren't carried out.
     ///
     /// # Errors
     ///
-    /// None was answered before them, or nothing may be told.
+    /// None was answered before them, or no response may be sent.
     fn with_refused(
         self,
         alloc: Global,
@@ -192,8 +192,8 @@ impl<N: Naming, L: Log> Replies<N, L> {
 }
 
 impl<K: Named, N: Naming, L: Log, S: Space> City<K, N, L, S> {
-    /// Whether this operator's share of the log has room for so many reports of one body, or, where they are more, for as
-    /// many as it may ever have.
+    /// Whether this operator's share of the log has room for so many reports of one body, or, where they are more, for
+    /// as many as it may ever have.
     fn has_share<R: Wait>(&self, rt: &R, place: usize, reports: usize, bytes: usize) -> bool {
         let more = Usage {
             texts: reports.min(MOST_TEXTS_OF_ONE),
@@ -203,12 +203,12 @@ impl<K: Named, N: Naming, L: Log, S: Space> City<K, N, L, S> {
             .has_share(rt, index_of(Actor::Operator(place)), more)
     }
 
-    /// Holds a place for the record of each of these requests of the operator at this place, before the first is carried
-    /// out.
+    /// Reserves room for the record of each of these requests of the operator at this place, before the first is
+    /// carried out.
     ///
     /// # Errors
     ///
-    /// Nothing is held.
+    /// Nothing is reserved.
     fn room_for_all<R: Wait>(
         &self,
         rt: &R,
@@ -231,12 +231,12 @@ impl<K: Named, N: Naming, L: Log, S: Space> City<K, N, L, S> {
         }
     }
 
-    /// A turn of this desk for each of these requests, for whose records places are held, and what is kept of them. The stamp
-    /// that is given has all of the known one.
+    /// A turn of this desk for each of these requests, whose records have reservations, and their records. The log
+    /// position that is returned has all of the known one.
     ///
     /// # Errors
     ///
-    /// Memory ran out before the first turn, and none is carried out; or the keeper failed.
+    /// Out of memory before the first turn, and none is carried out; or the log failed.
     fn carry_out_held<R: Wait, E: Evaluator<Catalogue>>(
         &self,
         context: &Context<'_, R, E>,
@@ -266,12 +266,12 @@ impl<K: Named, N: Naming, L: Log, S: Space> City<K, N, L, S> {
         Ok(Replies { answers, stamp })
     }
 
-    /// A turn of this desk for each of these requests, none of which can be accepted: no place is held for them.
+    /// A turn of this desk for each of these requests, none of which can be accepted: nothing is reserved for them.
     ///
     /// # Errors
     ///
-    /// Memory ran out before the first turn, and none is carried out; or the keeper failed, as it does where one of them was
-    /// accepted all the same.
+    /// Out of memory before the first turn, and none is carried out; or the log failed, as it does where one of them
+    /// was accepted all the same.
     fn carry_out_refused<R: Wait, E: Evaluator<Catalogue>>(
         &self,
         context: &Context<'_, R, E>,
@@ -294,12 +294,12 @@ impl<K: Named, N: Naming, L: Log, S: Space> City<K, N, L, S> {
         Ok(Replies { answers, stamp })
     }
 
-    /// A turn of this desk, which is that of the operator at this place, for each request of a chunk, and what is kept of
-    /// them.
+    /// A turn of this desk, which is that of the operator at this place, for each request of a chunk, and their
+    /// records.
     ///
     /// # Errors
     ///
-    /// None is carried out, or the keeper failed.
+    /// None is carried out, or the log failed.
     fn carry_out_chunk<R: Wait, E: Evaluator<Catalogue>>(
         &self,
         context: &Context<'_, R, E>,
@@ -322,12 +322,12 @@ impl<K: Named, N: Naming, L: Log, S: Space> City<K, N, L, S> {
         self.carry_out_held(context, desk, requests, places, known)
     }
 
-    /// Answers these requests by turns of this desk, which is that of the operator at this place, chunk by chunk and with
-    /// nothing between. Where nothing more of the log is held, the others are refused.
+    /// Answers these requests by turns of this desk, which is that of the operator at this place, chunk by chunk and
+    /// with nothing between. Where nothing more can be reserved in the log, the others are refused.
     ///
     /// # Errors
     ///
-    /// None is carried out, or the keeper failed.
+    /// None is carried out, or the log failed.
     fn carry_out_all<R: Wait, E: Evaluator<Catalogue>>(
         &self,
         context: &Context<'_, R, E>,
@@ -361,11 +361,11 @@ impl<K: Named, N: Naming, L: Log, S: Space> City<K, N, L, S> {
         Ok(replies)
     }
 
-    /// Answers these requests of the operator at this place, all under one holding of its desk's lock.
+    /// Answers these requests of the operator at this place, without releasing its desk's lock between them.
     ///
     /// # Errors
     ///
-    /// None is carried out, or the keeper failed.
+    /// None is carried out, or the log failed.
     fn answer_all<R: Wait, E: Evaluator<Catalogue>>(
         &self,
         context: &Context<'_, R, E>,
@@ -384,11 +384,11 @@ impl<K: Named, N: Naming, L: Log, S: Space> City<K, N, L, S> {
         self.carry_out_all(context, &mut *desk, place, requests)
     }
 
-    /// The response that says all replies, once all that they show is synced.
+    /// The response with all answers, once all that they show is synced.
     ///
     /// # Errors
     ///
-    /// There was no memory for the response. What was done stays.
+    /// Out of memory for the response. What was done stays.
     fn reply_to_all(
         &self,
         alloc: Global,
@@ -406,7 +406,8 @@ impl<K: Named, N: Naming, L: Log, S: Space> City<K, N, L, S> {
     ///
     /// # Errors
     ///
-    /// They aren't refused, since they may be asked again or nothing may be told; or there was no memory for the response.
+    /// They aren't refused, since they may be tried again or no response may be sent; or out of memory for the
+    /// response.
     fn refuse_all(&self, alloc: Global, halt: Halt) -> Result<Pending<N, L, S>, Unanswered>
         ensures { IsHalted (λ s. s.reply) halt result }
     {
@@ -417,12 +418,13 @@ impl<K: Named, N: Naming, L: Log, S: Space> City<K, N, L, S> {
     }
 }
 
-/// Answers many reports of the operator at this place: each line of the body that isn't empty is one. Nothing of this
-/// operator's comes between them.
+/// Answers many reports of the operator at this place: each line of the body that isn't empty is one. No other turn of
+/// this operator comes between them.
 ///
 /// # Errors
 ///
-/// The share of who asks is used up, and none was carried out; or nothing may be told, and reports may have been taken.
+/// The client's share of the log is used up, and none was carried out; or no response may be sent, and reports may have
+/// been accepted.
 pub(crate) fn many_reports<K: Named, N: Naming, R: Wait, E: Evaluator<Catalogue>, L: Log, S: Space>(
     context: &Context<'_, R, E>,
     place: usize,

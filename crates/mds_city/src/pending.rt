@@ -1,19 +1,20 @@
-//! A reply on its way, or why there is none.
+//! A response that waits for its sync, or why there is none.
 use bytes::Bytes;
 use http::Response;
 use http_body_util::Full;
 use mds_commit::{NotTold, Settling};
 use std::alloc::AllocError;
 
-/// A response, until all that it shows is synced.
+/// A response that waits until all that it shows is synced.
 pub type Pending<N, L, S> = Settling<Response<Full<Bytes>>, N, L, S>;
 
-/// Why a request has no reply on its way.
+/// Why a request has no response.
 #[derive(Clone, Copy, Debug, PartialEq, Eq)]
 pub enum Unanswered {
-    /// The share of who asks is used up. It wasn't carried out, and it may be asked again.
+    /// The client's share of the log is used up. The request wasn't carried out, and may be tried again.
     Crowded,
-    /// Nothing may be told: the log failed, or there was no memory for the response. The request may have been carried out.
+    /// No response may be sent: the log failed, or out of memory for the response. The request may have been carried
+    /// out.
     NotTold(NotTold),
 }
 

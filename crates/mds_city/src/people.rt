@@ -1,5 +1,5 @@
-//! What people are told beside the protocol's calls. It is read under the lock of the desk or of the room, and nothing is kept
-//! of it.
+//! Answers for people, outside the protocol's calls. They are read under the lock of the desk or of the room, and have
+//! no record.
 ghost use Rattle.std.specs.Prelude.{◌≡◌, ◌<◌, IfErr, IfOk, length};
 ghost use Rattle.mds_app.specs.Badges.{badges_view};
 ghost use Rattle.mds_app.specs.Whoami.{who_reply};
@@ -51,7 +51,7 @@ impl Telling for WithdrawnFor {
 pub(crate) enum OfRoom {
     /// Which policies are withdrawn.
     Withdrawals,
-    /// Which drafts are held.
+    /// Which drafts there are.
     Drafts,
 }
 
@@ -76,7 +76,7 @@ impl AuthorTelling for OfRoom {
     }
 }
 
-/// The answer that tells this, or that memory ran out.
+/// This reply, or the refusal for being out of memory.
 fn or_no_memory(told: Result<Reply, AllocError>) -> Answer
     ensures told { IfOk told (λ reply. result ≡ reply) }
     ensures refused { IfErr told (λ _. result ≡ refused NoMemory) }
@@ -87,7 +87,7 @@ fn or_no_memory(told: Result<Reply, AllocError>) -> Answer
     }
 }
 
-/// The answer that tells this, or the refusal in its place.
+/// This reply, or the refusal in its place.
 fn or_refused(told: Result<Reply, Code>) -> Answer
     ensures told { IfOk told (λ reply. result ≡ reply) }
     ensures refused { IfErr told (λ code. result ≡ refused code) }
@@ -99,11 +99,11 @@ fn or_refused(told: Result<Reply, Code>) -> Answer
 }
 
 impl<K: Named, N: Naming, L: Log, S: Space> City<K, N, L, S> {
-    /// Tells who asks.
+    /// Answers who the client is.
     ///
     /// # Errors
     ///
-    /// There was no memory for the response.
+    /// Out of memory for the response.
     fn who(&self, alloc: Global, asker: Actor) -> Result<Pending<N, L, S>, Unanswered>
         ensures { IfOk result (λ s. Waits (SaysTold (λ reply. reply ≡ who_reply (badges_view self.now.badges) asker)) s.reply) }
     {
@@ -112,11 +112,12 @@ impl<K: Named, N: Naming, L: Log, S: Space> City<K, N, L, S> {
         self.reply(alloc, Answered { answer, stamp })
     }
 
-    /// What the operator at this place is told of withdrawals, from one look of its desk, under the desk's lock.
+    /// The answer about withdrawals to the operator at this place, from one snapshot of its desk, under the desk's
+    /// lock.
     ///
     /// # Errors
     ///
-    /// There was no memory for it.
+    /// Out of memory.
     fn withdrawals_at<R: Wait>(&self, rt: &R, place: usize) -> Result<Answered<N, L>, NotTold>
         requires { place < length K.configuration.operators }
         ensures { IfOk result (λ answered. IsToldReply (TellsOperator K.configuration (badges_view self.now.badges)
@@ -135,11 +136,11 @@ impl<K: Named, N: Naming, L: Log, S: Space> City<K, N, L, S> {
         Ok(Answered { answer, stamp })
     }
 
-    /// Tells the operator at this place which of its policies are withdrawn.
+    /// Answers the operator at this place which of its policies are withdrawn.
     ///
     /// # Errors
     ///
-    /// There was no memory for it.
+    /// Out of memory.
     fn of_desk<R: Wait>(
         &self,
         rt: &R,
@@ -156,7 +157,7 @@ impl<K: Named, N: Naming, L: Log, S: Space> City<K, N, L, S> {
         }
     }
 
-    /// What the author is told of its room, under the room's lock.
+    /// The answer to the author about its room, under the room's lock.
     fn answer_of<R: Wait>(&self, rt: &R, asked: OfRoom) -> Answered<N, L>
         ensures { IsToldReply (RoomTells K.configuration
             (λ drafts publications told. told ≡ room_told asked drafts publications)) result.answer }
@@ -167,11 +168,11 @@ impl<K: Named, N: Naming, L: Log, S: Space> City<K, N, L, S> {
         Answered { answer, stamp }
     }
 
-    /// Tells the author of its room.
+    /// Answers the author about its room.
     ///
     /// # Errors
     ///
-    /// There was no memory for the response.
+    /// Out of memory for the response.
     fn of_room<R: Wait>(
         &self,
         rt: &R,
@@ -186,11 +187,11 @@ impl<K: Named, N: Naming, L: Log, S: Space> City<K, N, L, S> {
     }
 }
 
-/// Tells the author what it asks beside the protocol's calls.
+/// Answers the author's question outside the protocol's calls.
 ///
 /// # Errors
 ///
-/// There was no memory for the response.
+/// Out of memory for the response.
 pub(crate) fn tell_the_author<K: Named, N: Naming, R: Wait, L: Log, S: Space>(
     rt: &R,
     alloc: Global,
@@ -206,11 +207,11 @@ pub(crate) fn tell_the_author<K: Named, N: Naming, R: Wait, L: Log, S: Space>(
     }
 }
 
-/// Tells the operator at this place what it asks beside the protocol's calls.
+/// Answers the question of the operator at this place, outside the protocol's calls.
 ///
 /// # Errors
 ///
-/// There was no memory for the response.
+/// Out of memory for the response.
 pub(crate) fn tell_an_operator<K: Named, N: Naming, R: Wait, L: Log, S: Space>(
     rt: &R,
     alloc: Global,

@@ -1,4 +1,4 @@
-//! What is told of what is published, and of nothing else.
+//! What is published, read under the room's lock, and nothing else.
 ghost use Rattle.std.specs.Prelude.{IfOk};
 ghost use Rattle.mds_hall.specs.Told.{RoomTells};
 
@@ -13,7 +13,7 @@ use mds_snapshot::Note;
 use std::alloc::{AllocError, Global};
 use std::sync::Wait;
 
-/// What a telling tells of the publications of the author's room, whatever its drafts are.
+/// A `Telling` of the publications of the author's room, whatever its drafts are.
 #[derive(Drop)]
 struct Published<'a, T> {
     telling: &'a T,
@@ -35,17 +35,17 @@ impl<T: Telling> AuthorTelling for Published<'_, T> {
 }
 
 impl<K: Named, N: Naming, L: Log, S: Space> City<K, N, L, S> {
-    /// A note of what was published last; none where nothing was since the city was opened.
+    /// The note of the last publication; none where nothing was published since the city was opened.
     pub fn note<R: Wait>(&self, rt: &R) -> Option<Note<K>> {
         self.hall.note(rt)
     }
 
-    /// Tells what a telling has to tell of what is published, under the room's lock. It waits for no sync: what is published was
+    /// What a `Telling` makes of what is published, under the room's lock. It waits for no sync: a publication was
     /// synced before the room shows it. Nothing changes.
     ///
     /// # Errors
     ///
-    /// Memory ran out.
+    /// Out of memory.
     pub fn tell<T: Telling, R: Wait>(&self, rt: &R, telling: &T) -> Result<T::Told, AllocError>
         ensures { IfOk result (RoomTells K.configuration (λ drafts publications told. T.tells telling.now publications told)) }
     {

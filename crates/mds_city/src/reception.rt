@@ -23,18 +23,18 @@ use mds_verdict::Evaluator;
 use std::alloc::Global;
 use std::sync::Wait;
 
-/// A city, what judges its vehicles, and the clock that gives each request its moment.
+/// A city, the evaluator of its vehicles, and the clock that gives each request its moment.
 #[derive(Drop)]
 pub struct CityReception<K: Named, N: Naming, R, E, M, L: Log, S: Space> {
-    /// By what locks and syncs are waited for.
+    /// The runtime that waits for locks and syncs.
     pub rt: R,
-    /// Where answers are made.
+    /// The allocator of answers.
     pub alloc: Global,
-    /// What answers.
+    /// The state that answers.
     pub city: City<K, N, L, S>,
-    /// What judges vehicles.
+    /// The evaluator of vehicles.
     pub evaluator: E,
-    /// What gives each request its moment.
+    /// The clock that gives each request its moment.
     pub moments: M,
 }
 
@@ -47,7 +47,7 @@ impl<
     L: Log,
     S: Space,
 > CityReception<K, N, R, E, M, L, S> {
-    /// Resolves a head: what it asks for, and who asks, as `mds_routes::resolve` says.
+    /// Resolves a head to its client and what it asks for, as `mds_routes::resolve` says.
     pub fn resolve(&self, is_public: bool, parts: Parts) -> Resolved<K>
         ensures { elim result [
           | Asset own file ↦ (own ≡ parts) × AsksFile parts file
@@ -58,12 +58,13 @@ impl<
         resolve(&self.city.hall, is_public, parts)
     }
 
-    /// Answers the request of a head whose body has arrived so, at the clock's moment. Head and body are lent, so that it may be
-    /// asked again. Where nothing may be told, the response on its way is an error.
+    /// Answers the request of a head and the body that arrived for it, at the clock's moment. Head and body are
+    /// borrowed, so that the request may be answered again. Where no response may be sent, the pending response is an
+    /// error.
     ///
     /// # Errors
     ///
-    /// The share of who asks is used up: nothing was carried out.
+    /// The client's share of the log is used up: nothing was carried out.
     pub fn answer(
         &self,
         head: &ResolvedState<K>,

@@ -1,4 +1,4 @@
-//! Leave for a publication: its record is appended and synced before anybody is shown it.
+//! Commits a publication: its record is appended and synced before anybody sees it.
 ghost use Rattle.std.specs.Prelude.{◌≡◌, None, IfOk, IfNone, IfSome, option_map};
 ghost use Rattle.mds_city.specs.Records.{IsAmong, IsShown, IsTitled, place_of};
 
@@ -9,8 +9,8 @@ use mds_records::Log;
 use std::marker::{Brand, PhantomData};
 use std::sync::{Arc, Wait};
 
-/// Which record it is. A request hands its place to a function that is generic over it, which is called with `Brand`; the
-/// proof of that call picks the text.
+/// Which record it is. A request passes its reservation to a function that is generic over it, which is called with
+/// `Brand`; the proof of that call picks the payload.
 pub(crate) trait Titled {
     ghost use Rattle.std.specs.Prelude.{ℕ, List};
 
@@ -23,20 +23,21 @@ impl Titled for Brand {
     ghost text = { [] };
 }
 
-/// The place for that record.
+/// The reservation for that record.
 pub(crate) struct Held<T: Titled> {
     place: Place,
     of: PhantomData<T>,
     ghost is_it: { place.text.items ≡ T.text },
 }
 
-/// What appends a record: at once where leave is asked, and else once the request was answered.
+/// Appends a request's record: before its publication is shown, if it publishes, and otherwise once the request was
+/// answered.
 pub(crate) struct Recording<T: Titled, R, N: Naming, L: Log, S: Space> {
     rt: R,
     keeper: Arc<Keeper<N, L, S>>,
-    /// The place, until the record is appended. A request that reads has none.
+    /// The reservation, until the record is appended. A request that reads has none.
     pub held: Option<Held<T>>,
-    /// What appending it said, where leave was asked: the stamp of all that was synced then.
+    /// What the append before a publication gave: the log position of all that was synced then.
     pub shown: Option<Result<Stamp<N, L>, NotTold>>,
 }
 
@@ -63,7 +64,7 @@ impl<T: Titled, R: Wait + Drop, N: Naming, L: Log, S: Space> Leave for Recording
     }
 }
 
-/// A place as one of that record.
+/// A reservation as one for that record.
 fn held_for<T: Titled>(reserved: Reserved) -> Option<Held<T>>
     requires { IsTitled T.text reserved }
     ensures { option_map (λ held. held.place) result ≡ place_of reserved }
@@ -77,7 +78,7 @@ fn held_for<T: Titled>(reserved: Reserved) -> Option<Held<T>>
     }
 }
 
-/// The place that is still held.
+/// What is still reserved.
 fn reserved_of<T: Titled>(held: Option<Held<T>>) -> Reserved
     ensures { option_map (λ held. held.place) held ≡ place_of result }
 {
@@ -91,7 +92,7 @@ fn reserved_of<T: Titled>(held: Option<Held<T>>) -> Reserved
 }
 
 impl<T: Titled, R: Wait + Drop, N: Naming, L: Log, S: Space> Recording<T, R, N, L, S> {
-    /// What appends the record of a request, which isn't answered yet.
+    /// A recording for a request that isn't answered yet.
     pub(crate) fn new(
         rt: R,
         keeper: Arc<Keeper<N, L, S>>,
@@ -109,12 +110,13 @@ impl<T: Titled, R: Wait + Drop, N: Naming, L: Log, S: Space> Recording<T, R, N, 
         }
     }
 
-    /// Settles what is open once the request was answered with this status, which published or didn't. Gives the stamp of
-    /// all that the reply shows.
+    /// Completes the record once the request was answered with this status, and published or didn't. Returns the log
+    /// position of all that the reply shows.
     ///
     /// # Errors
     ///
-    /// The keeper failed. It fails too where a record was appended of what wasn't published: the log is ahead then.
+    /// The log failed. It also fails where a record was appended for a publication that didn't happen: the log is ahead
+    /// then.
     pub(crate) fn settle(
         self,
         nothing: &Stamp<N, L>,
@@ -133,7 +135,7 @@ impl<T: Titled, R: Wait + Drop, N: Naming, L: Log, S: Space> Recording<T, R, N, 
         let Some(shown) = shown else {
             return settle(&rt, &keeper, nothing, reserved_of(held), status);
         };
-        // Nothing is held any more.
+        // Nothing is reserved any more.
         give_back(&rt, &keeper, reserved_of(held));
         if is_published {
             return shown;

@@ -1,4 +1,4 @@
-//! The record of a request, and its place in the log.
+//! The record of a request, and its reservation in the log.
 ghost use Rattle.std.specs.Prelude.{◌≡◌, ◌<◌, ◌==◌, IfOk, Some, length, option_map, slice_get};
 ghost use Rattle.mds_entries.specs.Requests.{asker_at};
 ghost use Rattle.mds_hall.specs.Asker.{IsWithin};
@@ -21,26 +21,27 @@ use std::sync::Wait;
 /// The status of a success.
 const SUCCESS: u16 = 200;
 
-/// What a request has of the log before it is carried out.
+/// What is reserved in the log for a request before it is carried out.
 pub(crate) enum Reserved {
-    /// It changes nothing, and has no record.
+    /// Nothing: it changes nothing, and has no record.
     Reads,
-    /// The place that is held for its record.
+    /// The reservation for its record.
     Holds(Place),
 }
 
-/// Why nothing of the log is held for a request that may change something. It isn't carried out, and nothing has changed.
+/// Why nothing is reserved in the log for a request that may change something. It isn't carried out, and nothing has
+/// changed.
 #[derive(Clone, Copy, Debug, PartialEq, Eq)]
 pub(crate) enum Unreserved {
-    /// The share of who asks is used up: it may be asked again.
+    /// The client's share of the log is used up: the request may be tried again.
     Crowded,
     /// The disk has no room for its record.
     NoRoom,
-    /// The log takes nothing more, since the program ends.
+    /// The log takes no more records, since the program ends.
     Stopping,
-    /// An append or a sync failed: nothing more is told.
+    /// An append or a sync failed: no more responses are sent.
     Failed,
-    /// Memory ran out, or no log takes the record.
+    /// Out of memory, or no log takes the record.
     NoMemory,
 }
 
@@ -67,11 +68,11 @@ impl From<AllocError> for Unreserved {
     }
 }
 
-/// The refusal of a request for which nothing of the log is held.
+/// The refusal of a request for which nothing is reserved in the log.
 ///
 /// # Errors
 ///
-/// It isn't refused: it may be asked again, or nothing may be told.
+/// It isn't refused: it may be tried again, or no response may be sent.
 pub(crate) fn refusal_for(why: Unreserved) -> Result<Code, Unanswered>
     ensures { result ≡ refusal_for why }
 {
@@ -84,7 +85,7 @@ pub(crate) fn refusal_for(why: Unreserved) -> Result<Code, Unanswered>
     }
 }
 
-/// Who makes a call.
+/// The client that makes a call.
 fn caller(call: &Call) -> Actor
     ensures { result ≡ caller_of call.now }
 {
@@ -94,7 +95,7 @@ fn caller(call: &Call) -> Actor
     }
 }
 
-/// The place of who makes a call among those who share the log.
+/// The index of the client that makes a call, among those that share the log.
 pub(crate) fn sharer(call: &Call) -> usize
     ensures { result ≡ sharer_of call.now }
 {
@@ -109,7 +110,7 @@ pub(crate) fn id_at(config: &Config, place: usize) -> Id
     config.operators()[place].id
 }
 
-/// The operator at this place, as a record has it.
+/// The operator at this place, as a record names it.
 pub(crate) fn operator_asker(config: &Config, place: usize) -> Asker
     requires { place < length (configuration config.now).operators }
     ensures { asker_at (configuration config.now) (Operator place) ≡ Some result }
@@ -117,7 +118,7 @@ pub(crate) fn operator_asker(config: &Config, place: usize) -> Asker
     Asker::Operator(id_at(config, place))
 }
 
-/// Who makes a call, as a record has it.
+/// The client that makes a call, as a record names it.
 pub(crate) fn asker_of(config: &Config, call: &Call) -> Asker
     requires { IsWithin (length (configuration config.now).operators) (caller_of call.now) }
     ensures { asker_at (configuration config.now) (caller_of call.now) ≡ Some result }
@@ -128,19 +129,18 @@ pub(crate) fn asker_of(config: &Config, call: &Call) -> Asker
     }
 }
 
-/// Whether a request that was answered with this status was accepted: whether its record is appended where it may have
-/// changed something.
+/// Whether a request with this status was accepted: its record is appended where it may have changed something.
 pub fn is_accepted(status: u16) -> bool
     ensures { result ≡ (status == 200) }
 {
     status == SUCCESS
 }
 
-/// The text of the record of a request of this asker.
+/// The payload of the record of a request of this client.
 ///
 /// # Errors
 ///
-/// `NoMemory`: the request's target is too long for a record, or memory ran out.
+/// `NoMemory`: the request's target is too long for a record, or out of memory.
 pub(crate) fn record_text(
     alloc: Global,
     asker: Asker,
@@ -161,7 +161,7 @@ pub(crate) fn record_text(
     }
 }
 
-/// Gives back what was held.
+/// Releases what was reserved.
 pub(crate) fn give_back<R: Wait, N: Naming, L: Log, S: Space>(
     rt: &R,
     keeper: &Keeper<N, L, S>,
@@ -173,12 +173,12 @@ pub(crate) fn give_back<R: Wait, N: Naming, L: Log, S: Space>(
     }
 }
 
-/// Appends the record of a request that was accepted, and gives back the place of any other: under the lock of what
-/// answered it with this status. Gives the stamp of all that was appended by then.
+/// Appends the record of a request that was accepted, and releases the reservation of any other. It is called under the
+/// lock of the desk or room that answered with this status. Returns the log position of all that was appended by then.
 ///
 /// # Errors
 ///
-/// The keeper failed.
+/// The log failed.
 pub(crate) fn settle<R: Wait, N: Naming, L: Log, S: Space>(
     rt: &R,
     keeper: &Keeper<N, L, S>,

@@ -1,4 +1,4 @@
-//! What an HTTP request is answered, and when.
+//! The response to an HTTP request, and when it is sent.
 ghost use Rattle.std.specs.Prelude.{◌≡◌, Ok, IfOk};
 ghost use Rattle.mds_request.specs.Call.{call_of};
 ghost use Rattle.mds_request.specs.Configuration.{actor_of};
@@ -25,14 +25,15 @@ use mds_text::Moment;
 use mds_verdict::Evaluator;
 use std::sync::Wait;
 
-/// Answers the request of a head whose body has arrived so, at this moment of the machine's clock. Who asks, and what for, is
-/// known by the head. What the table of calls refuses is refused at once. Any other reply is told once all that it shows is
-/// synced.
+/// Answers the request of a head and the body that arrived for it, at this moment of the machine's clock. The head
+/// already says which client asks, and for what. What the table of calls refuses is refused at once. Any other response
+/// is sent once all that it shows is synced.
 ///
 /// # Errors
 ///
-/// `Crowded` where the share of who asks is used up: nothing was carried out, and it may be asked again. Else nothing may be
-/// told: the keeper failed, or there was no memory for the response, and the request may have been carried out.
+/// `Crowded` where the client's share of the log is used up: nothing was carried out, and the request may be tried
+/// again. Else no response may be sent: the log failed, or out of memory for the response, and the request may have
+/// been carried out.
 pub fn respond<
     K: Named,
     N: Naming,
@@ -67,7 +68,7 @@ pub fn respond<
     }
 }
 
-/// Answers a request that is this call of the protocol: it holds what the call needs of the log, and carries it out.
+/// Answers a request that is this call of the protocol: reserves what the call needs of the log, and carries it out.
 fn answer_call<
     K: Named,
     N: Naming,
@@ -96,11 +97,11 @@ fn answer_call<
     }
 }
 
-/// Carries out the call that a request is, where what it needs of the log is held.
+/// Carries out the call of a request, for which what it needs of the log is reserved.
 ///
 /// # Errors
 ///
-/// The keeper failed.
+/// The log failed.
 fn carry_out<K: Named, N: Naming, R: Wait + Copy + Drop, E: Evaluator<Catalogue>, L: Log, S: Space>(
     context: &Context<'_, R, E>,
     call: Call,

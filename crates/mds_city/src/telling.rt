@@ -1,4 +1,4 @@
-//! The response that tells what many reports were answered.
+//! The response to many reports.
 ghost use Rattle.std.specs.Prelude.{◌≡◌, ◌++◌, IfOk, OnOk};
 ghost use Rattle.std.specs.List.{flat_map};
 ghost use Rattle.mds_lines.specs.Answering.{status_text};
@@ -11,7 +11,7 @@ use http_body_util::Full;
 use mds_shelf::Answer;
 use std::alloc::{AllocError, Global};
 
-/// How many bytes of a line stand beside the body of its answer.
+/// How many bytes a line has besides the body of its answer.
 const BESIDE: usize = 23;
 
 /// The three digits of a status (RFC 9112, section 4).
@@ -25,7 +25,7 @@ fn digits(status: u16) -> [u8; 3]
     ]
 }
 
-/// Adds the line that tells an answer.
+/// Adds the line for an answer.
 fn push_line(text: &mut Vec<u8>, answer: &Answer) -> Result<(), AllocError>
     ensures { OnOk result (text.new.items ≡ text.old.items ++ told_line answer.now) }
 {
@@ -46,7 +46,7 @@ fn size_of_lines(answers: &[Answer]) -> usize {
     size
 }
 
-/// The lines that tell the answers, in their order.
+/// The lines for the answers, in their order.
 fn lines_of(alloc: Global, answers: &[Answer]) -> Result<Vec<u8>, AllocError>
     ensures { IfOk result (λ text. text.items ≡ flat_map told_line answers.now) }
 {
@@ -61,7 +61,7 @@ fn lines_of(alloc: Global, answers: &[Answer]) -> Result<Vec<u8>, AllocError>
 ///
 /// # Errors
 ///
-/// Memory ran out.
+/// Out of memory.
 pub(crate) fn response_of_all(
     alloc: Global,
     answers: &[Answer],

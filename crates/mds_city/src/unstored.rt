@@ -1,4 +1,4 @@
-//! Responses that no cache may keep.
+//! Responses that no cache may store.
 ghost use Rattle.std.specs.Prelude.{IfOk};
 ghost use Rattle.mds_city.specs.Unstored.{IsUnstored};
 
@@ -8,11 +8,11 @@ use http::{HeaderValue, Response};
 use http_body_util::Full;
 use std::alloc::AllocError;
 
-/// The same response, which no cache may keep: what a city answers is of one moment and for one asker.
+/// The same response, which no cache may store: a city's answers are of one moment and for one client.
 ///
 /// # Errors
 ///
-/// There was no memory for the field.
+/// Out of memory for the field.
 pub(crate) fn mark_unstored(
     response: Response<Full<Bytes>>,
 ) -> Result<Response<Full<Bytes>>, AllocError>

@@ -1,4 +1,4 @@
--- The bodies of replies.
+-- Bodies of responses.
 use Rattle.std.specs.Prelude.{◌≡◌, ℕ, ◌≤◌, List, [], ◌++◌, length, take, drop, Result, Ok, Err}
 use Rattle.httparse.specs.Grammar.{Field}
 use Rattle.http1.specs.Body.{body_of}
@@ -10,11 +10,12 @@ use Rattle.mds_client.specs.declared.body.Taken.{Taken}
 use Rattle.mds_client.specs.declared.body.Taken.TheVariants.{Part, Whole}
 use Rattle.mds_client.specs.declared.fault.ReplyFault.{ReplyFault}
 
--- the first of the bytes, all of which have come
+-- the first `size` bytes, all of which have been received
 abbrev pub IsSized : (size : ℕ) → (bytes body : List ℕ) → Type 0
 IsSized size bytes body = (body ≡ take size bytes) × (size ≤ length bytes)
 
--- the body that bytes are, up to the end of their connection: whole by the length of the head, or up to that end
+-- the body in bytes that were received up to the end of the connection: of the length that the head gives, or up to
+-- that end
 abbrev pub IsBody : Result Framing ReplyFault → (bytes body : List ℕ) → Type 0
 IsBody (Ok NoBody) bytes body = body ≡ []
 IsBody (Ok (Length size)) bytes body = IsSized size bytes body
@@ -22,7 +23,8 @@ IsBody (Ok Chunked) bytes body = ⊥
 IsBody (Ok UntilClose) bytes body = body ≡ bytes
 IsBody (Err fault) bytes body = ⊥
 
--- so many of the bytes are taken into a body, by http1's grammar of chunks: a part of it, or what is behind its last chunk
+-- so many bytes are decoded, by http1's grammar of chunks: a piece is appended to the body, or what follows its last
+-- chunk ends it
 abbrev pub Takes : Decoder → (bytes before : List ℕ) → Decoder → (after : List ℕ) → Taken → Type 0
 Takes old bytes before new after (Part len) =
     (piece : List ℕ) × (after ≡ before ++ piece) × Continues old bytes new len piece

@@ -1,4 +1,4 @@
--- Why there is no reply.
+-- Why there is no response.
 use Rattle.std.specs.Prelude.{Bool, true, false}
 use Rattle.std_io.specs.declared.io.kind.ErrorKind.{ErrorKind}
 use Rattle.std_io.specs.declared.io.kind.ErrorKind.TheVariants.{OutOfMemory, UnexpectedEof}
@@ -7,14 +7,14 @@ use Rattle.http1.specs.declared.framing.FramingError.TheVariants.{InvalidContent
 use Rattle.mds_client.specs.declared.fault.ReplyFault.{ReplyFault}
 use Rattle.mds_client.specs.declared.fault.ReplyFault.TheVariants.{NoMemory, NoConnection, Incomplete, InvalidHead, InvalidLength, LengthAndCoding, UnknownCoding}
 
--- another try may have a reply: the connection failed, or no head came over it
+-- another attempt may get a response: the connection failed, or no head came over it
 abbrev pub is_passing : ReplyFault → Bool
 is_passing NoConnection = true
 is_passing Incomplete = true
 is_passing InvalidHead = true
 is_passing fault = false
 
--- what an error of a connection says of the reply
+-- the fault by an error of a connection
 abbrev pub fault_of_kind : ErrorKind → ReplyFault
 fault_of_kind OutOfMemory = NoMemory
 fault_of_kind UnexpectedEof = Incomplete

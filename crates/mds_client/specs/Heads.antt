@@ -1,4 +1,4 @@
--- The head of a reply (RFC 9112), by httparse's grammar, and what it says of the body behind it.
+-- The head of a response (RFC 9112), by httparse's grammar, and how the body behind it ends.
 use Rattle.std.specs.Prelude.{◌≡◌, ℕ, drop, List, Bool, not, Result, Ok, Err, if◌then◌else◌}
 use Rattle.httparse.specs.Grammar.{ResponseHead, ReadsResponse, HasNoResponse, status_code}
 use Rattle.httparse.specs.Spans.{ResponseOverflows}
@@ -26,7 +26,7 @@ uncoded is_coded (Ok Chunked) = if is_coded then Err UnknownCoding else Ok Chunk
 uncoded is_coded (Ok UntilClose) = if is_coded then Err UnknownCoding else Ok UntilClose
 uncoded is_coded (Err error) = Err (fault_of_framing error)
 
--- how the body of a reply ends (RFC 9112, section 6.3)
+-- how the body of a response ends (RFC 9112, section 6.3)
 abbrev pub framing_of : (status minor : ℕ) → KnownFields → Result Framing ReplyFault
 framing_of status minor known = uncoded known.other_coding (response_framing Other status minor known)
 
@@ -37,7 +37,7 @@ IsHead bytes head =
     × (head.framing ≡ framing_of (status_code read) read.minor (known_of read.fields))
     × (head.closes ≡ not (keeps_alive read.minor (known_of read.fields)))
 
--- a head at the front of the bytes, none yet, or none that they can begin with and that has no more fields than are read
+-- the bytes begin with a head, or with no whole head yet, or can't begin with a head of at most `MOST_FIELDS` fields
 abbrev pub HeadingOf : List ℕ → Heading → Type 0
 HeadingOf bytes (Whole head) = IsHead bytes head
 HeadingOf bytes Partial = HasNoResponse bytes

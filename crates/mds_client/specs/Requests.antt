@@ -4,7 +4,7 @@ use Rattle.std.specs.Fmt.{decimal}
 use Rattle.mds_client.specs.declared.request.Server.{Server}
 use Rattle.mds_client.specs.declared.request.Call.{Call}
 
--- a line of a head, with its end
+-- the end of a line of a head
 abbrev pub line_end : List ℕ
 line_end = codes "\r\n"
 

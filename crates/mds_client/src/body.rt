@@ -1,4 +1,4 @@
-//! The bodies of replies.
+//! Bodies of responses.
 ghost use Rattle.std.specs.Prelude.{◌≡◌, ◌≤◌, length, take, IfOk, IfErr, OnErr, vec_len};
 ghost use Rattle.mds_client.specs.Bodies.{IsSized, Takes, IsBody};
 
@@ -11,30 +11,30 @@ use httparse::spans::EMPTY_HEADER_SPAN;
 use std::alloc::Global;
 use std::io::Read;
 
-/// The most bytes of a body.
+/// The longest body that is read, in bytes.
 pub(crate) const MOST_OF_BODY: u64 = 1_073_741_824;
 
-/// The most fields behind the last chunk.
+/// The most trailer fields behind the last chunk.
 const MOST_TRAILERS: usize = 64;
 
-/// What was taken of bytes.
+/// How many bytes a step of decoding took, and whether the body ends with them.
 #[derive(Clone, Copy)]
 enum Taken {
-    /// So many, and more have to come.
+    /// So many; the body goes on behind them.
     Part(usize),
-    /// So many, with which the body ends.
+    /// So many; the body ends with them.
     Whole(usize),
 }
 
-/// A body that is whole.
+/// A complete body.
 #[derive(Drop)]
 pub(crate) struct Received {
     pub body: Vec<u8>,
-    /// Whether further bytes came behind it, which belong to no reply (RFC 9112, section 6.3).
+    /// Whether further bytes came behind it, which belong to no response (RFC 9112, section 6.3).
     pub has_surplus: bool,
 }
 
-/// Reads more bytes behind those that came.
+/// Reads more bytes and appends them to those received so far.
 ///
 /// # Errors
 ///
@@ -49,11 +49,11 @@ pub(crate) fn read_more<S: Read>(stream: &mut S, came: &mut Vec<u8>) -> Result<(
     Ok(())
 }
 
-/// The first bytes, so many as a body has.
+/// A body of `size` bytes: the first of `bytes`.
 ///
 /// # Errors
 ///
-/// `Incomplete` where fewer came, `TooLong`, `NoMemory`.
+/// `TooLong`, `Incomplete` where fewer bytes have come, `NoMemory`.
 fn sized_body(alloc: Global, size: u64, bytes: &[u8]) -> Result<Vec<u8>, ReplyFault>
     ensures value { IfOk result (λ body. IsSized size bytes.now body.items) }
 {
@@ -66,7 +66,7 @@ fn sized_body(alloc: Global, size: u64, bytes: &[u8]) -> Result<Vec<u8>, ReplyFa
     }
 }
 
-/// Reads as many bytes behind those that came as a body has.
+/// Reads until at least `size` bytes have been received.
 ///
 /// # Errors
 ///
@@ -84,7 +84,7 @@ fn read_sized<S: Read>(stream: &mut S, size: u64, came: &mut Vec<u8>) -> Result<
     Ok(())
 }
 
-/// Takes what it can of bytes into a body (RFC 9112, section 7.1).
+/// Decodes a piece of a chunked body and appends its data to `body` (RFC 9112, section 7.1).
 ///
 /// # Errors
 ///
@@ -103,7 +103,7 @@ fn take_chunk(decoder: &mut Decoder, bytes: &[u8], body: &mut Vec<u8>) -> Result
     }
 }
 
-/// Reads a body in chunks, of which the first bytes came with its head.
+/// Reads a chunked body, whose first bytes came with the head.
 ///
 /// # Errors
 ///
@@ -140,8 +140,8 @@ fn read_chunks<S: Read>(
     Err(ReplyFault::TooLong)
 }
 
-/// Reads a body, of which the first bytes came with its head. One that only ends with the connection isn't read, since it
-/// can't be seen whether it is whole.
+/// Reads a body, whose first bytes came with the head. A body that only ends with the connection isn't read, since
+/// whether it is complete can't be seen.
 ///
 /// # Errors
 ///
@@ -170,12 +170,12 @@ pub(crate) fn read_body<S: Read>(
     }
 }
 
-/// The body of a reply to a request of HTTP/1.0, of which `bytes` came behind its head before the connection ended. Chunks,
-/// which such a request doesn't ask for (RFC 9112, section 6.1), aren't read.
+/// The body of a response to an HTTP/1.0 request: `bytes` came behind its head before the connection ended. A chunked
+/// body, which such a request doesn't ask for (RFC 9112, section 6.1), isn't read.
 ///
 /// # Errors
 ///
-/// Why the head doesn't say how it ends; `UnknownCoding` for chunks; `Incomplete`, `TooLong`, `NoMemory`.
+/// The fault of `head.framing`; `UnknownCoding` for a chunked body; `Incomplete`, `TooLong`, `NoMemory`.
 pub fn body_of(alloc: Global, head: &Head, bytes: &[u8]) -> Result<Vec<u8>, ReplyFault>
     ensures { IfOk result (λ body. IsBody head.now.framing bytes.now body.items) }
 {

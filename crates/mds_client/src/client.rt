@@ -1,4 +1,4 @@
-//! A connection to a server, kept between requests and opened again.
+//! A client of one server, whose connection is kept between requests and opened again.
 
 use crate::body::{Received, read_body, read_more};
 use crate::fault::ReplyFault;
@@ -7,47 +7,47 @@ use crate::request::{Call, Server, request_text};
 use std::alloc::Global;
 use std::io::{self, Read, Write};
 
-/// The most bytes of a reply's head.
+/// With more bytes than these, a head that isn't whole is given up.
 const MOST_OF_HEAD: usize = 65_536;
 
-/// The most interim replies in front of one.
+/// The most heads that are read for a response, interim ones included.
 const MOST_INTERIM: u32 = 16;
 
-/// The first status of a reply that isn't interim (RFC 9110, section 15).
+/// The first status of a final response (RFC 9110, section 15).
 const FIRST_FINAL: u16 = 200;
 
-/// How often a request is sent.
+/// The most times that a request is sent.
 const TRIES: u32 = 5;
 
-/// The status of a server that can't answer now (RFC 9110, section 15.6.4).
+/// The status of a server that can't answer now, Service Unavailable (RFC 9110, section 15.6.4).
 const UNAVAILABLE: u16 = 503;
 
-/// How a connection is opened, and how one waits before a request is sent again.
+/// Opens connections, and waits before a request is sent again.
 pub trait Dial {
     type Stream: Read + Write + Drop;
 
-    /// A new connection.
+    /// Opens a new connection.
     fn dial(&self) -> io::Result<Self::Stream>;
 
     /// Waits before a request is sent again.
     fn pause(&self);
 }
 
-/// What a server answered.
+/// The final response of a server.
 #[derive(Drop)]
 pub struct Reply {
     pub status: u16,
     pub body: Vec<u8>,
 }
 
-/// A reply, with whether its connection is closed behind it.
+/// A response, and whether the connection is closed behind it.
 #[derive(Drop)]
 struct Exchanged {
     reply: Reply,
     closes: bool,
 }
 
-/// A client of one server, on behalf of one who asks.
+/// A client of one server, by one access token.
 #[derive(Drop)]
 pub struct Client<'a, D: Dial> {
     dial: D,
@@ -55,7 +55,8 @@ pub struct Client<'a, D: Dial> {
     stream: Option<D::Stream>,
 }
 
-/// Reads a head, of which the first bytes may have come, with what comes behind it.
+/// Reads into `came` until it begins with a whole head; the first bytes may have come already, and more may come behind
+/// it.
 ///
 /// # Errors
 ///
@@ -71,8 +72,8 @@ fn read_head<S: Read>(stream: &mut S, came: &mut Vec<u8>) -> Result<Head, ReplyF
     Err(ReplyFault::InvalidHead)
 }
 
-/// Reads the head of the reply, and gives it with what came behind it. Interim replies in front of it are passed over
-/// (RFC 9110, section 15.2).
+/// Reads the head of the final response, and gives it with the bytes that came behind it. Interim responses in front of
+/// it are skipped (RFC 9110, section 15.2).
 ///
 /// # Errors
 ///
@@ -90,11 +91,11 @@ fn read_final_head<S: Read>(alloc: Global, stream: &mut S) -> Result<(Head, Vec<
     Err(ReplyFault::InvalidHead)
 }
 
-/// Sends a request over a connection, and reads its reply.
+/// Sends a request over a connection and reads the response.
 ///
 /// # Errors
 ///
-/// Why there is none.
+/// Why there is no response.
 fn exchange<S: Read + Write>(
     alloc: Global,
     stream: &mut S,
@@ -113,7 +114,7 @@ fn exchange<S: Read + Write>(
 }
 
 impl<'a, D: Dial> Client<'a, D> {
-    /// A client that has no connection yet.
+    /// A client without a connection as yet.
     pub fn new(dial: D, server: Server<'a>) -> Client<'a, D> {
         Client {
             dial,
@@ -122,11 +123,11 @@ impl<'a, D: Dial> Client<'a, D> {
         }
     }
 
-    /// Asks once, over the connection that is kept or a new one.
+    /// Sends a request once, over the open connection or a new one.
     ///
     /// # Errors
     ///
-    /// Why there is no reply; the connection isn't kept then.
+    /// Why there is no response; the connection isn't kept then.
     fn ask_once(&mut self, alloc: Global, request: &[u8]) -> Result<Reply, ReplyFault> {
         let mut stream = match self.stream.take() {
             Some(stream) => stream,
@@ -139,11 +140,12 @@ impl<'a, D: Dial> Client<'a, D> {
         Ok(read.reply)
     }
 
-    /// Asks, and asks again a few times where the connection breaks or the server can't answer now.
+    /// Sends a request, and sends it again a few times after a passing fault (`ReplyFault::is_passing`) or a status of
+    /// 503.
     ///
     /// # Errors
     ///
-    /// Why there is no reply, as the last connection ended.
+    /// Why there is no response: the fault of the last attempt.
     pub fn ask(&mut self, alloc: Global, call: &Call<'_>) -> Result<Reply, ReplyFault> {
         let request = request_text(alloc, &self.server, call)?;
         for _ in 1..TRIES {

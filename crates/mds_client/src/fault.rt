@@ -1,4 +1,4 @@
-//! Why there is no reply.
+//! Why there is no response.
 ghost use Rattle.std.specs.Prelude.{◌≡◌};
 ghost use Rattle.mds_client.specs.Faults.{is_passing};
 
@@ -7,33 +7,34 @@ use http1::framing::FramingError;
 use std::alloc::AllocError;
 use std::io::{self, ErrorKind};
 
-/// Why there is no reply.
+/// Why there is no response.
 #[derive(Clone, Copy, Debug, PartialEq, Eq)]
 pub enum ReplyFault {
     /// Memory ran out.
     NoMemory,
-    /// No connection is had, or it breaks.
+    /// No connection can be opened, or it breaks.
     NoConnection,
-    /// The connection ends before the reply does.
+    /// The connection ends before the response does.
     Incomplete,
-    /// What comes has no head of HTTP/1.1 (RFC 9112, sections 4 and 5).
+    /// What comes doesn't begin with a head of HTTP/1.1 (RFC 9112, sections 4 and 5).
     InvalidHead,
-    /// A `content-length` is no number of decimal digits below 2^64, or two of them differ (RFC 9112, section 6.3).
+    /// A `content-length` isn't a number of decimal digits below 2^64, or two of them differ (RFC 9112, section 6.3).
     InvalidLength,
     /// There are both a `content-length` and a `transfer-encoding` (RFC 9112, section 6.3).
     LengthAndCoding,
-    /// A `transfer-encoding` isn't undone here (RFC 9112, section 6.1).
+    /// A `transfer-encoding` that isn't decoded here (RFC 9112, section 6.1).
     UnknownCoding,
-    /// A chunk, or what stands behind the last one, isn't as it has to be (RFC 9112, section 7.1).
+    /// A chunk, or what follows the last one, is malformed (RFC 9112, section 7.1).
     InvalidChunk,
-    /// The head doesn't say where the body ends, so that it can't be seen whether it is whole (RFC 9112, section 6.3).
+    /// The head doesn't say where the body ends, so whether it is complete can't be seen (RFC 9112, section 6.3).
     NoLength,
-    /// The body is longer than is taken.
+    /// The body is longer than the client reads.
     TooLong,
 }
 
 impl ReplyFault {
-    /// Whether the same request may have a reply when it is sent again: whatever the head of a reply says is final.
+    /// Whether the same request may get a response when it is sent again. Whatever the head of a response says is
+    /// final.
     pub fn is_passing(self) -> bool
         ensures { result ≡ is_passing self }
     {
@@ -49,7 +50,7 @@ impl ReplyFault {
         }
     }
 
-    /// In words.
+    /// The fault in words.
     pub fn words(self) -> &'static str {
         match self {
             ReplyFault::NoMemory => "memory ran out",

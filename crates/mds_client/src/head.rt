@@ -1,4 +1,4 @@
-//! The heads of replies.
+//! Heads of responses.
 ghost use Rattle.std.specs.Prelude.{◌≡◌, not};
 ghost use Rattle.httparse.specs.Grammar.{HasNoResponse};
 ghost use Rattle.http1.specs.Conn.{keeps_alive};
@@ -10,37 +10,37 @@ use http1::framing::{Framing, MethodKind, response_framing};
 use httparse::Status;
 use httparse::spans::{EMPTY_HEADER_SPAN, parse_response};
 
-/// The most fields of a head.
+/// The most fields of a head that is read.
 const MOST_FIELDS: usize = 64;
 
-/// The head of a reply to a request that is neither `HEAD` nor `CONNECT`.
+/// The head of a response to a request that is neither `HEAD` nor `CONNECT`.
 #[derive(Clone, Copy)]
 pub struct Head {
     pub status: u16,
-    /// How many bytes it has: behind them the body begins.
+    /// Its length in bytes; the body begins behind it.
     pub len: usize,
-    /// How the body ends, or why the head doesn't say so (RFC 9112, section 6.3).
+    /// How the body ends, or why the head doesn't say (RFC 9112, section 6.3).
     pub framing: Result<Framing, ReplyFault>,
     /// Whether the server closes the connection behind the body (RFC 9112, section 9.3).
     pub closes: bool,
 }
 
-/// What the bytes that have come begin with.
+/// What the bytes received so far begin with.
 #[derive(Clone, Copy)]
 pub enum Heading {
-    /// A head.
+    /// A whole head.
     Whole(Head),
     /// No whole head yet.
     Partial,
-    /// What becomes none, or has more than 64 fields.
+    /// Nothing that can become a head, or one with more than 64 fields.
     Broken,
 }
 
-/// How a body of HTTP/1.`minor` ends (RFC 9112, section 6.3).
+/// How the body of a response of HTTP/1.`minor` ends (RFC 9112, section 6.3).
 ///
 /// # Errors
 ///
-/// `InvalidLength`, `LengthAndCoding`, and `UnknownCoding` also where the body is in a coding that isn't undone here.
+/// `InvalidLength`, `LengthAndCoding`, and `UnknownCoding`, which is also given for a coding that isn't decoded here.
 fn framing_of(status: u16, minor: u8, known: &KnownFields) -> Result<Framing, ReplyFault>
     ensures { result ≡ framing_of status minor known.now }
 {
@@ -52,7 +52,7 @@ fn framing_of(status: u16, minor: u8, known: &KnownFields) -> Result<Framing, Re
     }
 }
 
-/// Whether the connection is closed behind a reply of HTTP/1.`minor` (RFC 9112, section 9.3).
+/// Whether the connection is closed behind a response of HTTP/1.`minor` (RFC 9112, section 9.3).
 fn is_closing(minor: u8, known: &KnownFields) -> bool
     ensures { result ≡ not (keeps_alive minor known.now) }
 {
@@ -60,7 +60,7 @@ fn is_closing(minor: u8, known: &KnownFields) -> bool
     known.close || (minor == 0 && (!known.keep_alive || is_coded))
 }
 
-/// The head that bytes begin with (RFC 9112, sections 4 and 5).
+/// Parses the head that the bytes begin with (RFC 9112, sections 4 and 5).
 pub fn heading_of(bytes: &[u8]) -> Heading
     ensures { HeadingOf bytes.now result }
 {

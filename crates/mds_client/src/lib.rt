@@ -1,5 +1,4 @@
-//! A client of a server: requests as text, the heads and bodies of replies, and a connection that is kept and opened
-//! again.
+//! An HTTP client: requests as text, heads and bodies of responses, and a connection that is kept and opened again.
 #![tactic(auto)]
 
 mod body;

@@ -1,19 +1,19 @@
-//! The text of a request.
+//! Requests as text.
 ghost use Rattle.std.specs.Prelude.{◌≡◌, ◌++◌, IfOk, OnOk};
 ghost use Rattle.mds_client.specs.Requests.{target_part, request_line, host_field, token_field, length_field, request_text};
 
 use std::alloc::{AllocError, Global};
 
-/// Who is asked, and by whom.
+/// A server, and the access token by which it is asked.
 #[derive(Clone, Copy)]
 pub struct Server<'a> {
-    /// Its address, as the field `host` names it.
+    /// The server's address, as the field `host` names it.
     pub host: &'a str,
-    /// The access token of who asks.
+    /// The client's access token.
     pub token: &'a str,
 }
 
-/// What is asked.
+/// A request's method, target and body.
 #[derive(Clone, Copy)]
 pub struct Call<'a> {
     pub method: &'a str,

@@ -1,17 +1,17 @@
-//! Asking over connections that are lists of bytes.
+//! Tests of requests over connections that answer with fixed bytes.
 use crate::{Call, Client, Dial, Heading, ReplyFault, Server, body_of, heading_of, request_text};
 use http1::framing::Framing;
 use std::cell::Cell;
 use std::io::{self, Read, Write};
 use std::test::Fail;
 
-/// A reply that closes its connection.
+/// A response of 503 that closes its connection.
 const LATER: &[u8] = b"HTTP/1.1 503 \r\nConnection: close\r\ncontent-length: 2\r\n\r\n{}";
 
-/// A reply.
+/// A final response.
 const DONE: &[u8] = b"HTTP/1.1 200 OK\r\ncontent-length: 3\r\n\r\nall";
 
-/// A connection whose bytes are told.
+/// A connection that answers with these bytes.
 #[derive(Drop)]
 struct Told(&'static [u8]);
 
@@ -31,7 +31,7 @@ impl Write for Told {
     }
 }
 
-/// Connections, of which the first says that it can't answer now.
+/// Connections, the first of which answers 503.
 #[derive(Drop)]
 struct Two(Cell<u32>);
 
@@ -47,7 +47,7 @@ impl Dial for Two {
     fn pause(&self) {}
 }
 
-/// Connections over which the same is told each time.
+/// Connections that all answer with the same bytes.
 #[derive(Drop)]
 struct Same(&'static [u8]);
 
@@ -61,7 +61,7 @@ impl Dial for Same {
     fn pause(&self) {}
 }
 
-/// Replies that aren't whole or can't be seen to be whole, each with what is said of it.
+/// Responses that aren't complete or can't be seen to be complete, each with its fault.
 const FAULTS: &[(&[u8], ReplyFault)] = &[
     (
         b"HTTP/1.1 200 OK\r\ncontent-length: 99999999999999999999\r\n\r\n{}",
@@ -107,7 +107,7 @@ const FAULTS: &[(&[u8], ReplyFault)] = &[
     (b"no head at all", ReplyFault::InvalidHead),
 ];
 
-/// The length in chunks, behind an interim reply, with a byte too many behind its end.
+/// A chunked response, behind an interim one, with a surplus byte behind its end.
 const CHUNKS: &[u8] = b"HTTP/1.1 102 \r\n\r\nHTTP/1.1 200 OK\r\nTransfer-Encoding: Chunked\r\n\r\n\
     1;a=b\r\na\r\n02\r\nll\r\n0\r\nx: y\r\n\r\n!";
 
@@ -146,7 +146,7 @@ fn reads_chunks(rt: HostRuntime) -> Result<(), Fail> {
     Ok(())
 }
 
-/// What is said of the body of a reply that has come up to its connection's end.
+/// Whether a response that was received up to the end of its connection has this body, or this fault.
 fn is_body(rt: &HostRuntime, said: &[u8], wanted: Result<&[u8], ReplyFault>) -> bool {
     let Heading::Whole(head) = heading_of(said) else {
         return false;

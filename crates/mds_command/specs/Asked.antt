@@ -1,4 +1,4 @@
--- What the words behind the program's name ask for.
+-- What the arguments behind the program's name ask for.
 use Rattle.std.specs.Prelude.{ℕ, Bool, true, false, not, ◌&&◌, List, [], ◌∷◌, bytes_eq, codes, option_map, unwrap_or, if◌then◌else◌, Option, Some, None}
 use Rattle.uuid.specs.Text.{parsed}
 use Rattle.mds_command.specs.Options.{value_of, are_options, moment_in, count_in}
@@ -19,7 +19,7 @@ pub data Request : Type 0 where
   stop : (address : List ℕ) → Request
   errand : Job → Request
 
--- what a value that may be left out reads as: nothing without it, none where it isn't read
+-- a value that may be left out: `Some None` without it, `None` where it can't be read
 abbrev pub read_if : {A : Type 0} → (List ℕ → Option A) → Option (List ℕ) → Option (Option A)
 read_if read None = Some None
 read_if read (Some word) = option_map Some (read word)
@@ -27,12 +27,12 @@ read_if read (Some word) = option_map Some (read word)
 abbrev pub serving_options : List (List ℕ)
 serving_options = codes "--config" ∷ codes "--state" ∷ codes "--listen" ∷ codes "--control" ∷ codes "--control-host" ∷ codes "--drop" ∷ codes "--thin-at" ∷ []
 
--- the control port has another name only where there is one
+-- the control port has a further name only where there is a control port
 abbrev pub is_control : (control control_host : Option (List ℕ)) → Bool
 is_control None (Some host) = false
 is_control control control_host = true
 
--- to serve, where these three are given; the journal is thinned by its default where it isn't said when
+-- to serve, where these three are given; without `--thin-at` its default holds
 abbrev pub serve_with : (config state listen control control_host : Option (List ℕ)) → (dropped : Option (Option (List ℕ)))
     → (thin_at : Option (Option ℕ)) → Option Request
 serve_with (Some config) (Some state) (Some listen) control control_host (Some dropped) (Some thin_at) =
@@ -64,7 +64,7 @@ asked_to_audit folder words =
     (read_if parsed (value_of (codes "--operator") words))
     else None
 
--- to thin a journal, where the configuration is given
+-- to compact a journal, where the configuration is given
 abbrev pub thin_with : List ℕ → Option (List ℕ) → Option Request
 thin_with folder (Some config) = Some (thin folder config)
 thin_with folder None = None
@@ -78,23 +78,23 @@ abbrev pub asked_to_check : List ℕ → List (List ℕ) → Option Request
 asked_to_check option (config ∷ []) = if bytes_eq option (codes "--config") then Some (check_config config) else None
 asked_to_check option words = None
 
--- what one word asks for
+-- what a single argument asks for
 abbrev pub asked_alone : List ℕ → Option Request
 asked_alone word =
     if bytes_eq word (codes "--help") then Some help
     else (if bytes_eq word (codes "--version") then Some version else None)
 
--- what the word `check` or `stop` asks for, with a folder or an address; `--config` by itself is no folder
+-- what `check` or `stop` asks for, with a folder or an address; `--config` by itself is no folder
 abbrev pub asked_with : List ℕ → List ℕ → Option Request
 asked_with verb name =
     if bytes_eq verb (codes "check") && not (bytes_eq name (codes "--config")) then Some (check name)
     else (if bytes_eq verb (codes "stop") then Some (stop name) else None)
 
--- what is done between files and another server
+-- what `import` or `export` asks for
 abbrev pub asked_errand : List ℕ → List ℕ → List (List ℕ) → Option Request
 asked_errand verb name words = option_map errand (errand_of verb name words)
 
--- what a word asks for, with another and options, which `stop` hasn't
+-- what a verb asks for, with its first argument and those behind it, which `stop` hasn't
 abbrev pub asked_of : List ℕ → List ℕ → List (List ℕ) → Option Request
 asked_of verb name [] = asked_with verb name
 asked_of verb name (word ∷ words) =
@@ -102,7 +102,7 @@ asked_of verb name (word ∷ words) =
     else (if bytes_eq verb (codes "audit") then asked_to_audit name (word ∷ words)
     else (if bytes_eq verb (codes "thin") then asked_to_thin name (word ∷ words) else asked_errand verb name (word ∷ words)))
 
--- what the words behind the program's name ask for
+-- what the arguments behind the program's name ask for
 abbrev pub asked_by : List (List ℕ) → Option Request
 asked_by [] = None
 asked_by (word ∷ []) = asked_alone word

@@ -1,4 +1,4 @@
--- What the words ask for that is done between files and another server.
+-- What `import` and `export` ask for.
 use Rattle.std.specs.Prelude.{ℕ, ◌+◌, ◌-◌, ◌==◌, ◌&&◌, Bool, false, List, [], ◌∷◌, length, take, drop, map, bytes_eq, codes, string_bytes, option_map, if◌then◌else◌, Option, Some, None}
 use Rattle.mds_command.specs.Options.{value_of, are_options}
 use Rattle.mds_command.specs.declared.errands.TokenSource.{TokenSource}
@@ -8,34 +8,35 @@ use Rattle.mds_command.specs.declared.errands.Import.{Import}
 use Rattle.mds_command.specs.declared.errands.Errand.{Errand}
 use Rattle.mds_command.specs.declared.errands.Errand.TheVariants.{Policies, Status, Published}
 
--- an access token: it stands among the words, or in the file of this path
+-- an access token: an argument itself, or in the file of this path
 pub data Token : Type 0 where
   argument : (token : List ℕ) → Token
   in_file : (path : List ℕ) → Token
 
--- what is done: files are sent to an address by an access token, or to nobody; or what is published there goes into a folder
+-- an import or an export: files are sent to an address by an access token, or to nobody in a dry run; or what is
+-- published at an address is written into a folder
 pub data Job : Type 0 where
   policies : (files : List (List ℕ)) → (destination : Option (List ℕ × Token)) → Job
   status : (files : List (List ℕ)) → (destination : Option (List ℕ × Token)) → Job
   published : (folder : List ℕ) → (source : List ℕ × Token) → Job
 
--- a word that begins an option
+-- an argument that begins an option: with `--`
 abbrev pub begins_option : List ℕ → Bool
 begins_option (a ∷ b ∷ word) = (a == 45) && (b == 45)
 begins_option word = false
 
--- how many words stand before the first option
+-- how many arguments stand before the first option
 abbrev pub file_count : List (List ℕ) → ℕ
 file_count [] = 0
 file_count (word ∷ words) = if begins_option word then 0 else 1 + file_count words
 
--- the last word is `--dry-run`
+-- the last argument is `--dry-run`
 abbrev pub is_dry : List (List ℕ) → Bool
 is_dry [] = false
 is_dry (word ∷ []) = bytes_eq word (codes "--dry-run")
 is_dry (word ∷ next ∷ words) = is_dry (next ∷ words)
 
--- the token behind `--token` or the file behind `--token-file`, where one of both is given
+-- the token behind `--token` or the file behind `--token-file`, where exactly one of both is given
 abbrev pub token_with : (token path : Option (List ℕ)) → Option Token
 token_with (Some token) None = Some (argument token)
 token_with None (Some path) = Some (in_file path)
@@ -49,26 +50,27 @@ abbrev pub place_with : Option (List ℕ) → Option Token → Option (List ℕ 
 place_with (Some address) (Some token) = Some (address, token)
 place_with address token = None
 
--- a server that options name: its address behind this one, its access token behind `--token` or in a file
+-- the server that options name: its address behind this one, its access token behind `--token` or in the file behind
+-- `--token-file`
 abbrev pub place_in : List ℕ → List (List ℕ) → Option (List ℕ × Token)
 place_in name words =
     if are_options (name ∷ codes "--token" ∷ codes "--token-file" ∷ []) words
     then place_with (value_of name words) (token_source words)
     else None
 
--- nothing is sent, where the other options are none or name a server
+-- a dry run, where the other options are none at all or name a server
 abbrev pub dry_with : List (List ℕ) → Option (List ℕ × Token) → Option (Option (List ℕ × Token))
 dry_with [] place = Some None
 dry_with words (Some place) = Some None
 dry_with words None = None
 
--- to whom files are sent: to nobody with `--dry-run` as the last word
+-- where files are sent: to nobody with `--dry-run` as the last argument
 abbrev pub destination_in : List (List ℕ) → Option (Option (List ℕ × Token))
 destination_in words =
     if is_dry words then (let rest = take (length words - 1) words in dry_with rest (place_in (codes "--to") rest))
     else option_map Some (place_in (codes "--to") words)
 
--- files, of which there is one at least, and to whom they are sent
+-- files, of which there is one at least, and where they are sent
 abbrev pub sent : (List (List ℕ) → Option (List ℕ × Token) → Job) → List (List ℕ) → Option (Option (List ℕ × Token)) → Option Job
 sent job [] destination = None
 sent job files None = None
@@ -77,7 +79,7 @@ sent job files (Some destination) = Some (job files destination)
 abbrev pub sent_by : (List (List ℕ) → Option (List ℕ × Token) → Job) → List (List ℕ) → Option Job
 sent_by job words = sent job (take (file_count words) words) (destination_in (drop (file_count words) words))
 
--- what `import` asks for, with a kind of file and further words
+-- what `import` asks for, with a kind of file and further arguments
 abbrev pub import_of : List ℕ → List (List ℕ) → Option Job
 import_of kind words =
     if bytes_eq kind (codes "policies") then sent_by policies words
@@ -87,7 +89,7 @@ import_of kind words =
 abbrev pub export_of : List ℕ → List (List ℕ) → Option Job
 export_of folder words = option_map (published folder) (place_in (codes "--from") words)
 
--- what a word asks for, with another and options
+-- what a verb asks for, with its first argument and those behind it
 abbrev pub errand_of : List ℕ → List ℕ → List (List ℕ) → Option Job
 errand_of verb name words =
     if bytes_eq verb (codes "import") then import_of name words

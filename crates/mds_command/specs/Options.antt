@@ -1,4 +1,4 @@
--- Options among a program's words: each is a name, with a value behind it.
+-- Options among a program's arguments: each is a name, with a value behind it.
 use Rattle.std.specs.Prelude.{ℕ, ◌+◌, ◌-◌, ◌*◌, ◌&&◌, fold, Bool, true, false, not, List, [], ◌∷◌, length, bytes_eq, nat_le, is_some, if◌then◌else◌, Option, Some, None}
 use Rattle.std.specs.List.{list_all, list_any}
 use Rattle.std.specs.Char.{is_ascii_digit}
@@ -9,7 +9,7 @@ abbrev pub value_of : List ℕ → List (List ℕ) → Option (List ℕ)
 value_of name (word ∷ value ∷ words) = if bytes_eq word name then Some value else value_of name words
 value_of name words = None
 
--- a word is one of these names, and no option of this name is among the words behind it
+-- a word is one of these names, and no option behind it has the same name
 unfoldable pub is_new : List (List ℕ) → List ℕ → List (List ℕ) → Bool
 is_new names word behind = list_any (bytes_eq word) names && not (is_some (value_of word behind))
 
@@ -22,11 +22,11 @@ are_options names [] = true
 abbrev pub are_digits : List ℕ → Bool
 are_digits bytes = list_all is_ascii_digit bytes
 
--- the number that decimal digits stand for
+-- the value of decimal digits
 abbrev pub decimal : List ℕ → ℕ
 decimal digits = fold (λ n digit. 10 * n + (digit - 48)) 0 digits
 
--- 1 to 13 digits that stand for a moment
+-- 1 to 13 digits whose value is a moment
 abbrev pub is_moment : List ℕ → Bool
 is_moment word = nat_le 1 (length word) && nat_le (length word) 13 && are_digits word && nat_le (decimal word) last_moment
 

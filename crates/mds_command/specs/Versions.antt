@@ -1,4 +1,4 @@
--- What the program says of its version.
+-- The line that `--version` prints.
 use Rattle.std.specs.Prelude.{ℕ, List, [], ◌∷◌, ◌++◌, codes}
 
 -- the commit in brackets, where it is known

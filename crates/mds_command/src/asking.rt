@@ -1,4 +1,4 @@
-//! What the program is asked to do.
+//! What the program's arguments ask for.
 ghost use Rattle.std.specs.Prelude.{◌≡◌, ◌∷◌, map, string_bytes, option_map};
 ghost use Rattle.uuid.specs.Text.{parsed};
 ghost use Rattle.mds_command.specs.Options.{moment_in, count_in};
@@ -9,77 +9,77 @@ use crate::moment::{count_of, moment_of};
 use crate::options::{are_options, value_of};
 use mds_text::{Id, Moment};
 
-/// By how many bytes a journal has to have grown before it is thinned, where it isn't said: 64 MiB.
+/// The least growth of a journal, in bytes, before it is compacted, where `--thin-at` isn't given: 64 MiB.
 pub const THIN_AT: u64 = 67_108_864;
 
-/// The option that the file of a configuration stands behind.
+/// The option whose value is the configuration's file.
 const CONFIG: &str = "--config";
 
-/// Where a city is kept and served.
+/// The arguments of `serve`: which city is served, and where.
 #[derive(Clone, Copy)]
 pub struct Service<'a> {
-    /// The file of the configuration.
+    /// The configuration's file.
     pub config: &'a str,
     /// The city's folder.
     pub state: &'a str,
-    /// Where to listen.
+    /// The address to listen at.
     pub listen: &'a str,
-    /// Where to listen for who controls the server; none, nowhere.
+    /// The address of the control port; `None` for no control port.
     pub control: Option<&'a str>,
-    /// A name by which the control port may be called; only where there is one.
+    /// A further name by which the control port may be called; only where there is one.
     pub control_host: Option<&'a str>,
-    /// The operator whose entries are left out.
+    /// The operator whose entries are left out of the journal.
     pub dropped: Option<Id>,
-    /// By how many bytes the journal has to have grown before it is thinned; 0, it never is.
+    /// The least growth of the journal, in bytes, before it is compacted; 0 for never.
     pub thin_at: u64,
 }
 
-/// What of a journal is printed.
+/// The arguments of `audit`: which entries of a journal are printed.
 #[derive(Clone, Copy)]
 pub struct Audit<'a> {
     /// The city's folder.
     pub folder: &'a str,
-    /// The file of the configuration.
+    /// The configuration's file.
     pub config: &'a str,
-    /// The requests before the first later one; none, for all.
+    /// Print the requests before the first one that is later than this moment; `None` for all.
     pub until: Option<Moment>,
-    /// This operator's and the author's alone; none, for everyone's.
+    /// Print this operator's and the author's requests alone; `None` for every client's.
     pub operator: Option<Id>,
 }
 
-/// Whose journal is thinned.
+/// The arguments of `thin`: which journal is compacted.
 #[derive(Clone, Copy)]
 pub struct Thinning<'a> {
     /// The city's folder.
     pub folder: &'a str,
-    /// The file of the configuration.
+    /// The configuration's file.
     pub config: &'a str,
 }
 
-/// What the arguments ask for.
+/// What the program's arguments ask for.
 #[derive(Clone, Copy)]
 pub enum Asked<'a> {
-    /// How the program is called.
+    /// To print the help.
     Help,
-    /// The version.
+    /// To print the version.
     Version,
-    /// To serve.
+    /// To serve a city.
     Serve(Service<'a>),
-    /// How the journal of this folder ends.
+    /// To check how the journal of this folder ends.
     Check(&'a str),
-    /// Whether this file is a configuration.
+    /// To check whether this file is a configuration.
     CheckConfig(&'a str),
-    /// The journal of a folder as a script.
+    /// To print the journal of a folder as a script.
     Audit(Audit<'a>),
-    /// To thin the journal of a folder.
+    /// To compact the journal of a folder.
     Thin(Thinning<'a>),
     /// To stop the server whose control port is at this address.
     Stop(&'a str),
-    /// What is done between files and another server.
+    /// To import files into a server, or to export what it has published.
     Errand(Errand<'a>),
 }
 
-/// The identifier that a value is, if it is given; `None` where it is none.
+/// Reads a value that may be left out as an identifier: `Some(None)` without a value, `None` where it is no identifier.
 fn id_if(word: Option<&str>) -> Option<Option<Id>>
     ensures { result ≡ read_if parsed (option_map (λ word. word.now) word.entry) }
 {
@@ -92,7 +92,7 @@ fn id_if(word: Option<&str>) -> Option<Option<Id>>
     }
 }
 
-/// The moment that a value is, if it is given; `None` where it is none.
+/// Reads a value that may be left out as a moment: `Some(None)` without a value, `None` where it is no moment.
 fn moment_if(word: Option<&str>) -> Option<Option<Moment>>
     ensures { result ≡ read_if moment_in (option_map (λ word. word.now) word.entry) }
 {
@@ -105,7 +105,7 @@ fn moment_if(word: Option<&str>) -> Option<Option<Moment>>
     }
 }
 
-/// The count that a value is, if it is given; `None` where it is none.
+/// Reads a value that may be left out as a count: `Some(None)` without a value, `None` where it is no count.
 fn count_if(word: Option<&str>) -> Option<Option<u64>>
     ensures { result ≡ read_if count_in (option_map (λ word. word.now) word.entry) }
 {
@@ -118,7 +118,7 @@ fn count_if(word: Option<&str>) -> Option<Option<u64>>
     }
 }
 
-/// Where to serve, by options in any order.
+/// What `serve` asks for, with options in any order; `None` where they are wrong.
 fn asked_to_serve(words: &[String]) -> Option<Asked<'_>>
     ensures { option_map asked_view result ≡ asked_to_serve (map string_bytes words.now) }
 {
@@ -155,7 +155,7 @@ fn asked_to_serve(words: &[String]) -> Option<Asked<'_>>
     }))
 }
 
-/// What of a folder's journal to print, by options in any order.
+/// What `audit` asks for, with a folder and options in any order; `None` where they are wrong.
 fn asked_to_audit<'a>(folder: &'a str, words: &'a [String]) -> Option<Asked<'a>>
     ensures { option_map asked_view result ≡ asked_to_audit folder.now (map string_bytes words.now) }
 {
@@ -173,7 +173,7 @@ fn asked_to_audit<'a>(folder: &'a str, words: &'a [String]) -> Option<Asked<'a>>
     }))
 }
 
-/// Whose journal to thin, by its one option.
+/// What `thin` asks for, with a folder and its one option; `None` where that is wrong.
 fn asked_to_thin<'a>(folder: &'a str, words: &'a [String]) -> Option<Asked<'a>>
     ensures { option_map asked_view result ≡ asked_to_thin folder.now (map string_bytes words.now) }
 {
@@ -184,7 +184,7 @@ fn asked_to_thin<'a>(folder: &'a str, words: &'a [String]) -> Option<Asked<'a>>
     Some(Asked::Thin(Thinning { folder, config }))
 }
 
-/// Which configuration to check, by its one option.
+/// What `check --config` asks for, with one file behind it; `None` for any other option or words.
 fn asked_to_check<'a>(option: &str, words: &'a [String]) -> Option<Asked<'a>>
     ensures { option_map asked_view result ≡ asked_to_check option.now (map string_bytes words.now) }
 {
@@ -194,7 +194,7 @@ fn asked_to_check<'a>(option: &str, words: &'a [String]) -> Option<Asked<'a>>
     }
 }
 
-/// What one word asks for.
+/// What a single argument asks for: `--help` or `--version`.
 fn asked_alone(word: &str) -> Option<Asked<'_>>
     ensures { option_map asked_view result ≡ asked_alone word.now }
 {
@@ -207,7 +207,7 @@ fn asked_alone(word: &str) -> Option<Asked<'_>>
     }
 }
 
-/// What a word asks for, with a folder or an address.
+/// What a verb asks for with one argument, a folder or an address: `check` or `stop`.
 fn asked_with<'a>(verb: &str, name: &'a str) -> Option<Asked<'a>>
     ensures { option_map asked_view result ≡ asked_with verb.now name.now }
 {
@@ -220,7 +220,7 @@ fn asked_with<'a>(verb: &str, name: &'a str) -> Option<Asked<'a>>
     }
 }
 
-/// What a word asks for, with a folder or an address, and options.
+/// What a verb other than `serve` asks for, with its first argument and those behind it.
 fn asked_of<'a>(verb: &str, name: &'a str, words: &'a [String]) -> Option<Asked<'a>>
     ensures { option_map asked_view result ≡ asked_of verb.now name.now (map string_bytes words.now) }
 {
@@ -237,7 +237,7 @@ fn asked_of<'a>(verb: &str, name: &'a str, words: &'a [String]) -> Option<Asked<
     }
 }
 
-/// What is done between files and another server.
+/// What `import` or `export` asks for, with its first argument and those behind it.
 fn asked_errand<'a>(verb: &str, name: &'a str, words: &'a [String]) -> Option<Asked<'a>>
     ensures { option_map asked_view result ≡ asked_errand verb.now name.now (map string_bytes words.now) }
 {
@@ -247,7 +247,7 @@ fn asked_errand<'a>(verb: &str, name: &'a str, words: &'a [String]) -> Option<As
     }
 }
 
-/// What the words behind the program's name ask for; `None` for any others than those of `HELP`.
+/// What the arguments behind the program's name ask for; `None` for any others than those of `HELP`.
 pub fn asked_by(words: &[String]) -> Option<Asked<'_>>
     ensures { option_map asked_view result ≡ asked_by (map string_bytes words.now) }
 {

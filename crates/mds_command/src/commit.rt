@@ -1,4 +1,4 @@
-//! Of which commit the program is.
+//! The commit of the program's sources.
 
 /// The commit of the program's sources, as git names it; empty where it isn't known.
 pub const COMMIT: &str = "";

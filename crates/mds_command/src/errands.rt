@@ -1,56 +1,56 @@
-//! What the program is asked to do between files and another server.
+//! What `import` and `export` ask for.
 ghost use Rattle.std.specs.Prelude.{◌≡◌, ◌≤◌, ◌<◌, ◌∷◌, [], length, map, codes, string_bytes, option_map, IsTrue, if◌then◌else◌, Some, None};
 ghost use Rattle.mds_command.specs.Errands.{policies, status, begins_option, file_count, is_dry, token_source, place_in, dry_with, destination_in, sent_by, import_of, export_of, errand_of, token_view, place_view, import_view, errand_view};
 
 use crate::options::{are_options, value_of};
 
-/// The word that, behind all others, has nothing sent.
+/// The option for a dry run; it stands behind all others.
 const DRY_RUN: &str = "--dry-run";
 
-/// Where an access token stands.
+/// Where an access token comes from.
 #[derive(Clone, Copy)]
 pub enum TokenSource<'a> {
-    /// Among the arguments, where each user of the machine sees it: the token itself.
+    /// The argument that is the token itself, which each user of the machine sees.
     Argument(&'a str),
-    /// In the file of this path.
+    /// The file of this path.
     File(&'a str),
 }
 
-/// Another server, and by which access token it is asked.
+/// Another server, and the access token by which it is asked.
 #[derive(Clone, Copy)]
 pub struct Destination<'a> {
-    /// Where it listens, as `127.0.0.1:8080`.
+    /// Its address, as `127.0.0.1:8080`.
     pub address: &'a str,
     pub token: TokenSource<'a>,
 }
 
-/// Files that are read, and to whom what they hold is sent.
+/// The arguments of an import: its files, and the server to which what they hold is sent.
 #[derive(Clone, Copy)]
 pub struct Import<'a> {
     pub files: &'a [String],
-    /// None, where nothing is sent and it is told what would be.
+    /// `None` for a dry run, which sends nothing and prints what would be sent.
     pub destination: Option<Destination<'a>>,
 }
 
-/// A server that is read, and the folder into which goes what is published there.
+/// The arguments of an export: a server, and the folder into which what is published there is written.
 #[derive(Clone, Copy)]
 pub struct Export<'a> {
     pub folder: &'a str,
     pub source: Destination<'a>,
 }
 
-/// What is done between files and another server.
+/// An import or an export, between files and another server.
 #[derive(Clone, Copy)]
 pub enum Errand<'a> {
-    /// Documents of policies and geographies go to a server as drafts.
+    /// Sends documents of policies and geographies to a server as drafts.
     Policies(Import<'a>),
-    /// What vehicles do goes to a server as reports.
+    /// Sends what vehicles do to a server as reports.
     Status(Import<'a>),
-    /// What is published at a server goes into a folder.
+    /// Writes what is published at a server into a folder.
     Published(Export<'a>),
 }
 
-/// Whether a word begins an option.
+/// Whether an argument begins an option: with `--`.
 fn begins_option(word: &str) -> bool
     ensures { result ≡ begins_option word.now }
 {
@@ -60,7 +60,7 @@ fn begins_option(word: &str) -> bool
     }
 }
 
-/// How many words stand before the first option.
+/// How many arguments stand before the first option.
 fn file_count(words: &[String]) -> usize
     ensures value { result ≡ file_count (map string_bytes words.now) }
     ensures within { result ≤ length words.now }
@@ -75,7 +75,7 @@ fn file_count(words: &[String]) -> usize
     count
 }
 
-/// Whether nothing is to be sent.
+/// Whether the last argument is `--dry-run`.
 fn is_dry(words: &[String]) -> bool
     ensures value { result ≡ is_dry (map string_bytes words.now) }
     ensures within { IsTrue result → 0 < length words.now }
@@ -90,7 +90,7 @@ fn is_dry(words: &[String]) -> bool
     false
 }
 
-/// Where options have an access token; `None` where they have none, or both a token and a file.
+/// Where the access token of the options comes from; `None` where they have none, or both a token and a file.
 fn token_source<'a>(words: &'a [String]) -> Option<TokenSource<'a>>
     ensures { option_map token_view result ≡ token_source (map string_bytes words.now) }
 {
@@ -101,7 +101,7 @@ fn token_source<'a>(words: &'a [String]) -> Option<TokenSource<'a>>
     }
 }
 
-/// The server that options name, by the option that its address stands behind.
+/// The server that the options name, its address behind the option `name`; `None` where they are wrong.
 fn place_in<'a>(name: &str, words: &'a [String]) -> Option<Destination<'a>>
     ensures { option_map place_view result ≡ place_in name.now (map string_bytes words.now) }
 {
@@ -113,14 +113,14 @@ fn place_in<'a>(name: &str, words: &'a [String]) -> Option<Destination<'a>>
     Some(Destination { address, token })
 }
 
-/// To nobody, where the words in front of the last are no options or name a server.
+/// Whether the options in front of `--dry-run` are none at all, or name a server.
 fn dry_with(rest: &[String], place: Option<Destination<'_>>) -> bool
     ensures { dry_with (map string_bytes rest.now) (option_map place_view place.entry) ≡ (if result then Some None else None) }
 {
     rest.is_empty() || place.is_some()
 }
 
-/// To whom files are sent; `None` where the options aren't as they have to be.
+/// The server to which files are sent: `Some(None)` for a dry run, `None` where the options are wrong.
 #[tactic(auto, using(crate::proofs::Fronts::front_of_texts))]
 fn destination_in(words: &[String]) -> Option<Option<Destination<'_>>>
     ensures { option_map (option_map place_view) result ≡ destination_in (map string_bytes words.now) }
@@ -140,7 +140,7 @@ fn destination_in(words: &[String]) -> Option<Option<Destination<'_>>>
     }
 }
 
-/// Files, of which there is one at least, and to whom they are sent.
+/// The arguments of an import: one file at least, and where they are sent; `None` where they are wrong.
 fn sent(words: &[String]) -> Option<Import<'_>>
     ensures documents { option_map (import_view policies) result ≡ sent_by policies (map string_bytes words.now) }
     ensures vehicles { option_map (import_view status) result ≡ sent_by status (map string_bytes words.now) }
@@ -155,7 +155,7 @@ fn sent(words: &[String]) -> Option<Import<'_>>
     }
 }
 
-/// What of files is imported, by their kind.
+/// What `import` asks for, by the kind of its files; `None` for another kind, or where its arguments are wrong.
 fn import_of<'a>(kind: &str, words: &'a [String]) -> Option<Errand<'a>>
     ensures { option_map errand_view result ≡ import_of kind.now (map string_bytes words.now) }
 {
@@ -174,7 +174,7 @@ fn import_of<'a>(kind: &str, words: &'a [String]) -> Option<Errand<'a>>
     }
 }
 
-/// What is exported into a folder.
+/// What `export` asks for, with a folder and options; `None` where these are wrong.
 fn export_of<'a>(folder: &'a str, words: &'a [String]) -> Option<Errand<'a>>
     ensures { option_map errand_view result ≡ export_of folder.now (map string_bytes words.now) }
 {
@@ -184,7 +184,8 @@ fn export_of<'a>(folder: &'a str, words: &'a [String]) -> Option<Errand<'a>>
     }
 }
 
-/// What a word asks for, with another and options; `None` for any that is neither `import` nor `export`.
+/// What a verb asks for, with its first argument and those behind it; `None` for any that is neither `import` nor
+/// `export`.
 pub(crate) fn errand_of<'a>(verb: &str, name: &'a str, words: &'a [String]) -> Option<Errand<'a>>
     ensures { option_map errand_view result ≡ errand_of verb.now name.now (map string_bytes words.now) }
 {

@@ -1,4 +1,4 @@
-//! What the program ruffletuff is asked to do: its arguments, with what it says of them.
+//! The arguments of `ruffletuff`: what they ask for, and its help.
 #![tactic(auto)]
 
 mod asking;

@@ -1,4 +1,4 @@
-//! A moment or a count that a word names.
+//! Moments and counts among the arguments.
 ghost use Rattle.std.specs.Prelude.{◌≡◌, ◌≤◌, ◌<◌, ◌^◌, length, Some, None, if◌then◌else◌, IfSome};
 ghost use Rattle.mds_command.specs.Options.{are_digits, decimal, moment_in, count_in};
 
@@ -7,8 +7,8 @@ use mds_text::Moment;
 /// The most digits of a moment or a count.
 const MOST_DIGITS: usize = 13;
 
-/// The moment that a text of 1 to 13 decimal digits names, in milliseconds of the Unix epoch; `None` for any other text,
-/// and for a moment out of range.
+/// Reads a moment: 1 to 13 decimal digits, in milliseconds since the Unix epoch; `None` for any other text, and for a
+/// moment out of range.
 pub fn moment_of(text: &str) -> Option<Moment>
     ensures { result ≡ moment_in text.now }
 {
@@ -19,7 +19,7 @@ pub fn moment_of(text: &str) -> Option<Moment>
     Moment::new(number_of(digits)? as i64)
 }
 
-/// The count that a text of 1 to 13 decimal digits names; `None` for any other text.
+/// Reads a count: 1 to 13 decimal digits; `None` for any other text.
 pub(crate) fn count_of(text: &str) -> Option<u64>
     ensures { result ≡ count_in text.now }
 {
@@ -30,7 +30,7 @@ pub(crate) fn count_of(text: &str) -> Option<u64>
     number_of(digits)
 }
 
-/// The number that decimal digits stand for; `None` where another byte is among them.
+/// The value of decimal digits; `None` where another byte is among them.
 fn number_of(digits: &[u8]) -> Option<u64>
     requires { length digits.now ≤ 13 }
     ensures value { result ≡ (if are_digits digits.now then Some (decimal digits.now) else None) }

@@ -1,4 +1,4 @@
-//! Options, each a name and a value behind it.
+//! Options: each is a name, with a value behind it.
 ghost use Rattle.std.specs.Prelude.{◌≡◌, map, string_bytes, bytes_eq, option_map};
 ghost use Rattle.std.specs.List.{list_any};
 ghost use Rattle.mds_command.specs.Options.{value_of, is_new, are_options};
@@ -32,7 +32,7 @@ fn is_known(names: &[&str], word: &str) -> bool
     false
 }
 
-/// Whether a word is one of these names, and no option of this name is among the words behind it.
+/// Whether a word is one of these names, and no option behind it has the same name.
 #[tactic(auto, unfolding(crate::specs::Options::is_new))]
 fn is_new(names: &[&str], word: &str, behind: &[String]) -> bool
     ensures { result ≡ is_new (map (λ name. name.now) names.now) word.now (map string_bytes behind.now) }
@@ -40,7 +40,7 @@ fn is_new(names: &[&str], word: &str, behind: &[String]) -> bool
     is_known(names, word) && value_of(word, behind).is_none()
 }
 
-/// Whether words are options of these names, each at most once, with a value each.
+/// Whether the words are options of these names, each at most once and with a value.
 pub(crate) fn are_options(names: &[&str], words: &[String]) -> bool
     ensures { result ≡ are_options (map (λ name. name.now) names.now) (map string_bytes words.now) }
 {

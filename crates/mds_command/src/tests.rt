@@ -1,9 +1,9 @@
-//! What the words of a command line ask for, and what is said of the version.
+//! Tests of what arguments ask for, and of the version line.
 use crate::{Asked, Errand, TokenSource, asked_by, version_line};
 use std::alloc::{AllocError, AllocGlobal};
 use std::test::Fail;
 
-/// The words of a line, between spaces.
+/// The words of a line, split at spaces.
 fn words_in<R: AllocGlobal>(rt: &R, line: &str) -> Result<Vec<String>, AllocError> {
     let mut words = Vec::new(rt.alloc());
     for word in line.split(' ') {
@@ -12,7 +12,7 @@ fn words_in<R: AllocGlobal>(rt: &R, line: &str) -> Result<Vec<String>, AllocErro
     Ok(words)
 }
 
-/// Where an errand's access token stands.
+/// Where the access token of an import or an export comes from.
 fn token_in<'a>(asked: &Asked<'a>) -> Option<TokenSource<'a>> {
     match asked {
         Asked::Errand(Errand::Policies(import)) => match import.destination {

@@ -1,13 +1,13 @@
-//! What the program says of itself.
+//! The program's version, usage line and help.
 
 /// The program's version.
 pub const VERSION: &str = "1.2.0";
 
-/// How the program is called, in one line.
+/// The usage line.
 pub const USAGE: &str =
     "usage: ruffletuff serve --config FILE --state DIR --listen ADDRESS (ruffletuff --help says more)";
 
-/// What `--help` answers.
+/// The text that `--help` prints.
 pub const HELP: &str = "\
 ruffletuff serve --config FILE --state DIR --listen ADDRESS
                  [--control ADDRESS [--control-host NAME]] [--drop ID]

@@ -1,10 +1,10 @@
-//! What the program says of its version.
+//! The line that `--version` prints.
 ghost use Rattle.std.specs.Prelude.{◌≡◌, ◌++◌, IfOk, OnOk, string_bytes};
 ghost use Rattle.mds_command.specs.Versions.{commit_part, version_line};
 
 use std::alloc::{AllocError, Global};
 
-/// Adds the commit in brackets; nothing, where it isn't known.
+/// Appends the commit in brackets; nothing where it isn't known.
 fn push_commit(line: &mut String, commit: &str) -> Result<(), AllocError>
     ensures { OnOk result (string_bytes line.new ≡ string_bytes line.old ++ commit_part commit.now) }
 {
@@ -16,8 +16,8 @@ fn push_commit(line: &mut String, commit: &str) -> Result<(), AllocError>
     line.push_str(")")
 }
 
-/// What `--version` answers, without a line end: the program's name, its version and, where it is known, the commit of its
-/// sources.
+/// The line that `--version` prints, without its line end: the program's name, its version and, where it is known, the
+/// commit of its sources.
 ///
 /// # Errors
 ///

@@ -14,7 +14,7 @@ chosen_first : {A : Type 0} (flags : List Bool) (item : A) (items : List A)
 chosen_first [] item items = refl
 chosen_first (flag ∷ flags) item items = by_flag flag item (chosen flags items)
 
--- one more item is appended where it is chosen, and what is chosen of the others is still to be
+-- one more item is appended where it is chosen, and the choice among the others is still to come
 pub chosen_next : {A : Type 0} (flags others : List Bool) (item : A) (left rest so_far now all : List A) (flag before settled after : Bool)
     → left ≡ item ∷ rest → flag ≡ get_or flags 0 false → others ≡ drop 1 flags → after ≡ (before && settled)
     → (before ≡ true → so_far ++ chosen flags left ≡ all) → (settled ≡ true → now ≡ so_far ++ cond flag (item ∷ []) [])
@@ -32,7 +32,7 @@ none_chosen : {A : Type 0} (flags : List Bool) → chosen {A = A} flags [] ≡ [
 none_chosen [] = refl
 none_chosen (flag ∷ flags) = refl
 
--- nothing is left to be chosen of
+-- nothing is left to choose from
 pub chosen_over : {A B : Type 0} (item : B → A) (flags : List Bool) (left : List B) (so_far all : List A) → length left ≡ 0
     → so_far ++ chosen flags (map item left) ≡ all → so_far ≡ all
 chosen_over item flags [] so_far all none is = sym (append-nil so_far) ∙ ap (λ xs. so_far ++ xs) (sym (none_chosen flags)) ∙ is

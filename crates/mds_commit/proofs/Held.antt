@@ -1,4 +1,4 @@
--- What is held for texts is enough for their records.
+-- What is reserved for payloads is enough for their records.
 use Rattle.std.proofs.Common.{ℕ, ◌≤◌, List, [], ◌∷◌, arith}
 use Rattle.mds_records.specs.Records.{extent}
 use Rattle.mds_commit.specs.Places.{held_for}

@@ -14,7 +14,7 @@ pub sum_by-map : {X Y : Type 0} (f : Y → ℕ) (h : X → Y) (xs : List X) → 
 sum_by-map f h xs = fold-map (λ a y. a + f y) h 0 xs
 
 module _ {X Y : Type 0} (f : Y → ℕ) (h : X → Y) (xs : List X) where
-  -- a part has no more than the whole
+  -- a part is at most the whole
   pub front_le : (i : ℕ) → sum_by f (map h (take i xs)) ≤ sum_by f (map h xs)
   front_le i =
       let k : X → ℕ = λ x. f (h x) in omega (arith, sum_by-map f h (take i xs), sum_by-map f h xs, sum_by-take-le k xs i)
@@ -27,7 +27,7 @@ module _ {X Y : Type 0} (f : Y → ℕ) (h : X → Y) (xs : List X) where
   one_le i d lt =
       let k : X → ℕ = λ x. f (h x) in omega (arith, sum_by-map f h xs, get_or-le-sum_by k xs i d lt)
 
-  -- the whole is what stands before an entry, the entry and what stands behind it
+  -- the whole is what stands before an entry, the entry and what stands after it
   pub three_parts : (i : ℕ) (d : X) → i < length xs
       → sum_by f (map h xs) ≡ sum_by f (map h (take i xs)) + f (h (get_or xs i d)) + sum_by f (map h (drop (i + 1) xs))
   three_parts i d lt =
@@ -38,7 +38,7 @@ module _ {X Y : Type 0} (f : Y → ℕ) (h : X → Y) (xs : List X) where
   one_set i y d lt =
       let k : X → ℕ = λ x. f (h x) in omega (arith, sum_by-map f h xs, sum_by-map f h (set xs i y), sum_by-set k xs i y d lt)
 
--- the same of a list that stands in three parts
+-- the same of a list in three parts
 pub in_parts : {X : Type 0} (f : X → ℕ) (before after : List X) (x : X) → sum_by f (before ++ x ∷ after) ≡ sum_by f before + f x + sum_by f after
 in_parts f before after x = omega (arith, sum_by-append f before (x ∷ after), sum_by-cons f x after)
 
@@ -48,7 +48,7 @@ nobody = let nothing : Usage = record { texts = 0; bytes = 0 } in record { held 
 abbrev pub bytes_of : Share → ℕ
 bytes_of share = share.held.bytes + share.waiting.bytes
 
--- what is kept for all of these
+-- what all of these count for
 abbrev pub texts_in : List Share → ℕ
 texts_in each = sum_by texts_kept (map usage_of each)
 
@@ -62,14 +62,14 @@ module _ (each : List Share) where
   pub rest_shared : (i : ℕ) → IsShared (map usage_of each) → IsShared (map usage_of (drop i each))
   rest_shared i shared = (omega (arith, rest_le texts_kept usage_of each i, shared.0), omega (arith, rest_le bytes_kept usage_of each i, shared.1))
 
-  -- each has no more than all may
+  -- each has at most what all may have
   pub texts_fit : (i : ℕ) (d : Share) → i < length each → IsShared (map usage_of each) → (usage_of (get_or each i d)).texts ≤ MOST_TEXTS
   texts_fit i d lt shared = omega (arith, one_le texts_kept usage_of each i d lt, shared.0)
 
   pub bytes_fit : (i : ℕ) (d : Share) → i < length each → IsShared (map usage_of each) → (usage_of (get_or each i d)).bytes ≤ MOST_BYTES
   bytes_fit i d lt shared = omega (arith, one_le bytes_kept usage_of each i d lt, shared.1)
 
-  -- who has less than it had leaves all shared
+  -- a client that has less than it had keeps all within the limits
   pub less_shared : (i : ℕ) (y d : Share) → i < length each → (usage_of y).texts ≤ (usage_of (get_or each i d)).texts
       → (usage_of y).bytes ≤ (usage_of (get_or each i d)).bytes → IsShared (map usage_of each) → IsShared (map usage_of (set each i y))
   less_shared i y d lt texts bytes shared = (
@@ -94,7 +94,7 @@ module _ (each : List Share) where
   bytes_held i more lt =
       omega (arith, sum_by-set bytes_of each i (record { held = both (share_of each i).held more; waiting = (share_of each i).waiting }) nobody lt)
 
-  -- what is held for one stays within what all may have
+  -- what is reserved for one stays within what all may have
   pub held_fits : (i : ℕ) (more : Usage) → i < length each → IsShared (map usage_of (holding each i more))
       → ((share_of each i).held.texts + more.texts ≤ MOST_TEXTS) × ((share_of each i).held.bytes + more.bytes ≤ MOST_BYTES)
   held_fits i more lt shared =
@@ -105,7 +105,7 @@ module _ (each : List Share) where
       let bytes : bytes_kept (usage_of y) ≤ kept_in (set each i y) = rw same at (one_le bytes_kept usage_of (set each i y) i nobody there) in
       (omega (arith, texts, shared.0), omega (arith, bytes, shared.1))
 
-  -- with so much more for one, all stay shared where what is kept for the others leaves it
+  -- with so much more for one, all stay within the limits where what the others count for leaves room for it
   pub more_shared : (i : ℕ) (more : Usage) → i < length each → IsShared (map usage_of each)
       → texts_in (take i each) + (usage_of (share_of each i)).texts + more.texts + texts_in (drop (i + 1) each) ≤ MOST_TEXTS
       → kept_in (take i each) + (usage_of (share_of each i)).bytes + more.bytes + kept_in (drop (i + 1) each) ≤ MOST_BYTES
@@ -116,7 +116,7 @@ module _ (each : List Share) where
         omega (arith, one_set bytes_kept usage_of each i y nobody lt, three_parts bytes_kept usage_of each i nobody lt, shared.1, bytes),
       )
 
-  -- all have no more than there is
+  -- all have at most what there is
   pub parts_fit : (i : ℕ) → i < length each → IsShared (map usage_of each)
       → (texts_in (take i each) + (usage_of (share_of each i)).texts + texts_in (drop (i + 1) each) ≤ MOST_TEXTS)
       × (kept_in (take i each) + (usage_of (share_of each i)).bytes + kept_in (drop (i + 1) each) ≤ MOST_BYTES)
@@ -130,7 +130,7 @@ module _ (each : List Share) where
   pub share_read : (i : ℕ) (d : Share) → i < length each → d ≡ get_or each i d → d ≡ share_of each i
   share_read i d lt is = is ∙ get_or_default each i d nobody lt
 
--- where nobody has anything, all are shared
+-- where no client has anything, all are within the limits
 pub nobody_shared : (n : ℕ) → n ≤ 512 → IsShared (map usage_of (replicate n nobody)) × (bytes_in (replicate n nobody) ≡ 0)
 nobody_shared n few =
     let k : Share → ℕ = λ s. texts_kept (usage_of s) in

@@ -53,14 +53,14 @@ module _ {L : Type 0} (may_be : L → List (List ℕ) → Type 0) (is_synced : L
         rw is (ap length (append-nil log)),
       )
 
-  -- whatever the book is, the exchange adds the text to all that was seen, or finds that the history is longer
+  -- whatever the book is, the exchange appends the payload to all that was seen, or finds that the history is longer
   pub adds_moves : (v : List (List ℕ)) (e : List ℕ) (old : ℕ) → length v ≡ old
       → Moves (IsKept may_be is_synced) shown moved 0 (v, (no_nib, None)) (λ n. either (n == old) (old + 1) n) (Adds (step 0 old (old + 1) e) (v, (no_nib, None)))
   adds_moves v e old len cs log kept pre away =
       let P : List Cell → Type 0 = λ c. (0 < length c) × ((cell c 0).1 ≡ true) × Goes (IsKept may_be is_synced) shown moved 0 (v, (no_nib, None)) (λ n. either (n == old) (old + 1) n) (Adds (step 0 old (old + 1) e) (v, (no_nib, None))) c log in
       subst P (sym kept.words) (omega arith, refl, adds_goes log v e old kept.synced kept.within kept.are_synced len pre (length log == old) refl)
 
-  -- a look at the first word sees all that was appended
+  -- a read of the first word sees all that was appended
   pub stamps_moves : (v : List (List ℕ)) (e : List ℕ)
       → Moves (IsKept may_be is_synced) shown moved 0 (v, (no_nib, None)) (λ n. n) (Stamps (step 0 0 0 e) (v, (no_nib, None)))
   stamps_moves v e cs log kept pre away =
@@ -69,7 +69,7 @@ module _ {L : Type 0} (may_be : L → List (List ℕ) → Type 0) (is_synced : L
       subst P (sym kept.words)
       (omega arith, refl, (keeps, [], None, tt, kept_more log [] kept.synced (length log) kept.within kept.are_synced all, inl (refl, refl), sym all))
 
-  -- a look at the second word sees what is synced
+  -- a read of the second word sees what is synced
   pub finds_moves : (v : List (List ℕ)) (e : List ℕ)
       → Moves (IsKept may_be is_synced) shown moved 1 (v, (no_nib, None)) (λ n. n) (Finds may_be is_synced (step 1 0 0 e) (v, (no_nib, None)))
   unfolding kept_more
@@ -88,7 +88,7 @@ module _ {L : Type 0} (may_be : L → List (List ℕ) → Type 0) (is_synced : L
   raised log v before count s le synced len now pre false is =
       rw is (kept_more log [] s (length log) le synced (ap length (sym (append-nil log))))
 
-  -- the exchange that says that all these texts are synced
+  -- the exchange that records that all these payloads are synced
   pub raises_moves : (v : List (List ℕ)) (e : List ℕ) (before count : ℕ) → count ≡ length v → AreSynced may_be is_synced v
       → Moves (IsKept may_be is_synced) shown moved 1 (v, (no_nib, None)) (λ n. either (n == before) count n) (Raises (step 1 before count e) (v, (no_nib, None)))
   raises_moves v e before count len now cs log kept pre away =

@@ -1,4 +1,4 @@
--- Codes of texts, by which proofs tell values of them apart.
+-- Codes of payloads, by which proofs tell their values apart.
 use Rattle.std.specs.Prelude.{ℕ, List}
 use Rattle.std.specs.Coded.{Coded, coded_ℕ, coded_list}
 

@@ -1,15 +1,15 @@
--- The room that is held for texts before they are appended.
+-- The disk space reserved for payloads before they are appended.
 use Rattle.std.specs.Prelude.{ℕ, ◌+◌, ◌≤◌, List, [], ◌∷◌, length}
 use Rattle.mds_records.specs.Records.{extent}
 use Rattle.mds_records.specs.Groups.{group_of}
 use Rattle.mds_commit.specs.declared.backlog.TheConstants.{BESIDE}
 
--- how many bytes are held for these texts
+-- how many bytes are reserved for these payloads
 abbrev pub held_for : List (List ℕ) → ℕ
 held_for [] = 0
 held_for (text ∷ texts) = length text + BESIDE + held_for texts
 
--- However texts are grouped, what is held for them is enough for their records and the mark.
+-- However payloads are grouped, what is reserved for them is enough for their records and the mark.
 abbrev pub PlacesAreEnough : Type 0
 PlacesAreEnough =
     (position synced : ℕ) (text : List ℕ) (texts : List (List ℕ)) → extent (group_of position synced (text ∷ texts)) ≤ held_for (text ∷ texts)

@@ -1,10 +1,10 @@
--- What each who asks has, in a table.
+-- What each client has, in a table.
 use Rattle.std.specs.Prelude.{ℕ, ◌+◌, List, slice_set, slice_index_or, sum_by}
 use Rattle.mds_commit.specs.declared.deciding.Usage.{Usage}
 use Rattle.mds_commit.specs.declared.shares.Share.{Share}
 use Rattle.mds_commit.specs.Shares.{both}
 
--- what one has in all
+-- what one client has in all
 abbrev pub usage_of : Share → Usage
 usage_of share = both share.held share.waiting
 
@@ -12,19 +12,19 @@ usage_of share = both share.held share.waiting
 abbrev pub bytes_in : List Share → ℕ
 bytes_in = sum_by (λ share. share.held.bytes + share.waiting.bytes)
 
--- for how many texts of these a place is held
+-- how many payloads of these have a reservation
 abbrev pub texts_held : List Share → ℕ
 texts_held = sum_by (λ share. share.held.texts)
 
--- what this asker has, nothing where it has no share
+-- what this client has, nothing where it has no share
 abbrev pub share_of : List Share → ℕ → Share
 share_of each asker =
     let nothing : Usage = record { texts = 0; bytes = 0 } in slice_index_or each asker (record { held = nothing; waiting = nothing })
 
--- what each has once so much more is held for this asker
+-- what each has once so much more is reserved for this client
 abbrev pub holding : List Share → ℕ → Usage → List Share
 holding each asker more = slice_set each asker (record { held = both (share_of each asker).held more; waiting = (share_of each asker).waiting })
 
--- what it has once nothing of it waits
+-- what a client has once nothing of it waits
 abbrev pub untaken : Share → Share
 untaken share = record { held = share.held; waiting = record { texts = 0; bytes = 0 } }

@@ -1,4 +1,4 @@
--- What waits to be written: the texts that were appended behind those that the flusher has taken.
+-- What waits to be written: the payloads that were appended after those that the flusher has taken.
 use Rattle.std.specs.Prelude.{List, ℕ, refl}
 use Rattle.std.specs.Coded.{Coded, code_by, coded×}
 use Rattle.mds_commit.specs.Codes.{coded_texts}

@@ -1,4 +1,4 @@
-//! What lies under the lock: the texts that wait for the flusher, and the room that is set aside for them.
+//! The state under the keeper's lock: the payloads that wait for the flusher, and the disk space reserved for them.
 ghost use Rattle.std.specs.Prelude.{◌≡◌, ◌+◌, ◌≤◌, ◌<◌, ◌++◌, ◌∷◌, [], length, map, true, IfOk, IfSome, IfNone, OnOk, OnErr, OnSome, if◌then◌else◌, get_or, drop, false, vec_len, vec_capacity};
 ghost use mathlib.Core.List.{IsPrefix};
 ghost use Rattle.mds_records.specs.Groups.{is_taken};
@@ -18,22 +18,23 @@ use std::alloc::{AllocError, Global};
 use std::marker::Model;
 use std::mem;
 
-/// What a text's record takes beside the text, with a mark for it alone.
+/// What a record takes next to its payload, in bytes, with a mark for it alone.
 const BESIDE: u64 = 56;
 
-/// Why there is no place for a text. Nothing has changed, and the next may find one.
+/// Why no reservation was made. Nothing has changed, and the next may succeed.
 #[derive(Clone, Copy, Debug, PartialEq, Eq)]
 pub enum ReserveFault {
     /// The disk has no room for its record.
     NoRoom,
-    /// The share of who asks is used up, or less than one place is left for each other.
+    /// The client's share is used up, or less than one reservation would be left for each other client that has
+    /// nothing.
     Crowded,
-    /// No log takes it, since it is empty, too long, or begins as a mark does; or all of them are more than is ever
+    /// No log accepts it, since it is empty, too long, or begins as a mark does; or all of them are more than is ever
     /// reserved at once.
     Untaken,
     /// The flusher is to stop, or has stopped.
     Stopping,
-    /// An append or a sync failed: nothing more is told.
+    /// An append or a sync failed: no response leaves any more.
     Failed,
 }
 
@@ -43,29 +44,30 @@ impl From<NoRoom> for ReserveFault {
     }
 }
 
-/// A text, and the place that is held for its record. It is appended or given back, and can't be let go.
+/// A payload, and the reservation for its record. It has to be appended or released, and can't be dropped.
 pub struct Place {
-    /// Who asks.
+    /// The client's number.
     pub asker: usize,
     pub text: Vec<u8>,
     pub ghost taken: { is_taken text.items ≡ true },
 }
 
-/// Texts, and the places that are held for their records. They are appended or given back together, and can't be let go.
+/// Payloads, and the reservations for their records. They have to be appended or released together, and can't be
+/// dropped.
 pub struct Places {
-    /// Who asks.
+    /// The client's number.
     pub asker: usize,
     pub texts: Vec<Vec<u8>>,
 }
 
-/// The texts that wait. Contracts see what the flusher has taken, and all that was appended.
+/// The queue of the payloads that wait. Contracts see what the flusher has taken, and all that was appended.
 #[derive(Drop)]
 pub(crate) struct Queue<K: Naming, L: Log> {
-    /// The texts that wait.
+    /// The payloads that wait.
     texts: Vec<Vec<u8>>,
-    /// What the flusher has taken.
+    /// The log position of what the flusher has taken.
     taken: Stamp<K, L>,
-    /// All that was appended.
+    /// The log position of all that was appended.
     appended: Stamp<K, L>,
 }
 
@@ -83,24 +85,24 @@ impl<K: Naming, L: Log> Model for Queue<K, L> {
     ghost invariant = { λ q. (q.appended ≡ q.taken ++ map (λ v. v.items) q.texts.items) × (MOST_TEXTS ≤ vec_capacity q.texts) };
 }
 
-/// What lies under the lock.
+/// The state under the keeper's lock.
 #[derive(Drop)]
 pub(crate) struct Backlog<K: Naming, L: Log, S: Space> {
     queue: Queue<K, L>,
     room: Room<S>,
-    /// What waits of each who asks, and what places are held for.
+    /// What waits of each client, and what it has reserved.
     shares: Shares,
-    /// Whether no further place is given.
+    /// Whether no further reservation is made.
     is_stopping: bool,
     ghost used: { room.used ≡ bytes_in shares.each.items },
 }
 
 impl Place {
-    /// The place for a text of this asker.
+    /// The reservation for a payload of this client.
     ///
     /// # Errors
     ///
-    /// No log takes the text.
+    /// No log accepts the payload.
     fn new(asker: usize, text: Vec<u8>) -> Result<Place, ReserveFault>
         ensures text { IfOk result (λ place. place.text ≡ text) }
         ensures asker { IfOk result (λ place. place.asker ≡ asker) }
@@ -112,7 +114,7 @@ impl Place {
         }
     }
 
-    /// What its record takes in the log.
+    /// How many bytes its record takes in the log.
     fn bytes(&self) -> u64
         ensures value { result ≡ vec_len self.now.text + BESIDE }
         ensures bounded { result ≤ STEP }
@@ -122,11 +124,11 @@ impl Place {
 }
 
 impl<K: Naming, L: Log> Queue<K, L> {
-    /// Nothing waits.
+    /// An empty queue.
     ///
     /// # Errors
     ///
-    /// Memory ran out.
+    /// Out of memory.
     fn new(alloc: Global, nothing: &Stamp<K, L>) -> Result<Queue<K, L>, AllocError>
         ensures { IfOk result (λ q. (q.taken ≡ nothing.now) × (q.appended ≡ nothing.now)) }
     {
@@ -137,22 +139,22 @@ impl<K: Naming, L: Log> Queue<K, L> {
         })
     }
 
-    /// How many texts wait.
+    /// How many payloads wait.
     fn len(&self) -> usize
         ensures { length self.now.taken + result ≡ length self.now.appended }
     {
         self.texts.len()
     }
 
-    /// The stamp of all that was appended.
+    /// The log position of all that was appended.
     fn all(&self) -> Stamp<K, L>
         ensures { result ≡ self.now.appended }
     {
         self.appended.again()
     }
 
-    /// Puts a text behind all that was appended, and gives the stamp of them. None where there is no place, or where
-    /// another added to the history, which doesn't happen under the lock.
+    /// Appends a payload, and returns the log position after it. None where there is no room, or where another appended
+    /// to the history, which doesn't happen under the lock.
     fn push(&mut self, ledger: &Ledger<K, L>, text: Vec<u8>) -> Option<Stamp<K, L>>
         ensures pushed { IfSome result (λ stamp. (stamp ≡ self.old.appended ++ text.items ∷ []) × (self.new.appended ≡ stamp)) }
         ensures taken { self.new.taken ≡ self.old.taken }
@@ -170,8 +172,8 @@ impl<K: Naming, L: Log> Queue<K, L> {
         Some(appended)
     }
 
-    /// Moves all that waits into a group, which is empty and has room for as many, and gives the stamp of all that was
-    /// appended. None where the stamp isn't that of what was taken so far.
+    /// Moves all that waits into a group, which is empty and has the capacity, and returns the log position of all that
+    /// was appended. None where `taken` isn't the log position of what was taken so far.
     fn take(&mut self, group: &mut Vec<Vec<u8>>, taken: &Stamp<K, L>) -> Option<Stamp<K, L>>
         requires empty { group.old.items ≡ [] }
         requires capacity { MOST_TEXTS ≤ vec_capacity group.old }
@@ -190,11 +192,11 @@ impl<K: Naming, L: Log> Queue<K, L> {
     }
 }
 
-/// What the records of texts take in the log.
+/// How many bytes the records of these payloads take in the log.
 ///
 /// # Errors
 ///
-/// A log doesn't take one of them, or all of them are more than is ever reserved at once.
+/// A log doesn't accept one of them, or all of them are more than is ever reserved at once.
 fn bytes_of_all(texts: &[Vec<u8>]) -> Result<u64, ReserveFault>
     ensures { IfOk result (λ bytes. bytes ≤ STEP) }
 {
@@ -214,7 +216,7 @@ fn bytes_of_all(texts: &[Vec<u8>]) -> Result<u64, ReserveFault>
     Ok(bytes)
 }
 
-/// The first flag, which isn't set where there is none, and the flags behind it.
+/// The first flag, unset where there is none, and the flags after it.
 fn first_flag(flags: &[bool]) -> (bool, &[bool])
     ensures first { result.0 ≡ get_or flags.now 0 false }
     ensures rest { result.1.now ≡ drop 1 flags.now }
@@ -226,11 +228,11 @@ fn first_flag(flags: &[bool]) -> (bool, &[bool])
 }
 
 impl<K: Naming, L: Log, S: Space> Backlog<K, L, S> {
-    /// Nothing waits, of so many who ask.
+    /// An empty backlog, for so many clients.
     ///
     /// # Errors
     ///
-    /// Memory ran out.
+    /// Out of memory.
     pub(crate) fn new(
         alloc: Global,
         nothing: &Stamp<K, L>,
@@ -248,16 +250,16 @@ impl<K: Naming, L: Log, S: Space> Backlog<K, L, S> {
         })
     }
 
-    /// Whether so much more may be reserved for this asker now.
+    /// Whether so much more may be reserved for this client now.
     pub(crate) fn has_share(&self, asker: usize, more: Usage) -> bool {
         self.shares.has_share(asker, more)
     }
 
-    /// Holds places for so much more of this asker.
+    /// Reserves so much more for this client.
     ///
     /// # Errors
     ///
-    /// Its share is used up, or the disk has no room. Nothing is held then.
+    /// Its share is used up, or the disk has no room. Nothing is reserved then.
     fn hold_more(&mut self, asker: usize, more: Usage) -> Result<(), ReserveFault>
         requires { more.bytes ≤ STEP }
         ensures held { OnOk result (self.new.shares.each.items ≡ holding self.old.shares.each.items asker more) }
@@ -272,11 +274,11 @@ impl<K: Naming, L: Log, S: Space> Backlog<K, L, S> {
         Ok(())
     }
 
-    /// Holds a place for a text of this asker.
+    /// Makes a reservation for a payload of this client.
     ///
     /// # Errors
     ///
-    /// See [`ReserveFault`]. Nothing is held then, and nothing has changed for others.
+    /// See [`ReserveFault`]. Nothing is reserved then, and nothing has changed for others.
     pub(crate) fn hold(&mut self, asker: usize, text: Vec<u8>) -> Result<Place, ReserveFault>
         ensures place { IfOk result (λ place. place.text ≡ text) }
         ensures asker { IfOk result (λ place. place.asker ≡ asker) }
@@ -298,7 +300,7 @@ impl<K: Naming, L: Log, S: Space> Backlog<K, L, S> {
         }
     }
 
-    /// Gives a place back.
+    /// Releases a reservation.
     pub(crate) fn release(&mut self, place: Place)
         ensures queue { self.new.queue ≡ self.old.queue }
     {
@@ -309,8 +311,8 @@ impl<K: Naming, L: Log, S: Space> Backlog<K, L, S> {
         }
     }
 
-    /// Appends the text of a place, and gives the stamp of all that was appended then. None where it can't, which
-    /// doesn't happen where the place was held here.
+    /// Appends the payload of a reservation, and returns the log position of all that was appended then. None where it
+    /// can't, which doesn't happen where the reservation was made here.
     pub(crate) fn append(&mut self, ledger: &Ledger<K, L>, place: Place) -> Option<Stamp<K, L>>
         ensures pushed { IfSome result (λ stamp. (stamp ≡ self.old.queue.appended ++ place.text.items ∷ []) × (self.new.queue.appended ≡ stamp)) }
         ensures taken { self.new.queue.taken ≡ self.old.queue.taken }
@@ -323,11 +325,11 @@ impl<K: Naming, L: Log, S: Space> Backlog<K, L, S> {
         self.queue.push(ledger, text)
     }
 
-    /// Holds a place for each of the texts of this asker.
+    /// Makes a reservation for each payload of this client.
     ///
     /// # Errors
     ///
-    /// See [`ReserveFault`]. Nothing is held then, and nothing has changed for others.
+    /// See [`ReserveFault`]. Nothing is reserved then, and nothing has changed for others.
     pub(crate) fn hold_all(
         &mut self,
         asker: usize,
@@ -350,7 +352,8 @@ impl<K: Naming, L: Log, S: Space> Backlog<K, L, S> {
         Ok(Places { asker, texts })
     }
 
-    /// Appends a text that a place is held for, where it is kept, and else gives the place back. Says whether it did.
+    /// Appends a payload that has a reservation, where it is to be persisted, and releases the reservation otherwise.
+    /// Returns whether it did.
     fn settle_one(
         &mut self,
         ledger: &Ledger<K, L>,
@@ -362,7 +365,7 @@ impl<K: Naming, L: Log, S: Space> Backlog<K, L, S> {
             → self.new.queue.appended ≡ self.old.queue.appended ++ (if is_kept then text.items ∷ [] else []) }
         ensures taken { self.new.queue.taken ≡ self.old.queue.taken }
     {
-        // A place was held for it, so a log takes it.
+        // It has a reservation, so a log accepts it.
         let Ok(place) = Place::new(asker, text) else {
             return false;
         };
@@ -374,8 +377,9 @@ impl<K: Naming, L: Log, S: Space> Backlog<K, L, S> {
         }
     }
 
-    /// Appends those of the texts that are kept, in their order, gives the places of the others back, and gives the stamp
-    /// of all that was appended then. None where it can't, which doesn't happen where the places were held here.
+    /// Appends those payloads that are to be persisted, in their order, releases the reservations of the others, and
+    /// returns the log position of all that was appended then. None where it can't, which doesn't happen where the
+    /// reservations were made here.
     pub(crate) fn settle(
         &mut self,
         ledger: &Ledger<K, L>,
@@ -407,8 +411,8 @@ impl<K: Naming, L: Log, S: Space> Backlog<K, L, S> {
         next_round(self.queue.len(), self.shares.held(), self.is_stopping)
     }
 
-    /// Moves all that waits into a group: see [`Queue::take`]. The room that is set aside for it is given back, since it
-    /// is written now.
+    /// Moves all that waits into a group: see [`Queue::take`]. Its reserved disk space is released, since it is written
+    /// now.
     pub(crate) fn take(
         &mut self,
         group: &mut Vec<Vec<u8>>,
@@ -427,7 +431,7 @@ impl<K: Naming, L: Log, S: Space> Backlog<K, L, S> {
         Some(stamp)
     }
 
-    /// No further place is given.
+    /// Stops making reservations.
     pub(crate) fn stop(&mut self)
         ensures queue { self.new.queue ≡ self.old.queue }
         ensures stopping { self.new.is_stopping ≡ true }

@@ -1,4 +1,4 @@
-//! Room on a disk, set aside as a file of zeros.
+//! Ballast: disk space reserved as a file of zeros.
 ghost use Rattle.std.specs.Prelude.{◌≡◌, IfOk};
 
 use crate::space::{NoRoom, Space};
@@ -8,8 +8,8 @@ use std::io::{Seek, SeekFrom, Write};
 /// How many zeros are written at once.
 const CHUNK: usize = 4096;
 
-/// A file of zeros on the log's disk. It grows where room is set aside, and is cut just before as much is written to the
-/// log. Nothing else writes to it. That a disk gives what was cut to the next who writes isn't known in the proofs.
+/// A file of zeros on the log's disk. It grows where disk space is reserved, and is cut just before as much is written
+/// to the log. Nothing else writes to it. The proofs don't know that the disk gives the freed space to the next write.
 #[derive(Debug, Drop)]
 pub struct Ballast<F: Write + Seek + OpenFile + Drop> {
     file: F,
@@ -18,7 +18,7 @@ pub struct Ballast<F: Write + Seek + OpenFile + Drop> {
 }
 
 impl<F: Write + Seek + OpenFile + Drop> Ballast<F> {
-    /// The room in this file, which is emptied.
+    /// The disk space reserved in this file, which is emptied.
     ///
     /// # Errors
     ///
@@ -34,7 +34,7 @@ impl<F: Write + Seek + OpenFile + Drop> Ballast<F> {
     }
 }
 
-/// Whether so many zeros were written at the end of a file.
+/// Appends so many zeros to a file, and returns whether it did.
 fn is_filled<F: Write + Seek>(file: &mut F, bytes: u64) -> bool {
     let zeros = [0u8; CHUNK];
     if file.seek(SeekFrom::End(0)).is_err() {
@@ -57,7 +57,7 @@ impl<F: Write + Seek + OpenFile + Drop> Space for Ballast<F> {
             return Err(NoRoom);
         }
         if !is_filled(&mut self.file, bytes) {
-            // What was written of it is given back, as far as the file can be cut.
+            // What was written of it is freed, as far as the file can be cut.
             let _ = self.file.set_len(self.bytes);
             return Err(NoRoom);
         }

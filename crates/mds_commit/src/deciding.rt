@@ -1,36 +1,37 @@
-//! What may be told, what the flusher does next, and whether there is room: decisions over plain values.
+//! When a response may leave, what the flusher does next, and whether a reservation may be made: decisions over plain
+//! values.
 ghost use Rattle.std.specs.Prelude.{◌≡◌, ◌+◌, ◌<◌, ◌≤◌, true, false, IsTrue, ◌↔◌};
 ghost use Rattle.mds_commit.specs.declared.deciding.Round.TheVariants as rounds;
 ghost use Rattle.mds_commit.specs.declared.deciding.Telling.TheVariants as tellings;
 ghost use Rattle.mds_commit.specs.Shares.{MayReserve};
 
-/// The most texts that wait to be written, with those that places are held for.
+/// The most payloads that wait to be written, together with those that have reservations.
 pub const MOST_TEXTS: usize = 16_384;
 
 /// The most bytes that these take in the log.
 pub const MOST_BYTES: u64 = 33_554_432;
 
-/// The most of these texts that are of one who asks.
+/// The most of these payloads that are one client's.
 pub const MOST_TEXTS_OF_ONE: usize = 4_096;
 
 /// The most bytes that these take in the log.
 pub const MOST_BYTES_OF_ONE: u64 = 8_388_608;
 
-/// How many bytes are left for each who has nothing, beside a place for one text.
+/// How many bytes are left for each client that has nothing, next to a reservation for one payload.
 pub const LEAST_BYTES: u64 = 65_536;
 
-/// For how many who ask as much can be left.
+/// The most clients for which as much can be left.
 pub const MOST_ASKERS: usize = 512;
 
-/// What waits to be written of one who asks, or of all, with what places are held for.
+/// What waits to be written together with what is reserved, of one client or of all.
 #[derive(Clone, Copy, Debug, PartialEq, Eq)]
 pub struct Usage {
     pub texts: usize,
-    /// What the records of these texts take in the log.
+    /// How many bytes the records of these payloads take in the log.
     pub bytes: u64,
 }
 
-/// Whether a reply may leave.
+/// Whether a response may leave.
 #[derive(Clone, Copy, Debug, PartialEq, Eq)]
 pub enum Telling {
     /// All that it shows is synced.
@@ -52,7 +53,7 @@ pub enum Round {
     End,
 }
 
-/// Whether a reply may leave, by whether an append or a sync has failed, and whether all that it shows is synced.
+/// Whether a response may leave, by whether an append or a sync has failed, and whether all that it shows is synced.
 pub fn may_tell(has_failed: bool, is_synced: bool) -> Telling
     ensures never { has_failed ≡ true → result ≡ tellings.Never }
     ensures now { has_failed ≡ false → is_synced ≡ true → result ≡ tellings.Now }
@@ -65,7 +66,7 @@ pub fn may_tell(has_failed: bool, is_synced: bool) -> Telling
     }
 }
 
-/// What the flusher does next, by how many texts wait, how many places are held, and whether it is to stop.
+/// What the flusher does next, by how many payloads wait, how many reservations there are, and whether it is to stop.
 pub fn next_round(waiting: usize, held: usize, is_stopping: bool) -> Round
     ensures flush { 0 < waiting → result ≡ rounds.Flush }
     ensures end { waiting ≡ 0 → held ≡ 0 → is_stopping ≡ true → result ≡ rounds.End }
@@ -81,15 +82,15 @@ pub fn next_round(waiting: usize, held: usize, is_stopping: bool) -> Round
     }
 }
 
-/// Whether so much fits beside what is there.
+/// Whether so much more fits next to what is there.
 fn fits(there: u64, more: u64, most: u64) -> bool
     ensures { IsTrue result ↔ (there + more ≤ most) }
 {
     there <= most && more <= most - there
 }
 
-/// Whether so much more may be reserved for one who asks, beside what it has itself and what all have, it among them,
-/// where so many others have nothing: it stays within its share, and one place is left for each of those.
+/// Whether so much more may be reserved for a client, by what it has itself (`own`), what all have with it (`all`), and
+/// how many others have nothing (`without`): it stays within its share, and one reservation is left for each of those.
 pub fn may_reserve(own: Usage, all: Usage, without: usize, more: Usage) -> bool
     ensures { IsTrue result ↔ MayReserve own all without more }
 {

@@ -1,4 +1,4 @@
-//! The flusher: it writes and syncs for all that wait.
+//! The flusher: one thread that writes and syncs for all that wait.
 ghost use Rattle.std.specs.Prelude.{◌≡◌, ◌++◌, ◌≤◌, [], map, ℕ, List, IfOk, OnOk, vec_capacity, vec_len};
 ghost use Rattle.mds_commit.specs.Durable.{AreDurable, EndsWith};
 ghost use Rattle.mds_commit.specs.History.{AreSynced};
@@ -13,14 +13,14 @@ use std::alloc::{AllocError, Global};
 use std::marker::Model;
 use std::sync::Wait;
 
-/// Why the flusher ended. Nothing more is told then, and what is in memory may be ahead of the disk.
+/// Why the flusher ended. No response leaves any more then, and what is in memory may be ahead of the disk.
 #[derive(Clone, Copy, Debug, PartialEq, Eq)]
 pub enum FlushFault {
     /// What waited isn't known to be appended.
     NotAppended(AppendFault),
     /// What was appended isn't known to be synced.
     NotSynced,
-    /// The keeper failed, which doesn't happen where each place is used where it was held.
+    /// The keeper failed, which doesn't happen where each reservation is used where it was made.
     Failed,
 }
 
@@ -36,14 +36,14 @@ impl From<NotSynced> for FlushFault {
     }
 }
 
-/// A log, and what was appended to it since it was opened. Contracts see these texts.
+/// A log, and what was appended to it since it was opened. Contracts see these payloads.
 #[derive(Drop)]
 struct Written<K: Naming, L: Log> {
     log: L,
-    /// How many texts the log has.
+    /// How many payloads the log has.
     position: u64,
     taken: Stamp<K, L>,
-    /// How many of the texts are said to be synced.
+    /// How many of the payloads the ledger reports as synced.
     synced: u64,
 }
 
@@ -61,18 +61,18 @@ impl<K: Naming, L: Log> Model for Written<K, L> {
     ghost invariant = { λ w. EndsWith L.may_be L.is_synced w.log w.taken };
 }
 
-/// What writes and syncs, in a thread of its own.
+/// The flusher, for a thread of its own.
 #[derive(Drop)]
 pub struct Flusher<K: Naming, L: Log> {
     written: Written<K, L>,
-    /// What is written at once. It is empty between two rounds.
+    /// The group that is written at once. It is empty between two rounds.
     group: Vec<Vec<u8>>,
     ghost empty: { vec_len group ≡ 0 },
     ghost capacity: { MOST_TEXTS ≤ vec_capacity group },
 }
 
 impl<K: Naming, L: Log> Written<K, L> {
-    /// Appends a group and syncs it, and says so in the ledger.
+    /// Appends a group, syncs it, and records that in the ledger.
     ///
     /// # Errors
     ///
@@ -95,14 +95,14 @@ impl<K: Naming, L: Log> Written<K, L> {
         Ok(())
     }
 
-    /// The texts.
+    /// The log position of the payloads.
     fn stamp(&self) -> Stamp<K, L>
         ensures { result ≡ self.now }
     {
         self.taken.again()
     }
 
-    /// The log, synced.
+    /// Syncs the log and returns it.
     fn into_log(self) -> Result<L, NotSynced>
         ensures { IfOk result L.is_synced }
     {
@@ -113,11 +113,11 @@ impl<K: Naming, L: Log> Written<K, L> {
 }
 
 impl<K: Naming, L: Log> Flusher<K, L> {
-    /// The flusher of a log that has so many texts.
+    /// The flusher of a log that has so many payloads.
     ///
     /// # Errors
     ///
-    /// Memory ran out.
+    /// Out of memory.
     pub(crate) fn new(
         alloc: Global,
         log: L,
@@ -138,7 +138,7 @@ impl<K: Naming, L: Log> Flusher<K, L> {
         })
     }
 
-    /// Waits for what is to be written, and writes and syncs it. False where nothing more can come.
+    /// Waits for what is to be written, and writes and syncs it. Returns false where nothing more can come.
     fn turn<R: Wait, S: Space>(
         &mut self,
         rt: &R,
@@ -155,11 +155,12 @@ impl<K: Naming, L: Log> Flusher<K, L> {
         Ok(true)
     }
 
-    /// Writes and syncs for all that wait, until the keeper is stopped and nothing waits: then it gives the log, synced.
+    /// Writes and syncs for all that wait, until the keeper is stopped and nothing waits: then it returns the log,
+    /// synced.
     ///
     /// # Errors
     ///
-    /// An append or a sync failed. Nothing more is told, by any thread or task.
+    /// An append or a sync failed. No response of any thread or task leaves any more.
     pub fn run<R: Wait, S: Space>(self, rt: &R, keeper: &Keeper<K, L, S>) -> Result<L, FlushFault>
         ensures { IfOk result L.is_synced }
     {
@@ -177,7 +178,7 @@ impl<K: Naming, L: Log> Flusher<K, L> {
         unreachable!()
     }
 
-    /// The log, synced, once nothing waits.
+    /// Returns the log, synced, once nothing waits.
     fn end<R: Wait, S: Space>(self, rt: &R, keeper: &Keeper<K, L, S>) -> Result<L, FlushFault>
         ensures { IfOk result L.is_synced }
     {

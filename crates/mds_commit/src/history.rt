@@ -1,5 +1,5 @@
 //! The history of what is appended, and of what of it is synced. It exists in the proofs alone: what threads share are
-//! two words, how many texts were appended, and how many of these are synced.
+//! two atomic words, how many payloads were appended, and how many of these are synced.
 ghost use Rattle.std.specs.Prelude.{◌≡◌, ◌+◌, ◌<◌, ◌≤◌, ◌^◌, ◌++◌, ◌∷◌, ℕ, List, [], length, take, IfOk, MatchBool, OnOk, true};
 ghost use mathlib.Core.List.{IsPrefix};
 ghost use Rattle.mds_commit.specs.History.{AreSynced, appended_of, synced_of};
@@ -8,7 +8,7 @@ use logbook::{Gain, Offer, Plain, Play, Rule, Seen, Word};
 use mds_records::{Log, NotSynced};
 use std::marker::{Brand, Model, PhantomData};
 
-/// A text, which contracts see as its bytes. No value of it is made.
+/// A payload, which contracts see as its bytes. No value of this type is made.
 pub struct Text {
     bytes: Vec<u8>,
 }
@@ -24,7 +24,7 @@ impl Model for Text {
     ghost view = { λ t. t.bytes.items };
 }
 
-/// The rule of the book.
+/// The rule of the history's book.
 pub struct Law<L: Log> {
     of: PhantomData<L>,
 }
@@ -56,7 +56,7 @@ impl Gain<Text, u64> for Nothing {
     ghost after = { λ names about answer. ftrue };
 }
 
-/// The step that adds a text.
+/// The step that appends a payload.
 pub struct Add;
 
 impl Play<Text, u64> for Add {
@@ -73,7 +73,7 @@ impl Plain<Vec<u8>, Text, u64> for Add {
     ghost state = { λ text. None };
 }
 
-/// The step that sees all that was appended.
+/// The step that reads how many payloads were appended.
 pub struct See;
 
 impl Play<Text, u64> for See {
@@ -82,7 +82,7 @@ impl Play<Text, u64> for See {
     ghost then = { Stamps };
 }
 
-/// What a step asks for that adds nothing.
+/// The request of a step that appends nothing.
 impl Plain<(), Text, u64> for See {
     ghost use Rattle.std.specs.Prelude.{None, []};
 
@@ -91,7 +91,7 @@ impl Plain<(), Text, u64> for See {
     ghost state = { λ nothing. None };
 }
 
-/// The step that says how many texts are synced.
+/// The step that records how many payloads are synced.
 pub struct Raise;
 
 impl Play<Text, u64> for Raise {
@@ -100,7 +100,7 @@ impl Play<Text, u64> for Raise {
     ghost then = { Raises };
 }
 
-/// The step that sees how many texts are synced.
+/// The step that reads how many payloads are synced.
 pub struct Find<L: Log> {
     of: PhantomData<L>,
 }
@@ -111,8 +111,8 @@ impl<L: Log> Play<Text, u64> for Find<L> {
     ghost then = { Finds L.may_be L.is_synced };
 }
 
-/// Which log it is. A program hands what it opens to a function that is generic over it, which it calls with `Brand`;
-/// the proof of that call picks the book of what was opened.
+/// Names one opened log in the proofs. A program passes what it opens to a function that is generic over the name, and
+/// calls it with `Brand`; the proof of that call picks the book of what was opened.
 pub trait Naming {
     ghost use Rattle.logbook.specs.Pages.{Book};
 
@@ -126,11 +126,11 @@ impl Naming for Brand {
 /// An empty history, which has no name yet.
 #[derive(Drop)]
 pub struct Opened<L: Log> {
-    /// How many texts the log has.
+    /// How many payloads the log has.
     pub(crate) position: u64,
     appended: Word<Text, u64, Law<L>>,
     synced: Word<Text, u64, Law<L>>,
-    /// What of the book is seen: nothing is appended yet.
+    /// What is seen of the book: nothing is appended yet.
     pub seen: Seen<Text, u64, Law<L>>,
     pub ghost empty: { seen.log ≡ [] },
     pub ghost appended_is: { appended ≡ appended_of seen.book },
@@ -138,7 +138,7 @@ pub struct Opened<L: Log> {
 }
 
 impl<L: Log> Opened<L> {
-    /// Begins a history behind what the log has. It syncs the log first.
+    /// Begins a history after what the log has. It syncs the log first.
     ///
     /// # Errors
     ///
@@ -157,7 +157,7 @@ impl<L: Log> Opened<L> {
         })
     }
 
-    /// Names it: its words, and the stamp of nothing.
+    /// Gives it a name, and returns its words and the log position at which nothing is appended.
     pub fn named<K: Naming>(self) -> (Ledger<K, L>, Stamp<K, L>)
         requires { self.seen.book ≡ K.book }
         ensures { result.1 ≡ [] }
@@ -183,7 +183,7 @@ impl<L: Log> Opened<L> {
     }
 }
 
-/// The words that all share: how many texts were appended, and how many of these are synced.
+/// The words that all share: how many payloads were appended, and how many of these are synced.
 #[derive(Drop)]
 pub struct Ledger<K: Naming, L: Log> {
     appended: Word<Text, u64, Law<L>>,
@@ -193,7 +193,7 @@ pub struct Ledger<K: Naming, L: Log> {
     ghost synced_is: { synced ≡ synced_of K.book },
 }
 
-/// What was appended when something was shown. Contracts see the texts, in order.
+/// A log position: all that was appended when something was shown. Contracts see the payloads, in order.
 #[derive(Drop)]
 pub struct Stamp<K: Naming, L: Log> {
     count: u64,
@@ -214,7 +214,7 @@ impl<K: Naming, L: Log> Model for Stamp<K, L> {
     ghost invariant = { λ s. (s.seen.book ≡ K.book) × (s.count ≡ length s.seen.log) };
 }
 
-/// What is synced, as a sync alone makes it. Contracts see the texts, in order.
+/// The synced prefix of what was appended, which only a sync produces. Contracts see the payloads, in order.
 #[derive(Drop)]
 pub struct Synced<K: Naming, L: Log> {
     count: u64,
@@ -237,14 +237,14 @@ impl<K: Naming, L: Log> Model for Synced<K, L> {
 }
 
 impl<K: Naming, L: Log> Stamp<K, L> {
-    /// How many texts.
+    /// How many payloads there are up to it.
     pub fn len(&self) -> u64
         ensures { result ≡ length self.now }
     {
         self.count
     }
 
-    /// The same stamp.
+    /// The same log position.
     pub fn again(&self) -> Stamp<K, L>
         ensures { result ≡ self.now }
     {
@@ -255,7 +255,7 @@ impl<K: Naming, L: Log> Stamp<K, L> {
         }
     }
 
-    /// Whether these are the texts of the other.
+    /// Whether both have the same payloads.
     pub fn is_of(&self, other: &Stamp<K, L>) -> bool
         ensures { result ≡ true → self.now ≡ other.now }
     {
@@ -264,7 +264,7 @@ impl<K: Naming, L: Log> Stamp<K, L> {
         self.count == other.count
     }
 
-    /// Whether the other has these texts first.
+    /// Whether the other's payloads begin with these.
     pub fn begins(&self, other: &Stamp<K, L>) -> bool
         ensures { result ≡ true → IsPrefix self.now other.now }
     {
@@ -273,7 +273,7 @@ impl<K: Naming, L: Log> Stamp<K, L> {
         self.count <= other.count
     }
 
-    /// All that was appended since. It waits for nobody.
+    /// The log position of all that was appended by now. It doesn't wait.
     pub fn later(&self, ledger: &Ledger<K, L>) -> Stamp<K, L>
         ensures { IsPrefix self.now result }
     {
@@ -287,7 +287,7 @@ impl<K: Naming, L: Log> Stamp<K, L> {
         }
     }
 
-    /// Adds a text to all that was seen, and says whether it did. It didn't where another did.
+    /// Appends a payload to all that was seen, and returns whether it did. It doesn't where another did.
     pub fn extend(&mut self, ledger: &Ledger<K, L>, text: &Vec<u8>) -> bool
         requires room { length self.old < 2 ^ 62 }
         ensures { MatchBool result (self.new ≡ self.old ++ text.now.items ∷ []) (IsPrefix self.old self.new) }
@@ -307,7 +307,7 @@ impl<K: Naming, L: Log> Stamp<K, L> {
         added
     }
 
-    /// Says that all these texts are synced.
+    /// Records that all these payloads are synced.
     pub fn publish(&self, ledger: &Ledger<K, L>, log: &L, before: u64)
         requires synced { L.is_synced log.now }
         requires texts { (first : List (List ℕ)) × L.may_be log.now (first ++ self.now) }
@@ -322,7 +322,7 @@ impl<K: Naming, L: Log> Stamp<K, L> {
             );
     }
 
-    /// What is synced by now: a front of what was appended. It waits for nobody.
+    /// What is synced by now: a prefix of what was appended. It doesn't wait.
     #[tactic(auto, using(crate::proofs::Fronts::taken_begins))]
     pub fn synced(&self, ledger: &Ledger<K, L>) -> Synced<K, L>
         ensures synced { AreSynced L.may_be L.is_synced result }
@@ -340,7 +340,7 @@ impl<K: Naming, L: Log> Stamp<K, L> {
         }
     }
 
-    /// Whether all these texts are among those that are synced.
+    /// Whether all these payloads are synced.
     pub fn is_within(&self, synced: &Synced<K, L>) -> bool
         ensures { MatchBool result (IsPrefix self.now synced.now) (length synced.now < length self.now) }
     {

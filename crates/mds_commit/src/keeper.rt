@@ -1,4 +1,4 @@
-//! What all desks and the room share: where they append, and what says whether a reply may leave.
+//! The commit log that all desks and the room share: it appends their records, and says when a response may leave.
 ghost use Rattle.std.specs.Prelude.{◌≡◌, ◌++◌, ◌≤◌, [], map, ℕ, List, IfOk, IfNone, IfSome, OnOk, OnErr, vec_capacity};
 ghost use mathlib.Core.List.{IsPrefix};
 ghost use Rattle.mds_commit.specs.Durable.{AreDurable, AreLast, IsLast, chosen};
@@ -17,12 +17,12 @@ use std::sync::atomic::{AtomicBool, Ordering};
 use std::sync::{Arc, Condvar, Mutex, Wait};
 use tokio::sync::{Notify, OwnedNotified};
 
-/// Why a reply isn't told.
+/// Why a response doesn't leave.
 #[derive(Clone, Copy, Debug, PartialEq, Eq)]
 pub enum NotTold {
-    /// An append or a sync failed: nothing more is told, and the program ends.
+    /// An append or a sync failed: no response leaves any more, and the program ends.
     Failed,
-    /// There was no memory to wait.
+    /// Out of memory to wait.
     NoMemory,
 }
 
@@ -32,26 +32,27 @@ impl From<AllocError> for NotTold {
     }
 }
 
-/// Where requests that are kept are appended, and what says how far they are synced.
+/// The commit log: requests that are persisted are appended here, and it knows how far they are synced.
 #[derive(Drop)]
 pub struct Keeper<K: Naming, L: Log, S: Space> {
     pub(crate) ledger: Ledger<K, L>,
     backlog: Mutex<Backlog<K, L, S>>,
-    /// Tells the flusher that there is something to do.
+    /// Wakes the flusher when there is something to do.
     more: Condvar,
-    /// Tells threads that wait that something was synced, or that nothing more is.
+    /// Wakes waiting threads when something was synced, or when nothing more will be.
     synced: Condvar,
-    /// Tells tasks the same.
+    /// Wakes waiting tasks at the same events.
     told: Arc<Notify>,
     has_failed: AtomicBool,
 }
 
-/// Begins to serve over a log, behind what it has: what all share, the flusher, and the stamp of nothing. Who asks is a
-/// number below `askers`, and of so many at most [`MOST_ASKERS`](crate::MOST_ASKERS) have a share of what may wait.
+/// Begins to serve over a log, after what it has: returns the commit log, the flusher, and the log position at which
+/// nothing is appended. A client is a number below `askers`, and at most [`MOST_ASKERS`](crate::MOST_ASKERS) of so many
+/// have a share of what may wait.
 ///
 /// # Errors
 ///
-/// Memory ran out.
+/// Out of memory.
 pub fn open<K: Naming, L: Log, S: Space>(
     alloc: Global,
     opened: Opened<L>,
@@ -79,12 +80,12 @@ pub fn open<K: Naming, L: Log, S: Space>(
 }
 
 impl<K: Naming, L: Log, S: Space> Keeper<K, L, S> {
-    /// Holds a place for the text of the record of this asker's request, before the request is carried out. The place is
-    /// given to [`Keeper::append`] where the request is kept, and else to [`Keeper::release`].
+    /// Makes a reservation for the payload of this client's request, before the request is carried out. The reservation
+    /// goes to [`Keeper::append`] where the request is to be persisted, and to [`Keeper::release`] otherwise.
     ///
     /// # Errors
     ///
-    /// There is no place: see [`ReserveFault`]. Nothing has changed.
+    /// No reservation is made: see [`ReserveFault`]. Nothing has changed.
     pub fn reserve<R: Wait>(
         &self,
         rt: &R,
@@ -99,18 +100,18 @@ impl<K: Naming, L: Log, S: Space> Keeper<K, L, S> {
         self.backlog.lock(rt).hold(asker, text)
     }
 
-    /// Gives a place back, of a request that isn't kept.
+    /// Releases the reservation of a request that isn't persisted.
     pub fn release<R: Wait>(&self, rt: &R, place: Place) {
         self.backlog.lock(rt).release(place);
         self.more.notify_one();
     }
 
-    /// Appends the record of a request that was carried out, and gives the stamp of all that was appended by then. It
-    /// waits for no sync.
+    /// Appends the record of a request that was carried out, and returns the log position of all that was appended by
+    /// then. It doesn't wait for a sync.
     ///
     /// # Errors
     ///
-    /// The keeper failed; this doesn't happen where the place was held here.
+    /// The keeper failed; this doesn't happen where the reservation was made here.
     pub fn append<R: Wait>(&self, rt: &R, place: Place) -> Result<Stamp<K, L>, NotTold>
         ensures { IfOk result (λ stamp. IsLast place.text.items stamp) }
     {
@@ -127,12 +128,12 @@ impl<K: Naming, L: Log, S: Space> Keeper<K, L, S> {
         }
     }
 
-    /// Holds a place for each of these texts of one asker, before the requests are carried out whose records they are. The
-    /// places are given to [`Keeper::settle`], or to [`Keeper::release_all`] where none of the requests is carried out.
+    /// Makes a reservation for each of these payloads of one client, before their requests are carried out. The
+    /// reservations go to [`Keeper::settle`], or to [`Keeper::release_all`] where none of the requests is carried out.
     ///
     /// # Errors
     ///
-    /// There aren't as many places: see [`ReserveFault`]. Nothing has changed.
+    /// No reservation is made: see [`ReserveFault`]. Nothing has changed.
     pub fn reserve_all<R: Wait>(
         &self,
         rt: &R,
@@ -147,24 +148,24 @@ impl<K: Naming, L: Log, S: Space> Keeper<K, L, S> {
         self.backlog.lock(rt).hold_all(asker, texts)
     }
 
-    /// Whether so much more may be reserved for this asker now. It reserves nothing.
+    /// Whether so much more may be reserved for this client now. It reserves nothing.
     pub fn has_share<R: Wait>(&self, rt: &R, asker: usize, more: Usage) -> bool {
         self.backlog.lock(rt).has_share(asker, more)
     }
 
-    /// Gives all of these places back.
+    /// Releases all of these reservations.
     pub fn release_all<R: Wait>(&self, rt: &R, places: Places) {
         let _nothing = self.backlog.lock(rt).settle(&self.ledger, places, &[]);
         self.more.notify_one();
     }
 
-    /// Appends the records of those requests that are kept, by a flag for each, in their order and with nothing between,
-    /// and gives the places of the others back. Gives the stamp of all that was appended by then, which has all that a
-    /// stamp has that was known before. It waits for no sync.
+    /// Appends the records of those requests that are to be persisted, by a flag for each, in their order and with
+    /// nothing between, and releases the reservations of the others. Returns the log position of all that was appended
+    /// by then, which isn't before the one known so far. It doesn't wait for a sync.
     ///
     /// # Errors
     ///
-    /// The keeper failed; this doesn't happen where the places were held here.
+    /// The keeper failed; this doesn't happen where the reservations were made here.
     pub fn settle<R: Wait>(
         &self,
         rt: &R,
@@ -177,7 +178,7 @@ impl<K: Naming, L: Log, S: Space> Keeper<K, L, S> {
     {
         let settled = self.backlog.lock(rt).settle(&self.ledger, places, kept);
         match settled {
-            // Under the lock it is all that was appended, so what was known before begins it.
+            // Under the lock it is all that was appended, so it begins with what was known before.
             Some(stamp) if known.begins(&stamp) => {
                 self.more.notify_one();
                 Ok(stamp)
@@ -189,11 +190,12 @@ impl<K: Naming, L: Log, S: Space> Keeper<K, L, S> {
         }
     }
 
-    /// Appends a record, and waits until it is synced: for what is shown to others at once, as a publication is.
+    /// Appends a record, and waits until it is synced: for what becomes visible to others at once, as a publication
+    /// does.
     ///
     /// # Errors
     ///
-    /// The keeper failed: then nothing is to be shown.
+    /// The keeper failed: then nothing may become visible.
     pub fn append_synced<R: Wait>(&self, rt: &R, place: Place) -> Result<Stamp<K, L>, NotTold>
         ensures last { IfOk result (λ stamp. IsLast place.text.items stamp) }
         ensures durable { IfOk result (λ stamp. AreDurable L.may_be L.is_synced stamp) }
@@ -203,14 +205,15 @@ impl<K: Naming, L: Log, S: Space> Keeper<K, L, S> {
         Ok(stamp)
     }
 
-    /// All that was appended by now, and so all that a reply can show that was made by now. It waits for nobody.
+    /// The log position of all that was appended by now, and so of all that a response made by now can show. It doesn't
+    /// wait.
     pub fn stamp(&self, known: &Stamp<K, L>) -> Stamp<K, L>
         ensures { IsPrefix known.now result }
     {
         known.later(&self.ledger)
     }
 
-    /// Whether a reply with this stamp may leave. It waits for nobody.
+    /// Whether a response with this log position may leave. It doesn't wait.
     pub fn may_tell(&self, stamp: &Stamp<K, L>) -> Telling
         ensures { result ≡ tellings.Now → AreDurable L.may_be L.is_synced stamp.now }
     {
@@ -219,7 +222,7 @@ impl<K: Naming, L: Log, S: Space> Keeper<K, L, S> {
         may_tell(has_failed, stamp.is_within(&synced))
     }
 
-    /// Waits, as a thread, until all that a stamp has is synced.
+    /// Blocks the thread until everything up to a log position is synced.
     ///
     /// # Errors
     ///
@@ -239,13 +242,13 @@ impl<K: Naming, L: Log, S: Space> Keeper<K, L, S> {
         unreachable!()
     }
 
-    /// No further place is given. The flusher ends once nothing waits and no place is held.
+    /// Stops making reservations. The flusher ends once nothing waits and nothing is reserved.
     pub fn stop<R: Wait>(&self, rt: &R) {
         self.backlog.lock(rt).stop();
         self.more.notify_one();
     }
 
-    /// What hears of all that is told from now on.
+    /// A future that completes at the next wake-up of the waiting tasks.
     pub(crate) fn heard(&self) -> Result<OwnedNotified, AllocError> {
         Ok(Notify::notified_owned(Arc::try_clone(&self.told)?))
     }
@@ -279,15 +282,15 @@ impl<K: Naming, L: Log, S: Space> Keeper<K, L, S> {
         }
     }
 
-    /// Tells all that wait to look again.
+    /// Wakes all that wait, to look again.
     pub(crate) fn tell<R: Wait>(&self, rt: &R) {
-        // Who has looked and doesn't sleep yet has the lock.
+        // A thread that has looked and doesn't sleep yet holds the lock.
         mem::drop(self.backlog.lock(rt));
         self.synced.notify_all();
         self.told.notify_waiters();
     }
 
-    /// Nothing more is told from now on.
+    /// From now on no response leaves any more.
     pub fn fail<R: Wait>(&self, rt: &R) {
         self.has_failed.store(true, Ordering::SeqCst);
         self.tell(rt);

@@ -1,4 +1,5 @@
-//! Serving over a log: group commit, and replies that leave once all that they show is synced.
+//! Group commit: room in the log before a request, one thread that writes and syncs for all, and
+//! responses that wait until what they show is synced.
 #![tactic(auto)]
 
 mod backlog;

@@ -1,20 +1,20 @@
-//! The room that is set aside for what waits.
+//! The disk space reserved for what waits.
 ghost use Rattle.std.specs.Prelude.{◌≡◌, ◌+◌, ◌-◌, ◌≤◌, OnOk, OnErr};
 ghost use Rattle.mds_commit.specs.declared.deciding.TheConstants.{MOST_BYTES};
 ghost use Rattle.mds_commit.specs.declared.room.TheConstants.{STEP};
 
 use crate::space::{NoRoom, Space};
 
-/// How many bytes are set aside at once, where there is as much.
+/// How many bytes are reserved on the disk at once, where it has as many.
 pub(crate) const STEP: u64 = 4_194_304;
 
-/// What is set aside: for what waits and for places that are held, and some more, so that the disk is seldom asked.
+/// The reserved disk space: for what waits and for reservations, and some more, so that the disk is seldom asked.
 #[derive(Drop)]
 pub(crate) struct Room<S: Space> {
     space: S,
-    /// How many bytes are for what waits and for places.
+    /// How many bytes are for what waits and for reservations.
     pub(crate) used: u64,
-    /// How many are set aside beside these.
+    /// How many more bytes are reserved on the disk.
     spare: u64,
     ghost counted: { S.aside space ≡ used + spare },
     ghost few: { spare ≤ STEP + STEP },
@@ -34,7 +34,7 @@ impl<S: Space> Room<S> {
         }
     }
 
-    /// Sets so many more bytes aside, or those that are lacking alone.
+    /// Reserves `STEP` more bytes on the disk, or only those that are lacking.
     fn grow(&mut self, lacking: u64) -> Result<(), NoRoom>
         requires spare { self.old.spare ≤ STEP }
         requires lacking { lacking ≤ STEP }
@@ -50,11 +50,11 @@ impl<S: Space> Room<S> {
         Ok(())
     }
 
-    /// Takes so many bytes of it, and sets more aside first where there are too few.
+    /// Takes so many bytes of it, and reserves more on the disk first where there are too few.
     ///
     /// # Errors
     ///
-    /// There is no room for as many. As many are used as before.
+    /// The disk has no room for as many. As many are used as before.
     pub(crate) fn take(&mut self, bytes: u64) -> Result<(), NoRoom>
         requires least { bytes ≤ STEP }
         requires bounded { self.old.used + bytes ≤ MOST_BYTES }
@@ -69,7 +69,7 @@ impl<S: Space> Room<S> {
         Ok(())
     }
 
-    /// Gives so many bytes back, for what is about to be written, or since nothing is.
+    /// Releases so many bytes, for what is about to be written, or because nothing is.
     pub(crate) fn give_back(&mut self, bytes: u64)
         requires { bytes ≤ self.old.used }
         ensures { self.new.used ≡ self.old.used - bytes }

@@ -1,4 +1,4 @@
-//! A reply that waits, as a task, until all that it shows is synced.
+//! A pending response: a task that waits until all that it shows is synced.
 ghost use Rattle.std.specs.Prelude.{◌≡◌, Some, IfOk, IfSome};
 ghost use Rattle.tokio.specs.Locks.{owned_notified_source};
 ghost use Rattle.mds_commit.specs.Durable.{AreDurable};
@@ -13,19 +13,19 @@ use mds_records::Log;
 use std::sync::Arc;
 use tokio::sync::OwnedNotified;
 
-/// A reply, until all that it shows is synced. It is ready at once where that is so. While it waits it has no lock, no
-/// permit and no thread.
+/// A response, once all that it shows is synced. It is ready at once where that is so. While it waits it holds no lock,
+/// no permit and no thread.
 #[derive(Drop)]
 pub struct Settling<T: Drop, K: Naming, L: Log, S: Space> {
     keeper: Arc<Keeper<K, L, S>>,
-    /// What the reply shows.
+    /// The log position of what the response shows.
     stamp: Stamp<K, L>,
     heard: Option<OwnedNotified>,
     reply: Option<T>,
 }
 
 impl<T: Drop, K: Naming, L: Log, S: Space> Settling<T, K, L, S> {
-    /// The reply, once all that it shows is synced.
+    /// The response, once all that it shows is synced.
     pub fn new(keeper: Arc<Keeper<K, L, S>>, stamp: Stamp<K, L>, reply: T) -> Settling<T, K, L, S>
         ensures stamp { result.stamp ≡ stamp }
         ensures reply { result.reply ≡ Some reply }
@@ -42,10 +42,10 @@ impl<T: Drop, K: Naming, L: Log, S: Space> Settling<T, K, L, S> {
 impl<T: Drop, K: Naming, L: Log, S: Space> Future for Settling<T, K, L, S> {
     type Output = Result<T, NotTold>;
 
-    // A reply is given, and is durable in all that it shows.
+    // The response is given, and all that it shows is durable.
     ghost gives = { λ s told. IfOk told (λ reply. (s.reply ≡ Some reply) × AreDurable L.may_be L.is_synced s.stamp) };
 
-    // While it waits, it hears of the next sync.
+    // While it waits, the next sync wakes it.
     ghost needs = { λ s source. IfSome s.heard (λ heard. source ≡ owned_notified_source heard) };
 
     fn poll(&mut self, cx: &mut Context<'_>) -> Poll<Result<T, NotTold>> {
@@ -55,7 +55,7 @@ impl<T: Drop, K: Naming, L: Log, S: Space> Future for Settling<T, K, L, S> {
             Telling::Later => {}
         }
         match &mut self.heard {
-            // What is told from now on is heard, and it is looked again first.
+            // It is registered for wake-ups first, and looks again then.
             None => match self.keeper.heard() {
                 Ok(heard) => {
                     self.heard = Some(heard);

@@ -1,4 +1,4 @@
-//! What each who asks has: the texts that wait, and what places are held for.
+//! Each client's share: its payloads that wait, and what it has reserved.
 ghost use Rattle.std.specs.Prelude.{◌≡◌, ◌+◌, ◌*◌, ◌<◌, ◌≤◌, true, IfOk, MatchBool, length, map, sum_by, slice_set};
 ghost use Rattle.mds_commit.specs.Shares.{IsShared, texts_kept, bytes_kept};
 ghost use Rattle.mds_commit.specs.Tables.{usage_of, bytes_in, texts_held, holding, share_of, untaken};
@@ -7,19 +7,19 @@ ghost use Rattle.mds_commit.specs.declared.deciding.TheConstants.{MOST_TEXTS, MO
 use crate::deciding::{LEAST_BYTES, MOST_ASKERS, Usage, may_reserve};
 use std::alloc::{AllocError, Global};
 
-/// Of one who asks.
+/// The usage of a client that has nothing.
 const NOTHING: Usage = Usage { texts: 0, bytes: 0 };
 
-/// What one who asks has.
+/// What one client has.
 #[derive(Clone, Copy, Debug, PartialEq, Eq)]
 pub(crate) struct Share {
-    /// What places are held for.
+    /// What it has reserved.
     held: Usage,
     /// What waits.
     waiting: Usage,
 }
 
-/// What each who asks has, by its number.
+/// What each client has, by its number.
 #[derive(Drop)]
 pub(crate) struct Shares {
     each: Vec<Share>,
@@ -40,7 +40,7 @@ impl Share {
     }
 }
 
-/// What is kept for those that have something, and how many have nothing.
+/// What the clients that have something take up, each at least its minimum, and how many have nothing.
 fn counted(shares: &[Share]) -> (Usage, usize)
     requires { IsShared (map usage_of shares.now) }
     ensures texts { result.0.texts + result.1 ≡ sum_by texts_kept (map usage_of shares.now) }
@@ -60,7 +60,7 @@ fn counted(shares: &[Share]) -> (Usage, usize)
     (all, without)
 }
 
-/// For how many texts of these a place is held.
+/// How many payloads of these have a reservation.
 fn places_of(shares: &[Share]) -> usize
     requires { IsShared (map usage_of shares.now) }
     ensures { result ≡ texts_held shares.now }
@@ -73,11 +73,11 @@ fn places_of(shares: &[Share]) -> usize
 }
 
 impl Shares {
-    /// Nobody has anything. There is a share for each of so many, and for [`MOST_ASKERS`] at the most.
+    /// No client has anything. Each of so many has a share, and at most [`MOST_ASKERS`] of them.
     ///
     /// # Errors
     ///
-    /// Memory ran out.
+    /// Out of memory.
     pub(crate) fn new(alloc: Global, askers: usize) -> Result<Shares, AllocError>
         ensures { IfOk result (λ shares. bytes_in shares.each.items ≡ 0) }
     {
@@ -90,7 +90,7 @@ impl Shares {
         })
     }
 
-    /// Whether so much more may be reserved for this asker. It may not for one who has no share.
+    /// Whether so much more may be reserved for this client; not for one without a share.
     pub(crate) fn has_share(&self, asker: usize, more: Usage) -> bool
         ensures known { result ≡ true → asker < length self.now.each.items }
         ensures shared { result ≡ true → IsShared (map usage_of (holding self.now.each.items asker more)) }
@@ -108,7 +108,7 @@ impl Shares {
         may_reserve(own, all, before_without + after_without, more)
     }
 
-    /// Holds so much more for an asker.
+    /// Reserves so much more for a client.
     pub(crate) fn hold(&mut self, asker: usize, more: Usage)
         requires known { asker < length self.old.each.items }
         requires shared { IsShared (map usage_of (holding self.old.each.items asker more)) }
@@ -119,7 +119,7 @@ impl Shares {
         share.held.bytes += more.bytes;
     }
 
-    /// Whether a place is held for one text of so many bytes of this asker.
+    /// Whether this client has a reservation for one payload of so many bytes.
     fn holds(&self, asker: usize, bytes: u64) -> bool
         ensures { result ≡ true → (asker < length self.now.each.items) × (0 < (share_of self.now.each.items asker).held.texts) × (bytes ≤ (share_of self.now.each.items asker).held.bytes) }
     {
@@ -129,8 +129,8 @@ impl Shares {
         }
     }
 
-    /// Gives back the place that is held for one text of so many bytes, and says whether it did. It didn't where none was
-    /// held.
+    /// Releases the reservation for one payload of so many bytes, and returns whether it did. It doesn't where there
+    /// was none.
     pub(crate) fn release(&mut self, asker: usize, bytes: u64) -> bool
         ensures { MatchBool result (bytes_in self.new.each.items + bytes ≡ bytes_in self.old.each.items) (self.new ≡ self.old) }
     {
@@ -143,7 +143,8 @@ impl Shares {
         true
     }
 
-    /// Has one text of so many bytes wait whose place was held, and says whether it did. It didn't where none was held.
+    /// Turns the reservation for one payload of so many bytes into one that waits, and returns whether it did. It
+    /// doesn't where there was none.
     pub(crate) fn append(&mut self, asker: usize, bytes: u64) -> bool
         ensures { bytes_in self.new.each.items ≡ bytes_in self.old.each.items }
     {
@@ -158,14 +159,14 @@ impl Shares {
         true
     }
 
-    /// How many places are held.
+    /// How many reservations there are.
     pub(crate) fn held(&self) -> usize
         ensures { result ≡ texts_held self.now.each.items }
     {
         places_of(&self.each)
     }
 
-    /// Nothing of this asker waits any more: how many bytes did.
+    /// Clears what waits of this client, and returns how many bytes that was.
     fn take_of(&mut self, asker: usize) -> u64
         requires { asker < length self.old.each.items }
         ensures bytes { result + bytes_in self.new.each.items ≡ bytes_in self.old.each.items }
@@ -177,7 +178,7 @@ impl Shares {
         bytes
     }
 
-    /// Nothing of anyone waits any more: how many bytes did. What places are held for stays.
+    /// Clears what waits of every client, and returns how many bytes that was. Reservations stay.
     pub(crate) fn take(&mut self) -> u64
         ensures bytes { result + bytes_in self.new.each.items ≡ bytes_in self.old.each.items }
         ensures taken { self.new.each.items ≡ map untaken self.old.each.items }

@@ -1,32 +1,32 @@
-//! Room on the disk that is set aside before it is needed.
+//! Disk space that is reserved before it is needed.
 /// There is no room for so much.
 #[derive(Clone, Copy, Debug, PartialEq, Eq)]
 pub struct NoRoom;
 
-/// Where room for records is set aside, so that a full disk is known before a request is carried out.
+/// Reserves disk space for records, so that a full disk is known before a request is carried out.
 pub trait Space: Drop {
     ghost use Rattle.std.specs.Prelude.{◌≡◌, ◌+◌, ◌-◌, ◌≤◌, ℕ, OnOk, OnErr};
 
-    /// How many bytes are set aside.
+    /// How many bytes are reserved.
     ghost aside: { Self → ℕ };
 
-    /// Sets so many more bytes aside. After an error as many are set aside as before.
+    /// Reserves so many more bytes. After an error as many are reserved as before.
     fn set_aside(&mut self, bytes: u64) -> Result<(), NoRoom>
         ensures done { OnOk result (aside self.new ≡ aside self.old + bytes) }
         ensures unchanged { OnErr result (aside self.new ≡ aside self.old) };
 
-    /// Gives so many back, for what is about to be written or for nothing.
+    /// Releases so many bytes, for what is about to be written or because nothing is.
     fn give_back(&mut self, bytes: u64)
         requires { bytes ≤ aside self.old }
         ensures { aside self.new ≡ aside self.old - bytes };
 }
 
-/// Room that is counted alone, for tests and for logs that no disk bounds.
+/// Space that is only counted, for tests and for logs that no disk limits.
 #[derive(Debug, Drop)]
 pub struct Counted {
     /// How many bytes are left.
     pub left: u64,
-    /// How many are set aside.
+    /// How many are reserved.
     pub aside: u64,
 }
 

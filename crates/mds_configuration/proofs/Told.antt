@@ -1,4 +1,4 @@
--- What is told of a limit.
+-- The message about a limit.
 use Rattle.std.proofs.Common.{◌≡◌, ℕ, List, Some, option_map, ap, ◌∙◌}
 use Rattle.uuid.specs.Text.{hyphenated_text, lower}
 use Rattle.mds_configuration.specs.declared.limits.Bound.{Bound}

@@ -1,4 +1,4 @@
--- One turn of a loop.
+-- One step of a loop.
 use Rattle.std.proofs.Common.{◌≡◌, ℕ, ◌+◌, ◌-◌, ◌<◌, List, ◌∷◌, ◌++◌, length, drop, take, get_or, Option, Some, option_to_list, refl, sym, ap, ◌∙◌, subst, append_assoc}
 use Rattle.std.proofs.lemmas.List.{drop_more, take_rest}
 use Rattle.mds_configuration.specs.declared.marks.Mark.{Mark}
@@ -7,7 +7,7 @@ use Rattle.mds_configuration.specs.declared.walk.Walk.{Walk}
 use Rattle.mds_configuration.specs.Grammar.{Standing, fault_after, fault_from, step}
 use Rattle.mds_configuration.specs.Spots.{Seen, spot_in, spots_from, walk_after}
 
--- what stands at a lexeme, in front of what stands behind it
+-- the member or operator at a lexeme, before those after it
 walk_one : (bytes : List ℕ) (walk : Walk) (m : Mark) (rest ms : List Mark) → ms ≡ m ∷ rest
     → spots_from bytes walk ms ≡ option_to_list (spot_in bytes walk ms) ++ spots_from bytes (walk_after walk m.sign (spot_in bytes walk ms)) rest
 walk_one bytes walk m rest ms e =
@@ -29,7 +29,7 @@ walk_on bytes walk next marks i d spot done more whole within found goes grown i
     ∙ ap (λ xs. done ++ xs) (sym one)
     ∙ is
 
--- a lexeme that may stand where it stands
+-- a lexeme that is allowed where it is
 fault_one : (bytes : List ℕ) (s t : Standing) (m : Mark) (rest ms : List Mark) → ms ≡ m ∷ rest → step bytes s ms ≡ Some t → fault_from bytes s ms ≡ fault_from bytes t rest
 fault_one bytes s t m rest ms e is =
     ap (fault_from bytes s) e ∙ ap (λ o. fault_after m.at o (λ u. fault_from bytes u rest)) (ap (step bytes s) (sym e) ∙ is)

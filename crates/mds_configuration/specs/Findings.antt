@@ -1,4 +1,4 @@
--- What is found in a configuration's text, in the order of the text.
+-- The findings in a configuration's text, in the order of the text.
 use Rattle.std.specs.Prelude.{ℕ, List, [], ◌∷◌, ◌++◌, Bool, true, false, ◌==◌, if◌then◌else◌, Option, Some, None, option_to_list, option_map, string_bytes}
 use Rattle.mds_diagnosis.specs.Diagnosis.{wrong_in}
 use Rattle.mds_diagnosis.specs.declared.wrong.Wrong.{Wrong}
@@ -23,7 +23,7 @@ use Rattle.mds_configuration.specs.Places.{place_at}
 use Rattle.mds_configuration.specs.Spots.{Seen, spots_from, start}
 use Rattle.mds_configuration.specs.Zoning.{stand_in}
 
--- what a `Finding` says
+-- the definition's value of a `Finding`
 pub record Told : Type 0 where
   pub place : Place
   pub member : List ℕ
@@ -32,7 +32,7 @@ pub record Told : Type 0 where
 abbrev pub told : Finding → Told
 told f = record { place = f.place; member = string_bytes f.member; what = f.what }
 
--- an error, and which value it is of: that of its path
+-- an error, and the value that it is in: that of its path
 abbrev pub located : List Seen → Path → What → Located
 located spots path what = record { value = last_meant path None spots; path = path; what = what }
 
@@ -44,14 +44,14 @@ abbrev pub zone_located : List Seen → Zoned → Option Located
 zone_located spots (Fault fault) = Some (located spots (Member Zone) (what.Zone fault))
 zone_located spots other = None
 
--- an error that is of no value stands at the beginning
+-- an error that is in no value is at the beginning
 abbrev pub begins_at : Option ℕ → Option Value → Bool
 begins_at None None = true
 begins_at None (Some value) = false
 begins_at (Some from) None = false
 begins_at (Some from) (Some value) = from == value.from
 
--- the error, where it is of the value that begins here
+-- the error, if it is in the value that begins here
 abbrev pub error_here : List ℕ → Option ℕ → ℕ → Option Located → List Told
 error_here bytes here offset None = []
 error_here bytes here offset (Some l) =
@@ -60,7 +60,7 @@ error_here bytes here offset (Some l) =
 abbrev pub warning_here : List ℕ → Seen → List Told
 warning_here bytes spot = option_to_list (option_map (λ w. record { place = place_at bytes spot.at; member = spot_text spot; what = w }) (warning bytes spot))
 
--- both errors, and the warning, of what stands here
+-- both errors, and the warning, for this member or operator
 abbrev pub found_here : List ℕ → Option Located → Option Located → Seen → List Told
 found_here bytes wrong zone spot =
     error_here bytes (Some spot.value.from) spot.value.from wrong ++ error_here bytes (Some spot.value.from) spot.value.from zone ++ warning_here bytes spot
@@ -77,12 +77,12 @@ abbrev pub is_json : Option Wrong → Bool
 is_json (Some wrong.Json) = false
 is_json other = true
 
--- of a text that is no JSON its members mean nothing
+-- the members of a text that is no JSON mean nothing
 abbrev pub spots_if : Bool → List ℕ → List Mark → List Seen
 spots_if true bytes marks = spots_from bytes start marks
 spots_if false bytes marks = []
 
--- where an error stands that is of no value: at the fault of a text that is no JSON, and else where the text begins
+-- the offset of an error that is in no value: where a text stops being JSON, and else where its first lexeme begins
 abbrev pub begin_of : Bool → List ℕ → List Mark → ℕ
 begin_of true bytes marks = first_at marks
 begin_of false bytes marks = fault_from bytes fresh marks
@@ -96,6 +96,6 @@ found_in bytes marks zoned wrong =
     let spots = spots_if (is_json wrong) bytes marks in
     found_among bytes (begin_of (is_json wrong) bytes marks) (wrong_located spots wrong) (zone_located spots zoned) spots
 
--- what is found in a text, where its zone goes by this
+-- the findings in a text, whose zone is this
 abbrev pub findings : List ℕ → Zoned → List Told
 findings bytes zoned = found_in bytes (marks_of bytes) zoned (wrong_in (stand_in bytes zoned))

@@ -1,4 +1,4 @@
--- A member that is read, by its name.
+-- A member that the server reads, by its name.
 use Rattle.std.specs.Prelude.{ℕ, List, Option, bytes_eq, find}
 use Rattle.mds_configuration.specs.declared.members.Known.{Known}
 use Rattle.mds_configuration.specs.Names.{name_of}

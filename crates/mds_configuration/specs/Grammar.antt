@@ -1,4 +1,4 @@
--- Where a text stops being JSON (RFC 8259): the first lexeme that can't stand where it stands.
+-- Where a text stops being JSON (RFC 8259): the first lexeme that isn't allowed where it is.
 use Rattle.std.specs.Prelude.{ℕ, List, [], ◌∷◌, Bool, true, nat_lt, length, if◌then◌else◌, Option, Some, None}
 use Rattle.std.specs.Result.{is_ok}
 use Rattle.mds_text.specs.Reading.{read_text}
@@ -43,13 +43,13 @@ abbrev pub colon_action : Sign → Option Action
 colon_action sign.Colon = Some (act.Then next.Value)
 colon_action other = None
 
--- behind a value within an object (section 4)
+-- after a value within an object (section 4)
 abbrev pub object_more : Sign → Option Action
 object_more sign.Comma = Some (act.Then next.Name)
 object_more sign.CloseObject = Some act.Close
 object_more other = None
 
--- behind a value within a list (section 5)
+-- after a value within a list (section 5)
 abbrev pub list_more : Sign → Option Action
 list_more sign.Comma = Some (act.Then next.Value)
 list_more sign.CloseList = Some act.Close
@@ -60,7 +60,7 @@ more_action [] sign = None
 more_action (bracket.Object ∷ outer) sign = object_more sign
 more_action (bracket.List ∷ outer) sign = list_more sign
 
--- what a lexeme does where it may stand
+-- the effect of a lexeme; none where it isn't allowed
 abbrev pub action : Next → List Bracket → Sign → Option Action
 action next.Value brackets sign = value_action sign
 action next.ValueOrEnd brackets sign = list_action sign
@@ -69,7 +69,7 @@ action next.NameOrEnd brackets sign = object_action sign
 action next.Colon brackets sign = colon_action sign
 action next.More brackets sign = more_action brackets sign
 
--- what may stand first behind a bracket
+-- what is allowed first after an open bracket
 abbrev pub first_within : Bracket → Next
 first_within bracket.Object = next.NameOrEnd
 first_within bracket.List = next.ValueOrEnd
@@ -86,7 +86,7 @@ abbrev pub tail_of : List Bracket → List Bracket
 tail_of [] = []
 tail_of (b ∷ outer) = outer
 
--- the standing behind a lexeme; at most 127 brackets are open
+-- the state after a lexeme; at most 127 brackets are open
 abbrev pub acted : Standing → Action → Option Standing
 acted s (act.Open b) = if nat_lt (length s.brackets) MOST_LEVELS then Some (record { next = first_within b; brackets = b ∷ s.brackets }) else None
 acted s act.Close = Some (record { next = next.More; brackets = tail_of s.brackets })
@@ -97,7 +97,7 @@ abbrev pub acted_by : Standing → Option Action → Option Standing
 acted_by s None = None
 acted_by s (Some a) = acted s a
 
--- a lexeme that has bytes of its own is JSON by itself
+-- a lexeme that is a string, a literal name or a number is JSON by itself
 abbrev pub is_sound : List ℕ → Sign → Bool
 is_sound bytes sign.Text = is_ok (read_text bytes)
 is_sound bytes sign.Truth = is_ok (read_text bytes)
@@ -110,12 +110,12 @@ step bytes s [] = None
 step bytes s (m ∷ ms) =
     if is_sound (piece bytes m.at (next_at (length bytes) ms)) m.sign then acted_by s (action s.next s.brackets m.sign) else None
 
--- at the lexeme, where it can't stand there
+-- at the lexeme, if it isn't allowed there
 abbrev pub fault_after : ℕ → Option Standing → (Standing → ℕ) → ℕ
 fault_after at None rest = at
 fault_after at (Some s) rest = rest s
 
--- the place of the first lexeme that can't stand there, or the text's end
+-- the offset of the first lexeme that isn't allowed where it is, or the text's end
 abbrev pub fault_from : List ℕ → Standing → List Mark → ℕ
 fault_from bytes s [] = length bytes
 fault_from bytes s (m ∷ ms) = fault_after m.at (step bytes s (m ∷ ms)) (λ t. fault_from bytes t ms)

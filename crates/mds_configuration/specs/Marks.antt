@@ -9,7 +9,7 @@ use Rattle.mds_configuration.specs.declared.marks.Sign.TheVariants as sign
 abbrev pub is_space : ℕ → Bool
 is_space b = (b == 32) || (b == 9) || (b == 10) || (b == 13)
 
--- the structural character or the string that a byte begins
+-- the structural character or the string that begins with a byte
 abbrev pub structural : ℕ → Option Sign
 structural b =
     if b == 123 then Some sign.OpenObject else if b == 125 then Some sign.CloseObject
@@ -21,12 +21,12 @@ structural b =
 abbrev pub word_sign : ℕ → Sign
 word_sign b = if (b == 116) || (b == 102) then sign.Truth else if b == 110 then sign.Null else sign.Number
 
--- what begins at a byte outside of a string; whether a word goes on there
+-- the lexeme that begins at a byte outside of a string, by whether a word may go on there
 abbrev pub begun_outside : Bool → ℕ → Option Sign → Option Sign
 begun_outside goes_on b (Some s) = Some s
 begun_outside goes_on b None = if is_space b || goes_on then None else Some (word_sign b)
 
--- what begins at a byte
+-- the lexeme that begins at a byte, if one does
 abbrev pub begun : Mode → ℕ → Option Sign
 begun Between b = begun_outside false b (structural b)
 begun Word b = begun_outside true b (structural b)
@@ -38,7 +38,7 @@ mode_outside b None = if is_space b then Between else Word
 mode_outside b (Some sign.Text) = Quoted
 mode_outside b (Some s) = Between
 
--- within what a text stands behind a byte
+-- the state after a byte
 abbrev pub mode_after : Mode → ℕ → Mode
 mode_after Between b = mode_outside b (structural b)
 mode_after Word b = mode_outside b (structural b)

@@ -1,5 +1,5 @@
--- Which members of a configuration are read, by whom, and which of them nobody reads.
---   author, operators, zone: mds_request (the configuration), mds_app (what people are told), mds_diagnosis; public: mds_public_answers
+-- Which members of a configuration are read, by which crate, and the warnings about the others.
+--   author, operators, zone: mds_request (configuration), mds_app (answers), mds_diagnosis; public: mds_public_answers
 --   id, limit, token of an operator: mds_request and mds_diagnosis; name of an operator: mds_app
 use Rattle.std.specs.Prelude.{ℕ, List, Bool, true, false, nat_le, length, if◌then◌else◌, Option, Some, None}
 use Rattle.mds_configuration.specs.declared.finding.What.{What}
@@ -29,7 +29,7 @@ is_name bytes value sign.Text = nat_le (length (unquoted (piece bytes value.from
 is_name bytes value sign.Null = true
 is_name bytes value other = false
 
--- what is told of a member that is read, which may be missing, and whose value isn't what is read
+-- the warning about a member: an unknown one, or a known one that may be missing and whose value isn't read
 abbrev pub warning_of : List ℕ → Owner → List ℕ → Value → Option Known → Option What
 warning_of bytes owner name value None = Some (Unread (hint owner name))
 warning_of bytes owner name value (Some Public) = if is_truth value.sign then None else Some NoTruth
@@ -40,6 +40,6 @@ abbrev pub warning_named : List ℕ → Seen → Option (List ℕ) → Option Wh
 warning_named bytes spot None = None
 warning_named bytes spot (Some name) = warning_of bytes spot.owner name spot.value (find_known name (known_of spot.owner))
 
--- what is told of a member
+-- the warning about a member
 abbrev pub warning : List ℕ → Seen → Option What
 warning bytes spot = warning_named bytes spot spot.name

@@ -15,11 +15,11 @@ name_of Limit = codes "limit"
 name_of Name = codes "name"
 name_of Token = codes "token"
 
--- of the configuration
+-- the members of the configuration
 abbrev pub of_document : List Known
 of_document = Author ∷ Operators ∷ Public ∷ Zone ∷ []
 
--- of an operator
+-- the members of an operator
 abbrev pub of_operator : List Known
 of_operator = Id ∷ Limit ∷ Name ∷ Token ∷ []
 
@@ -27,7 +27,7 @@ abbrev pub known_of : Owner → List Known
 known_of Document = of_document
 known_of (Operator place) = of_operator
 
--- those of the other
+-- those of the other object
 abbrev pub others_of : Owner → List Known
 others_of Document = of_operator
 others_of (Operator place) = of_document

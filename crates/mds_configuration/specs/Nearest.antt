@@ -1,4 +1,4 @@
--- Which name was meant: the one with the fewest edits.
+-- The known name that an unknown one may have meant: the one with the fewest edits.
 use Rattle.std.specs.Prelude.{ℕ, ◌/◌, List, [], ◌∷◌, Bool, true, ◌&&◌, nat_le, nat_lt, max, length, if◌then◌else◌, Option, Some, None, option_map}
 use Rattle.std.specs.Str.{chars}
 use Rattle.strsim.specs.Edits.{osa_table}
@@ -10,12 +10,12 @@ use Rattle.mds_configuration.specs.declared.nearest.TheConstants.{MOST_COMPARED}
 use Rattle.mds_configuration.specs.declared.spots.Owner.{Owner}
 use Rattle.mds_configuration.specs.Names.{name_of, known_of, others_of}
 
--- how many edits lead from a name to a known one: characters that are put in, left out, exchanged for another or for their neighbour
--- (the restricted Damerau-Levenshtein distance)
+-- the edit distance from a name to a known one: characters that are inserted, deleted, replaced by another or swapped
+-- with the next (the restricted Damerau-Levenshtein distance)
 abbrev pub edits_to : List ℕ → Known → ℕ
 edits_to name known = (osa_table (chars name) (chars (name_of known))).last_row (length (chars (name_of known)))
 
--- a third of the name, and one at least
+-- a third of the name's bytes, and one at least
 abbrev pub most_edits : List ℕ → ℕ
 most_edits name = max (length name) 3 / 3
 
@@ -46,6 +46,6 @@ abbrev pub here_or : Option Known → Hint → Hint
 here_or None other = other
 here_or (Some k) other = Here k
 
--- one beside it, else one of the other object
+-- one of the same object, else one of the other
 abbrev pub hint : Owner → List ℕ → Hint
 hint owner name = here_or (nearest name (known_of owner)) (elsewhere (nearest name (others_of owner)))

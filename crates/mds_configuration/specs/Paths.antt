@@ -1,4 +1,4 @@
--- Which member a fault is of, and where that stands.
+-- The path of the member that an error is in, and its value in the text.
 use Rattle.std.specs.Prelude.{ℕ, List, [], ◌∷◌, ◌++◌, Bool, true, false, ◌&&◌, ◌==◌, nat_le, bytes_eq, codes, decimal, map, if◌then◌else◌, Option, Some, None}
 use Rattle.mds_diagnosis.specs.declared.wrong.Flaw.TheVariants as flaw
 use Rattle.mds_diagnosis.specs.declared.wrong.Flaw.{Flaw}
@@ -28,7 +28,7 @@ abbrev pub key_member : Key → Known
 key_member key.Id = Id
 key_member key.Token = Token
 
--- of two that are alike the second
+-- of two operators with the same value, the path of the second
 abbrev pub wrong_path : Wrong → Path
 wrong_path wrong.Json = path.Document
 wrong_path wrong.Document = path.Document
@@ -57,19 +57,19 @@ abbrev pub is_nameless : Option (List ℕ) → Bool
 is_nameless None = true
 is_nameless (Some own) = false
 
--- what stands for a path: the member, or the operator that may lack it
+-- a path means the member, or the operator that may lack it
 abbrev pub is_meant : Path → Seen → Bool
 is_meant path.Document spot = false
 is_meant (path.Member k) spot = is_document spot.owner && has_name (name_of k) spot.name
 is_meant (path.Operator place) spot = is_operator place spot.owner && is_nameless spot.name
 is_meant (path.OfOperator place k) spot = is_operator place spot.owner && names_or_is (name_of k) spot.name
 
--- the last value that stands for a path, as the last of equal names is read
+-- the last value that a path means, as the last of equal names is read
 abbrev pub last_meant : Path → Option Value → List Seen → Option Value
 last_meant path found [] = found
 last_meant path found (s ∷ ss) = last_meant path (if is_meant path s then Some s.value else found) ss
 
--- printable ASCII, and a question mark in the place of any other byte
+-- printable ASCII, and a question mark in place of any other byte
 abbrev pub shown_byte : ℕ → ℕ
 shown_byte b = if nat_le 32 b && nat_le b 126 then b else 63
 

@@ -6,7 +6,7 @@ use Rattle.mds_configuration.specs.declared.place.Place.{Place}
 abbrev pub begins_char : ℕ → Bool
 begins_char b = not (nat_le 128 b && nat_le b 191)
 
--- the place behind a byte
+-- the position after a byte
 abbrev pub past : Place → ℕ → Place
 past place b =
     if b == 10 then record { line = place.line + 1; column = 1 }
@@ -17,6 +17,6 @@ abbrev pub place_behind : Place → List ℕ → Place
 place_behind place [] = place
 place_behind place (b ∷ bs) = place_behind (past place b) bs
 
--- the place of the byte with this offset
+-- the position of the byte with this offset
 abbrev pub place_at : List ℕ → ℕ → Place
 place_at text offset = place_behind (record { line = 1; column = 1 }) (take offset text)

@@ -1,5 +1,5 @@
--- The members of a configuration and of its operators, and the operators themselves, in the order in which they stand in the text. Of
--- a text that is no JSON nothing is meant by them.
+-- The members of a configuration and of its operators, and the operators themselves, in the order of the text. For a
+-- text that is no JSON they mean nothing.
 use Rattle.std.specs.Prelude.{ℕ, ◌+◌, ◌-◌, List, [], ◌∷◌, ◌++◌, Bool, true, false, ◌&&◌, ◌==◌, nat_lt, length, bytes_eq, codes, if◌then◌else◌, Option, Some, None, option_map, option_to_list, string_bytes}
 use Rattle.mds_configuration.specs.declared.marks.Mark.{Mark}
 use Rattle.mds_configuration.specs.declared.marks.Sign.{Sign}
@@ -12,7 +12,8 @@ use Rattle.mds_configuration.specs.declared.walk.Walk.{Walk}
 use Rattle.mds_configuration.specs.Marks.{marks_of}
 use Rattle.mds_configuration.specs.Pieces.{piece, unquoted}
 
--- a member, or an operator, which has no name; where its name begins, or else its value, which is told by its first lexeme
+-- a member, or an operator, which has no name; the offset of its name, or else of its value; and its value, with the
+-- kind of its first lexeme
 pub record Seen : Type 0 where
   pub owner : Owner
   pub name : Option (List ℕ)
@@ -22,7 +23,7 @@ pub record Seen : Type 0 where
 abbrev pub seen : Spot → Seen
 seen spot = record { owner = spot.owner; name = option_map string_bytes spot.name; at = spot.at; value = spot.value }
 
--- where the lexeme at the front ends at the latest
+-- the offset at which the lexeme before these ends at the latest
 abbrev pub next_at : ℕ → List Mark → ℕ
 next_at end [] = end
 next_at end (m ∷ ms) = m.at
@@ -71,7 +72,8 @@ entry_from bytes place (m ∷ ms) =
 abbrev pub is_in_list : Walk → Bool
 is_in_list walk = walk.listed && (walk.depth == 2)
 
--- what stands at the front, where so many brackets are open: one is the document's, three are those of an operator
+-- the member or operator at the beginning of these lexemes, by how many brackets are open: one is the document's, three
+-- are those of an operator
 abbrev pub spot_in : List ℕ → Walk → List Mark → Option Seen
 spot_in bytes walk ms =
     if walk.depth == 1 then member_from bytes Document ms
@@ -83,12 +85,12 @@ abbrev pub has_name : List ℕ → Option (List ℕ) → Bool
 has_name name None = false
 has_name name (Some own) = bytes_eq name own
 
--- the operators' list begins behind this
+-- the operators' list begins after this member's name
 abbrev pub lists_operators : Option Seen → Bool
 lists_operators None = false
 lists_operators (Some spot) = has_name (codes "operators") spot.name && is_list spot.value.sign
 
--- the walk behind a lexeme
+-- the state of the walk after a lexeme
 abbrev pub walk_after : Walk → Sign → Option Seen → Walk
 walk_after walk sign.OpenObject spot = record { depth = walk.depth + 1; listed = walk.listed; place = walk.place }
 walk_after walk sign.OpenList spot = record { depth = walk.depth + 1; listed = walk.listed; place = walk.place }

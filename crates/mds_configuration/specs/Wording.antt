@@ -1,4 +1,4 @@
--- What is written of what is found.
+-- The messages of findings.
 use Rattle.std.specs.Prelude.{ℕ, List, [], ◌++◌, Bool, true, false, codes, decimal, string_bytes}
 use Rattle.mds_diagnosis.specs.Wording.{wrong_wording}
 use Rattle.mds_zones.specs.Wording.{fault_wording}
@@ -28,7 +28,7 @@ hint_wording (Elsewhere k) = codes "; did you mean \"" ++ name_of k ++ codes "\"
 abbrev pub unread_wording : Hint → List ℕ
 unread_wording hint = codes ": nobody reads this member" ++ hint_wording hint
 
--- what is wrong with the member of this path, which an error names itself
+-- the message of a finding, with the member's path, unless an error names it itself
 abbrev pub what_wording : List ℕ → What → List ℕ
 what_wording member (Wrong w) = wrong_wording w
 what_wording member (Zone fault) = codes "zone: its file in /usr/share/zoneinfo " ++ fault_wording fault
@@ -45,7 +45,7 @@ counted_wording n = codes ":" ++ decimal n
 abbrev pub place_wording : Place → List ℕ
 place_wording place = (counted_wording place.line ++ counted_wording place.column) ++ codes ": "
 
--- with the file and the place before it
+-- with the file and the position before it
 abbrev pub line_wording : List ℕ → Finding → List ℕ
 line_wording file f = (file ++ place_wording f.place) ++ finding_wording f
 

@@ -1,4 +1,4 @@
--- The name of a zone in a configuration, and the rule in its place.
+-- The name of a zone in a configuration, and the rule that replaces it.
 use Rattle.std.specs.Prelude.{ℕ, ◌+◌, List, [], ◌∷◌, ◌++◌, Bool, ◌&&◌, not, length, codes, if◌then◌else◌, Option, Some, None}
 use Rattle.std.specs.Result.{is_ok}
 use Rattle.mds_match.specs.Zone.{zone_of}
@@ -17,7 +17,7 @@ use Rattle.mds_configuration.specs.Spots.{spots_of, is_text}
 abbrev pub zone_value : List ℕ → Option Value
 zone_value bytes = last_meant (Member Zone) None (spots_of bytes)
 
--- a text that is no zone of its own, and may be the name of one
+-- a text that is no zone by itself, and may be the name of one
 abbrev pub is_named : List ℕ → Bool
 is_named name = not (is_ok (zone_of name)) && is_zone_name name
 
@@ -28,11 +28,11 @@ abbrev pub name_in : List ℕ → Option Value → Option (List ℕ)
 name_in bytes None = None
 name_in bytes (Some value) = if is_text value.sign then name_if (unquoted (piece bytes value.from value.to)) else None
 
--- the name by which a configuration's zone goes
+-- the name of a configuration's zone
 abbrev pub named_zone : List ℕ → Option (List ℕ)
 named_zone bytes = name_in bytes (zone_value bytes)
 
--- behind the last byte that isn't white space
+-- the offset after the last byte that isn't white space
 abbrev pub ended : ℕ → ℕ → List ℕ → ℕ
 ended at end [] = end
 ended at end (b ∷ bs) = ended (at + 1) (if is_space b then end else at + 1) bs
@@ -40,7 +40,7 @@ ended at end (b ∷ bs) = ended (at + 1) (if is_space b then end else at + 1) bs
 abbrev pub written_end : List ℕ → Value → ℕ
 written_end bytes value = ended value.from value.from (piece bytes value.from value.to)
 
--- another string in the place of a value, and all else as it was
+-- another string in place of a value, and all else as it was
 abbrev pub replaced : List ℕ → Value → List ℕ → List ℕ
 replaced bytes value rule = piece bytes 0 value.from ++ 34 ∷ rule ++ 34 ∷ [] ++ piece bytes (written_end bytes value) (length bytes)
 
@@ -48,11 +48,11 @@ abbrev pub with_rule : List ℕ → List ℕ → Option Value → List ℕ
 with_rule bytes rule None = bytes
 with_rule bytes rule (Some value) = if is_text value.sign then replaced bytes value rule else bytes
 
--- the configuration with this rule in the place of its zone's name
+-- the configuration with this rule in place of its zone's name
 abbrev pub with_zone : List ℕ → List ℕ → List ℕ
 with_zone bytes rule = with_rule bytes rule (zone_value bytes)
 
--- the text that is read; where the name stands for no rule, any zone keeps its place
+-- the text that is checked; where there is no rule for the name, some zone takes its place
 abbrev pub stand_in : List ℕ → Zoned → List ℕ
 stand_in bytes Plain = bytes
 stand_in bytes (Rule rule) = with_zone bytes rule

@@ -1,4 +1,4 @@
-//! What is found in a configuration's text.
+//! Findings in a configuration's text, and their messages.
 ghost use Rattle.std.specs.Prelude.{◌≡◌, IfOk, string_bytes};
 ghost use Rattle.mds_configuration.specs.Wording.{counted_wording, place_wording};
 
@@ -10,32 +10,32 @@ use mds_zones::ZoneFault;
 use std::alloc::{AllocError, Global};
 use std::fmt;
 
-/// What is found.
+/// The kind of a finding.
 #[derive(Clone, Copy, Debug, PartialEq, Eq)]
 pub enum What {
     /// An error: the text is no configuration.
     Wrong(Wrong),
-    /// An error: the zone's name stands for no rule.
+    /// An error: there is no rule for the zone's name.
     Zone(ZoneFault),
-    /// Nobody reads the member.
+    /// A warning: nobody reads the member.
     Unread(Hint),
-    /// A value is neither true nor false, and counts as false.
+    /// A warning: a value is neither true nor false, and counts as false.
     NoTruth,
-    /// A name is no text of at most `MOST_NAME` bytes, and isn't read.
+    /// A warning: a name is no text of at most `MOST_NAME` bytes, and isn't read.
     NoName,
 }
 
-/// What is found in a configuration's text, and where.
+/// A finding in a configuration's text, and its position.
 #[derive(Drop)]
 pub struct Finding {
-    /// Of a member its name, or its value, where the error is of that; of an operator where it begins.
+    /// The position of a member's name, or of its value where the error is in that; of an operator, where it begins.
     pub place: Place,
-    /// The member's path, as `operators[2].limit`, printable ASCII; empty where it is of the whole text.
+    /// The member's path, as `operators[2].limit`, printable ASCII; empty where the error is of the whole text.
     pub member: String,
     pub what: What,
 }
 
-/// What follows a name that is known: where it belongs.
+/// The end of a hint that says where a known name belongs.
 #[derive(Clone, Copy)]
 struct Home(Known);
 
@@ -76,7 +76,7 @@ impl fmt::Display for Hint {
     }
 }
 
-/// What follows a member that nobody reads.
+/// The message about a member that nobody reads, after its path.
 #[derive(Clone, Copy)]
 struct Unread(Hint);
 
@@ -116,14 +116,14 @@ impl fmt::Display for Finding {
     }
 }
 
-/// A number of a place.
+/// A line or column number, after a colon.
 fn counted_text(alloc: Global, number: u64) -> Result<String, AllocError>
     ensures { IfOk result (λ text. string_bytes text ≡ counted_wording number) }
 {
     format!(in alloc; ":{number}")
 }
 
-/// A place as it stands behind a file.
+/// A position, as it comes after a file's name.
 fn place_text(alloc: Global, place: Place) -> Result<String, AllocError>
     ensures { IfOk result (λ text. string_bytes text ≡ place_wording place) }
 {
@@ -147,11 +147,12 @@ impl Finding {
         }
     }
 
-    /// The finding as a line, without its end: `city.json:3:5: pubilc: nobody reads this member; did you mean "public"?`.
+    /// The finding as a line, without a line feed: `city.json:3:5: pubilc: nobody reads this member; did you mean
+    /// "public"?`.
     ///
     /// # Errors
     ///
-    /// Memory ran out.
+    /// Out of memory.
     pub fn line(&self, alloc: Global, file: &str) -> Result<String, AllocError>
         ensures { IfOk result (λ line. string_bytes line ≡ line_wording file.now self.now) }
     {

@@ -1,4 +1,4 @@
-//! What is found in a configuration's text.
+//! Gathers the findings in a configuration's text.
 ghost use Rattle.std.specs.Prelude.{◌≡◌, ◌++◌, None, IfOk, OnOk, map, option_map};
 ghost use Rattle.mds_configuration.specs.Findings.{begin_of, begins_at, error_here, findings, first_at, found_from, found_here, is_json, located, spots_if, told, warning_here, wrong_located, zone_located};
 ghost use Rattle.mds_configuration.specs.Spots.{seen};
@@ -16,7 +16,7 @@ use crate::zoning::{Zoned, stand_in};
 use mds_diagnosis::{Wrong, diagnose};
 use std::alloc::{AllocError, Global};
 
-/// An error, and the value that it is of, or none.
+/// An error, and the value that it is in, or none.
 #[derive(Clone, Copy, Debug, PartialEq, Eq)]
 pub(crate) struct Located {
     pub(crate) value: Option<Value>,
@@ -34,7 +34,7 @@ fn locate(spots: &[Spot], path: Path, what: What) -> Located
     }
 }
 
-/// What is wrong with a configuration.
+/// The error in a configuration, and where it is.
 fn wrong_located(spots: &[Spot], wrong: Option<Wrong>) -> Option<Located>
     ensures { result ≡ wrong_located (map seen spots.now) wrong }
 {
@@ -44,7 +44,7 @@ fn wrong_located(spots: &[Spot], wrong: Option<Wrong>) -> Option<Located>
     }
 }
 
-/// Why its zone's name stands for no rule.
+/// Why there is no rule for its zone's name, and where that is.
 fn zone_located(spots: &[Spot], zoned: &Zoned) -> Option<Located>
     ensures { result ≡ zone_located (map seen spots.now) zoned.now }
 {
@@ -54,7 +54,7 @@ fn zone_located(spots: &[Spot], zoned: &Zoned) -> Option<Located>
     }
 }
 
-/// Whether a value, if any, begins here.
+/// Whether a value begins at this offset; also true where there is neither.
 fn begins_at(here: Option<usize>, value: Option<Value>) -> bool
     ensures { result ≡ begins_at here value }
 {
@@ -65,7 +65,7 @@ fn begins_at(here: Option<usize>, value: Option<Value>) -> bool
     }
 }
 
-/// Adds the error, where it is of the value that begins here.
+/// Adds the error, if it is in the value that begins here.
 fn add_error(
     findings: &mut Vec<Finding>,
     alloc: Global,
@@ -89,7 +89,7 @@ fn add_error(
     Ok(())
 }
 
-/// Adds what is told of a member.
+/// Adds the warning about a member, if there is one.
 fn add_warning(
     findings: &mut Vec<Finding>,
     alloc: Global,
@@ -108,14 +108,14 @@ fn add_warning(
     Ok(())
 }
 
-/// What may be wrong with a text.
+/// The errors of a text.
 #[derive(Clone, Copy)]
 struct Errors {
     wrong: Option<Located>,
     zone: Option<Located>,
 }
 
-/// Adds both errors and the warning of what stands here.
+/// Adds both errors and the warning for this member or operator.
 fn add_found(
     findings: &mut Vec<Finding>,
     alloc: Global,
@@ -131,7 +131,7 @@ fn add_found(
     add_warning(findings, alloc, text, spot)
 }
 
-/// Adds what is found at each of these.
+/// Adds the findings for each of these.
 fn add_each(
     findings: &mut Vec<Finding>,
     alloc: Global,
@@ -153,7 +153,7 @@ fn is_json(wrong: Option<Wrong>) -> bool
     !matches!(wrong, Some(Wrong::Json))
 }
 
-/// The members of a text, which mean nothing where it is no JSON.
+/// The members and operators of a text; none where it is no JSON.
 fn spots_if(
     alloc: Global,
     is_json: bool,
@@ -169,7 +169,7 @@ fn spots_if(
     }
 }
 
-/// Where an error stands that is of no value.
+/// The offset of an error that is in no value.
 fn begin_of(alloc: Global, is_json: bool, text: &[u8], marks: &[Mark]) -> Result<usize, AllocError>
     ensures { IfOk result (λ at. at ≡ begin_of is_json text.now marks.now) }
 {
@@ -182,15 +182,16 @@ fn begin_of(alloc: Global, is_json: bool, text: &[u8], marks: &[Mark]) -> Result
     }
 }
 
-/// What is found in a configuration's text, in the order of the text: the first error, as `mds_diagnosis::diagnose` names it, where
-/// the member stands or the object that lacks it, with the fault of the zone's name; and of each member that nobody reads, or not as
-/// it stands there, a warning. A text that is no JSON has nothing but the place where it stops being so.
+/// The findings in a configuration's text, in the order of the text. They are the first error, as
+/// `mds_diagnosis::diagnose` names it, at the member or at the object that lacks it, with the fault of the zone's name;
+/// and a warning for each member that nobody reads, or whose value isn't read as it is written. In a text that is no
+/// JSON, errors are at the position where it stops being JSON, and there are no warnings.
 ///
-/// `zoned` says how the zone goes: what `named_zone` finds, with what `mds_zones::rule_in` makes of its file.
+/// `zoned` says what the zone's text is: what `named_zone` finds, with what `mds_zones::rule_in` makes of its file.
 ///
 /// # Errors
 ///
-/// Memory ran out.
+/// Out of memory.
 pub fn review(alloc: Global, text: &[u8], zoned: &Zoned) -> Result<Vec<Finding>, AllocError>
     ensures { IfOk result (λ found. map told found.items ≡ findings text.now zoned.now) }
 {

@@ -7,17 +7,17 @@ use crate::spots::piece;
 use mds_text::{TextFault, read_tree};
 use std::alloc::{AllocError, Global};
 
-/// The most brackets that are open (`mds_text::read_tree`).
+/// The most open brackets (`mds_text::read_tree`).
 const MOST_LEVELS: usize = 127;
 
-/// What is open.
+/// An open bracket.
 #[derive(Clone, Copy, Debug, PartialEq, Eq)]
 pub(crate) enum Bracket {
     Object,
     List,
 }
 
-/// What is expected.
+/// What is expected next.
 #[derive(Clone, Copy, Debug, PartialEq, Eq)]
 pub(crate) enum Next {
     Value,
@@ -27,18 +27,18 @@ pub(crate) enum Next {
     /// An object's first name, or its end.
     NameOrEnd,
     Colon,
-    /// A comma, or the end of what is open; nothing where nothing is.
+    /// A comma, or the end of the innermost open bracket; nothing where none is open.
     More,
 }
 
-/// What a lexeme does.
+/// The effect of a lexeme.
 #[derive(Clone, Copy, Debug, PartialEq, Eq)]
 pub(crate) enum Action {
     Open(Bracket),
     Close,
     /// It is a whole value.
     Whole,
-    /// This is expected behind it.
+    /// This is expected after it.
     Then(Next),
 }
 
@@ -69,7 +69,7 @@ fn name_action(sign: Sign) -> Option<Action>
     }
 }
 
-/// Behind a value within a bracket.
+/// The effect of a lexeme after a value within a bracket.
 fn more_action(brackets: &[Bracket], sign: Sign) -> Option<Action>
     ensures { result ≡ more_action brackets.now sign }
 {
@@ -82,7 +82,7 @@ fn more_action(brackets: &[Bracket], sign: Sign) -> Option<Action>
     }
 }
 
-/// What a lexeme does where it may stand.
+/// The effect of a lexeme; none where it isn't allowed.
 fn action_of(next: Next, brackets: &[Bracket], sign: Sign) -> Option<Action>
     ensures { result ≡ action next brackets.now sign }
 {
@@ -105,7 +105,7 @@ fn action_of(next: Next, brackets: &[Bracket], sign: Sign) -> Option<Action>
     }
 }
 
-/// What may stand first behind a bracket.
+/// What is allowed first after an open bracket.
 fn first_within(bracket: Bracket) -> Next
     ensures { result ≡ first_within bracket }
 {
@@ -115,7 +115,7 @@ fn first_within(bracket: Bracket) -> Next
     }
 }
 
-/// Whether a lexeme that has bytes of its own is JSON by itself.
+/// Whether a lexeme that is a string, a literal name or a number is JSON by itself.
 fn is_sound(alloc: Global, written: &[u8], sign: Sign) -> Result<bool, AllocError>
     ensures { IfOk result (λ is. is ≡ is_sound written.now sign) }
 {
@@ -130,7 +130,7 @@ fn is_sound(alloc: Global, written: &[u8], sign: Sign) -> Result<bool, AllocErro
 }
 
 impl Stand {
-    /// Before the first lexeme.
+    /// The state before the first lexeme.
     fn new(alloc: Global) -> Stand
         ensures { standing result ≡ fresh }
     {
@@ -140,7 +140,7 @@ impl Stand {
         }
     }
 
-    /// Goes on as a lexeme does, where that many brackets may be open.
+    /// Applies a lexeme's effect; false where too many brackets would be open.
     fn act(&mut self, action: Action) -> Result<bool, AllocError>
         ensures { IfOk result (λ goes. MatchBool goes (acted (standing self.old) action ≡ Some (standing self.new)) (acted (standing self.old) action ≡ None)) }
     {
@@ -164,7 +164,7 @@ impl Stand {
         Ok(true)
     }
 
-    /// Goes on behind the lexeme at the front, if it may stand there.
+    /// Steps over the first lexeme; false where it isn't allowed.
     fn step(&mut self, alloc: Global, text: &[u8], marks: &[Mark]) -> Result<bool, AllocError>
         ensures { IfOk result (λ goes. MatchBool goes (step text.now (standing self.old) marks.now ≡ Some (standing self.new)) (step text.now (standing self.old) marks.now ≡ None)) }
     {
@@ -185,11 +185,11 @@ impl Stand {
     }
 }
 
-/// Where the first lexeme stands that can't stand there, in bytes; the text's length where each can.
+/// The offset of the first lexeme that isn't allowed where it is, in bytes; the text's length where each is allowed.
 ///
 /// # Errors
 ///
-/// Memory ran out.
+/// Out of memory.
 pub(crate) fn fault_at(alloc: Global, text: &[u8], marks: &[Mark]) -> Result<usize, AllocError>
     ensures { IfOk result (λ at. at ≡ fault_from text.now fresh marks.now) }
 {

@@ -1,5 +1,5 @@
-//! A configuration before it counts: what is wrong with its text and where, what nobody reads in it, and the rule in the place of a
-//! zone's name.
+//! Checks of a configuration's text: what is wrong and where, members that nobody reads, and the rule for a zone's
+//! name.
 #![tactic(auto)]
 
 mod finding;

@@ -1,4 +1,4 @@
-//! Which limit of a configuration is too low for what an operator has held.
+//! The limit of a configuration that is too low for the vehicles that an operator has held.
 ghost use Rattle.std.specs.Prelude.{◌≡◌, IfOk, decimal, map, option_map, string_bytes};
 ghost use Rattle.mds_request.specs.Configuration.{configuration, operator};
 ghost use Rattle.mds_configuration.specs.Limits.{bounds_in, held_wording, limit_wording, low_from, low_limit, low_wording};
@@ -15,7 +15,7 @@ pub(crate) struct Bound {
     pub(crate) limit: usize,
 }
 
-/// An operator's place and limit.
+/// An operator's place in the configuration and its limit.
 #[derive(Clone, Copy, Debug, PartialEq, Eq)]
 pub(crate) struct Low {
     pub(crate) place: usize,
@@ -71,7 +71,7 @@ fn limit_text(alloc: Global, low: Low) -> Result<String, AllocError>
     Ok(text)
 }
 
-/// That the operator with an identifier has held more.
+/// The end of the message: the operator with this identifier has held more.
 fn held_text(alloc: Global, id: &str) -> Result<String, AllocError>
     ensures { IfOk result (λ text. string_bytes text ≡ held_wording id.now) }
 {
@@ -97,7 +97,7 @@ impl Limits {
     ///
     /// # Errors
     ///
-    /// Memory ran out.
+    /// Out of memory.
     pub fn of(alloc: Global, config: &Config) -> Result<Limits, AllocError>
         ensures { IfOk result (λ limits. bounds limits ≡ bounds_in (configuration config.now).operators) }
     {
@@ -105,12 +105,13 @@ impl Limits {
         Ok(Limits { bounds })
     }
 
-    /// What is told where an operator has held more vehicles than its limit allows: `operators[1].limit: 20 is too low: operator
-    /// 6f3c2a10-8d55-4b0e-9a51-0c7f4f1f2a01 has held more vehicles`. `None` where the configuration has no such operator.
+    /// The message where an operator has held more vehicles than its limit allows: `operators[1].limit: 20 is too low:
+    /// operator 6f3c2a10-8d55-4b0e-9a51-0c7f4f1f2a01 has held more vehicles`. `None` where the configuration has no
+    /// such operator.
     ///
     /// # Errors
     ///
-    /// Memory ran out.
+    /// Out of memory.
     pub fn too_low(&self, alloc: Global, id: Id) -> Result<Option<String>, AllocError>
         ensures { IfOk result (λ told. option_map string_bytes told ≡ low_limit (bounds self.now) id) }
     {

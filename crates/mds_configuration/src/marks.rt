@@ -4,7 +4,7 @@ ghost use Rattle.mds_configuration.specs.Marks.{begun, begun_outside, is_space, 
 
 use std::alloc::{AllocError, Global};
 
-/// What begins at a byte (RFC 8259, section 2).
+/// The kind of lexeme that begins at a byte (RFC 8259, section 2).
 #[derive(Clone, Copy, Debug, PartialEq, Eq)]
 pub(crate) enum Sign {
     OpenObject,
@@ -28,7 +28,7 @@ pub(crate) struct Mark {
     pub(crate) sign: Sign,
 }
 
-/// Within what a text stands.
+/// The state of the lexer between two bytes.
 #[derive(Clone, Copy, Debug, PartialEq, Eq)]
 pub(crate) enum Mode {
     /// Between two lexemes.
@@ -37,7 +37,7 @@ pub(crate) enum Mode {
     Word,
     /// A string.
     Quoted,
-    /// A string, behind a backslash.
+    /// A string, after a backslash.
     Escaped,
 }
 
@@ -47,7 +47,7 @@ pub(crate) fn is_space(byte: u8) -> bool
     byte == b' ' || byte == b'\t' || byte == b'\n' || byte == b'\r'
 }
 
-/// The structural character or the string that a byte begins.
+/// The structural character or the string that begins with a byte.
 fn structural(byte: u8) -> Option<Sign>
     ensures { result ≡ structural byte }
 {
@@ -74,7 +74,7 @@ fn word_sign(byte: u8) -> Sign
     }
 }
 
-/// What begins at a byte outside of a string; whether a word goes on there.
+/// The lexeme that begins at a byte outside of a string, by whether a word may go on there.
 fn begun_outside(goes_on: bool, byte: u8) -> Option<Sign>
     ensures { result ≡ begun_outside goes_on byte (structural byte) }
 {
@@ -85,7 +85,7 @@ fn begun_outside(goes_on: bool, byte: u8) -> Option<Sign>
     }
 }
 
-/// What begins at a byte.
+/// The lexeme that begins at a byte, if one does.
 fn begun(mode: Mode, byte: u8) -> Option<Sign>
     ensures { result ≡ begun mode byte }
 {
@@ -96,7 +96,7 @@ fn begun(mode: Mode, byte: u8) -> Option<Sign>
     }
 }
 
-/// Within what a text stands behind a byte outside of a string.
+/// The state after a byte outside of a string.
 fn mode_outside(byte: u8) -> Mode
     ensures { result ≡ mode_outside byte (structural byte) }
 {
@@ -108,7 +108,7 @@ fn mode_outside(byte: u8) -> Mode
     }
 }
 
-/// Within what a text stands behind a byte.
+/// The state after a byte.
 fn mode_after(mode: Mode, byte: u8) -> Mode
     ensures { result ≡ mode_after mode byte }
 {
@@ -127,7 +127,7 @@ fn mode_after(mode: Mode, byte: u8) -> Mode
 ///
 /// # Errors
 ///
-/// Memory ran out.
+/// Out of memory.
 pub(crate) fn marks_of(alloc: Global, text: &[u8]) -> Result<Vec<Mark>, AllocError>
     ensures { IfOk result (λ marks. marks.items ≡ marks_of text.now) }
 {

@@ -1,4 +1,4 @@
-//! The members of a configuration that are read.
+//! The members of a configuration that the server reads.
 ghost use Rattle.std.specs.Prelude.{◌≡◌, find, option_copied};
 ghost use Rattle.mds_configuration.specs.Names.{name_of, known_of, others_of};
 ghost use Rattle.mds_configuration.specs.Found.{find_known};
@@ -8,23 +8,23 @@ use crate::spots::Owner;
 /// The most bytes of an operator's `name`, as `mds_app` reads it.
 pub const MOST_NAME: usize = 256;
 
-/// A member that is read.
+/// A member that the server reads.
 #[derive(Clone, Copy, Debug, PartialEq, Eq)]
 pub enum Known {
     Author,
     Operators,
-    /// Whether everyone is told what is published: `true` or `false`.
+    /// Whether the public documents are served: `true` or `false`.
     Public,
     Zone,
     Id,
     Limit,
-    /// By what name people know an operator.
+    /// The name under which people know an operator.
     Name,
     Token,
 }
 
 impl Known {
-    /// The member's name, as it stands in a configuration.
+    /// The member's name in a configuration.
     pub fn name(self) -> &'static str
         ensures { result.now ≡ name_of self }
     {
@@ -41,12 +41,12 @@ impl Known {
     }
 }
 
-/// Those of the configuration.
+/// The members of the configuration.
 const OF_DOCUMENT: [Known; 4] = [Known::Author, Known::Operators, Known::Public, Known::Zone];
-/// Those of an operator.
+/// The members of an operator.
 const OF_OPERATOR: [Known; 4] = [Known::Id, Known::Limit, Known::Name, Known::Token];
 
-/// The members that are read of an object.
+/// The members of an object that the server reads.
 pub(crate) fn known_of(owner: Owner) -> &'static [Known]
     ensures { result.now ≡ known_of owner }
 {
@@ -56,7 +56,7 @@ pub(crate) fn known_of(owner: Owner) -> &'static [Known]
     }
 }
 
-/// The members that are read of the other object.
+/// The members that it reads of the other object.
 pub(crate) fn others_of(owner: Owner) -> &'static [Known]
     ensures { result.now ≡ others_of owner }
 {

@@ -1,4 +1,4 @@
-//! Which name was meant.
+//! The known name that an unknown one may have meant.
 ghost use Rattle.std.specs.Prelude.{◌≡◌, IfOk};
 ghost use Rattle.std.specs.Str.{chars};
 ghost use Rattle.mds_configuration.specs.Nearest.{edits_to, hint, is_nearer, most_edits, nearer, nearest, nearest_from};
@@ -8,28 +8,28 @@ use crate::spots::Owner;
 use std::alloc::{AllocError, Global};
 use strsim::osa_distance;
 
-/// The most bytes of a name that is compared with those that are known.
+/// The most bytes of a name that is compared with the known ones.
 const MOST_COMPARED: usize = 64;
 
-/// Which member may have been meant.
+/// The member that may have been meant.
 #[derive(Clone, Copy, Debug, PartialEq, Eq)]
 pub enum Hint {
-    /// None has a name like that.
+    /// No known name is close enough.
     Nothing,
-    /// This one, which is read in the same object.
+    /// This one, which belongs to the same object.
     Here(Known),
-    /// This one, which is read in the other object.
+    /// This one, which belongs to the other object.
     Elsewhere(Known),
 }
 
-/// A known name, and how many edits lead to it.
+/// A known name, and its edit distance.
 #[derive(Clone, Copy, Debug, PartialEq, Eq)]
 struct Near {
     known: Known,
     edits: usize,
 }
 
-/// How many edits at the most lead from a name to the one that was meant: a third of it, and one at least.
+/// The greatest edit distance of a hint: a third of the name's bytes, and one at least.
 fn most_edits(name: &str) -> usize
     ensures { result ≡ most_edits name.now }
 {
@@ -62,7 +62,7 @@ fn nearer(
     }
 }
 
-/// The nearest of these to a name; none for a long name.
+/// The nearest of these to a name; none for a name of more than 64 bytes.
 fn nearest(alloc: Global, name: &str, members: &[Known]) -> Result<Option<Known>, AllocError>
     ensures { IfOk result (λ known. known ≡ nearest name.now members.now) }
 {
@@ -79,11 +79,11 @@ fn nearest(alloc: Global, name: &str, members: &[Known]) -> Result<Option<Known>
     }
 }
 
-/// Which member may have been meant by a name that an object has.
+/// The member that may have been meant by an unknown name in an object.
 ///
 /// # Errors
 ///
-/// Memory ran out.
+/// Out of memory.
 pub(crate) fn hint_for(alloc: Global, owner: Owner, name: &str) -> Result<Hint, AllocError>
     ensures { IfOk result (λ found. found ≡ hint owner name.now) }
 {

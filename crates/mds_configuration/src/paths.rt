@@ -1,4 +1,4 @@
-//! Which member a fault is of, and where that stands.
+//! The path of the member that an error is in, and its value in the text.
 ghost use Rattle.std.specs.Prelude.{◌≡◌, ◌++◌, None, IfOk, OnOk, ◌<◌, map, string_bytes};
 ghost use Rattle.mds_configuration.specs.Names.{name_of};
 ghost use Rattle.mds_configuration.specs.Paths.{flaw_path, is_document, is_meant, is_nameless, is_operator, key_member, last_meant, names_or_is, operator_text, path_text, shown, shown_byte, spot_text, wrong_path};
@@ -9,7 +9,7 @@ use crate::spots::{Owner, Spot, Value};
 use mds_diagnosis::{Flaw, Key, Wrong};
 use std::alloc::{AllocError, Global};
 
-/// What an error is of.
+/// The path of an error.
 #[derive(Clone, Copy, Debug, PartialEq, Eq)]
 pub(crate) enum Path {
     /// The whole text.
@@ -42,7 +42,7 @@ fn key_member(key: Key) -> Known
     }
 }
 
-/// What is wrong is of this; of two that are alike, of the second.
+/// The path of an error; of two operators with the same value, that of the second.
 pub(crate) fn wrong_path(wrong: Wrong) -> Path
     ensures { result ≡ wrong_path wrong }
 {
@@ -66,7 +66,7 @@ fn is_operator(place: usize, owner: Owner) -> bool
     }
 }
 
-/// A member with this name.
+/// Whether a member has this name.
 fn has_name(known: Known, spot: &Spot) -> bool
     ensures { result ≡ has_name (name_of known) (seen spot.now).name }
 {
@@ -76,7 +76,7 @@ fn has_name(known: Known, spot: &Spot) -> bool
     }
 }
 
-/// An operator itself, or its member with this name.
+/// Whether this is an operator itself, or its member with this name.
 fn names_or_is(known: Known, spot: &Spot) -> bool
     ensures { result ≡ names_or_is (name_of known) (seen spot.now).name }
 {
@@ -86,7 +86,7 @@ fn names_or_is(known: Known, spot: &Spot) -> bool
     }
 }
 
-/// Whether a member, or an operator that may lack it, stands for a path.
+/// Whether a path means this member, or this operator, which may lack it.
 fn is_meant(path: Path, spot: &Spot) -> bool
     ensures { result ≡ is_meant path (seen spot.now) }
 {
@@ -100,7 +100,7 @@ fn is_meant(path: Path, spot: &Spot) -> bool
     }
 }
 
-/// The last value that stands for a path.
+/// The last value that a path means.
 pub(crate) fn last_meant(path: Path, spots: &[Spot]) -> Option<Value>
     ensures { result ≡ last_meant path None (map seen spots.now) }
 {
@@ -113,7 +113,7 @@ pub(crate) fn last_meant(path: Path, spots: &[Spot]) -> Option<Value>
     found
 }
 
-/// A byte of printable ASCII, or a question mark in the place of any other.
+/// A byte of printable ASCII, or a question mark in place of any other.
 fn shown_byte(byte: u8) -> u8
     ensures value { result ≡ shown_byte byte }
     ensures ascii { result < 128 }
@@ -125,7 +125,7 @@ fn shown_byte(byte: u8) -> u8
     }
 }
 
-/// Adds a name as it is shown.
+/// Adds a name as messages show it.
 fn add_shown(text: &mut String, name: &str) -> Result<(), AllocError>
     ensures { OnOk result (string_bytes text.new ≡ string_bytes text.old ++ shown name.now) }
 {
@@ -135,18 +135,18 @@ fn add_shown(text: &mut String, name: &str) -> Result<(), AllocError>
     Ok(())
 }
 
-/// An operator by its place.
+/// The path of an operator.
 pub(crate) fn operator_text(alloc: Global, place: usize) -> Result<String, AllocError>
     ensures { IfOk result (λ text. string_bytes text ≡ operator_text place) }
 {
     format!(in alloc; "operators[{place}]")
 }
 
-/// A path as it is shown.
+/// A path as messages show it.
 ///
 /// # Errors
 ///
-/// Memory ran out.
+/// Out of memory.
 pub(crate) fn path_text(alloc: Global, path: Path) -> Result<String, AllocError>
     ensures { IfOk result (λ text. string_bytes text ≡ path_text path) }
 {
@@ -163,11 +163,11 @@ pub(crate) fn path_text(alloc: Global, path: Path) -> Result<String, AllocError>
     }
 }
 
-/// A member by its path, an operator by its place.
+/// The path of a member, or of an operator.
 ///
 /// # Errors
 ///
-/// Memory ran out.
+/// Out of memory.
 pub(crate) fn spot_text(alloc: Global, spot: &Spot) -> Result<String, AllocError>
     ensures { IfOk result (λ text. string_bytes text ≡ spot_text (seen spot.now)) }
 {

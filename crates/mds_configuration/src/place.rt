@@ -2,7 +2,7 @@
 ghost use Rattle.std.specs.Prelude.{◌≡◌};
 ghost use Rattle.mds_configuration.specs.Places.{begins_char, past, place_at};
 
-/// A place in a text. Lines and columns count from 1, columns in characters (Unicode scalar values).
+/// A position in a text. Lines and columns count from 1, columns in characters (Unicode scalar values).
 #[derive(Clone, Copy, Debug, PartialEq, Eq)]
 pub struct Place {
     pub line: u64,
@@ -16,7 +16,7 @@ fn begins_char(byte: u8) -> bool
     !(128 <= byte && byte <= 191)
 }
 
-/// The place of the byte with this offset; that of the end where the text has none.
+/// The position of the byte with this offset; that of the end where the text has none.
 pub fn place_of(text: &[u8], offset: usize) -> Place
     ensures { result ≡ place_at text.now offset }
 {

@@ -1,4 +1,4 @@
-//! The members of a configuration and of its operators, and where they stand.
+//! The members of a configuration and of its operators, and their positions.
 ghost use Rattle.std.specs.Prelude.{◌≡◌, ◌+◌, ◌<◌, ◌≤◌, length, IfOk, string_bytes};
 ghost use Rattle.mds_configuration.specs.Pieces.{piece, unquoted};
 
@@ -6,7 +6,7 @@ use crate::marks::Sign;
 use mds_text::{TextFault, Tree, read_tree};
 use std::alloc::{AllocError, Global};
 
-/// Whose members are meant.
+/// The object that a member belongs to.
 #[derive(Clone, Copy, Debug, PartialEq, Eq)]
 pub(crate) enum Owner {
     /// The configuration itself.
@@ -15,7 +15,8 @@ pub(crate) enum Owner {
     Operator(usize),
 }
 
-/// A value: where its first lexeme begins, where the next lexeme does (or the text ends), and what it begins with.
+/// A value: the offset of its first lexeme, that of the next lexeme (or of the text's end), and the kind of its first
+/// lexeme.
 #[derive(Clone, Copy, Debug, PartialEq, Eq)]
 pub(crate) struct Value {
     pub(crate) from: usize,
@@ -28,12 +29,12 @@ pub(crate) struct Value {
 pub(crate) struct Spot {
     pub(crate) owner: Owner,
     pub(crate) name: Option<String>,
-    /// Where its name begins, or an operator's value.
+    /// The offset of its name, or of an operator's value.
     pub(crate) at: usize,
     pub(crate) value: Value,
 }
 
-/// The bytes between two places, none where these aren't two in the text.
+/// The bytes between two offsets; none where these aren't two offsets of the text, in order.
 pub(crate) fn piece(text: &[u8], from: usize, to: usize) -> &[u8]
     ensures value { result.now ≡ piece text.now from to }
     ensures within { 0 < length result.now → from + length result.now ≤ length text.now }
@@ -45,11 +46,11 @@ pub(crate) fn piece(text: &[u8], from: usize, to: usize) -> &[u8]
     }
 }
 
-/// The text of a string as it is written, and none of anything else.
+/// The text of a string with its escapes resolved; empty for anything else.
 ///
 /// # Errors
 ///
-/// Memory ran out.
+/// Out of memory.
 pub(crate) fn unquoted(alloc: Global, written: &[u8]) -> Result<String, AllocError>
     ensures { IfOk result (λ s. string_bytes s ≡ unquoted written.now) }
 {

@@ -1,4 +1,4 @@
-//! What is found in configurations.
+//! Tests of the findings in configurations.
 use crate::{Limits, Zoned, named_zone, review, with_zone};
 use mds_request::Config;
 use mds_text::Id;
@@ -9,14 +9,14 @@ use std::test::Fail;
 /// An operator's identifier.
 const ID: &str = "6f3c2a10-8d55-4b0e-9a51-0c7f4f1f2a01";
 
-/// A configuration over seven lines, with this in the place of its operator's limit and its token, and of its zone.
+/// A configuration of seven lines, with this limit and this token of its operator, and this zone.
 fn city(alloc: Global, limit: &str, token: &str, zone: &str) -> Result<String, AllocError> {
     format!(in alloc;
         "{{\n  \"author\": \"city\",\n  \"operators\": [\n    {{\"id\": \"{ID}\", \"limit\": {limit}{token}}}\n  ],\n  \"zone\": {zone}\n}}\n"
     )
 }
 
-/// The lines of what is found in a text, each error with an exclamation mark before it.
+/// The findings in a text as lines, each error with an exclamation mark before it.
 fn lines_of(alloc: Global, text: &str, zoned: &Zoned) -> Result<String, AllocError> {
     let mut lines = String::new(alloc);
     for finding in &review(alloc, text.as_bytes(), zoned)? {
@@ -29,13 +29,13 @@ fn lines_of(alloc: Global, text: &str, zoned: &Zoned) -> Result<String, AllocErr
     Ok(lines)
 }
 
-/// Whether exactly these lines are found.
+/// Whether the findings are exactly these lines.
 fn finds(alloc: Global, text: &str, wanted: &str) -> Result<bool, AllocError> {
     let lines = lines_of(alloc, text, &Zoned::Plain)?;
     Ok(lines.as_str() == wanted)
 }
 
-/// The rule that a text is.
+/// The rule of a text.
 fn rule(alloc: Global, text: &str) -> Result<ZoneRule, AllocError> {
     ZoneRule::read(alloc, text)?.ok_or(AllocError)
 }

@@ -1,4 +1,4 @@
-//! From lexemes to the members that they make.
+//! Finds the members among the lexemes of a text.
 ghost use Rattle.std.specs.Prelude.{◌≡◌, ◌+◌, ◌++◌, ◌<◌, ◌≤◌, ◌^◌, map, length, option_map, option_to_list, IfOk, OnOk};
 ghost use Rattle.mds_configuration.specs.Spots.{begins_value, entry_from, is_colon, is_in_list, is_list, is_text, lists_operators, member_from, next_at, seen, spot_in, spots_from, start, value_at, walk_after};
 
@@ -6,14 +6,14 @@ use crate::marks::{Mark, Sign};
 use crate::spots::{Owner, Spot, Value, piece, unquoted};
 use std::alloc::{AllocError, Global};
 
-/// Where a walk over lexemes stands.
+/// The state of a walk over lexemes.
 #[derive(Clone, Copy, Debug, PartialEq, Eq)]
 pub(crate) struct Walk {
     /// How many brackets are open.
     pub(crate) depth: usize,
     /// Whether the second of them is that of the operators' list.
     pub(crate) listed: bool,
-    /// The operator's place.
+    /// The operator's place in the list.
     pub(crate) place: usize,
 }
 
@@ -27,7 +27,7 @@ fn begins_value(sign: Sign) -> bool
     }
 }
 
-/// The value whose first lexeme this is, with those behind it, in a text that ends there.
+/// The value that begins with this lexeme, by the lexemes after it and the text's end.
 fn value_at(end: usize, first: Mark, behind: &[Mark]) -> Value
     ensures { result ≡ value_at end first behind.now }
 {
@@ -42,7 +42,7 @@ fn value_at(end: usize, first: Mark, behind: &[Mark]) -> Value
     }
 }
 
-/// The member at the front: a string, a colon and a value.
+/// The member at the beginning of these lexemes: a string, a colon and a value.
 fn member_from(
     alloc: Global,
     text: &[u8],
@@ -66,7 +66,7 @@ fn member_from(
     }))
 }
 
-/// The entry of the operators' list at the front.
+/// The entry of the operators' list at the beginning of these lexemes.
 fn entry_from(text: &[u8], place: usize, marks: &[Mark]) -> Option<Spot>
     ensures { option_map seen result ≡ entry_from text.now place marks.now }
 {
@@ -82,14 +82,14 @@ fn entry_from(text: &[u8], place: usize, marks: &[Mark]) -> Option<Spot>
 }
 
 impl Walk {
-    /// Within the operators' list, and in none of its entries.
+    /// Whether it is within the operators' list, and in none of its entries.
     fn is_in_list(self) -> bool
         ensures { result ≡ is_in_list self }
     {
         self.listed && self.depth == 2
     }
 
-    /// What stands at the front.
+    /// The member or operator at the beginning of these lexemes.
     fn spot_in(self, alloc: Global, text: &[u8], marks: &[Mark]) -> Result<Option<Spot>, AllocError>
         ensures { IfOk result (λ spot. option_map seen spot ≡ spot_in text.now self marks.now) }
     {
@@ -104,7 +104,7 @@ impl Walk {
         }
     }
 
-    /// The walk behind a lexeme.
+    /// The state after a lexeme.
     fn after(self, sign: Sign, spot: &Option<Spot>) -> Walk
         requires depth { self.depth + 1 < 2 ^ 64 }
         requires place { self.place + 1 < 2 ^ 64 }
@@ -143,7 +143,7 @@ impl Walk {
     }
 }
 
-/// Whether the operators' list begins behind this.
+/// Whether the operators' list begins after this member's name.
 fn lists_operators(spot: &Option<Spot>) -> bool
     ensures { result ≡ lists_operators (option_map seen spot.now) }
 {
@@ -156,7 +156,7 @@ fn lists_operators(spot: &Option<Spot>) -> bool
     }
 }
 
-/// Adds what was found, if anything was.
+/// Adds the member or operator that was found, if one was.
 fn add_spot(spots: &mut Vec<Spot>, spot: Option<Spot>) -> Result<(), AllocError>
     ensures { OnOk result (map seen spots.new.items ≡ map seen spots.old.items ++ option_to_list (option_map seen spot)) }
 {
@@ -170,7 +170,7 @@ fn add_spot(spots: &mut Vec<Spot>, spot: Option<Spot>) -> Result<(), AllocError>
 ///
 /// # Errors
 ///
-/// Memory ran out.
+/// Out of memory.
 pub(crate) fn spots_of(alloc: Global, text: &[u8], marks: &[Mark]) -> Result<Vec<Spot>, AllocError>
     ensures { IfOk result (λ spots. map seen spots.items ≡ spots_from text.now start marks.now) }
 {

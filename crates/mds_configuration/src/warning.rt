@@ -1,4 +1,4 @@
-//! What is told of a member that nobody reads, or not as it stands there.
+//! The warning about a member that nobody reads, or whose value isn't read as it is written.
 ghost use Rattle.std.specs.Prelude.{◌≡◌, IfOk, length, option_map, string_bytes};
 ghost use Rattle.mds_configuration.specs.Found.{find_known};
 ghost use Rattle.mds_configuration.specs.Names.{known_of};
@@ -12,14 +12,14 @@ use crate::nearest::hint_for;
 use crate::spots::{Owner, Spot, Value, piece, unquoted};
 use std::alloc::{AllocError, Global};
 
-/// `true`, `false`, or null, which counts as absent.
+/// Whether a value is `true`, `false`, or null, which counts as absent.
 fn is_truth(sign: Sign) -> bool
     ensures { result ≡ is_truth sign }
 {
     sign == Sign::Truth || sign == Sign::Null
 }
 
-/// A text of at most `MOST_NAME` bytes, or null, which counts as absent.
+/// Whether a value is a text of at most `MOST_NAME` bytes, or null, which counts as absent.
 fn is_name(alloc: Global, text: &[u8], value: Value) -> Result<bool, AllocError>
     ensures { IfOk result (λ is. is ≡ is_name text.now value value.sign) }
 {
@@ -33,7 +33,7 @@ fn is_name(alloc: Global, text: &[u8], value: Value) -> Result<bool, AllocError>
     }
 }
 
-/// What is told of a member with this name and value.
+/// The warning about a member with this name and value, if there is one.
 fn warning_of(
     alloc: Global,
     text: &[u8],
@@ -63,11 +63,11 @@ fn warning_of(
     }
 }
 
-/// What is told of a member.
+/// The warning about a member, if there is one.
 ///
 /// # Errors
 ///
-/// Memory ran out.
+/// Out of memory.
 pub(crate) fn warning(alloc: Global, text: &[u8], spot: &Spot) -> Result<Option<What>, AllocError>
     ensures { IfOk result (λ told. told ≡ warning text.now (seen spot.now)) }
 {

@@ -1,4 +1,4 @@
-//! The name of a zone in a configuration, and the rule in its place.
+//! The name of a zone in a configuration, and the rule that replaces it.
 ghost use Rattle.std.specs.Prelude.{◌≡◌, ◌++◌, ◌∷◌, [], IfOk, codes, option_map, vec_len};
 ghost use Rattle.std.specs.Result.{is_ok};
 ghost use Rattle.mds_match.specs.Zone.{zone_of};
@@ -13,14 +13,14 @@ use mds_match::Zone;
 use mds_zones::{ZoneFault, ZoneName, ZoneRule};
 use std::alloc::{AllocError, Global};
 
-/// How the zone of a configuration goes.
+/// What the zone of a configuration is.
 #[derive(Drop)]
 pub enum Zoned {
-    /// By the text that stands there.
+    /// The text itself.
     Plain,
-    /// By a name that stands for this rule.
+    /// A name, with this rule.
     Rule(ZoneRule),
-    /// By a name that stands for none.
+    /// A name for which there is no rule.
     Fault(ZoneFault),
 }
 
@@ -40,12 +40,12 @@ fn is_zone(text: &str) -> bool
     Zone::read(text).is_ok()
 }
 
-/// The name by which a configuration's zone goes: its member `zone`, where that is a text which is no zone by itself, and which may
-/// be the name of one. Of a text that is no JSON it says nothing.
+/// The name of a configuration's zone: its member `zone`, where that is a text which is no zone by itself, and which
+/// may be the name of one. For a text that is no JSON the result means nothing.
 ///
 /// # Errors
 ///
-/// Memory ran out.
+/// Out of memory.
 pub fn named_zone(alloc: Global, text: &[u8]) -> Result<Option<ZoneName>, AllocError>
     ensures { IfOk result (λ name. option_map (λ n. n) name ≡ named_zone text.now) }
 {
@@ -62,7 +62,7 @@ pub fn named_zone(alloc: Global, text: &[u8]) -> Result<Option<ZoneName>, AllocE
     ZoneName::read(alloc, name.as_str())
 }
 
-/// Behind the last byte of a value that isn't white space.
+/// The offset after the last byte of a value that isn't white space.
 fn written_end(text: &[u8], value: Value) -> usize
     ensures { result ≡ written_end text.now value }
 {
@@ -77,7 +77,7 @@ fn written_end(text: &[u8], value: Value) -> usize
     end
 }
 
-/// The text with another string in the place of a value.
+/// The text with another string in place of a value.
 fn replaced(alloc: Global, text: &[u8], value: Value, rule: &str) -> Result<Vec<u8>, AllocError>
     ensures { IfOk result (λ new. new.items ≡ replaced text.now value rule.now) }
 {
@@ -90,7 +90,7 @@ fn replaced(alloc: Global, text: &[u8], value: Value, rule: &str) -> Result<Vec<
     Ok(new)
 }
 
-/// The text with a string in the place of its zone.
+/// The text with a string in place of its zone.
 fn with_text(alloc: Global, text: &[u8], rule: &str) -> Result<Vec<u8>, AllocError>
     ensures { IfOk result (λ new. new.items ≡ with_zone text.now rule.now) }
 {
@@ -100,23 +100,23 @@ fn with_text(alloc: Global, text: &[u8], rule: &str) -> Result<Vec<u8>, AllocErr
     }
 }
 
-/// The configuration with this rule in the place of its zone's name: all else is as it was, byte for byte. A text without a member
-/// `zone` that is a string stays as it is.
+/// The configuration with this rule in place of its zone's name: all else stays as it was, byte for byte. A text
+/// without a member `zone` that is a string stays as it is.
 ///
 /// # Errors
 ///
-/// Memory ran out.
+/// Out of memory.
 pub fn with_zone(alloc: Global, text: &[u8], rule: &ZoneRule) -> Result<Vec<u8>, AllocError>
     ensures { IfOk result (λ new. new.items ≡ with_zone text.now rule.now) }
 {
     with_text(alloc, text, rule.as_str())
 }
 
-/// The text that is read; where the name stands for no rule, any zone keeps its place.
+/// The text that is checked; where there is no rule for the name, some zone takes its place.
 ///
 /// # Errors
 ///
-/// Memory ran out.
+/// Out of memory.
 pub(crate) fn stand_in(alloc: Global, text: &[u8], zoned: &Zoned) -> Result<Vec<u8>, AllocError>
     ensures { IfOk result (λ new. new.items ≡ stand_in text.now zoned.now) }
 {

@@ -1,4 +1,4 @@
--- The turn of an answer in the queue of who asks.
+-- The turn of an answer in its client's queue.
 use Rattle.std.specs.Prelude.{◌≡◌, ℕ, ⊤, Bool, true, false, Result, IfOk}
 use Rattle.tokio.specs.Locks.{CanAcquire, OwnedAcquireNeeds, owned_num_permits, owned_permits_wanted}
 use Rattle.tokio.specs.declared.sync.semaphore.AcquireError.{AcquireError}
@@ -7,7 +7,7 @@ use Rattle.mds_connections.specs.declared.turn.Line.TheVariants.{Open, Waiting, 
 use Rattle.mds_connections.specs.declared.turn.Permits.{Permits}
 use Rattle.mds_connections.specs.declared.turn.Turn.{Turn}
 
--- the line is for those of whom one alone waits for permits
+-- the line is for long answers: one alone at a time waits for the permits
 abbrev pub is_for_line : Line → Bool
 is_for_line Open = false
 is_for_line (Waiting line) = true
@@ -31,11 +31,11 @@ IsWaiting turn = CanEnter turn.line × CanAcquire turn.permits
 abbrev pub permits_of : Turn → ℕ
 permits_of turn = owned_permits_wanted turn.permits
 
--- so many permits are held then, and the line where the turn is for it
+-- a turn that is over holds so many permits, and the line where it is for the line
 abbrev pub Holds : Turn → Result Permits AcquireError → Type 0
 Holds turn given = IfOk given (λ held. (owned_num_permits held.permits ≡ permits_of turn) × (is_held held.line ≡ is_for_line turn.line))
 
--- the source that it waits for: of the line first
+-- the source that it waits for: that of the line first
 abbrev pub needs_of : Line → Turn → ℕ → Type 0
 needs_of Open turn = OwnedAcquireNeeds turn.permits
 needs_of (Waiting line) turn = OwnedAcquireNeeds line

@@ -1,4 +1,4 @@
-//! Connections as they are accepted.
+//! Accepted connections, and the pause after an accept that failed.
 use futures::Future;
 use futures::task::{Context, Poll};
 use mds_limits::ACCEPT_PAUSE_MILLIS;
@@ -7,8 +7,8 @@ use std::time::{Clock, Duration};
 use tokio::net::TcpStream;
 use tokio::time::{Handle, Sleep};
 
-/// A connection that was accepted, or a pause after one that couldn't be: where no descriptor is left, the
-/// next can't be either.
+/// A connection that was accepted, or a pause after a failed accept: where no descriptor is left,
+/// the next one would fail too.
 #[derive(Drop)]
 pub struct Admission {
     socket: Option<TcpStream>,
@@ -16,8 +16,9 @@ pub struct Admission {
 }
 
 impl Admission {
-    /// What came of an accept. What is written to the connection is sent at once, so that no reply waits until the one before
-    /// it was acknowledged (RFC 9293, section 3.7.4); where the system refuses that, it is served all the same.
+    /// The outcome of an accept. What is written to the connection is sent at once (`TCP_NODELAY`),
+    /// so that no response waits until the one before it was acknowledged (RFC 9293, section
+    /// 3.7.4); where the system refuses that, the connection is served all the same.
     pub fn new<C: Clock>(accepted: io::Result<TcpStream>, clock: &C, timers: &Handle) -> Admission {
         match accepted {
             Ok(socket) => {

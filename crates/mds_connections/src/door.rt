@@ -1,4 +1,4 @@
-//! A connection's requests.
+//! The HTTP service of a connection.
 use crate::exchange::Exchange;
 use crate::sits::Sits;
 use bytes::Bytes;
@@ -8,7 +8,7 @@ use hyper::service::Service;
 use hyper::{Request, Response};
 use std::alloc::AllocError;
 
-/// The service of one connection.
+/// The HTTP service of one connection.
 #[derive(Drop)]
 pub struct Door<P> {
     pub sitting: P,

@@ -1,4 +1,4 @@
-//! The end of a server: what has begun is answered, within its time.
+//! Graceful shutdown: what has begun is answered, within a deadline.
 ghost use Rattle.futures.specs.Task.{Keeps};
 
 use crate::house::House;
@@ -11,24 +11,25 @@ use std::sync::{Arc, Wait};
 use tokio::sync::{Notify, OwnedNotified};
 use tokio::time::Sleep;
 
-/// How long a connection may stay once its server ends, in seconds.
+/// How long a connection may stay once its server shuts down, in seconds.
 const CLOSING_SECONDS: u64 = 10;
 
-/// Ends a server, from any thread, and tells how many connections it has.
+/// Shuts a server down, from any thread, and says how many connections it has.
 #[derive(Drop)]
 pub struct Closing {
     bell: Arc<Notify>,
     connections: Arc<AtomicU64>,
 }
 
-/// Ends once the server is to end. The register of its house is closed then, and each connection has been told.
+/// Ends once the server is to shut down. The table of its connections is closed then, and each
+/// connection has been notified.
 #[derive(Drop)]
 pub struct Closed<A, C> {
     rung: OwnedNotified,
     house: Arc<House<A, C>>,
 }
 
-/// What is left of a connection's time, once its server ends.
+/// The grace period of a connection, once its server shuts down.
 #[derive(Drop)]
 pub struct Ending {
     last: OwnedNotified,
@@ -36,11 +37,11 @@ pub struct Ending {
 }
 
 impl Closing {
-    /// What ends a server that isn't to end yet.
+    /// A handle for a server that isn't to shut down yet.
     ///
     /// # Errors
     ///
-    /// Memory ran out.
+    /// Out of memory.
     pub fn new(alloc: Global) -> Result<Closing, AllocError> {
         Ok(Closing {
             bell: Arc::new(alloc, Notify::new(alloc)?)?,
@@ -48,26 +49,28 @@ impl Closing {
         })
     }
 
-    /// A share of the number that tells how many connections are open: 0 until the server is served.
+    /// A reference to the number of open connections: 0 until the server is served.
     ///
     /// # Errors
     ///
-    /// There are too many shares.
+    /// There are too many references.
     pub fn connections(&self) -> Result<Arc<AtomicU64>, AllocError> {
         Arc::try_clone(&self.connections)
     }
 
-    /// The server accepts nothing more, connections that wait for a head are ended, and what has begun is answered, within 10
-    /// seconds. A server that isn't served yet ends as soon as it is.
+    /// Shuts the server down: it accepts nothing more, connections that wait for a head are closed,
+    /// and what has begun is answered, within 10 seconds. A server that isn't served yet ends as
+    /// soon as it is.
     pub fn close(&self) {
         self.bell.notify_one();
     }
 
-    /// What closes this house, once the server is to end. Its connections are counted from now on.
+    /// The future that closes this table of connections, once the server is to shut down. Its
+    /// connections are counted from now on.
     ///
     /// # Errors
     ///
-    /// There are too many shares.
+    /// There are too many references.
     pub fn closed<A: Drop, C: Wait + Drop>(
         &self,
         house: Arc<House<A, C>>,
@@ -96,12 +99,12 @@ impl<A: Drop, C: Wait + Drop> Future for Closed<A, C> {
 }
 
 impl Ending {
-    /// The time of a connection whose server goes on.
+    /// The grace period of a connection whose server isn't shutting down.
     pub fn new(last: OwnedNotified) -> Ending {
         Ending { last, limit: None }
     }
 
-    /// Whether the server ends, and the connection's time is over.
+    /// Whether the server shuts down, and the connection's grace period is over.
     pub fn is_over<P: Sits>(&mut self, sitting: &P, cx: &mut Context<'_>) -> bool
         ensures { Keeps cx.old cx.new }
     {

@@ -1,5 +1,5 @@
-//! A request on its way: its body is taken in within its limit and its time, then the request waits for its turn, and then
-//! it is answered.
+//! The future of a request: its body is read within its limit and its deadline, then the request
+//! waits for its turn, and then it is answered.
 ghost use Rattle.std.specs.Prelude.{◌≡◌, ◌+◌, ◌≤◌, None, [], IfSome, IfOk, OnOk, IsSome};
 ghost use Rattle.futures.specs.Task.{Covers, Keeps};
 ghost use Rattle.futures.specs.Poll.{IfReady, OnPending};
@@ -25,31 +25,32 @@ use mds_responses::HttpResult;
 use std::alloc::AllocError;
 use tokio::time::Sleep;
 
-/// How often a request that is crowded pauses at most, before it is told that the server is busy: some five seconds.
+/// How often a request pauses at most whose client's share is used up, before it is refused as
+/// busy: some five seconds in all.
 const MOST_PAUSES: u32 = 500;
 
-/// The future of an answer.
+/// The future of a request, from its head to its response.
 #[derive(Drop)]
 pub struct Exchange<P, H, F, I> {
     sitting: Option<P>,
     admittance: Admittance,
     head: H,
-    /// What still comes.
+    /// The rest of the body.
     body: Option<Intake<I>>,
     /// When the body is late; once it has arrived, when a pause is over.
     deadline: Option<Sleep>,
-    /// How the body arrived, once it has. Its bytes are kept until the reply is on its way.
+    /// The body as it arrived, once it has. Its bytes are held until the response is pending.
     taken: Arrived,
-    /// How often the request has paused because it was crowded.
+    /// How often the request has paused because its client's share was used up.
     pauses: u32,
-    /// What the request waits for behind its body.
+    /// The turn that the request waits for after its body.
     turn: Option<Turn>,
-    /// The reply, once its turn is over.
+    /// The pending response, once its turn is over.
     reply: Option<F>,
 }
 
 impl<P: Sits, I: Drop> Exchange<P, P::Head, P::Reply, I> {
-    /// The exchange of a request whose head has come.
+    /// The future of a request whose head has come.
     pub fn new(sitting: &P, parts: Parts, body: Incoming<I>) -> Exchange<P, P::Head, P::Reply, I>
         ensures turn { result.turn ≡ None }
         ensures reply { result.reply ≡ None }
@@ -73,7 +74,7 @@ impl<P: Sits, I: Drop> Exchange<P, P::Head, P::Reply, I> {
         }
     }
 
-    /// Whether so many seconds are over since it was first asked.
+    /// Whether so many seconds are over since this was first asked.
     fn is_late(&mut self, seconds: u64, cx: &mut Context<'_>) -> bool
         ensures admittance { self.new.admittance ≡ self.old.admittance }
         ensures turn { self.new.turn ≡ self.old.turn }
@@ -103,8 +104,8 @@ impl<P: Sits, I: Drop> Exchange<P, P::Head, P::Reply, I> {
         self.queue(actor);
     }
 
-    /// The request waits for its turn, at the end of this actor's queue. One whose answer takes nothing of it has its turn at
-    /// once.
+    /// The request waits for its turn, at the end of this client's queue. One whose answer takes
+    /// nothing of the queue has its turn at once.
     fn queue(&mut self, actor: Actor)
         ensures admittance { self.new.admittance ≡ self.old.admittance }
         ensures turn { IfSome self.new.turn IsWaiting }
@@ -118,7 +119,7 @@ impl<P: Sits, I: Drop> Exchange<P, P::Head, P::Reply, I> {
         };
     }
 
-    /// Waits until the pause is over of a request that was crowded. It is in this actor's queue again then.
+    /// Waits until the pause of a request is over, and puts it in this client's queue again then.
     fn rest(&mut self, actor: Actor, cx: &mut Context<'_>) -> Poll<()>
         requires turn { IfSome self.old.turn IsWaiting }
         ensures admittance { self.new.admittance ≡ self.old.admittance }
@@ -136,12 +137,12 @@ impl<P: Sits, I: Drop> Exchange<P, P::Head, P::Reply, I> {
         Poll::Ready(())
     }
 
-    /// Asks for the answer to the request. Once it is on its way, the bytes of the body are given back, and how it arrived is
-    /// kept.
+    /// Asks for the answer to the request. Once its response is pending, the bytes of the body are
+    /// released, and whether it arrived whole stays known.
     ///
     /// # Errors
     ///
-    /// The share of who asks is used up: nothing was asked.
+    /// The client's share is used up: nothing was asked.
     fn ask(&mut self) -> Result<(), Crowded>
         requires ready { P.may_answer }
         ensures admittance { self.new.admittance ≡ self.old.admittance }
@@ -160,7 +161,7 @@ impl<P: Sits, I: Drop> Exchange<P, P::Head, P::Reply, I> {
         Ok(())
     }
 
-    /// Waits for the turn of a request whose body has arrived, and asks for its answer then.
+    /// Waits for the turn of a request whose body has arrived, and then asks for its answer.
     fn take_turn(&mut self, cx: &mut Context<'_>) -> Poll<Result<(), Crowded>>
         requires turn { IfSome self.old.turn IsWaiting }
         requires ready { P.may_answer }
@@ -183,7 +184,8 @@ impl<P: Sits, I: Drop> Exchange<P, P::Head, P::Reply, I> {
         }
     }
 
-    /// Lets a request pause that was crowded; the server is busy, where it has paused as often as it may.
+    /// Lets a request pause whose client's share is used up; the server is busy, where the request
+    /// has paused as often as it may.
     fn pause(&mut self, cx: &mut Context<'_>) -> Poll<HttpResult>
         ensures says { IfReady result (λ r. IfOk r SaysBusy) }
         ensures admittance { self.new.admittance ≡ self.old.admittance }
@@ -204,7 +206,8 @@ impl<P: Sits, I: Drop> Exchange<P, P::Head, P::Reply, I> {
         }
     }
 
-    /// One more pause; none, where the request has paused as often as it may, or there is no timer for it.
+    /// One more pause; none, where the request has paused as often as it may, or there is no timer
+    /// for it.
     fn next_pause(&mut self) -> Option<Sleep>
         ensures admittance { self.new.admittance ≡ self.old.admittance }
         ensures turn { self.new.turn ≡ self.old.turn }
@@ -219,7 +222,7 @@ impl<P: Sits, I: Drop> Exchange<P, P::Head, P::Reply, I> {
         self.sitting.as_ref()?.pause()
     }
 
-    /// Waits until the reply may be told.
+    /// Waits for the pending response.
     fn tell(&mut self, cx: &mut Context<'_>) -> Poll<HttpResult>
         requires reply { IfSome self.old.reply P.Reply.can_poll }
         ensures admittance { self.new.admittance ≡ self.old.admittance }
@@ -242,13 +245,13 @@ impl<P: Sits, I: Drop> Exchange<P, P::Head, P::Reply, I> {
         }
     }
 
-    /// The reply as it is sent.
+    /// The response as it is sent.
     fn finish(&self, told: HttpResult) -> HttpResult {
         finished(told?, &self.taken)
     }
 
-    /// Takes the body in, waits for the turn of this actor, answers, and waits until the reply may be told. A request that is
-    /// crowded pauses, queues again, and is asked again.
+    /// Reads the body, waits for this client's turn, answers, and waits for the pending response. A
+    /// request whose client's share is used up pauses, queues again, and is tried again.
     fn proceed(&mut self, actor: Actor, cx: &mut Context<'_>) -> Poll<HttpResult>
         requires turn { IfSome self.old.turn IsWaiting }
         requires reply { IfSome self.old.reply P.Reply.can_poll }
@@ -277,7 +280,7 @@ impl<P: Sits, I: Drop> Exchange<P, P::Head, P::Reply, I> {
         self.tell(cx)
     }
 
-    /// Reads past the body, and then says that the server is busy.
+    /// Discards the body, and then says that the server is busy.
     fn pass(&mut self, cx: &mut Context<'_>) -> Poll<HttpResult>
         ensures says { IfReady result (λ r. IfOk r SaysBusy) }
         ensures admittance { self.new.admittance ≡ self.old.admittance }
@@ -296,7 +299,7 @@ impl<P: Sits, I: Drop> Exchange<P, P::Head, P::Reply, I> {
         Poll::Ready(self.refuse())
     }
 
-    /// Says that the server is busy, and ends the exchange.
+    /// Says that the server is busy, and ends the request.
     fn refuse(&mut self) -> HttpResult
         ensures says { IfOk result SaysBusy }
         ensures admittance { self.new.admittance ≡ self.old.admittance }

@@ -1,4 +1,4 @@
-//! What all connections of a server share.
+//! What all connections of a server share, and the service that answers them.
 use crate::queues::Queues;
 use crate::seats::Register;
 use futures::Future;
@@ -10,37 +10,37 @@ use std::alloc::Global;
 use std::sync::Mutex;
 use tokio::time::Handle;
 
-/// The share of who asks is used up: nothing was asked, and the request may be asked again.
+/// The client's share is used up: nothing was asked, and the request may be tried again.
 #[derive(Clone, Copy, Debug, PartialEq, Eq)]
 pub struct Crowded;
 
-/// Resolves the heads of requests, and answers them once their bodies have arrived.
+/// A service: resolves the heads of requests, and answers them once their bodies have arrived.
 pub trait Answers: Drop {
     ghost use Rattle.std.specs.Prelude.{⊤, IfOk};
 
-    /// A head with what it was resolved to: who asks, and what for.
+    /// A head with what it was resolved to: which client asks, and for what.
     type Head: Drop;
 
-    /// What it takes to answer: nothing, or threads that may share what answers.
+    /// The condition for answering: nothing, or that the service may be shared by threads.
     ghost may_answer: { Type 0 } = { ⊤ };
 
-    /// Resolves a head: once, before its body is taken in.
+    /// Resolves a head: once, before its body is read.
     fn resolve(&self, parts: Parts) -> Self::Head;
 
-    /// Who asks.
+    /// The client of a request.
     fn actor(head: &Self::Head) -> Actor;
 
-    /// What the answer takes of its asker's queue, where the body has so many bytes.
+    /// What the answer takes of its client's queue, where the body has so many bytes.
     fn cost(head: &Self::Head, length: usize) -> Cost;
 
-    /// The response, when it may be told. Where there was no memory for it, it is an error.
+    /// The pending response. Where there was no memory for the response, it is an error.
     type Reply: Future<Output = HttpResult>;
 
-    /// The response on its way. Head and body are lent, so that it can be asked again.
+    /// Answers a request. Head and body are borrowed, so that it can be tried again.
     ///
     /// # Errors
     ///
-    /// The share of who asks is used up: nothing was asked.
+    /// The client's share is used up: nothing was asked.
     fn answer(&self, head: &Self::Head, body: &Arrived) -> Result<Self::Reply, Crowded>
         requires ready { may_answer }
         ensures { IfOk result Self.Reply.can_poll };

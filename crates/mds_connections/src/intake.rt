@@ -1,4 +1,4 @@
-//! A body is taken in.
+//! Reads a request body.
 ghost use Rattle.std.specs.Prelude.{◌≡◌, ◌≢◌, ◌⊎◌, None, [], IfSome};
 ghost use Rattle.futures.specs.Task.{Keeps};
 ghost use Rattle.mds_limits.specs.Arrival.{arrived_of};
@@ -13,22 +13,22 @@ use hyper::body::Incoming;
 use mds_limits::{Arrived, End, Piece, counted};
 use std::alloc::Global;
 
-/// How many pieces are taken in a row before other tasks are let run.
+/// How many pieces are read in a row before other tasks may run.
 const PIECES: usize = 32;
 
-/// The future of a body: its bytes, within the limit of a body. One that is too long is read past.
+/// The future of a body: its bytes, within the limit of a body. One that is too long is discarded.
 #[derive(Drop)]
 pub struct Intake<I> {
     body: Incoming<I>,
     alloc: Global,
-    /// What came; none, where the body is read past.
+    /// What came; none, where the body is discarded.
     kept: Option<BytesQueue>,
     /// How many bytes came.
     length: usize,
 }
 
 impl<I: Drop> Intake<I> {
-    /// Takes in a body of which nothing was read.
+    /// Reads a body of which nothing was read.
     pub fn new(alloc: Global, body: Incoming<I>) -> Intake<I> {
         Intake {
             body,
@@ -43,12 +43,12 @@ impl<I: Drop> Intake<I> {
         counted(self.body.size_hint().exact())
     }
 
-    /// Nothing of the body is kept from now on: it is read past.
+    /// From now on the body is read and discarded.
     pub fn pass(&mut self) {
         self.kept = None;
     }
 
-    /// Takes a piece in; its end, where nothing more is to be read.
+    /// Takes a piece of the body; its end, where nothing more is to be read.
     fn take(&mut self, frame: Frame<Bytes>) -> Option<End>
         ensures { self.new.body ≡ self.old.body }
     {
@@ -67,7 +67,7 @@ impl<I: Drop> Intake<I> {
         }
     }
 
-    /// Keeps a piece, unless the body is read past.
+    /// Stores a piece, unless the body is discarded.
     fn keep(&mut self, data: Bytes) -> Option<End>
         ensures { self.new.body ≡ self.old.body }
     {
@@ -77,8 +77,9 @@ impl<I: Drop> Intake<I> {
         }
     }
 
-    /// How the body arrived whose reading ended so. One of which nothing is kept is too long, or its request may not wait, and
-    /// then nobody asks how it arrived. Where there is no memory to join what was kept, it is `NoMemory`.
+    /// The body, once its reading ended so. A discarded one is too long, or its request may not
+    /// wait, and then the result isn't used. Where there is no memory to join what was stored, it
+    /// is `NoMemory`.
     fn arrival(&mut self, end: End) -> Arrived
         ensures joined { end ≡ Over → IfSome self.old.kept
             (λ kept. (result ≡ arrived_of Over kept) ⊎ (result ≡ NoMemory)) }

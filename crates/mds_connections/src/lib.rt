@@ -1,5 +1,5 @@
-//! The connections of a server: who may take a seat, their requests, each in its turn, what may wait, and the limits and
-//! deadlines of what comes and goes over a socket.
+//! HTTP connections over any service: slots, request bodies, a queue for each client, limits and
+//! deadlines.
 #![tactic(auto)]
 
 mod admission;

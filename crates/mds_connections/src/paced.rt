@@ -1,4 +1,4 @@
-//! A connection that fails where its peer takes too long.
+//! A socket with deadlines, which fails where its peer takes too long.
 ghost use Rattle.std.specs.Prelude.{◌≡◌};
 ghost use Rattle.futures.specs.Task.{Keeps};
 
@@ -13,29 +13,29 @@ use tokio::io::{AsyncRead, AsyncWrite};
 use tokio::sync::OwnedNotified;
 use tokio::time::Sleep;
 
-/// By when something has to come.
+/// The deadline of a head, or of an idle connection.
 #[derive(Drop)]
 struct Limit {
     stage: Stage,
     sleep: Sleep,
 }
 
-/// A socket whose reads fail where a head takes longer than `HEAD_SECONDS` from its first byte, where none begins for
-/// `IDLE_SECONDS`, or where the connection is told to leave while it waits for one; and whose writes fail where too little
-/// of a reply is taken.
+/// A socket whose reads fail where a head takes longer than `HEAD_SECONDS` from its first byte,
+/// where none begins for `IDLE_SECONDS`, or where the connection is told to close while it waits
+/// for one; and whose writes fail where too little of a response is written.
 #[derive(Drop)]
 pub struct Paced<I, P> {
     io: I,
     sitting: P,
     told: OwnedNotified,
     limit: Option<Limit>,
-    /// How many bytes of a reply were taken, until it is taken whole.
+    /// How many bytes of a response were written, until all of it is.
     taken: u64,
     sending: Option<Sending>,
 }
 
 impl Limit {
-    /// The limit of a stage; none, where the clock can't be read or memory is refused.
+    /// The deadline of a stage; none, where the clock can't be read or memory is refused.
     fn new<P: Sits>(sitting: &P, stage: Stage) -> Option<Limit> {
         let sleep = sitting.sleep(stage.seconds())?;
         Some(Limit { stage, sleep })
@@ -47,7 +47,7 @@ impl<I: Drop, P: Sits> Paced<I, P> {
     ///
     /// # Errors
     ///
-    /// There are too many shares.
+    /// There are too many references.
     pub fn new(io: I, sitting: P) -> Result<Paced<I, P>, AllocError> {
         Ok(Paced {
             io,
@@ -59,8 +59,8 @@ impl<I: Drop, P: Sits> Paced<I, P> {
         })
     }
 
-    /// Begins the time of a head, or that of an idle connection, unless it runs already. A connection isn't idle while a
-    /// request is answered or its reply is taken.
+    /// Begins the time of a head, or that of an idle connection, unless it runs already. A
+    /// connection isn't idle while a request is answered or its response is written.
     fn begin(&mut self, is_head: bool)
         ensures { self.new.io ≡ self.old.io }
     {
@@ -83,7 +83,7 @@ impl<I: Drop, P: Sits> Paced<I, P> {
         self.limit = Limit::new(&self.sitting, stage);
     }
 
-    /// Whether the time that runs is over, or the connection was told to leave.
+    /// Whether the running deadline is over, or the connection was told to close.
     fn is_over(&mut self, cx: &mut Context<'_>) -> bool
         ensures same { self.new.io ≡ self.old.io }
         ensures kept { Keeps cx.old cx.new }
@@ -94,12 +94,12 @@ impl<I: Drop, P: Sits> Paced<I, P> {
         }
     }
 
-    /// Whether a reply isn't taken whole.
+    /// Whether a response isn't written whole.
     fn is_sending(&self) -> bool {
         self.taken > 0 || self.sending.is_some()
     }
 
-    /// So many bytes of a reply were taken.
+    /// So many bytes of a response were written.
     fn take(&mut self, count: usize)
         ensures { self.new.io ≡ self.old.io }
     {
@@ -109,7 +109,7 @@ impl<I: Drop, P: Sits> Paced<I, P> {
         }
     }
 
-    /// Whether too little of a reply is taken, of which nothing can be written now.
+    /// Whether too little of a response is written, of which nothing can be written now.
     fn is_untaken(&mut self, cx: &mut Context<'_>) -> bool
         ensures same { self.new.io ≡ self.old.io }
         ensures kept { Keeps cx.old cx.new }
@@ -123,7 +123,7 @@ impl<I: Drop, P: Sits> Paced<I, P> {
         }
     }
 
-    /// The reply is taken whole, and the connection waits for a request.
+    /// The response is written whole, and the connection waits for a request.
     fn rest(&mut self)
         ensures { self.new.io ≡ self.old.io }
     {

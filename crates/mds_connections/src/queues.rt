@@ -1,4 +1,4 @@
-//! Whose turn it is. Short answers to one who asks are given side by side, a long one alone.
+//! A queue for each client: its short answers run concurrently, a long one alone.
 ghost use Rattle.std.specs.Prelude.{◌≡◌, None, IfSome, true, false};
 ghost use Rattle.mds_limits.specs.declared.cost.Cost.TheVariants.{Free, Shared, Exclusive};
 ghost use Rattle.mds_limits.specs.declared.limits.TheConstants.{MOST_SHORT};
@@ -12,28 +12,29 @@ use std::alloc::{AllocError, Global};
 use std::sync::Arc;
 use tokio::sync::Semaphore;
 
-/// The queue of one who asks.
+/// The queue of one client.
 #[derive(Drop)]
 struct Queue {
-    /// One permit. A long answer holds it while it waits for those below and has them, so that no other long one waits
-    /// for them before a short one.
+    /// One permit. A long answer holds it while it waits for the permits below and while it has
+    /// them, so that no second long answer waits for them ahead of a short one.
     line: Arc<Semaphore>,
-    /// As many permits as short answers are given at once. A short answer takes one, a long one takes all.
+    /// As many permits as short answers run at once. A short answer takes one, a long one takes
+    /// all.
     permits: Arc<Semaphore>,
 }
 
-/// A queue for each who asks, at its place.
+/// A queue for each client, at the client's index.
 #[derive(Drop)]
 pub struct Queues {
     queues: Vec<Queue>,
 }
 
 impl Queue {
-    /// A queue in which nobody waits.
+    /// An empty queue.
     ///
     /// # Errors
     ///
-    /// Memory ran out.
+    /// Out of memory.
     fn new(alloc: Global) -> Result<Queue, AllocError> {
         let line = Semaphore::new(alloc, 1)?;
         let permits = Semaphore::new(alloc, MOST_SHORT as usize)?;
@@ -43,7 +44,7 @@ impl Queue {
         })
     }
 
-    /// The turn of a short answer; none, where there are too many shares.
+    /// The turn of a short answer; none, where there are too many references.
     fn shared_turn(&self) -> Option<Turn>
         ensures waits { IfSome result IsWaiting }
         ensures permits { IfSome result (λ turn. permits_of turn ≡ 1) }
@@ -53,7 +54,7 @@ impl Queue {
         Some(Turn::for_one_permit(permits))
     }
 
-    /// The turn of a long answer; none, where there are too many shares.
+    /// The turn of a long answer; none, where there are too many references.
     fn exclusive_turn(&self) -> Option<Turn>
         ensures waits { IfSome result IsWaiting }
         ensures permits { IfSome result (λ turn. permits_of turn ≡ MOST_SHORT) }
@@ -66,11 +67,11 @@ impl Queue {
 }
 
 impl Queues {
-    /// The queues of a configuration, in each of which nobody waits.
+    /// The queues of a configuration, all empty.
     ///
     /// # Errors
     ///
-    /// Memory ran out.
+    /// Out of memory.
     pub fn new(alloc: Global, config: &Config) -> Result<Queues, AllocError> {
         let askers = config.operators().len() + 2;
         let mut queues = Vec::with_capacity(alloc, askers)?;
@@ -80,13 +81,14 @@ impl Queues {
         Ok(Queues { queues })
     }
 
-    /// How many there are who ask: those without a known access token, the author and the operators.
+    /// How many clients there are: anonymous, the author and the operators.
     pub fn askers(&self) -> usize {
         self.queues.len()
     }
 
-    /// The turn of an answer that takes so much of its asker's queue; none for what takes nothing of it, for who has no known
-    /// access token and is refused at once, and where there is no queue or there are too many shares of it.
+    /// The turn of an answer that takes so much of its client's queue; none for what takes nothing
+    /// of it, for an anonymous client, who is refused at once, and where there is no queue or there
+    /// are too many references to it.
     pub fn turn(&self, actor: Actor, cost: Cost) -> Option<Turn>
         ensures waits { IfSome result IsWaiting }
         ensures free { cost ≡ Free → result ≡ None }
@@ -94,7 +96,8 @@ impl Queues {
         // A short answer takes one permit.
         ensures shared { cost ≡ Shared → IfSome result
             (λ turn. (permits_of turn ≡ 1) × (is_for_line turn.line ≡ false)) }
-        // A long answer takes all permits, and waits for them once no other long one of its asker does.
+        // A long answer takes all permits, and waits for them once no other long answer to its
+        // client does.
         ensures exclusive { cost ≡ Exclusive → IfSome result
             (λ turn. (permits_of turn ≡ MOST_SHORT) × (is_for_line turn.line ≡ true)) }
     {

@@ -1,4 +1,5 @@
-//! What is the server's alone to say: that it is busy, and that it closes.
+//! Responses that only the connection layer gives: that the server is busy, and that the connection
+//! closes.
 ghost use Rattle.std.specs.Prelude.{◌≡◌, IfOk, Ok, IsTrue, IsFalse};
 ghost use Rattle.mds_limits.specs.Arrival.{closes_after};
 ghost use Rattle.mds_connections.specs.Busy.{Closes, SaysBusy};
@@ -15,7 +16,7 @@ use std::alloc::Global;
 ///
 /// # Errors
 ///
-/// Memory ran out.
+/// Out of memory.
 pub fn busy(alloc: Global) -> HttpResult
     ensures { IfOk result SaysBusy }
 {
@@ -23,22 +24,23 @@ pub fn busy(alloc: Global) -> HttpResult
     closing(json_response(alloc, StatusCode::SERVICE_UNAVAILABLE, body)?)
 }
 
-/// The same response, behind which the connection is closed: it says so.
+/// The same response, which says that the connection is closed after it.
 ///
 /// # Errors
 ///
-/// Memory ran out.
+/// Out of memory.
 pub fn closing(response: Response<Full<Bytes>>) -> HttpResult
     ensures { IfOk result (Closes response) }
 {
     with_field(response, CONNECTION, HeaderValue::from_static("close"))
 }
 
-/// The response to a request whose body arrived so: behind one that wasn't read whole the connection is closed.
+/// The response to a request with this body: after one that wasn't read whole the connection is
+/// closed.
 ///
 /// # Errors
 ///
-/// Memory ran out.
+/// Out of memory.
 pub fn finished(response: Response<Full<Bytes>>, arrived: &Arrived) -> HttpResult
     ensures closes { IsTrue (closes_after arrived.now) → IfOk result (Closes response) }
     ensures same { IsFalse (closes_after arrived.now) → result ≡ Ok response }

@@ -1,4 +1,4 @@
-//! The connections of a server, whose they are, and what waits of each who asks.
+//! The table of a server's connections: whose they are, and what waits of each client.
 ghost use Rattle.std.specs.Prelude.{◌≡◌, None, true, false};
 ghost use Rattle.mds_connections.specs.declared.seats.Admittance.TheVariants.{Busy};
 
@@ -11,69 +11,69 @@ use std::sync::Arc;
 use std::sync::atomic::{AtomicU64, Ordering};
 use tokio::sync::{Notify, OwnedNotified};
 
-/// What all that have a part in a connection know of it.
+/// The connection's slot: what all parts of a connection share.
 #[derive(Drop)]
 pub struct Seat {
     /// How far it is: even while it waits for a head, odd while a request is answered.
     pub pace: AtomicU64,
-    /// Tells the connection to leave.
+    /// Notifies the connection that it has to close.
     leave: Arc<Notify>,
-    /// Tells it that the server ends.
+    /// Notifies it that the server shuts down.
     last: Arc<Notify>,
 }
 
 /// Whether a request may wait for its answer.
 #[derive(Clone, Copy, Debug, PartialEq, Eq)]
 pub enum Admittance {
-    /// It may, in the queue of who asks.
+    /// It may, in this client's queue.
     Admitted(Actor),
-    /// Too much waits already, no seat is left for a connection of who asks, the connection was told to leave, or the register
-    /// is closed.
+    /// Too much waits already, no slot is left for a connection of the client, the connection was
+    /// told to close, or the table is closed.
     Busy,
 }
 
-/// A connection that has a seat.
+/// A connection that has a slot.
 #[derive(Drop)]
 struct Sitter {
-    /// The place of who asks over it.
+    /// The index of the client that uses it.
     asker: usize,
-    /// It was told to leave, and isn't counted any more.
+    /// It was told to close, and isn't counted any more.
     is_told: bool,
     /// Since when it is idle, where it is.
     since: Option<u64>,
-    /// The bytes that the body of the request counts as whose answer isn't made.
+    /// The bytes that the body of its unanswered request counts as.
     waits: Option<usize>,
     seat: Arc<Seat>,
 }
 
-/// Who sits where, and what waits.
+/// The table of connections, and what waits.
 #[derive(Drop)]
 pub struct Register {
     sitters: Slab<Sitter>,
     /// How often a connection began to be idle: later ones have a higher number.
     rests: u64,
-    /// The keys of each asker's idle connections, by since when they are.
+    /// The keys of each client's idle connections, by since when they are idle.
     idle: Vec<BTreeMap<u64, usize>>,
-    /// How many connections each who asks has: strangers, the author, and then the operators.
+    /// How many connections each client has: anonymous, the author, and then the operators.
     counts: Vec<usize>,
     /// What waits of each of these.
     loads: Vec<Load>,
     /// How many connections there are.
     all: usize,
-    /// The bytes that wait of all.
+    /// The bytes that wait of all clients.
     bytes: usize,
-    /// Where it is told how many connections are open, for who counts them.
+    /// The number of open connections, shared with its reader.
     open: Option<Arc<AtomicU64>>,
-    /// The server ends: nobody gets in any more.
+    /// The server shuts down: no connection and no request gets in any more.
     is_closed: bool,
 }
 
 impl Seat {
-    /// A seat of a connection that waits for its first head.
+    /// The slot of a connection that waits for its first head.
     ///
     /// # Errors
     ///
-    /// Memory ran out.
+    /// Out of memory.
     pub fn new(alloc: Global) -> Result<Seat, AllocError> {
         Ok(Seat {
             pace: AtomicU64::new(0),
@@ -82,31 +82,31 @@ impl Seat {
         })
     }
 
-    /// Hears when the connection is told to leave.
+    /// A future that ends when the connection is told to close.
     ///
     /// # Errors
     ///
-    /// There are too many shares.
+    /// There are too many references.
     pub fn told(&self) -> Result<OwnedNotified, AllocError> {
         Ok(Notify::notified_owned(Arc::try_clone(&self.leave)?))
     }
 
-    /// Hears when the server ends.
+    /// A future that ends when the server shuts down.
     ///
     /// # Errors
     ///
-    /// There are too many shares.
+    /// There are too many references.
     pub fn last(&self) -> Result<OwnedNotified, AllocError> {
         Ok(Notify::notified_owned(Arc::try_clone(&self.last)?))
     }
 }
 
 impl Register {
-    /// A register of no connection, for so many who ask.
+    /// A table of no connection, for so many clients.
     ///
     /// # Errors
     ///
-    /// Memory ran out.
+    /// Out of memory.
     pub fn new(alloc: Global, askers: usize) -> Result<Register, AllocError> {
         let none = Load {
             requests: 0,
@@ -136,8 +136,8 @@ impl Register {
         self.is_closed = true;
     }
 
-    /// From now on this number tells how many connections are open: those that have a seat, and those that were told to leave
-    /// and haven't ended.
+    /// From now on this number is that of open connections: those that have a slot, and those that
+    /// were told to close and haven't ended.
     pub fn count_at(&mut self, open: Arc<AtomicU64>)
         ensures { self.new.is_closed ≡ self.old.is_closed }
     {
@@ -145,14 +145,15 @@ impl Register {
         self.tell_open();
     }
 
-    /// Tells how many connections are open, where they are counted.
+    /// Stores the number of open connections, where it is wanted.
     fn tell_open(&self) {
         if let Some(open) = &self.open {
             open.store(self.sitters.len() as u64, Ordering::SeqCst);
         }
     }
 
-    /// Tells each connection that the server ends. One that waits for a head leaves at once, another once its reply is taken.
+    /// Notifies each connection that the server shuts down. One that waits for a head closes at
+    /// once, another once its response is written.
     pub fn tell(&self) {
         for (_, sitter) in self.sitters.iter() {
             sitter.seat.leave.notify_one();
@@ -160,7 +161,8 @@ impl Register {
         }
     }
 
-    /// Gives a stranger's connection a seat, and tells its key; none, where there is no seat for it or the register is closed.
+    /// Gives an anonymous connection a slot, and returns its key; none, where there is no slot for
+    /// it or the table is closed.
     pub fn enter(&mut self, seat: Arc<Seat>) -> Option<usize>
         ensures closed { self.old.is_closed ≡ true → result ≡ None }
         ensures kept { self.new.is_closed ≡ self.old.is_closed }
@@ -192,8 +194,8 @@ impl Register {
         }
     }
 
-    /// The connection is idle from now on: nothing of its last reply is left, and no further head has come. Where there is no
-    /// memory to note it, it isn't told to leave.
+    /// The connection is idle from now on: its last response is written whole, and no further head
+    /// has come. Where there is no memory to note it, it isn't told to close.
     pub fn rest(&mut self, key: usize)
         ensures { self.new.is_closed ≡ self.old.is_closed }
     {
@@ -212,7 +214,8 @@ impl Register {
         }
     }
 
-    /// Whether a request of this actor, whose body counts as so many bytes, may wait. Where it may, it waits from now on.
+    /// Whether a request of this client, whose body counts as so many bytes, may wait. Where it
+    /// may, it waits from now on.
     pub fn ask(&mut self, key: usize, actor: Actor, bytes: usize) -> Admittance
         ensures closed { self.old.is_closed ≡ true → result ≡ Busy }
         ensures kept { self.new.is_closed ≡ self.old.is_closed }
@@ -235,7 +238,7 @@ impl Register {
         }
     }
 
-    /// The answer of the connection's request is made.
+    /// The connection's request is answered: it waits no more.
     pub fn answered(&mut self, key: usize)
         ensures { self.new.is_closed ≡ self.old.is_closed }
     {
@@ -300,7 +303,8 @@ impl Register {
         }
     }
 
-    /// Counts one more connection of this asker. Another one may be told to leave for it; false, where none can be.
+    /// Counts one more connection of this client. Another one may be told to close for it; false,
+    /// where none can be.
     fn makes_room(&mut self, asker: usize) -> bool
         ensures { self.new.is_closed ≡ self.old.is_closed }
     {
@@ -317,7 +321,7 @@ impl Register {
         }
     }
 
-    /// Tells the oldest idle connection of this asker to leave; false, where none is idle.
+    /// Tells the oldest idle connection of this client to close; false, where none is idle.
     fn tells_oldest(&mut self, asker: usize) -> bool
         ensures { self.new.is_closed ≡ self.old.is_closed }
     {
@@ -336,7 +340,7 @@ impl Register {
         true
     }
 
-    /// The connection becomes one of this asker's; false, where there is no seat for it.
+    /// The connection becomes one of this client's; false, where there is no slot for it.
     fn becomes(&mut self, key: usize, asker: usize) -> bool
         ensures { self.new.is_closed ≡ self.old.is_closed }
     {

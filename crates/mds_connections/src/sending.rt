@@ -1,4 +1,4 @@
-//! A reply that its reader doesn't take at once.
+//! The progress of a response that can't be written at once.
 ghost use Rattle.futures.specs.Task.{Keeps};
 
 use crate::sits::Sits;
@@ -8,17 +8,17 @@ use mds_limits::{TAKING_SECONDS, is_untaken};
 use std::time::Instant;
 use tokio::time::Sleep;
 
-/// A reply that its reader doesn't take at once.
+/// The progress of a response that can't be written at once.
 #[derive(Drop)]
 pub struct Sending {
     /// When it first had to wait.
     since: Instant,
-    /// By when something of it has to be taken, while it waits.
+    /// By when something of it has to be written, while it waits.
     stall: Option<Sleep>,
 }
 
 impl Sending {
-    /// A reply that has to wait; none, where the clock can't be read.
+    /// A response that has to wait; none, where the clock can't be read.
     pub fn new<P: Sits>(sitting: &P) -> Option<Sending> {
         Some(Sending {
             since: sitting.now()?,
@@ -26,12 +26,12 @@ impl Sending {
         })
     }
 
-    /// Something of it was taken.
+    /// Something of it was written.
     pub fn moves(&mut self) {
         self.stall = None;
     }
 
-    /// Whether too little of it is taken, which has so many bytes by now.
+    /// Whether it is written too slowly: so many bytes of it are written by now.
     pub fn is_late<P: Sits>(&mut self, sitting: &P, taken: u64, cx: &mut Context<'_>) -> bool
         ensures { Keeps cx.old cx.new }
     {
@@ -39,7 +39,7 @@ impl Sending {
         is_untaken(self.is_stalled(sitting, cx), seconds, taken)
     }
 
-    /// Whether nothing was taken for as long as may be.
+    /// Whether nothing was written for as long as may be.
     fn is_stalled<P: Sits>(&mut self, sitting: &P, cx: &mut Context<'_>) -> bool
         ensures { Keeps cx.old cx.new }
     {

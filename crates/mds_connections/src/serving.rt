@@ -27,7 +27,7 @@ use tokio::io::{AsyncRead, AsyncWrite};
 use tokio::runtime::Runtime;
 use tokio::sync::OwnedNotified;
 
-/// What who lets connections in has of its own, and the watch.
+/// What the accept loop owns, and the reactor's keep-alive task.
 #[derive(Drop)]
 pub struct Seating {
     seat: Arc<Seat>,
@@ -36,11 +36,11 @@ pub struct Seating {
 }
 
 impl Seating {
-    /// A seating of no connection.
+    /// The same, of no connection.
     ///
     /// # Errors
     ///
-    /// Memory ran out.
+    /// Out of memory.
     pub fn new(alloc: Global) -> Result<Seating, AllocError> {
         let (bell, watch) = watched(alloc)?;
         let bell = Arc::new(alloc, bell)?;
@@ -49,8 +49,8 @@ impl Seating {
     }
 }
 
-/// What one more connection is served with: its socket, paced, its door, what hears that the server ends, and what leaves its
-/// seat.
+/// A new connection: its socket with deadlines, its HTTP service, the future that ends when the
+/// server shuts down, and the handle that gives its slot back.
 #[derive(Drop)]
 struct Newcomer<I, P> {
     io: Paced<I, P>,
@@ -59,7 +59,7 @@ struct Newcomer<I, P> {
     sitting: P,
 }
 
-/// One more connection; none, where there is no seat for it.
+/// A new connection; none, where there is no slot for it.
 fn entered<I: Drop, P: Sits>(io: I, usher: &P) -> Option<Newcomer<I, P>> {
     let sitting = usher.enter()?;
     match fitted(io, &sitting) {
@@ -76,7 +76,7 @@ fn entered<I: Drop, P: Sits>(io: I, usher: &P) -> Option<Newcomer<I, P>> {
     }
 }
 
-/// A socket, paced, its door, and what hears that the server ends.
+/// A socket with deadlines, its HTTP service, and the future that ends when the server shuts down.
 fn fitted<I: Drop, P: Sits>(
     io: I,
     sitting: &P,
@@ -88,7 +88,7 @@ fn fitted<I: Drop, P: Sits>(
     Ok((Paced::new(io, sitting.again()?)?, door, last))
 }
 
-/// A connection's future, which leaves its seat at the end.
+/// A connection's future, which gives its slot back at the end.
 #[derive(Drop)]
 struct Seated<F, P> {
     future: F,
@@ -110,11 +110,11 @@ impl<F: Future<Output: Drop>, P: Sits> Future for Seated<F, P> {
     }
 }
 
-/// Gives connections their tasks.
+/// Makes the tasks of connections.
 trait Host<I>: Drop {
     type Task: Future<Output = ()>;
 
-    /// Holds of a host that may seat any connection.
+    /// Holds of a factory that may make the task of any connection.
     ghost can_seat: { Self → Type 0 } = { λ _. ⊤ };
 
     /// The task of a connection; none, where as many are served as may be.
@@ -123,7 +123,7 @@ trait Host<I>: Drop {
         ensures { IfSome result Self.Task.can_poll };
 }
 
-/// What each connection of a house is served with.
+/// What each connection of a server is made with: the HTTP settings, and the acceptor's handle.
 #[derive(Drop)]
 struct Table<P, T> {
     http: Builder<T>,
@@ -155,7 +155,7 @@ where
     }
 }
 
-/// The tasks of a server: its watch, then each connection that finds a seat.
+/// The tasks of a server: the reactor's keep-alive task, then each connection that gets a slot.
 #[derive(Drop)]
 struct Tasks<S, H> {
     watch: Option<Watch>,
@@ -224,7 +224,7 @@ where
     serve_with(rt, runtime, http, sockets, usher, watch)
 }
 
-/// The same, by who lets connections in.
+/// The same, by an acceptor's handle.
 fn serve_with<R, S, I, P, T>(
     rt: &R,
     runtime: &mut Runtime,

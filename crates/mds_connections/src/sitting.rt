@@ -1,4 +1,4 @@
-//! A share of a house.
+//! The handles of a server's connections, and that of its acceptor.
 ghost use Rattle.std.specs.Prelude.{IfOk};
 
 use crate::house::{Answers, Crowded, House};
@@ -16,7 +16,8 @@ use std::time::{Clock, Duration, Instant};
 use tokio::sync::OwnedNotified;
 use tokio::time::Sleep;
 
-/// A share of a house, and a seat in it, under a key in the register. Who lets connections in has none.
+/// A reference to what connections share, and a slot, under a key in the table of connections. The
+/// acceptor has no key.
 #[derive(Drop)]
 pub struct Sitting<A, C> {
     house: Arc<House<A, C>>,
@@ -26,7 +27,7 @@ pub struct Sitting<A, C> {
 }
 
 impl<A, C> Sitting<A, C> {
-    /// The share of who lets connections in.
+    /// The acceptor's handle.
     pub fn usher(house: Arc<House<A, C>>, seat: Arc<Seat>, bell: Arc<Bell>) -> Sitting<A, C> {
         Sitting {
             house,

@@ -1,4 +1,4 @@
-//! The turn of an answer in the queue of who asks.
+//! The turn of an answer in its client's queue.
 ghost use Rattle.std.specs.Prelude.{◌≡◌, true, false};
 ghost use Rattle.mds_limits.specs.declared.limits.TheConstants.{MOST_SHORT};
 ghost use Rattle.mds_connections.specs.Turn.{IsWaiting, Holds, is_for_line, needs_of, permits_of};
@@ -21,15 +21,16 @@ enum Line {
     Held(OwnedSemaphorePermit),
 }
 
-/// The future of what an answer takes of its asker's queue: the line, where it may take long, and then its permits.
+/// The future of what an answer takes of its client's queue: the line, where it may take long, and
+/// then its permits.
 #[derive(Drop)]
 pub struct Turn {
     line: Line,
     permits: AcquireOwned,
 }
 
-/// What an answer holds of its asker's queue while it is asked for: its permits, and the line, where it may take long. All of
-/// it is given back when this is dropped.
+/// What an answer holds of its client's queue while it runs: its permits, and the line, where it
+/// may take long. All of it is released when this is dropped.
 #[derive(Drop)]
 pub struct Permits {
     permits: OwnedSemaphorePermit,

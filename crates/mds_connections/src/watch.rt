@@ -1,28 +1,28 @@
-//! A task that keeps a thread waiting for what comes over the sockets, while another answers.
+//! A task that keeps a thread waiting for the sockets, while another computes an answer.
 use futures::Future;
 use futures::task::{Context, Poll};
 use std::alloc::{AllocError, Global};
 use tokio::sync::mpsc::{Receiver, Sender, channel};
 
-/// Rings for the watch. A thread that comes upon a request as it waits for events calls no other to wait in
-/// its place, and the answer may take long.
+/// Wakes the reactor's keep-alive task. A thread that finds a request while it waits for events
+/// wakes no other to wait in its place, and the answer may take long.
 #[derive(Drop)]
 pub struct Bell {
     calls: Sender<()>,
 }
 
-/// A task that does nothing when it is called, and ends once there is no bell. The thread that wakes for it
-/// then waits for events.
+/// The reactor's keep-alive task: it does nothing when it is woken, and ends once there is no
+/// `Bell`. The thread that wakes for it then waits for events.
 #[derive(Drop)]
 pub struct Watch {
     calls: Receiver<()>,
 }
 
-/// A bell and its watch.
+/// A keep-alive task for the reactor, and what wakes it.
 ///
 /// # Errors
 ///
-/// Memory ran out.
+/// Out of memory.
 pub fn watched(alloc: Global) -> Result<(Bell, Watch), AllocError> {
     let (sender, receiver) = channel(alloc, 1)?;
     let bell = Bell { calls: sender };
@@ -31,7 +31,7 @@ pub fn watched(alloc: Global) -> Result<(Bell, Watch), AllocError> {
 }
 
 impl Bell {
-    /// Rings. Where the watch is still called, it is called no more than that.
+    /// Wakes the task. Where it has been woken already and hasn't run, nothing is added.
     pub fn ring(&self) {
         let _ = self.calls.try_send(());
     }

@@ -1,4 +1,4 @@
--- Who is let in at a control port: the rules, of which the first that holds decides.
+-- Which requests are let in at a control port: the rules, of which the first that holds decides.
 use Rattle.std.specs.Prelude.{ℕ, ◌||◌, ◌==◌, List, [], ◌∷◌, map, Bool, false, true, codes, if◌then◌else◌, Option, Some, None, string_bytes}
 use Rattle.mds_control.specs.Hosts.{same_name, is_known}
 use Rattle.mds_control.specs.declared.admission.Admission.{Admission}
@@ -18,13 +18,13 @@ is_there (Some value) = true
 abbrev pub has_field : List ℕ → List (List ℕ × List ℕ) → Bool
 has_field name fields = is_there (field_of name fields)
 
--- there is a further field of this name behind the first
+-- there is a further field of this name after the first
 abbrev pub has_several : List ℕ → List (List ℕ × List ℕ) → Bool
 has_several name [] = false
 has_several name (field ∷ fields) = if same_name name field.0 then has_field name fields else has_several name fields
 
--- a page in a browser asks: `Origin` (RFC 6454, section 7) and `Sec-Fetch-Site` (Fetch Metadata, section 2.3) are fields that no page can
--- leave out
+-- a page in a browser sends it: `Origin` (RFC 6454, section 7) and `Sec-Fetch-Site` (Fetch Metadata, section 2.3) are
+-- fields that no page can leave out
 abbrev pub is_from_page : List (List ℕ × List ℕ) → Bool
 is_from_page fields = has_field (codes "origin") fields || has_field (codes "sec-fetch-site") fields
 

@@ -1,4 +1,4 @@
--- The kinds of what is counted, and the rows that they stand in.
+-- The kinds of what is counted, and their rows.
 use Rattle.std.specs.Prelude.{ℕ, ◌+◌, ◌*◌, nat_lt, if◌then◌else◌}
 use Rattle.mds_control.specs.declared.counters.Kind.{Kind}
 use Rattle.mds_control.specs.declared.counters.Kind.TheVariants.{Read, Change, Publish}
@@ -25,7 +25,7 @@ outcome_place Failed = 2
 abbrev pub request_place : Kind → Outcome → ℕ
 request_place kind outcome = 3 * kind_place kind + outcome_place outcome
 
--- behind the nine rows of requests
+-- after the nine rows of requests
 abbrev pub place_of : Figure → ℕ
 place_of JournalBytes = 9
 place_of Syncs = 10

@@ -1,4 +1,4 @@
--- The hosts that a control port goes by.
+-- The host names of a control port.
 use Rattle.std.specs.Prelude.{◌≡◌, ℕ, List, [], ◌∷◌, ◌++◌, map, Bool, bytes_eq, codes, decimal, Option, None, Some, string_bytes}
 use Rattle.std.specs.Char.{to_ascii_lowercase}
 use Rattle.std.specs.List.{list_any}
@@ -17,7 +17,8 @@ abbrev pub configured : Option (List ℕ) → ℕ → List (List ℕ)
 configured None port = []
 configured (Some name) port = authorities name port
 
--- where it listens, where a connection came, the machine itself, and the configured name
+-- the address that it listens at, the one that a connection came to, the machine itself, and the
+-- configured name
 abbrev pub hosts_of : List ℕ → List ℕ → ℕ → Option (List ℕ) → List (List ℕ)
 hosts_of listening reached port name =
     authorities listening port ++ authorities reached port ++ authorities (codes "localhost") port ++ configured name port

@@ -1,4 +1,4 @@
--- The lines of Prometheus' text: a name with its labels, a space and a number.
+-- The lines of Prometheus' text format: a name with its labels, a space and a number.
 use Rattle.std.specs.Prelude.{ℕ, ◌==◌, List, [], ◌++◌, codes, decimal, if◌then◌else◌}
 use Rattle.mds_control.specs.declared.families.Family as families
 use Rattle.mds_control.specs.declared.lines.Metadata.{Metadata}
@@ -9,7 +9,7 @@ use Rattle.mds_control.specs.declared.lines.Line.{Line}
 abbrev pub metadata_of : families.Family → ℕ → Metadata
 metadata_of family index = if index == 0 then Family family else Nothing
 
--- what the family says, and its kind
+-- the help text of the family, and its kind
 abbrev pub metadata_text : Metadata → List ℕ
 metadata_text Nothing = []
 metadata_text (Family family) =

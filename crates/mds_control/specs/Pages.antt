@@ -17,13 +17,13 @@ takes page.Health method = bytes_eq method (codes "GET")
 takes page.Metrics method = bytes_eq method (codes "GET")
 takes page.Stop method = bytes_eq method (codes "POST")
 
--- what a page answers, where the server serves or doesn't
+-- the answer of a page, where the server serves or doesn't
 abbrev pub answer_at : Page → Bool → Answer
 answer_at page.Health serves = if serves then Healthy else Unready
 answer_at page.Metrics serves = Metrics
 answer_at page.Stop serves = Stops
 
--- what is answered to a method by the page of a path, if there is one
+-- the answer to a method of the page at a path, if there is one
 abbrev pub answered : List ℕ → Option Page → Bool → Answer
 answered method None serves = NotFound
 answered method (Some page) serves = if takes page method then answer_at page serves else NotAllowed

@@ -1,4 +1,4 @@
--- Where a control port listens, as an address tells it.
+-- Where a control port listens, by its address.
 use Rattle.std.specs.Prelude.{◌≡◌, ℕ, List, ◌++◌, codes}
 use Rattle.mds_control.specs.declared.port.Place.{Place}
 use Rattle.mds_control.specs.declared.port.Place.TheVariants.{Tcp, Unix}

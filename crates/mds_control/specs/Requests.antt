@@ -1,4 +1,4 @@
--- What is answered to a request's head (RFC 9112, sections 2 to 5), by httparse's grammar.
+-- The answer to a request's head (RFC 9112, sections 2 to 5), by httparse's grammar.
 use Rattle.std.specs.Prelude.{◌≡◌, ℕ, ◌||◌, map, List, Bool, nat_lt, if◌then◌else◌, Option, Some, None}
 use Rattle.httparse.specs.Grammar.{RequestHead, ReadsRequest, HasNoRequest}
 use Rattle.httparse.specs.Spans.{name_and_value, RequestOverflows}
@@ -13,7 +13,7 @@ use Rattle.mds_control.specs.declared.request.Heading.{Heading}
 use Rattle.mds_control.specs.declared.request.Heading.TheVariants.{Whole, Partial, Broken}
 use Rattle.mds_control.specs.declared.request.TheConstants.{MOST_FIELDS, MOST_OF_HEAD}
 
--- only who is let in is answered what was asked
+-- a request gets its own answer only where it is let in
 abbrev pub answer_if : Admission → Answer → Answer
 answer_if Admitted asked = asked
 answer_if Malformed asked = answers.Unread
@@ -23,12 +23,12 @@ abbrev pub answer_to : Hosts → Bool → RequestHead → Answer
 answer_to hosts serves head =
     answer_if (admission_of hosts head.minor (map name_and_value head.fields)) (answer_of head.method head.target serves)
 
--- the bytes begin with a head that is answered so
+-- the bytes begin with a head that has this answer
 abbrev pub IsAnswered : List ℕ → Hosts → Bool → Answer → Type 0
 IsAnswered bytes hosts serves answer =
     (head : RequestHead) × (rest : List ℕ) × ReadsRequest bytes head rest × (answer ≡ answer_to hosts serves head)
 
--- a head at the front of the bytes, none yet, or none that they can begin with and that has no more fields than are read
+-- a head at the start of the bytes; none yet; or the bytes can begin with none that has no more fields than are read
 abbrev pub HeadingOf : List ℕ → Hosts → Bool → Heading → Type 0
 HeadingOf bytes hosts serves (Whole answer) = IsAnswered bytes hosts serves answer
 HeadingOf bytes hosts serves Partial = HasNoRequest bytes

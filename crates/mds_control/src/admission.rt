@@ -1,4 +1,4 @@
-//! Who is let in.
+//! Which requests are let in.
 ghost use Rattle.std.specs.Prelude.{◌≡◌, map, option_map, string_bytes, All, length};
 ghost use Rattle.httparse.specs.Spans.{IsHeaderWithin, header_bytes};
 ghost use Rattle.mds_control.specs.Admission.{field_of, has_field, has_several, is_from_page, admission_at, host_admission, admission_of};
@@ -13,7 +13,7 @@ pub(crate) enum Admission {
     Admitted,
     /// It names no host, or several.
     Malformed,
-    /// A page in a browser sends it, or it asks for another host.
+    /// A page in a browser sends it, or it is for another host.
     Forbidden,
 }
 
@@ -55,8 +55,9 @@ fn has_several(bytes: &[u8], headers: &[HeaderSpan], name: &str) -> bool
     false
 }
 
-/// Whether a page in a browser asks: each request of a page for another origin that may change something has an `Origin`
-/// (RFC 6454, section 7), and each of its requests to this machine a `Sec-Fetch-Site` (Fetch Metadata, section 2.3).
+/// Whether a page in a browser sends it: each request of a page for another origin that may change
+/// something has an `Origin` (RFC 6454, section 7), and each of its requests to this machine a
+/// `Sec-Fetch-Site` (Fetch Metadata, section 2.3).
 fn is_from_page(bytes: &[u8], headers: &[HeaderSpan]) -> bool
     requires { All (IsHeaderWithin (length bytes.now)) headers.now }
     ensures { result ≡ is_from_page (map (header_bytes bytes.now) headers.now) }
@@ -64,7 +65,7 @@ fn is_from_page(bytes: &[u8], headers: &[HeaderSpan]) -> bool
     has_field(bytes, headers, "origin") || has_field(bytes, headers, "sec-fetch-site")
 }
 
-/// Whether a request of HTTP/1.`minor` is let in that names this host, or none.
+/// Whether a request of HTTP/1.`minor` that names this host, or none, is let in.
 fn admission_at(names: &[String], minor: u8, host: Option<&[u8]>) -> Admission
     ensures { result ≡ admission_at (map string_bytes names.now) minor (option_map (λ host. host.now) host.entry) }
 {
@@ -76,7 +77,8 @@ fn admission_at(names: &[String], minor: u8, host: Option<&[u8]>) -> Admission
     }
 }
 
-/// Whether a request of HTTP/1.`minor` with these fields is let in by its host (RFC 9112, section 3.2).
+/// Whether a request of HTTP/1.`minor` with these fields is let in by its host (RFC 9112, section
+/// 3.2).
 fn host_admission(hosts: &Hosts, minor: u8, bytes: &[u8], headers: &[HeaderSpan]) -> Admission
     requires { All (IsHeaderWithin (length bytes.now)) headers.now }
     ensures { result ≡ host_admission hosts.now minor (map (header_bytes bytes.now) headers.now) }

@@ -1,4 +1,4 @@
-//! Who stops a server.
+//! The client of a control port, which stops a server.
 ghost use Rattle.std.specs.Prelude.{◌≡◌, IfOk, string_bytes};
 ghost use Rattle.mds_control.specs.Places.{stop_request};
 
@@ -9,13 +9,13 @@ use std::net::{Net, OpenStream, TcpStream};
 use std::os::unix::net::UnixStream;
 use std::time::Duration;
 
-/// How an answer begins that says that the server stops.
+/// The start of the response of a server that stops.
 const ACCEPTED: &[u8] = b"HTTP/1.1 202";
 
-/// Within how many seconds the server has to say that it stops.
+/// Within how many seconds the server has to answer that it stops.
 const ANSWER_SECONDS: u64 = 5;
 
-/// The request to stop, of a server that is called by this host.
+/// The request to stop, to a server with this host name.
 fn stop_request(alloc: Global, host: &str) -> Result<String, AllocError>
     ensures { IfOk result (λ text. string_bytes text ≡ stop_request host.now) }
 {
@@ -24,7 +24,7 @@ fn stop_request(alloc: Global, host: &str) -> Result<String, AllocError>
     )
 }
 
-/// Sends the request to stop, and says whether the server does.
+/// Sends the request to stop, and returns whether the server does.
 ///
 /// # Errors
 ///
@@ -36,8 +36,8 @@ fn ask<C: Read + Write>(stream: &mut C, request: &str) -> io::Result<bool> {
     Ok(answer.as_slice() == ACCEPTED)
 }
 
-/// Tells the server whose control port is at this address to stop, and says whether it does. It is called by the address that was
-/// reached, and `localhost` at a Unix socket.
+/// Asks the server whose control port is at this address to stop, and returns whether it does. Its
+/// host is the address that was reached, and `localhost` at a Unix socket.
 ///
 /// # Errors
 ///

@@ -1,4 +1,4 @@
-//! A connection of the control port, whose calls don't wait.
+//! A connection of the control port, whose calls don't block.
 use crate::control::{Server, Stop};
 use crate::counters::Counters;
 use crate::hosts::Hosts;
@@ -9,19 +9,19 @@ use std::alloc::{AllocError, AllocGlobal, Global};
 use std::io::{self, ErrorKind, Read, Write};
 use std::time::{Clock, Duration, Instant};
 
-/// Within how many seconds a head has to come, and then its answer to be taken.
+/// Within how many seconds a head has to come, and then its response to be written.
 const LIMIT_SECONDS: u64 = 5;
 
 /// Whether a connection goes on.
 #[derive(Clone, Copy, PartialEq, Eq)]
 pub(crate) enum Turn {
-    /// Its bytes are waited for, or room for its answer.
+    /// It waits for its bytes, or to write its response.
     Waits,
     /// Its request is answered.
     Ends,
 }
 
-/// An answer on its way.
+/// A response that is being written.
 #[derive(Drop)]
 struct Reply {
     text: String,
@@ -42,7 +42,7 @@ pub(crate) struct Connection<C> {
 }
 
 impl Reply {
-    /// Writes as much as is taken.
+    /// Writes as much as the socket takes.
     ///
     /// # Errors
     ///
@@ -65,7 +65,7 @@ impl Reply {
 }
 
 impl<C: Read + Write> Connection<C> {
-    /// A connection that was just accepted, which may name these hosts.
+    /// A connection that was just accepted, whose request may name these hosts.
     ///
     /// # Errors
     ///
@@ -84,7 +84,7 @@ impl<C: Read + Write> Connection<C> {
         })
     }
 
-    /// Reads what has come, and tells the answer if one is due.
+    /// Reads what has come, and returns the answer if one is due.
     ///
     /// # Errors
     ///
@@ -140,7 +140,7 @@ impl<C: Read + Write> Connection<C> {
     }
 }
 
-/// What stands in the reply.
+/// The body of the response.
 fn body(alloc: Global, answer: Answer, counters: &Counters) -> Result<String, AllocError> {
     let text = match answer {
         Answer::Metrics => return metrics(alloc, &counters.lines(alloc)?),
@@ -155,7 +155,8 @@ fn body(alloc: Global, answer: Answer, counters: &Counters) -> Result<String, Al
     String::from_str(alloc, text)
 }
 
-/// A reply with this status and body, behind which the connection is closed (RFC 9112, section 9.6).
+/// A response with this status and body, after which the connection is closed (RFC 9112, section
+/// 9.6).
 fn reply_text(alloc: Global, status: u16, body: &str) -> Result<String, AllocError> {
     let length = body.len();
     format!(in alloc;

@@ -1,15 +1,15 @@
-//! How far a server is, as its control port is told.
+//! The server's state, for its control port: serving, stopping or ended.
 use crate::counters::Counters;
 use crate::port::PortWaker;
 use std::sync::atomic::{AtomicBool, Ordering};
 
-/// What stops a server.
+/// Stops a server.
 pub trait Stop {
     /// The server stops from now on: it accepts nothing more, and what has begun is answered.
     fn stop(&self);
 }
 
-/// How far a server is.
+/// Whether a server serves, stops or has ended.
 #[derive(Drop)]
 pub struct Control {
     serves: AtomicBool,
@@ -17,7 +17,7 @@ pub struct Control {
     has_ended: AtomicBool,
 }
 
-/// The server that a control port is of.
+/// The server of a control port.
 #[derive(Drop)]
 pub(crate) struct Server<'a, S> {
     pub(crate) control: &'a Control,
@@ -53,7 +53,7 @@ impl Control {
         self.has_ended.load(Ordering::SeqCst)
     }
 
-    /// The server has ended, and its control port ends too, which this wakes.
+    /// The server has ended. This wakes its control port, which ends too.
     pub fn end(&self, port: &PortWaker) {
         self.stops();
         self.has_ended.store(true, Ordering::SeqCst);

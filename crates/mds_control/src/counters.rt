@@ -1,4 +1,4 @@
-//! What a server counts, in numbers that any thread may change.
+//! The counters of a server, which any thread may change.
 ghost use Rattle.std.specs.Prelude.{◌≡◌};
 ghost use Rattle.mds_control.specs.Counted.{outcome_of, place_of, request_place};
 
@@ -14,7 +14,7 @@ use std::sync::atomic::{AtomicU64, Ordering};
 pub enum Kind {
     /// It reads, or the table of calls refuses it.
     Read,
-    /// It may change what one keeps.
+    /// It may change the persisted state.
     Change,
     /// It publishes.
     Publish,
@@ -23,7 +23,7 @@ pub enum Kind {
 /// The kinds of answers.
 #[derive(Clone, Copy, PartialEq, Eq)]
 pub enum Outcome {
-    /// What was asked was done.
+    /// The request was carried out.
     Done,
     /// The request was refused.
     Refused,
@@ -31,20 +31,20 @@ pub enum Outcome {
     Failed,
 }
 
-/// What else is counted.
+/// The other numbers.
 #[derive(Clone, Copy, PartialEq, Eq)]
 pub enum Figure {
     /// The bytes of the journal.
     JournalBytes,
     /// How often the journal was synced.
     Syncs,
-    /// The replies that are on their way: asked for, and neither told nor given up yet.
+    /// The pending responses: asked for, and neither answered nor given up yet.
     Pending,
-    /// The publications: those of the journal at the start, and those that were told since.
+    /// The publications: those in the journal at the start, and those answered since.
     Revision,
 }
 
-/// What a server counts.
+/// The counters of a server.
 #[derive(Drop)]
 pub struct Counters {
     /// In the order of the rows.
@@ -108,12 +108,12 @@ fn zeros(alloc: Global, count: usize) -> Result<Vec<AtomicU64>, AllocError> {
 }
 
 impl Counters {
-    /// Counters of a server that has counted nothing. Its open connections and its operators' vehicles are counted elsewhere, in
+    /// Counters, all 0. The open connections and the operators' vehicles are counted elsewhere, in
     /// numbers that are read here.
     ///
     /// # Errors
     ///
-    /// Memory ran out.
+    /// Out of memory.
     pub fn new(
         alloc: Global,
         connections: Arc<AtomicU64>,
@@ -139,7 +139,8 @@ impl Counters {
         }
     }
 
-    /// Counts a request of this kind that was answered with this status, so many milliseconds after its turn came.
+    /// Counts a request of this kind that was answered with this status, so many milliseconds after
+    /// its turn came.
     pub fn count_answer(&self, kind: Kind, status: u16, millis: u64) {
         self.bump(request_place(kind, Outcome::of(status)), 1);
         for (bucket, bound) in BOUNDS.iter().enumerate() {
@@ -151,30 +152,30 @@ impl Counters {
         self.bump(COUNT, 1);
     }
 
-    /// So much more of what is counted.
+    /// Adds to a number.
     pub fn add(&self, figure: Figure, by: u64) {
         self.bump(figure.place(), by);
     }
 
-    /// So much less of what was added before.
+    /// Subtracts what was added before.
     pub fn take(&self, figure: Figure, by: u64) {
         if let Some(held) = self.values.get(figure.place()) {
             held.fetch_sub(by, Ordering::SeqCst);
         }
     }
 
-    /// So much of what is counted there is now.
+    /// Sets a number.
     pub fn set(&self, figure: Figure, value: u64) {
         if let Some(held) = self.values.get(figure.place()) {
             held.store(value, Ordering::SeqCst);
         }
     }
 
-    /// What is counted by now.
+    /// All lines with their present values.
     ///
     /// # Errors
     ///
-    /// Memory ran out.
+    /// Out of memory.
     pub fn lines(&self, alloc: Global) -> Result<Vec<Line<'_>>, AllocError> {
         let mut lines = Vec::new(alloc);
         lines.push(Line {

@@ -1,22 +1,22 @@
-//! The table of what is counted.
+//! The table of metrics.
 
-/// What is counted under one name, in the words of Prometheus' text-based format.
+/// A metric family, in the words of Prometheus' text-based format.
 #[derive(Clone, Copy)]
 pub struct Family {
     /// The name of the metric.
     pub name: &'static str,
-    /// What it says.
+    /// Its help text.
     pub help: &'static str,
     /// `counter`, `gauge` or `histogram`.
     pub kind: &'static str,
 }
 
-/// The numbers of a family that stand one behind the other.
+/// The numbers of a family, which are adjacent.
 pub(crate) struct Rows {
     pub(crate) family: Family,
-    /// The place of the first.
+    /// The index of the first.
     pub(crate) first: usize,
-    /// What stands behind the name in the line of each: which part it is of a histogram, and its labels.
+    /// What follows the name in the line of each: which part of a histogram it is, and its labels.
     pub(crate) ends: &'static [&'static str],
 }
 
@@ -34,17 +34,17 @@ pub(crate) const VEHICLES: Family = Family {
     kind: "gauge",
 };
 
-/// How many milliseconds are no more than what each bucket counts. The last counts all.
+/// The upper bounds of the buckets in milliseconds, inclusive. The last one counts all.
 pub(crate) const BOUNDS: &[u64] = &[5, 10, 25, 100, 250, 1000, u64::MAX];
 
-/// The place of the first bucket. The sum and the count follow the buckets.
+/// The index of the first bucket. The sum and the count follow the buckets.
 pub(crate) const FIRST_BUCKET: usize = 13;
 
 pub(crate) const SUM: usize = 20;
 
 pub(crate) const COUNT: usize = 21;
 
-/// How many places there are.
+/// How many numbers there are.
 pub(crate) const PLACES: usize = 22;
 
 /// The numbers that are counted here, in the order of their lines.

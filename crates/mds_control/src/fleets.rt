@@ -15,11 +15,12 @@ pub struct Fleet {
 }
 
 impl Fleet {
-    /// The fleet of the operator with this identifier, a UUID as it is spelled: of no vehicle, until another number is told.
+    /// The fleet of the operator with this identifier, a UUID as it is spelled: 0 vehicles, until
+    /// another number is set.
     ///
     /// # Errors
     ///
-    /// Memory ran out.
+    /// Out of memory.
     pub fn new(alloc: Global, operator: &str) -> Result<Fleet, AllocError>
         ensures { IfOk result (λ fleet. string_bytes fleet.label ≡ operator_label operator.now) }
     {
@@ -29,11 +30,11 @@ impl Fleet {
         })
     }
 
-    /// A share of its number, for who counts its vehicles.
+    /// A reference to its number, for the code that counts its vehicles.
     ///
     /// # Errors
     ///
-    /// There are too many shares.
+    /// There are too many references.
     pub fn vehicles(&self) -> Result<Arc<AtomicU64>, AllocError> {
         Arc::try_clone(&self.vehicles)
     }
@@ -45,7 +46,7 @@ impl Fleet {
         self.label.as_str()
     }
 
-    /// Its number by now.
+    /// Its present number.
     pub(crate) fn count(&self) -> u64 {
         self.vehicles.load(Ordering::SeqCst)
     }

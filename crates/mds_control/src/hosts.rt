@@ -1,4 +1,4 @@
-//! The hosts that a control port goes by.
+//! The host names of a control port.
 ghost use Rattle.std.specs.Prelude.{◌≡◌, ◌++◌, map, option_map, IfOk, string_bytes};
 ghost use Rattle.mds_control.specs.Hosts.{same_name, authorities, hosts_of, AreHosts, is_known};
 
@@ -7,7 +7,7 @@ use std::alloc::{AllocError, Global};
 /// The hosts that a request may name (RFC 9110, section 7.2).
 #[derive(Drop)]
 pub enum Hosts {
-    /// Any: what listens has no name that a page could ask by, as a Unix socket.
+    /// Any: the listener has no name that a page could use, such as a Unix socket.
     Any,
     /// These alone.
     Named(Vec<String>),
@@ -20,7 +20,7 @@ pub(crate) fn is_name(name: &[u8], other: &[u8]) -> bool
     name.eq_ignore_ascii_case(other)
 }
 
-/// Puts a name behind others, alone and with the port.
+/// Appends a name, alone and with the port.
 fn push_name(
     alloc: Global,
     names: &mut Vec<String>,
@@ -35,13 +35,13 @@ fn push_name(
 }
 
 impl Hosts {
-    /// The hosts of a port that listens at one address and was reached at another, which is its own where it listens at all
-    /// addresses of the machine; each as it stands in a URI, alone or with the port. `localhost` is one of them, and so is the
-    /// name that is configured.
+    /// The hosts of a port that listens at one address and was reached at another, which is its own
+    /// where it listens at all addresses of the machine; each as it stands in a URI, alone or with
+    /// the port. `localhost` is one of them, and so is the configured name.
     ///
     /// # Errors
     ///
-    /// Memory ran out.
+    /// Out of memory.
     pub fn new(
         alloc: Global,
         listening: &str,

@@ -1,4 +1,4 @@
-//! The control port of a server: whether it serves, what it counts, and how it is stopped.
+//! The control port: whether the server serves, its metrics, and its stop.
 #![tactic(auto)]
 
 mod admission;

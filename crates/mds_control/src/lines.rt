@@ -1,4 +1,4 @@
-//! What is counted, as Prometheus reads it.
+//! The metrics, in Prometheus' text format.
 ghost use Rattle.std.specs.Prelude.{◌≡◌, IfOk, string_bytes, flat_map};
 ghost use Rattle.mds_control.specs.Lines.{metadata_of, line_text};
 
@@ -9,22 +9,22 @@ use std::fmt;
 /// What stands before a line.
 #[derive(Clone, Copy)]
 pub enum Metadata {
-    /// Before the first line of a family: what it says, and its kind.
+    /// Before the first line of a family: its help text and its kind.
     Family(Family),
     /// Before any further line.
     Nothing,
 }
 
-/// One line: what is counted, and how much of it there is.
+/// One line: a metric and its value.
 #[derive(Clone, Copy)]
 pub struct Line<'a> {
     /// What stands before it.
     pub metadata: Metadata,
-    /// What is counted.
+    /// The name of the metric.
     pub name: &'static str,
-    /// What stands behind the name, as its labels.
+    /// What follows the name, such as its labels.
     pub end: &'a str,
-    /// How much.
+    /// The value.
     pub value: u64,
 }
 
@@ -69,11 +69,11 @@ impl fmt::Display for Line<'_> {
     }
 }
 
-/// The lines one behind the other.
+/// The text of these lines, in their order.
 ///
 /// # Errors
 ///
-/// Memory ran out.
+/// Out of memory.
 pub fn metrics(alloc: Global, lines: &[Line<'_>]) -> Result<String, AllocError>
     ensures { IfOk result (λ text. string_bytes text ≡ flat_map line_text lines.now) }
 {

@@ -1,32 +1,32 @@
-//! What is answered to whom asks.
+//! The pages of the control port, and their answers.
 ghost use Rattle.std.specs.Prelude.{◌≡◌};
 ghost use Rattle.mds_control.specs.Pages.{page_of, takes, answer_at, answer_of, status_of};
 
-/// What there is to ask for.
+/// A page of the control port.
 #[derive(Clone, Copy, PartialEq, Eq)]
 enum Page {
     /// Whether the server serves.
     Health,
-    /// What it counts.
+    /// The metrics.
     Metrics,
-    /// That it stops.
+    /// The request to stop.
     Stop,
 }
 
-/// What is answered.
+/// An answer of the control port.
 #[derive(Clone, Copy, Debug, PartialEq, Eq)]
 pub enum Answer {
     /// The server serves.
     Healthy,
     /// It doesn't serve yet, or not any more.
     Unready,
-    /// What is counted.
+    /// The metrics.
     Metrics,
     /// The server stops from now on.
     Stops,
     /// The request can't be read.
     Unread,
-    /// A page asks, or another host is asked for.
+    /// A page in a browser sends it, or it is for another host.
     Forbidden,
     /// There is nothing at that path.
     NotFound,
@@ -71,7 +71,7 @@ impl Page {
     }
 }
 
-/// What is answered to a method and a path, where the server serves or doesn't.
+/// The answer to a method and a path, where the server serves or doesn't.
 pub fn answer_for(method: &[u8], path: &[u8], serves: bool) -> Answer
     ensures { result ≡ answer_of method.now path.now serves }
 {

@@ -14,7 +14,7 @@ use std::os::unix::fs::{FileTypeExt, PermissionsExt};
 use std::os::unix::net::{SocketAddr as UnixAddr, UnixListener, UnixStream};
 use std::time::Duration;
 
-/// What stands before the path of a Unix socket in an address.
+/// The prefix of a Unix socket's address, before its path.
 const UNIX: &str = "unix:";
 
 /// The mode of a Unix socket: its owner alone may connect.
@@ -23,10 +23,10 @@ const OWNER_ONLY: u32 = 0o600;
 /// How many connections to a Unix socket may wait to be accepted.
 const BACKLOG: i32 = 128;
 
-/// How many sources are told of at once.
+/// How many events are read at once.
 const EVENTS: usize = 64;
 
-/// All sources have one token: whichever is ready, each is looked at.
+/// All sources have one token: whichever is ready, each is tried.
 const ANY: Token = Token(0);
 
 /// Where to listen, or to connect.
@@ -38,7 +38,7 @@ pub(crate) enum Place<'a> {
     Unix(&'a str),
 }
 
-/// The place of an address: `unix:` stands before the path of a Unix socket.
+/// The endpoint of an address: `unix:` stands before the path of a Unix socket.
 pub(crate) fn place_of(address: &str) -> Place<'_>
     ensures { PlaceOf address.now result }
 {
@@ -48,7 +48,7 @@ pub(crate) fn place_of(address: &str) -> Place<'_>
     }
 }
 
-/// What is listened at.
+/// The listening socket.
 #[derive(Drop)]
 enum Listener {
     Tcp(TcpListener),
@@ -84,11 +84,11 @@ impl Write for Stream {
     }
 }
 
-/// A control port that is listened at.
+/// A control port that listens.
 #[derive(Drop)]
 pub struct Port {
     listener: Listener,
-    /// One more name that it goes by.
+    /// One more host name of it.
     name: Option<String>,
     poll: Poll,
     events: Events,
@@ -101,7 +101,7 @@ pub struct PortWaker {
 }
 
 impl PortWaker {
-    /// The port looks whether the server has ended.
+    /// The port checks whether the server has ended.
     pub(crate) fn wake(&self) {
         let _ = self.waker.wake();
     }
@@ -155,7 +155,7 @@ fn host_text(alloc: Global, address: IpAddr) -> Result<String, AllocError> {
     }
 }
 
-/// Tells the port when this descriptor may be read or written.
+/// Registers this descriptor with the poll, to be read or written.
 fn watch(poll: &Poll, descriptor: RawFd) -> io::Result<()> {
     let ready = Interest::READABLE | Interest::WRITABLE;
     poll.registry()
@@ -163,8 +163,9 @@ fn watch(poll: &Poll, descriptor: RawFd) -> io::Result<()> {
 }
 
 impl Port {
-    /// Listens at an address, as `127.0.0.1:9090`, or at a Unix socket, as `unix:/run/city/control`, which goes by one more name
-    /// where one is given. A Unix socket is its owner's alone, and takes the place of one at which nobody listens.
+    /// Listens at an address, as `127.0.0.1:9090`, or at a Unix socket, as
+    /// `unix:/run/city/control`, with one more host name where one is given. A Unix socket is its
+    /// owner's alone, and takes the place of one at which nobody listens.
     ///
     /// # Errors
     ///
@@ -224,7 +225,7 @@ impl Port {
         }
     }
 
-    /// The hosts that a connection which came at this address may name.
+    /// The hosts that the request of a connection to this address may name.
     fn hosts(&self, alloc: Global, reached: SocketAddr) -> io::Result<Hosts> {
         let listening = host_text(alloc, self.local_addr()?.ip())?;
         let name = self.name.as_deref();
@@ -232,7 +233,7 @@ impl Port {
         Ok(Hosts::new(alloc, &listening, &text, reached.port(), name)?)
     }
 
-    /// The next connection, with the hosts that it may name. Its calls don't wait.
+    /// The next connection, with the hosts that its request may name. Its calls don't block.
     ///
     /// # Errors
     ///
@@ -255,7 +256,8 @@ impl Port {
         }
     }
 
-    /// Waits until a connection comes, one can be read or written, or it is woken; no longer than told.
+    /// Waits until a connection comes, one can be read or written, or it is woken, and no longer
+    /// than the limit, where there is one.
     ///
     /// # Errors
     ///

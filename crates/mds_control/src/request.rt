@@ -1,4 +1,4 @@
-//! A request's head, and what is answered to it.
+//! A request's head, and the answer to it.
 ghost use Rattle.std.specs.Prelude.{◌≡◌};
 ghost use Rattle.mds_control.specs.Requests.{answer_if, HeadingOf, due_of};
 
@@ -17,15 +17,15 @@ pub(crate) const MOST_OF_HEAD: usize = 8192;
 /// What the bytes that have come begin with.
 #[derive(Clone, Copy, Debug, PartialEq, Eq)]
 pub enum Heading {
-    /// A head, and what is answered to it.
+    /// A head, and its answer.
     Whole(Answer),
     /// No whole head yet.
     Partial,
-    /// What becomes none, or has more than 64 fields.
+    /// Bytes that can't become a head, or a head with more than 64 fields.
     Broken,
 }
 
-/// What is answered where this is asked by who is let in.
+/// The answer to a request with this admission, whose own answer this is.
 fn answer_if(admission: Admission, asked: Answer) -> Answer
     ensures { result ≡ answer_if admission asked }
 {
@@ -36,8 +36,9 @@ fn answer_if(admission: Admission, asked: Answer) -> Answer
     }
 }
 
-/// What is answered to the head that bytes begin with (RFC 9112, sections 3 and 5), at a port that goes by these hosts, of a
-/// server that serves or doesn't. A line may end by a line feed alone (section 2.2).
+/// The answer to the head that bytes begin with (RFC 9112, sections 3 and 5), at a port with these
+/// host names, of a server that serves or doesn't. A line may end by a line feed alone (section
+/// 2.2).
 pub fn heading_of(bytes: &[u8], hosts: &Hosts, serves: bool) -> Heading
     ensures { HeadingOf bytes.now hosts.now serves result }
 {
@@ -54,8 +55,8 @@ pub fn heading_of(bytes: &[u8], hosts: &Hosts, serves: bool) -> Heading
     }
 }
 
-/// The answer that is due to what so many bytes begin with, of which no more come or some may; none, while the rest of a head
-/// may come.
+/// The answer that is due to what so many bytes begin with, where they have ended or more may come;
+/// none, while the rest of a head may come.
 pub fn answer_due(heading: Heading, count: usize, is_over: bool) -> Option<Answer>
     ensures { result ≡ due_of heading count is_over }
 {

@@ -12,10 +12,10 @@ use std::time::{Clock, Duration};
 /// How many connections may be open. Where one more comes, the oldest is closed.
 const MOST_CONNECTIONS: usize = 64;
 
-/// How often it is looked at whether the time of a connection is over, in milliseconds.
+/// How often deadlines of connections are checked, in milliseconds.
 const TICK_MILLIS: u64 = 250;
 
-/// How long nothing is done after the system refused to wait, in milliseconds.
+/// The pause after the system refused to wait, in milliseconds.
 const PAUSE_MILLIS: u64 = 20;
 
 /// The open connections, the oldest first.
@@ -24,16 +24,17 @@ type Connections = VecDeque<Connection<Stream>>;
 /// What became of the connections that wait to be accepted.
 #[derive(Clone, Copy)]
 enum Backlog {
-    /// All are.
+    /// All are accepted.
     Empty,
-    /// As many are as may be open, and more may wait.
+    /// As many were accepted as may be open, and more may wait.
     Remains,
     /// The system accepts none at the moment.
     Refused,
 }
 
 impl Backlog {
-    /// For how long nothing else can be done, beside so many open connections; none, until something comes.
+    /// For how long nothing else can be done, with so many open connections; none, until something
+    /// comes.
     fn wait_limit(self, open: usize) -> Option<Duration> {
         match self {
             Backlog::Remains => Some(Duration::ZERO),
@@ -43,8 +44,9 @@ impl Backlog {
     }
 }
 
-/// Answers at a control port until the server has ended. Each connection gets on as its bytes come, whatever the others do: a
-/// request has five seconds to come, and five more for its answer to be taken. Of more than 64 connections the oldest is closed.
+/// Answers at a control port until the server has ended. Each connection goes on as its bytes come,
+/// whatever the others do: a request has five seconds to come, and five more for its response to be
+/// written. Of more than 64 connections the oldest is closed.
 pub fn serve_control<R, S>(
     rt: &R,
     port: &mut Port,
@@ -74,11 +76,11 @@ where
     }
 }
 
-/// Keeps a connection, unless it is through.
+/// Lets a connection go on, and puts it back unless it is over.
 ///
 /// # Errors
 ///
-/// Memory ran out.
+/// Out of memory.
 fn advance<R, S>(
     rt: &R,
     mut connection: Connection<Stream>,
@@ -95,7 +97,7 @@ where
     Ok(())
 }
 
-/// Lets each connection get on. One that fails is closed.
+/// Lets each connection go on. One that fails is closed.
 fn advance_all<R, S>(rt: &R, connections: &mut Connections, server: &Server<'_, S>)
 where
     R: Clock + AllocGlobal,
@@ -108,7 +110,7 @@ where
     }
 }
 
-/// Accepts connections that wait, no more than may be open, and lets each get on.
+/// Accepts connections that wait, no more than may be open, and lets each go on.
 fn accept_some<R, S>(
     rt: &R,
     port: &Port,

@@ -1,4 +1,4 @@
-//! What the control port says over loopback.
+//! Tests of the control port over loopback.
 use crate::counters::{Counters, Figure, Kind};
 use crate::fleets::Fleet;
 use crate::{
@@ -33,7 +33,7 @@ fn nothing_counted(alloc: Global) -> Result<Counters, AllocError> {
     Counters::new(alloc, connections, Vec::new(alloc))
 }
 
-/// What is answered to a request of these lines at `127.0.0.1:9090`, which is called `city` too.
+/// The answer to a request of these lines at `127.0.0.1:9090`, which has the name `city` too.
 fn answered(alloc: Global, lines: &str) -> Result<Heading, AllocError> {
     let hosts = Hosts::new(alloc, "0.0.0.0", "127.0.0.1", 9090, Some("City.Example"))?;
     Ok(heading_of(lines.as_bytes(), &hosts, true))
@@ -143,7 +143,7 @@ fn waits_for_the_rest_of_a_head(rt: HostRuntime) -> Result<(), Fail> {
     Ok(())
 }
 
-/// The reply to one head.
+/// The response to one head.
 fn reply_to<R: Net + AllocGlobal>(rt: &R, address: SocketAddr, head: &str) -> io::Result<Vec<u8>> {
     let mut stream = TcpStream::connect(rt, address)?;
     stream.write_all(head.as_bytes())?;
@@ -154,7 +154,7 @@ fn reply_to<R: Net + AllocGlobal>(rt: &R, address: SocketAddr, head: &str) -> io
 
 const HEALTH: &str = "GET /healthz HTTP/1.1\r\nhost: localhost\r\n\r\n";
 
-/// Whether each request has its reply.
+/// Whether each request has its response.
 fn are_right<R: Net + AllocGlobal>(
     rt: &R,
     address: SocketAddr,
@@ -209,7 +209,7 @@ fn answers_and_stops(rt: HostRuntime) -> Result<(), Fail> {
     Ok(())
 }
 
-/// How long a request takes beside so many connections that say nothing.
+/// How long a request takes next to so many connections that send nothing.
 fn time_beside<R: Net + Clock + AllocGlobal>(
     rt: &R,
     address: SocketAddr,
@@ -249,7 +249,7 @@ fn answers_beside_idle_connections(rt: HostRuntime) -> Result<(), Fail> {
     Ok(())
 }
 
-/// Where a Unix socket is listened at.
+/// The path of a Unix socket that is listened at.
 const SOCKET: &str = "unix:control.sock";
 
 /// Whether a Unix socket is its owner's alone, is reached whatever the host, and stops the server.
@@ -297,13 +297,13 @@ fn listens_at_a_socket(rt: HostRuntime) -> Result<(), Fail> {
     Ok(())
 }
 
-/// Whether the text of what is counted has this line.
+/// Whether the text of the metrics has this line.
 fn has_line(alloc: Global, counters: &Counters, line: &str) -> Result<bool, Fail> {
     let text = metrics(alloc, &counters.lines(alloc)?)?;
     Ok(text.lines().any(|found| found == line))
 }
 
-/// What is told of a server that has counted nothing.
+/// The metrics of a server that has counted nothing.
 const NOTHING_COUNTED: &str = "\
 # HELP ruffletuff_connections connections that are open\n\
 # TYPE ruffletuff_connections gauge\n\

@@ -1,4 +1,4 @@
-//! An area by hand, with one growth refused. Areas of many forms are asked by scripts (`tests/replays.py`).
+//! An area worked out by hand, with one allocation refused. Scripts test areas of many forms (`tests/replays.py`).
 use crate::square::position;
 use mds_geometry::{
     Area, MOST_LATITUDE, Polygon, Position, Ring, RingFault, area_holds, coordinate_of,
@@ -14,12 +14,13 @@ const SQUARE: &[Corner] = &[(0, 0), (16, 0), (16, 16), (0, 16), (0, 0)];
 
 const HOLE: &[Corner] = &[(4, 4), (8, 4), (8, 8), (4, 8), (4, 4)];
 
-/// It fills the hole in part.
+/// A ring that fills part of the hole.
 const FILLING: &[Corner] = &[(5, 5), (7, 5), (7, 7), (5, 7), (5, 5)];
 
 const AREA: &[&[&[Corner]]] = &[&[SQUARE, HOLE], &[FILLING]];
 
-/// Corners, and whether the area and its first polygon hold them: within, on an edge, in the hole, in what fills it, outside.
+/// Positions, and whether the area and its first polygon hold them: inside, on an edge, in the filled part of the
+/// hole, outside.
 const HELD: &[(Corner, bool, bool)] = &[
     ((2, 2), true, true),
     ((0, 16), true, true),
@@ -67,12 +68,12 @@ fn is_in_first(area: &Area, at: Position) -> bool {
     }
 }
 
-/// Whether an area holds a position ring by ring.
+/// Whether an area holds a position, tested ring by ring.
 fn is_in_rings(rt: &impl Abort, area: &Area, lng: i64, lat: i64) -> bool {
     area_holds(area.polygons(), position(rt, lng, lat))
 }
 
-/// The area holds what it should.
+/// Checks which of the positions in `HELD` the area holds.
 fn expect_held(rt: &impl Abort, area: &Area) {
     for ((lng, lat), wanted, by_first) in HELD {
         assert!(rt; area.holds(position(rt, *lng, *lat)) == *wanted);
@@ -81,7 +82,7 @@ fn expect_held(rt: &impl Abort, area: &Area) {
     }
 }
 
-/// With one growth refused, wherever it is, there is an area or no memory; then there is an area.
+/// With one allocation refused, whichever it is, an area is made or memory runs out; a second call makes it.
 #[test]
 fn indexed_or_wants_memory(rt: HostRuntime) {
     let area = match area(&rt, rt.alloc()) {

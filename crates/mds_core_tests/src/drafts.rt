@@ -1,4 +1,4 @@
-//! Drafts, and their publication, with one growth refused.
+//! Drafts and their publication, with one allocation refused.
 use crate::square::{instant, known, position};
 use mds_catalog::{Batch, Catalogue};
 use mds_drafts::{Draft, Drafts, PublishFault, PublishList, Put, PutFault};
@@ -25,7 +25,7 @@ fn cap(alloc: Global) -> Option<Draft> {
     Some(Draft::Policy(Arc::new(alloc, cap).ok()?))
 }
 
-/// A draft of this kind, if there is memory.
+/// A draft of this kind; `None` where memory ran out.
 fn draft(alloc: Global, kind: DraftKind) -> Option<Draft> {
     match kind {
         DraftKind::Policy => cap(alloc),
@@ -33,7 +33,7 @@ fn draft(alloc: Global, kind: DraftKind) -> Option<Draft> {
     }
 }
 
-/// A draft of this kind, made once more where there was no memory.
+/// A draft of this kind, made a second time where memory ran out.
 fn draft_at_last(rt: &impl Abort, alloc: Global, kind: DraftKind) -> Draft {
     match draft(alloc, kind) {
         Some(draft) => draft,
@@ -41,7 +41,7 @@ fn draft_at_last(rt: &impl Abort, alloc: Global, kind: DraftKind) -> Draft {
     }
 }
 
-/// A new draft is put; where there is no memory nothing is held, and the same is then put.
+/// Puts a new draft. Where memory runs out no draft is there, and a second call puts it.
 fn expect_new(rt: &impl Abort, alloc: Global, drafts: &mut Drafts, kind: DraftKind, id: &str) {
     let mut put = drafts.put(draft_at_last(rt, alloc, kind));
     if put == Err(PutFault::NoMemory) {
@@ -61,8 +61,8 @@ fn two_drafts(rt: &impl Abort, alloc: Global) -> Drafts {
     drafts
 }
 
-/// With one growth refused, wherever it is, a draft is put or there is no memory; then it is put. To replace and to drop it
-/// takes no memory.
+/// With one allocation refused, whichever it is, a draft is put or memory runs out; a second call puts it. Replacing
+/// and dropping it need no memory.
 #[test]
 fn puts_or_wants_memory(rt: HostRuntime) {
     let mut drafts = two_drafts(&rt, rt.alloc());
@@ -80,7 +80,7 @@ fn puts_or_wants_memory(rt: HostRuntime) {
     );
 }
 
-/// The list that names both drafts, read once more where there was no memory.
+/// The publish request that names both drafts, read a second time where memory ran out.
 fn both(rt: &impl Abort, alloc: Global) -> PublishList {
     match PublishList::read(alloc, PUBLISH.body.as_bytes()) {
         Ok(list) => list,
@@ -88,7 +88,7 @@ fn both(rt: &impl Abort, alloc: Global) -> PublishList {
     }
 }
 
-/// An empty catalogue, made once more where there was no memory.
+/// An empty catalogue, made a second time where memory ran out.
 fn catalogue(rt: &impl Abort, alloc: Global) -> Catalogue {
     match Catalogue::with_room(alloc) {
         Ok(catalogue) => catalogue,
@@ -96,7 +96,7 @@ fn catalogue(rt: &impl Abort, alloc: Global) -> Catalogue {
     }
 }
 
-/// The batch of both drafts, at 1000; none where there is no memory.
+/// The batch of both drafts, at 1000; `None` where memory ran out.
 fn batch(
     rt: &impl Abort,
     alloc: Global,
@@ -113,7 +113,7 @@ fn batch(
     }
 }
 
-/// The batch of both drafts, made once more where there was no memory.
+/// The batch of both drafts, made a second time where memory ran out.
 fn batch_at_last(
     rt: &impl Abort,
     alloc: Global,
@@ -128,7 +128,8 @@ fn batch_at_last(
     }
 }
 
-/// A lawful batch is absorbed, at the second try at the latest, and then it isn't lawful: it is absorbed no more.
+/// Absorbs a lawful batch, at the second try at the latest. It isn't lawful afterwards: absorbing it again changes
+/// nothing.
 fn expect_absorbed(rt: &impl Abort, catalogue: &mut Catalogue, batch: &Arc<Batch>) {
     assert!(rt; catalogue.lawful(batch));
     if catalogue.absorb(batch).is_err() {
@@ -139,8 +140,8 @@ fn expect_absorbed(rt: &impl Abort, catalogue: &mut Catalogue, batch: &Arc<Batch
     assert!(rt; catalogue.absorb(batch).is_ok() && catalogue.revision() == 1);
 }
 
-/// With one growth refused, wherever it is, a batch is made or there is no memory; then it is made. To take its drafts out and to
-/// adopt it takes no memory.
+/// With one allocation refused, whichever it is, a batch is made or memory runs out; a second call makes it. Taking
+/// its drafts out and adopting it need no memory.
 #[test]
 fn publishes_or_wants_memory(rt: HostRuntime) {
     let alloc = rt.alloc();
@@ -160,7 +161,8 @@ fn publishes_or_wants_memory(rt: HostRuntime) {
     assert!(rt; adopting.revision() == 1 && adopting.policy(known(&rt, CAP_ID)).is_some());
 }
 
-/// The square and the cap are lent, each under its own kind; the square holds a position in it, and no other geography holds one.
+/// Checks that the square and the cap can be borrowed, each under its own kind alone, and that the square holds a
+/// position in it while no geography under the cap's identifier does.
 fn expect_lent(rt: &impl Abort, alloc: Global, catalogue: &Catalogue) {
     let policies = catalogue.policies(alloc, None).expect(rt, "memory");
     let geographies = catalogue.geographies(alloc).expect(rt, "memory");

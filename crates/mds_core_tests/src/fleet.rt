@@ -1,4 +1,5 @@
-//! A book: with one growth refused, and what it shares and keeps. A book of many against a plain list is asked by a script (`tests/replays.py`).
+//! A book: with one allocation refused, the words that its vehicles share, and the buffers that it reuses. A script
+//! compares a book of many vehicles with a plain list (`tests/replays.py`).
 
 use crate::square::{device, instant, position, word, words};
 use mds_exchanges::REPORT_FIRST;
@@ -11,7 +12,7 @@ use std::sync::Arc;
 /// More devices than a node of the book's map holds.
 const DEVICES: u32 = 40;
 
-/// A word without types, made once more where there was no memory.
+/// A word without types, made a second time where memory ran out.
 fn words_at_last(rt: &impl Abort, alloc: Global, text: &str) -> Arc<Words> {
     match words(rt, alloc, text) {
         Ok(words) => words,
@@ -19,7 +20,7 @@ fn words_at_last(rt: &impl Abort, alloc: Global, text: &str) -> Arc<Words> {
     }
 }
 
-/// A report without lists.
+/// A report without types of propulsion and of events.
 fn report(rt: &impl Abort, alloc: Global, number: u32, timestamp: i64) -> Report {
     Report {
         device: device(rt, number),
@@ -30,7 +31,8 @@ fn report(rt: &impl Abort, alloc: Global, number: u32, timestamp: i64) -> Report
     }
 }
 
-/// The first report of a device: it is taken, or finds no memory, changes nothing, and is then taken.
+/// Makes the first report of a device. It is accepted; or memory runs out, nothing changes, and a second try is
+/// accepted.
 fn expect_new(rt: &impl Abort, alloc: Global, book: &mut Book, number: u32) {
     let mut taken = book.report(report(rt, alloc, number, 2000), instant(rt, 2000));
     if taken == Err(BookFault::NoMemory) {
@@ -40,7 +42,7 @@ fn expect_new(rt: &impl Abort, alloc: Global, book: &mut Book, number: u32) {
     assert!(rt; taken == Ok(Taken::New));
 }
 
-/// A further report of a device that is held, one of a device too many, and a removal take no memory.
+/// Makes a further report of a known device, one of a device too many, and removals, none of which needs memory.
 fn expect_changed(rt: &impl Abort, alloc: Global, book: &mut Book) {
     let changed = book.report(report(rt, alloc, 0, 2001), instant(rt, 2001));
     assert!(rt; changed == Ok(Taken::Changed));
@@ -52,8 +54,8 @@ fn expect_changed(rt: &impl Abort, alloc: Global, book: &mut Book) {
     }
 }
 
-/// With one growth refused, wherever it is, one report finds no memory and changes nothing, and the
-/// same report is then taken.
+/// With one allocation refused, whichever it is, one report runs out of memory and changes nothing, and the same
+/// report is accepted at the second try.
 #[test]
 fn takes_and_removes_or_wants_memory(rt: HostRuntime) {
     let alloc = rt.alloc();
@@ -66,7 +68,7 @@ fn takes_and_removes_or_wants_memory(rt: HostRuntime) {
     assert!(rt; book.len() == 0);
 }
 
-/// Vehicles with the same words hold one share of them, and so do those that are reported again.
+/// Vehicles with the same words share one `Arc` of them, also after further reports.
 #[test]
 fn shares_words(rt: HostRuntime) {
     let alloc = rt.alloc();
@@ -80,13 +82,13 @@ fn shares_words(rt: HostRuntime) {
     let vehicle = book.get(device(&rt, 0)).expect(&rt, "held");
     assert!(rt; vehicle.vehicle_type() == word(&rt, "scooter"));
     assert!(rt; vehicle.state() == word(&rt, "available"));
-    // Three vehicles, and the book for those to come.
+    // Three vehicles, and the book, for those to come.
     assert!(rt; Arc::strong_count(&vehicle.make) == 4);
     assert!(rt; Arc::strong_count(&vehicle.condition) == 4);
 }
 
-/// A text is read alike by the scratch that a book keeps, as often as one comes, and behind one that is no JSON; and so is one
-/// that is too long for that scratch.
+/// Texts are read alike by the buffers that a book reuses: again and again, and after a text that is no JSON. So is a
+/// text that is too long for these buffers.
 #[test]
 fn reads_by_what_it_keeps(rt: HostRuntime) {
     let alloc = rt.alloc();

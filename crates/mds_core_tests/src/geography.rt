@@ -1,18 +1,18 @@
-//! A geography, read and served with one growth refused.
+//! A geography, read and served with one allocation refused.
 use crate::square::{known, position};
 use mds_geography::Geography;
 use mds_text::{Moment, Tree, print_tree};
 use std::alloc::{AllocError, Global};
 use std::process::Abort;
 
-/// A geography of two features, and what is served of it with a moment.
+/// A geography of two features, and the text as which it is served with a moment of publication.
 const FEATURES: &[u8] =
     br#"{"geography_id":"00000000-0000-4000-8000-000000000101","name":"n","description":"d","geography_json":{"type":"FeatureCollection","features":[{"type":"Feature","geometry":{"type":"Polygon","coordinates":[[[0,0],[1.5,0],[1,1],[0,0]]]}},{"type":"Feature","geometry":{"type":"MultiPolygon","coordinates":[[[[2,2],[3,2],[3,3],[2,2]]]]}}]}}"#;
 
 const SERVED: &[u8] =
     br#"{"description":"d","geography_id":"00000000-0000-4000-8000-000000000101","geography_json":{"features":[{"geometry":{"coordinates":[[[[0,0],[1.5,0],[1,1],[0,0]]],[[[2,2],[3,2],[3,3],[2,2]]]],"type":"MultiPolygon"},"properties":null,"type":"Feature"}],"type":"FeatureCollection"},"name":"n","published_date":1000}"#;
 
-/// The geography, read once more where there was no memory.
+/// The geography, read a second time where memory ran out.
 fn features(rt: &impl Abort, alloc: Global) -> Geography {
     match Geography::read(alloc, FEATURES) {
         Ok(geography) => geography,
@@ -20,7 +20,7 @@ fn features(rt: &impl Abort, alloc: Global) -> Geography {
     }
 }
 
-/// What is served of it, made once more where there was no memory.
+/// The tree as which it is served, made a second time where memory ran out.
 fn served(rt: &impl Abort, alloc: Global, geography: &Geography) -> Tree {
     match geography.served(alloc, Moment::new(1000)) {
         Ok(tree) => tree,
@@ -30,7 +30,7 @@ fn served(rt: &impl Abort, alloc: Global, geography: &Geography) -> Tree {
     }
 }
 
-/// What is printed, once more where there was no memory.
+/// The printed tree, printed a second time where memory ran out.
 fn printed(alloc: Global, tree: &Tree) -> Result<Vec<u8>, AllocError> {
     match print_tree(alloc, tree) {
         Ok(printed) => Ok(printed),
@@ -38,7 +38,7 @@ fn printed(alloc: Global, tree: &Tree) -> Result<Vec<u8>, AllocError> {
     }
 }
 
-/// Ten-millionths of a degree, and whether the features hold the position there.
+/// Positions in units of 10^-7 degree, and whether the features hold them.
 const HELD: &[((i64, i64), bool)] = &[
     ((0, 0), true),
     ((10_000_000, 10_000_000), true),
@@ -46,7 +46,8 @@ const HELD: &[((i64, i64), bool)] = &[
     ((15_000_000, 15_000_000), false),
 ];
 
-/// With one growth refused, wherever it is, a text is read, served and printed or there is no memory; then it is.
+/// With one allocation refused, whichever it is, a text is read, served and printed or memory runs out; a second call
+/// succeeds.
 #[test]
 fn reads_and_serves_or_wants_memory(rt: HostRuntime) {
     let alloc = rt.alloc();

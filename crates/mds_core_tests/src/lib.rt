@@ -1,6 +1,6 @@
-//! Tests of the core that scripts can't make: calls that the replay doesn't make, growths that are refused, threads, and readers and
-//! writers that fail. They use public items alone, and stand here so that their proof doesn't prove those crates again. What requests
-//! and their replies show is in `tests/replays`.
+//! Tests of the core that scripts can't make: other calls, refused allocations, threads, and readers and writers that
+//! fail. They use public items alone, and are a crate of their own, so that proving them doesn't prove the tested
+//! crates again. What requests and their replies show is tested in `tests/replays`.
 #![tactic(auto)]
 
 #[cfg(test)]

@@ -1,4 +1,5 @@
-//! Zones at local times worked out by hand, and the first rule that a vehicle meets. Windows, words and bounds are in scripts.
+//! Local times in zones, worked out by hand, and the first rule that a vehicle meets. Scripts test windows, words and
+//! bounds.
 
 use crate::square::{NOON, instant, known, one_square, position, words};
 use mds_match::{Local, ResolvedPolicy, Vehicle, Zone, ZoneFault, first, meets, open_at};
@@ -22,7 +23,7 @@ fn scooter(rt: &impl Abort, alloc: Global, lng: i64) -> Vehicle {
 const THREE_RULES: &[u8] =
     br#"{"policy_id":"00000000-0000-4000-8000-000000000201","name":"three","start_date":1000,"rules":[{"rule_id":"00000000-0000-4000-8000-000000000301","name":"slow","rule_type":"speed","geographies":["00000000-0000-4000-8000-000000000101"],"maximum":15},{"rule_id":"00000000-0000-4000-8000-000000000302","name":"cap","rule_type":"count","geographies":["00000000-0000-4000-8000-000000000101"]},{"rule_id":"00000000-0000-4000-8000-000000000303","name":"cap","rule_type":"count","geographies":["00000000-0000-4000-8000-000000000101"]}]}"#;
 
-/// The first rule that a scooter at this longitude meets, asked of the policy and resolved.
+/// Checks the first rule that a scooter at this longitude meets, by the policy and by the resolved policy.
 fn expect_first(rt: &impl Abort, alloc: Global, policy: &Policy, lng: i64, wanted: Option<usize>) {
     let places = one_square(rt, alloc).expect(rt, "memory");
     let vehicle = scooter(rt, alloc, lng);
@@ -43,9 +44,9 @@ fn the_first_rule(rt: HostRuntime) {
 
 const PACIFIC: &str = "PST8PDT,M3.2.0,M11.1.0";
 
-/// A zone, a moment and the local time.
+/// Zones, moments in milliseconds since the Unix epoch, and the local times.
 const LOCAL_TIMES: &[(&str, i64, Local)] = &[
-    // The epoch was a Thursday, and still Wednesday, 16:00, eight hours west of Greenwich.
+    // The epoch was on a Thursday; eight hours west of Greenwich it was still Wednesday, 16:00.
     (
         "-08:00",
         0,

@@ -1,4 +1,4 @@
-//! Verdicts by one thread and by several, over vehicles in one square, with one growth refused.
+//! Verdicts by one thread and by several, over vehicles in one square, with one allocation refused.
 
 ghost use Rattle.std.specs.Thread.{IsSync};
 
@@ -16,7 +16,7 @@ use std::thread::Threads;
 const CAP: &str =
     r#"{"policy_id":"00000000-0000-4000-8000-000000000201","name":"cap","start_date":1000,"rules":[{"rule_id":"00000000-0000-4000-8000-000000000301","name":"cap","rule_type":"count","geographies":["00000000-0000-4000-8000-000000000101"],"maximum":1}]}"#;
 
-/// What verdicts are asked of: at noon and at a moment, on a fleet in the square.
+/// What is evaluated: a policy over a fleet in the square, at a moment. The local time is noon.
 #[derive(Drop)]
 struct City {
     places: Square,
@@ -37,7 +37,7 @@ fn vehicle(rt: &impl Abort, number: u32, make: Arc<Words>, condition: Arc<Words>
     }
 }
 
-/// So many vehicles: 78 times 64, and 11 more.
+/// The size of the fleet: 78 times 64, and 11 more.
 const VEHICLES: u32 = 5003;
 
 /// Vehicle types, one for each of 64 rules.
@@ -81,7 +81,7 @@ fn fleet(rt: &impl Abort, alloc: Global) -> Result<Vec<Vehicle>, AllocError> {
 const CAPS: &str =
     r#"{"policy_id":"00000000-0000-4000-8000-000000000201","name":"caps","start_date":1000,"rules":["#;
 
-/// A rule on each vehicle type, in three pieces with its number between them.
+/// The text of a rule on one vehicle type, in three pieces with the number of the type between them.
 const RULE: [&str; 3] = [
     r#"{"rule_id":"00000000-0000-4000-8000-0000000003"#,
     r#"","name":"cap","rule_type":"count","geographies":["00000000-0000-4000-8000-000000000101"],"maximum":78,"vehicle_types":[""#,
@@ -101,12 +101,12 @@ fn caps(alloc: Global) -> Result<String, AllocError> {
     Ok(text)
 }
 
-/// The policy of a text, if there is memory.
+/// The policy of a text; `None` where memory ran out.
 fn policy(alloc: Global, text: &str) -> Option<Policy> {
     Policy::read(alloc, text.as_bytes()).ok()
 }
 
-/// The policy of a text, read once more where there was no memory.
+/// The policy of a text, read a second time where memory ran out.
 fn policy_at_last(rt: &impl Abort, alloc: Global, text: &str) -> Policy {
     match policy(alloc, text) {
         Some(policy) => policy,
@@ -138,7 +138,7 @@ fn make_city(rt: &impl Abort, alloc: Global, text: &str) -> City {
     }
 }
 
-/// What the fleet is lent as, if there is memory.
+/// References to the vehicles of the fleet.
 fn lent<'a>(alloc: Global, city: &'a City) -> Result<Vec<&'a Vehicle>, AllocError> {
     city.fleet.iter().collect::<Vec<&Vehicle>>(alloc)
 }
@@ -160,7 +160,7 @@ fn by_one(
     Plain.verdicts(alloc, policy, places, vehicles, NOON, city.moment)
 }
 
-/// The verdicts by threads, however little the work.
+/// The verdicts by threads, however little work there is.
 fn by_several<R: Threads + Sync>(
     rt: &R,
     alloc: Global,
@@ -175,7 +175,7 @@ fn by_several<R: Threads + Sync>(
     by_threads(rt, alloc, policy, places, vehicles, &at)
 }
 
-/// The verdicts by threads where the work is worth them.
+/// The verdicts by `Chunked`: by threads where there is enough work for them.
 fn by_chunks<R: Threads + Sync>(
     chunked: &Chunked<R>,
     alloc: Global,
@@ -188,7 +188,7 @@ fn by_chunks<R: Threads + Sync>(
     chunked.verdicts(alloc, policy, places, vehicles, NOON, city.moment)
 }
 
-/// The cap is exceeded by so many vehicles, of which the first 100 are told.
+/// Checks that the cap is exceeded by 5,003 vehicles, of which the first 100 are listed.
 fn expect_exceeded(rt: &impl Abort, found: &[RuleVerdict]) {
     assert!(rt; found.len() == 1);
     for verdict in found {
@@ -199,7 +199,7 @@ fn expect_exceeded(rt: &impl Abort, found: &[RuleVerdict]) {
     }
 }
 
-/// The devices that are told begin with this number, each so far from the one before.
+/// Checks that the listed devices are those numbered from `first` on, in steps of `step`.
 fn expect_every(rt: &impl Abort, verdict: &RuleVerdict, first: u32, step: u32) {
     let mut wanted: u32 = first;
     for listed in &verdict.devices {
@@ -208,7 +208,7 @@ fn expect_every(rt: &impl Abort, verdict: &RuleVerdict, first: u32, step: u32) {
     }
 }
 
-/// Vehicles are judged by threads, by the second try at the latest.
+/// Checks the verdicts by threads, at the second try at the latest.
 fn expect_by_several<R: Abort + Threads + Sync>(
     rt: &R,
     alloc: Global,
@@ -224,7 +224,7 @@ fn expect_by_several<R: Abort + Threads + Sync>(
     }
 }
 
-/// Vehicles are judged by one thread, by the second try at the latest.
+/// Checks the verdicts by one thread, at the second try at the latest.
 fn expect_by_one(rt: &impl Abort, alloc: Global, city: &City, vehicles: &[&Vehicle]) {
     match by_one(alloc, city, vehicles) {
         Ok(found) => expect_exceeded(rt, &found),
@@ -232,7 +232,7 @@ fn expect_by_one(rt: &impl Abort, alloc: Global, city: &City, vehicles: &[&Vehic
     }
 }
 
-/// No vehicles are judged by threads too.
+/// Checks the verdicts by threads on no vehicles.
 fn expect_none<R: Abort + Threads + Sync>(rt: &R, alloc: Global, city: &City) {
     let found = match by_several(rt, alloc, city, &[]) {
         Ok(found) => found,
@@ -243,8 +243,8 @@ fn expect_none<R: Abort + Threads + Sync>(rt: &R, alloc: Global, city: &City) {
     }
 }
 
-/// With one growth refused, wherever it is, vehicles are judged or there is no memory; then they are
-/// judged, alike by threads and by one.
+/// With one allocation refused, whichever it is, vehicles are evaluated or memory runs out; a second call succeeds.
+/// Threads give the same verdicts as one thread.
 #[test]
 fn judges_or_wants_memory(rt: HostRuntime) {
     let alloc = rt.alloc();
@@ -255,7 +255,7 @@ fn judges_or_wants_memory(rt: HostRuntime) {
     expect_none(&rt, alloc, &city);
 }
 
-/// The verdicts in chunks, at the second try at the latest.
+/// The verdicts by `Chunked`, at the second try at the latest.
 fn by_chunks_at_last<R: Abort + Threads + Sync>(
     chunked: &Chunked<R>,
     alloc: Global,
@@ -288,7 +288,7 @@ fn caps_at_last(rt: &impl Abort, alloc: Global) -> String {
     }
 }
 
-/// A verdict on the vehicles of each of the 64 types: of the first 11 there are 79, of the others 78.
+/// Checks a verdict on the vehicles of each of the 64 types: of the first 11 types there are 79, of the others 78.
 fn expect_types(rt: &impl Abort, found: &[RuleVerdict]) {
     assert!(rt; found.len() == 64);
     for (kind, verdict) in (0..64).zip(found) {
@@ -303,8 +303,8 @@ fn expect_types(rt: &impl Abort, found: &[RuleVerdict]) {
     }
 }
 
-/// Work that is worth threads: each chunk has more pairs of type and state than are kept, and each rule vehicles of every chunk.
-/// Where a growth is refused to the threads, one thread judges.
+/// Enough work for threads: each chunk has more pairs of type and state than a table holds, and each rule has
+/// vehicles in every chunk. Where an allocation is refused to the threads, one thread evaluates.
 #[test]
 fn judges_much_or_wants_memory(rt: HostRuntime) {
     let alloc = rt.alloc();

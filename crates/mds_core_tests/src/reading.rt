@@ -1,4 +1,4 @@
-//! Texts by both readers of trees, and texts that are lent, with one growth refused.
+//! Trees by both readers, and documents whose texts are borrowed, with one allocation refused.
 use mds_reading::{
     Node, Source, document_of, entries_of, read_counted, read_tree, required_member, required_text,
 };
@@ -12,12 +12,12 @@ const IMAGE: &str =
     \"Thumbnail\": { \"Url\":    \"http://www.example.com/image/481989943\", \"Height\": 125,
     \"Width\":  100 }, \"Animated\" : false, \"IDs\": [116, 943, 234, 38793] } }";
 
-/// The same, compact and with names in byte order.
+/// The same as it is printed: compact, with names in byte order.
 const COMPACT: &str = "{\"Image\":{\"Animated\":false,\"Height\":600,\"IDs\":[116,943,234,38793],\
     \"Thumbnail\":{\"Height\":125,\"Url\":\"http://www.example.com/image/481989943\",\"Width\":100},\
     \"Title\":\"View from 15th Floor\",\"Width\":800}}";
 
-/// A text, what is printed of it, and how many of its numbers aren't plain.
+/// A text, its tree as it is printed, and how many of its numbers aren't plain.
 type Case = (&'static str, &'static str, u64);
 
 const TEXTS: &[Case] = &[
@@ -74,13 +74,13 @@ const TEXTS: &[Case] = &[
     ("{1.5:2}", r#"{"1.5":2}"#, 1),
 ];
 
-/// A tree is printed as this text.
+/// Checks that a tree is printed as this text.
 fn expect_printed(rt: &impl Abort, alloc: Global, tree: &Tree, text: &str) {
     let printed = print_tree(alloc, tree).expect(rt, "memory");
     assert!(rt; printed.as_slice() == text.as_bytes(), "{text}");
 }
 
-/// Names stand in byte order, and of equal ones the last is kept; a number that isn't plain is its text.
+/// Names come in byte order, the last of equal names counts, and a number that isn't plain becomes its text.
 #[test]
 fn texts_are_read(rt: HostRuntime) {
     let alloc = rt.alloc();
@@ -98,7 +98,7 @@ const MIXED: &[u8] = br#"{"b":[1.5,-2,"\n"],"a":{},"c":true}"#;
 
 const MIXED_PRINTED: &[u8] = br#"{"a":{},"b":["1.5",-2,"\n"],"c":true}"#;
 
-/// The tree of a text, read once more where there was no memory, which alone may be wanting.
+/// The tree of `MIXED`, read a second time where memory ran out, which is the only fault that may come.
 fn tree_at_last(rt: &impl Abort, alloc: Global) -> Tree {
     match read_tree(alloc, MIXED) {
         Ok(tree) => tree,
@@ -109,7 +109,7 @@ fn tree_at_last(rt: &impl Abort, alloc: Global) -> Tree {
     }
 }
 
-/// With one growth refused, wherever it is, a text is read or there is no memory; then it is read.
+/// With one allocation refused, whichever it is, a text is read or memory runs out; a second call reads it.
 #[test]
 fn reads_or_wants_memory(rt: HostRuntime) {
     let alloc = rt.alloc();
@@ -129,7 +129,7 @@ fn is_text(node: &Node<'_>, want: &str) -> bool {
     }
 }
 
-/// Whether these are the texts of the entries.
+/// Whether the entries are these two texts.
 fn are_texts(entries: &[Node<'_>], first: &str, second: &str) -> bool {
     match entries {
         [one, two] => is_text(one, first) && is_text(two, second),
@@ -145,7 +145,7 @@ fn is_pair(entry: &Node<'_>, first: &str, second: &str) -> bool {
     }
 }
 
-/// Whether these are the pairs of a ring.
+/// Whether the entries are the two pairs of the ring in `expect_pairs`.
 fn are_pairs(entries: &[Node<'_>]) -> bool {
     match entries {
         [one, two] => is_pair(one, "-122.4", "37.7") && is_pair(two, "0.5", "x"),
@@ -153,7 +153,7 @@ fn are_pairs(entries: &[Node<'_>]) -> bool {
     }
 }
 
-/// A list of pairs, as a source lends it.
+/// Checks a list of pairs that is borrowed from a source.
 fn expect_pairs(rt: &impl Abort, alloc: Global, source: &mut Source) -> Result<(), TextFault> {
     let ring = source.read(alloc, br#"[[-122.4,37.7],[0.5,"x"]]"#)?;
     assert!(rt; matches!(ring, Node::Pairs(_)));
@@ -168,7 +168,7 @@ fn pairs_are_lent(rt: HostRuntime) {
     expect_pairs(&rt, rt.alloc(), &mut source).expect(&rt, "pairs");
 }
 
-/// The document's position: its texts.
+/// Checks the texts of the document's position.
 fn expect_position(rt: &impl Abort, alloc: Global, document: &Node<'_>) -> Result<(), TextFault> {
     let position = required_member(document, Field::Coordinates)?;
     let numbers = entries_of(alloc, position, Field::Coordinates)?;
@@ -176,7 +176,7 @@ fn expect_position(rt: &impl Abort, alloc: Global, document: &Node<'_>) -> Resul
     Ok(())
 }
 
-/// The document's name and its position.
+/// Checks the document's name and its position.
 fn expect_place(rt: &impl Abort, alloc: Global, tree: &Node<'_>) -> Result<(), TextFault> {
     let document = document_of(tree)?;
     let name = required_text(document, Field::Name)?;
@@ -184,7 +184,7 @@ fn expect_place(rt: &impl Abort, alloc: Global, tree: &Node<'_>) -> Result<(), T
     expect_position(rt, alloc, document)
 }
 
-/// What a source reads: its name and the texts of its position.
+/// Checks the name and the texts of the position that a source reads.
 fn expect_read_by(
     rt: &impl Abort,
     alloc: Global,
@@ -195,19 +195,20 @@ fn expect_read_by(
     expect_place(rt, alloc, &tree)
 }
 
-/// What a new source reads.
+/// Checks the same with a new source.
 fn expect_source(rt: &impl Abort, alloc: Global, text: &str) -> Result<(), TextFault> {
     let mut source = Source::new(alloc);
     expect_read_by(rt, alloc, &mut source, text)
 }
 
-/// A name and a position, once with an escape and once with a name before.
+/// Documents with a name and a position: one with an escape in its name, one with another member `name` before.
 const LENT: &[&str] = &[
     "{\"name\":\"c\\u0061p\",\"coordinates\":[1.5,-0]}",
     "{\"name\":1,\"coordinates\":[1.5,-0],\"name\":\"cap\"}",
 ];
 
-/// With one growth refused, wherever it is, a text is lent or there is no memory; then it is lent.
+/// With one allocation refused, whichever it is, a document's texts are borrowed or memory runs out; a second call
+/// borrows them.
 #[test]
 fn lends_or_wants_memory(rt: HostRuntime) {
     let alloc = rt.alloc();

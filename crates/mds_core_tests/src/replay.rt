@@ -1,4 +1,4 @@
-//! A whole script, read and written in small pieces, and with a read, a write or a growth that fails.
+//! A whole script, read and written in small pieces, and with a read, a write or an allocation that fails.
 use mds_lines::{ReplayFault, run};
 use mds_verdict::Plain;
 use mds_world::World;
@@ -6,7 +6,7 @@ use std::alloc::Global;
 use std::io::{self, ErrorKind, Read, Write};
 use std::process::Abort;
 
-/// At most one vehicle in a square: a first one is reported, then a second.
+/// A script: at most one vehicle is allowed in a square; a first one is reported, then a second.
 const CAP: &[u8] =
     br#"{"author":"city","operators":[{"id":"00000000-0000-4000-8000-0000000000a1","limit":2,"token":"alfa"},{"id":"00000000-0000-4000-8000-0000000000b1","limit":2,"token":"bravo"}],"zone":"Z"}
 1000 city PUT /drafts/geographies/00000000-0000-4000-8000-000000000101 {"geography_id":"00000000-0000-4000-8000-000000000101","name":"square","geography_json":{"type":"Polygon","coordinates":[[[0,0],[10,0],[10,10],[0,10],[0,0]]]}}
@@ -27,12 +27,12 @@ const CAP_ANSWERS: &[u8] = br#"200 {"result":"new"}
 200 {"at":2001,"policies":[{"policy_id":"00000000-0000-4000-8000-000000000201","rules":[{"devices":["00000000-0000-4000-8000-000000000401","00000000-0000-4000-8000-000000000402"],"measure":2,"rule_id":"00000000-0000-4000-8000-000000000301","status":"violated"}]}],"revision":1,"version":2}
 "#;
 
-/// Bytes that come few at a time, and one read that fails.
+/// A reader that gives few bytes at a time, and of which one read may fail.
 #[derive(Drop)]
 struct Pieces<'a> {
     rest: &'a [u8],
     size: usize,
-    // how many reads go well before the one that fails
+    // how many reads succeed before the one that fails
     sound: Option<usize>,
 }
 
@@ -54,12 +54,12 @@ impl Read for Pieces<'_> {
     }
 }
 
-/// Keeps what is written, few bytes at a time, until a write or a flush fails.
+/// A writer that keeps what is written, few bytes at a time, until a write or a flush fails.
 #[derive(Drop)]
 struct Drip {
     written: Vec<u8>,
     size: usize,
-    // how many writes go well before those that fail
+    // how many writes succeed before those that fail
     sound: usize,
     flushes: bool,
 }
@@ -95,14 +95,14 @@ impl Write for Drip {
     }
 }
 
-/// What is written for a script.
+/// The output for a script.
 fn replayed(alloc: Global, script: &[u8]) -> Result<Vec<u8>, ReplayFault> {
     run::<World<Plain>, _, _>(alloc, script, Vec::new(alloc))
 }
 
 const SIZES: &[usize] = &[1, 2, 7, 1000];
 
-/// Whether the script is answered where so many bytes at most come and go at a time.
+/// Whether the script is answered where at most so many bytes are read and written at a time.
 fn is_taken(alloc: Global, size: usize) -> bool {
     let source = Pieces {
         rest: CAP,
@@ -121,12 +121,12 @@ fn takes_pieces_of_any_size(rt: HostRuntime) {
     }
 }
 
-/// Whether the replay ended with this fault, and what was written is the front of the answers.
+/// Whether the replay ended with this fault, after a prefix of the answers was written.
 fn is_cut(ended: Result<(), ReplayFault>, fault: ReplayFault, sink: &Drip) -> bool {
     ended == Err(fault) && CAP_ANSWERS.starts_with(&sink.written)
 }
 
-/// Whether the replay stops at the read that comes after so many.
+/// Whether the replay stops at the read after so many.
 fn stops_reading(alloc: Global, sound: usize) -> bool {
     let source = Pieces {
         rest: CAP,
@@ -138,7 +138,7 @@ fn stops_reading(alloc: Global, sound: usize) -> bool {
     is_cut(ended, ReplayFault::Read, &sink)
 }
 
-/// One read fails, and those after it would go well: what was written is the front of the answers.
+/// One read fails, and those after it would succeed: a prefix of the answers was written.
 #[test]
 fn stops_at_a_failed_read(rt: HostRuntime) {
     for sound in 0..=CAP.len().div_ceil(100) {
@@ -146,7 +146,7 @@ fn stops_at_a_failed_read(rt: HostRuntime) {
     }
 }
 
-/// Whether the replay stops at the write that comes after so many.
+/// Whether the replay stops at the write after so many.
 fn stops_writing(alloc: Global, sound: usize) -> bool {
     let mut sink = Drip::new(alloc, 40, sound);
     let ended = run::<World<Plain>, _, _>(alloc, CAP, &mut sink).map(drop);
@@ -170,7 +170,7 @@ fn tells_a_failed_flush(rt: HostRuntime) {
 
 const NO_MEMORY: &[u8] = b"503 {\"error\":\"no_memory\"}\n";
 
-/// The lines are the answers, or the front of them and then one that tells of no memory.
+/// Checks that the lines are the answers, or a prefix of them and then one 503 `no_memory`.
 fn assert_answers_or_front(rt: &impl Abort, written: &[u8]) {
     let mut lines = written.split_inclusive(|byte| *byte == b'\n');
     for answer in CAP_ANSWERS.split_inclusive(|byte| *byte == b'\n') {
@@ -186,13 +186,13 @@ fn assert_answers_or_front(rt: &impl Abort, written: &[u8]) {
     assert!(rt; lines.next().is_none());
 }
 
-/// With one growth refused, wherever it is: either nothing is written, or one answer is 503 and
-/// those before it are as ever.
+/// With one allocation refused, whichever it is: either the replay runs out of memory, or one answer is 503 and those
+/// before it are as usual.
 #[test]
 fn survives_want_of_memory(rt: HostRuntime) {
     match replayed(rt.alloc(), CAP) {
         Ok(written) => assert_answers_or_front(&rt, &written),
-        // the vector that is written to finds no memory
+        // the vector that is written to ran out of memory
         Err(ReplayFault::NoMemory | ReplayFault::Write) => {}
         Err(fault) => panic!(rt; "{}", fault.message()),
     }

@@ -1,4 +1,4 @@
-//! Configurations that are refused, and replies. Requests, and the calls that they are, are in scripts.
+//! Configurations, refused ones too, and replies. Scripts test requests and which calls they are.
 
 use crate::square::instant;
 use mds_match::Local;
@@ -9,7 +9,7 @@ use std::process::Abort;
 const CITY: &[u8] =
     br#"{"author":"city","operators":[{"id":"00000000-0000-4000-8000-0000000000a1","limit":200000,"token":"alfa"},{"id":"00000000-0000-4000-8000-0000000000b1","limit":1,"token":"bravo"}],"zone":"Z"}"#;
 
-/// Tokens, and whose they are.
+/// Access tokens and their clients.
 const ACTORS: &[(&[u8], Actor)] = &[
     (b"city", Actor::Author),
     (b"alfa", Actor::Operator(0)),
@@ -35,7 +35,7 @@ fn a_configuration(rt: HostRuntime) {
     }
 }
 
-/// Texts that are no configurations, and what is told of them.
+/// Texts that are no configurations, and the messages of their faults.
 const REFUSED: &[(&[u8], &str)] = &[
     (br#"{"author":"city""#, "bad JSON"),
     (br#"{"author":"city"}"#, "bad field operators"),
@@ -69,7 +69,7 @@ const REFUSED: &[(&[u8], &str)] = &[
     ),
 ];
 
-/// A text is no configuration, of which this is told.
+/// Checks that a text is refused as a configuration, with this message.
 fn expect_refused(rt: &impl Abort, alloc: Global, text: &[u8], wanted: &str) {
     let fault = Config::read(alloc, text).err().expect(rt, wanted);
     let told = format!(in alloc; "{fault}").expect(rt, "memory");
@@ -83,7 +83,7 @@ fn no_configurations(rt: HostRuntime) {
     }
 }
 
-/// The reply has this status and this body, lent and given away.
+/// Checks a reply's status, and its body both borrowed and moved out.
 fn expect_reply(rt: &impl Abort, alloc: Global, reply: Reply, status: u16, wanted: &[u8]) {
     assert!(rt; reply.status() == status && reply.body() == wanted);
     let body = reply.into_body(alloc).expect(rt, "memory");

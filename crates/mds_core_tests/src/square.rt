@@ -1,4 +1,4 @@
-//! Identifiers, words, moments, positions and a square for the tests of the core.
+//! Identifiers, words, moments, positions and a square, for the tests of the core.
 
 ghost use Rattle.std.specs.Prelude.{[], cond, bytes_eq};
 
@@ -15,7 +15,7 @@ pub(crate) const NOON: Local = Local {
     second: 43200,
 };
 
-/// A square, and no geography under any other identifier.
+/// Places with one square, and no geography under any other identifier.
 #[derive(Drop)]
 pub(crate) struct Square {
     id: Id,
@@ -38,7 +38,7 @@ impl Places for Square {
     }
 }
 
-/// The identifier that a text is.
+/// The identifier that a text spells.
 pub(crate) fn known(rt: &impl Abort, text: &str) -> Id {
     Id::read(text).expect(rt, "an identifier")
 }
@@ -48,7 +48,7 @@ pub(crate) fn instant(rt: &impl Abort, millis: i64) -> Moment {
     Moment::new(millis).expect(rt, "a moment")
 }
 
-/// The word that a text is.
+/// The word that a text spells.
 pub(crate) fn word(rt: &impl Abort, text: &str) -> Token {
     Token::read(text).expect(rt, "a token")
 }
@@ -58,7 +58,7 @@ pub(crate) fn words(rt: &impl Abort, alloc: Global, text: &str) -> Result<Arc<Wo
     Words::shared(alloc, word(rt, text), Vec::new(alloc))
 }
 
-/// The position at so many ten-millionths of a degree.
+/// The position at these coordinates, in units of 10^-7 degree.
 pub(crate) fn position(rt: &impl Abort, lng: i64, lat: i64) -> Position {
     Position {
         lng: Units7::new(lng).expect(rt, "a longitude"),
@@ -102,7 +102,7 @@ fn area(rt: &impl Abort, alloc: Global) -> Result<Area, AllocError> {
     Area::new(alloc, vec![in alloc; polygon]?)
 }
 
-/// The square of this name.
+/// Places with the square under the identifier that ends in 101.
 pub(crate) fn one_square(rt: &impl Abort, alloc: Global) -> Result<Square, AllocError> {
     Ok(Square {
         id: known(rt, "00000000-0000-4000-8000-000000000101"),

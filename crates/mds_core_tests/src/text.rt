@@ -1,4 +1,4 @@
-//! Numbers that are quoted, texts that are printed, trees that are made, and faults that are told.
+//! Quoted numbers, printed units, trees that are built and printed, and the messages of faults.
 use mds_geography::GeoFault;
 use mds_geometry::RingFault;
 use mds_policy::PolicyFault;
@@ -10,7 +10,7 @@ use mds_text::{
 use std::alloc::{AllocError, Global};
 use std::test::Fail;
 
-/// A text, what it is quoted to, and how many numbers are quoted.
+/// Texts, each with the text after quoting and the count of quoted numbers.
 const QUOTED: &[(&str, &str, u64)] = &[
     (
         r#"{"a":-0,"b":[1.50,12]}"#,
@@ -47,7 +47,7 @@ fn numbers_are_quoted(rt: HostRuntime) {
     }
 }
 
-/// Degrees, and their units rounded half away from zero; then what is printed of them.
+/// Degrees, their units rounded half away from zero, and the text that is printed for these.
 const DEGREES: &[(&str, i64, &str)] = &[
     ("-118.24370005", -1_182_437_001, "-118.2437001"),
     ("2.00000004", 20_000_000, "2"),
@@ -66,14 +66,14 @@ fn units_are_printed(rt: HostRuntime) {
 
 const MADE: &[u8] = br#"{"name":"a\"b","coordinates":[-0.5,-3],"states":true}"#;
 
-/// The first two members.
+/// Adds the first two members.
 fn add_two(alloc: Global, members: &mut Vec<Member>, units: Units7) -> Result<(), AllocError> {
     let entries = vec![in alloc; Tree::Degrees(units), int_tree(-3)]?;
     add_member(members, "name", text_tree(alloc, "a\"b")?)?;
     add_member(members, "coordinates", list_tree(entries))
 }
 
-/// What is printed of a copy of an object.
+/// The printed text of a copy of an object, which is built member by member.
 fn made(alloc: Global, units: Units7) -> Result<Vec<u8>, AllocError> {
     let mut members = Vec::new(alloc);
     add_two(alloc, &mut members, units)?;
@@ -91,7 +91,7 @@ fn trees_are_made(rt: HostRuntime) {
     assert!(rt; matches!(copied, Tree::Object(_)));
 }
 
-/// Faults, and what is told of them.
+/// Faults and their messages.
 const GEO_FAULTS: &[(GeoFault, &str)] = &[
     (GeoFault::Text(TextFault::BadJson), "bad JSON"),
     (

@@ -1,4 +1,4 @@
-//! A whole history, asked of the machine with one growth refused wherever it is.
+//! A whole history of requests to a `World`, with one allocation refused, whichever it is.
 use crate::square::instant;
 use mds_exchanges::{CONFIGURATION, Exchange, HISTORY};
 use mds_request::{Config, Reply, Request, Verb};
@@ -9,13 +9,13 @@ use std::process::Abort;
 
 const NO_MEMORY: &[u8] = br#"{"error":"no_memory"}"#;
 
-/// A machine of the configuration, if there is memory.
+/// A world of the configuration; `None` where memory ran out.
 fn machine(alloc: Global) -> Option<World<Plain>> {
     let config = Config::read(alloc, CONFIGURATION).ok()?;
     World::new(alloc, config, Plain).ok()
 }
 
-/// A machine of the configuration, made once more where there was no memory.
+/// A world of the configuration, made a second time where memory ran out.
 fn machine_at_last(rt: &impl Abort, alloc: Global) -> World<Plain> {
     match machine(alloc) {
         Some(world) => world,
@@ -33,13 +33,13 @@ fn request<'a>(rt: &impl Abort, exchange: &'a Exchange) -> Request<'a> {
     }
 }
 
-/// Whether the reply tells of no memory.
+/// Whether the reply is 503. Checks that it is `no_memory` then.
 fn wants_memory(rt: &impl Abort, reply: &Reply) -> bool {
     assert!(rt; reply.status() != 503 || reply.body() == NO_MEMORY);
     reply.status() == 503
 }
 
-/// This is the exchange's reply.
+/// Checks that this is the exchange's reply.
 fn assert_reply(rt: &impl Abort, reply: &Reply, exchange: &Exchange) {
     assert!(rt;
         reply.status() == exchange.status && reply.body() == exchange.reply.as_bytes(),
@@ -49,8 +49,8 @@ fn assert_reply(rt: &impl Abort, reply: &Reply, exchange: &Exchange) {
     );
 }
 
-/// With one growth refused, wherever it is, one answer is 503 `no_memory`; the same request is then
-/// answered as if nothing had happened, and so are all others.
+/// With one allocation refused, whichever it is, one answer is 503 `no_memory`; the same request is then answered as
+/// if nothing had happened, and so are all others.
 #[test]
 fn answers_or_wants_memory(rt: HostRuntime) {
     let mut world = machine_at_last(&rt, rt.alloc());
@@ -63,7 +63,7 @@ fn answers_or_wants_memory(rt: HostRuntime) {
     }
 }
 
-/// Room for the requests of the history, made once more where there was no memory.
+/// Room for the requests of the history, allocated a second time where memory ran out.
 fn room<'a>(rt: &impl Abort, alloc: Global) -> Vec<Request<'a>> {
     match Vec::with_capacity(alloc, HISTORY.len()) {
         Ok(room) => room,
@@ -81,7 +81,7 @@ fn add_requests<'a>(rt: &impl Abort, requests: &mut Vec<Request<'a>>) {
     }
 }
 
-/// A machine's replies to the requests; where the call wants memory, those of the same call once more.
+/// A world's replies to the requests; where the call runs out of memory, those of a second call.
 fn replies_at_last(
     rt: &impl Abort,
     world: &mut World<Plain>,
@@ -93,8 +93,8 @@ fn replies_at_last(
     }
 }
 
-/// All requests in one call. With one growth refused, wherever it is, the call is refused and the same
-/// call again answers them all; or one answer is 503 `no_memory`, and those before it are as they should be.
+/// All requests in one call. With one allocation refused, whichever it is, the call runs out of memory and a second
+/// one answers them all; or one answer is 503 `no_memory`, and those before it are as they should be.
 #[test]
 fn runs_or_wants_memory(rt: HostRuntime) {
     let mut world = machine_at_last(&rt, rt.alloc());

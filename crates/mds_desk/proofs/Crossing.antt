@@ -1,5 +1,5 @@
--- What holds published documents or drafts may cross threads: batches, catalogues, panes, publishers, drafts. A field's own
--- lemma stands in `TheSendSync` of its type.
+-- What has published documents or drafts may cross threads: batches, catalogues, panes, publishers, drafts. The lemma
+-- of a field is in the `TheSendSync` of its type.
 use denote.RattleType.{RattleType}
 use denote.Builtin.{Array}
 use denote.Param.Send.{IsSend, IsSync, sendable, view_send}

@@ -1,4 +1,4 @@
--- From what befalls desks and the room to their turns, and to one history of all.
+-- From the calls on desks and the room to their turns, and to one history of all.
 use mathlib.Core.List.{IsPrefix}
 use Rattle.std.proofs.Common.{◌≡◌, ℕ, List, [], ◌∷◌, ◌++◌, Option, Some, None, refl, sym, ap, subst, ◌∙◌}
 use Rattle.std.specs.List.{slice_get}
@@ -19,7 +19,7 @@ use Rattle.mds_desk.specs.Desk.{DeskState, IsSameDesk, new_desk}
 use Rattle.mds_desk.specs.Laws.{Event, answered, ran, learnt, Becomes, asked_in, told_in, RoomBecomes, DeskTakesItsTurns, RoomTakesItsTurns, IsOneHistoryOfAll}
 use Rattle.mds_desk.specs.Room.{RoomState, held_in, new_room}
 
--- a list that begins a later one begins the last front too
+-- a prefix of a later list has a last front that is a prefix too
 last_below : (a b z : List Publication) (turns : List Turn) → IsPrefix a b → IsPrefix (last_front b turns) z → IsPrefix (last_front a turns) z
 last_below a b z [] ab bz = prefix_on a b z ab bz
 last_below a b z (turn ∷ turns) ab bz = bz
@@ -33,7 +33,7 @@ module _ (operator : Operator) where
     tells : replies_in turns ≡ replies
     last : IsPrefix (last_front d.known turns) next.known
 
-  -- the same desk is there
+  -- the operator is found at the same desk
   found_on : (d between : DeskState) → IsSameDesk d between → slice_get d.configuration.operators d.place ≡ Some operator → slice_get between.configuration.operators between.place ≡ Some operator
   found_on d between same found =
       ap (λ c. slice_get c.operators between.place) same.configuration ∙ ap (slice_get d.configuration.operators) same.place ∙ found

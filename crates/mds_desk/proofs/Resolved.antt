@@ -1,4 +1,4 @@
--- What a desk and the author's room do with a request that is resolved: by its call, or by its first refusal.
+-- What a desk and the author's room do with a request that is resolved: to its call, or to its first refusal.
 use Rattle.std.proofs.Common.{◌≡◌, ◌≢◌, ℕ, List, true, false, cond, Ok, Err, refl, sym, ap, ◌∙◌}
 use Rattle.std.proofs.lemmas.Bool.{eq-eqb, ne_eqb}
 use Rattle.mds_catalog.specs.Publication.{Publication}
@@ -42,14 +42,14 @@ module _ (configuration : Configuration) (request : Request) where
     pub is_its : actor_of configuration request.token ≡ actor.Operator place → is_of configuration place request ≡ true
     is_its asks = ap (is_place place) asks ∙ eq-eqb place place refl
 
-    -- a call of its operator does there what the call does
+    -- a call of its operator does there what the call is defined to do
     pub desk_calls : (own : OperatorCall) → call_of configuration request ≡ Ok (call.Operator place own) → (operator : Operator) (front : List Publication) (rows : Rows)
         → desk_does configuration place operator front rows request ≡ settled rows (operator_does configuration.zone operator front rows own request)
     desk_calls own resolved operator front rows =
         own_at operator front rows (is_its (call_of-caller configuration request (call.Operator place own) resolved))
         ∙ ap (λ r. settled rows (r >>= own_call >>= λ own. operator_does configuration.zone operator front rows own request)) resolved
 
-    -- a call of anyone else is refused there
+    -- a call of another client is refused there
     another_calls : (given : Call) → call_of configuration request ≡ Ok given → is_place place (caller given) ≡ false → IsRefusedAt configuration place request Token
     another_calls given resolved other operator front rows =
         another_at operator front rows (ap (is_place place) (call_of-caller configuration request given resolved) ∙ other)
@@ -61,7 +61,7 @@ module _ (configuration : Configuration) (request : Request) where
     pub author_elsewhere : (own : AuthorCall) → call_of configuration request ≡ Ok (call.Author own) → IsRefusedAt configuration place request Token
     author_elsewhere own resolved = another_calls (call.Author own) resolved refl
 
-    -- what the table of calls refuses is refused there: its operator's by the same code
+    -- what the table of calls refuses is refused there: its operator's with the same code
     pub desk_refuses : (code : Code) → call_of configuration request ≡ Err code → is_of configuration place request ≡ true → IsRefusedAt configuration place request code
     desk_refuses code resolved is operator front rows =
         own_at operator front rows is ∙ ap (λ r. settled rows (r >>= own_call >>= λ own. operator_does configuration.zone operator front rows own request)) resolved
@@ -80,20 +80,20 @@ module _ (configuration : Configuration) (request : Request) where
   room_another held is =
       ap (λ b. cond b (call_of configuration request >>= authors_call >>= λ call. author_does held.0 held.1 call request) (Err (refusal_of (call_of configuration request)))) is
 
-  -- a call of the author does there what the call does
+  -- a call of the author does there what the call is defined to do
   pub room_calls : (own : AuthorCall) → call_of configuration request ≡ Ok (call.Author own) → (held : Drafts × List Publication)
       → room_does configuration held request ≡ author_does held.0 held.1 own request
   room_calls own resolved held =
       room_own held (ap is_the_author (call_of-caller configuration request (call.Author own) resolved))
       ∙ ap (λ r. r >>= authors_call >>= λ own. author_does held.0 held.1 own request) resolved
 
-  -- an operator's is refused there
+  -- a call of an operator is refused there
   pub operator_in_room : (asker : ℕ) (own : OperatorCall) → call_of configuration request ≡ Ok (call.Operator asker own) → IsRefusedInRoom configuration request Token
   operator_in_room asker own resolved held =
       room_another held (ap is_the_author (call_of-caller configuration request (call.Operator asker own) resolved))
       ∙ ap (λ r. Err (refusal_of r)) resolved
 
-  -- what the table of calls refuses is refused there: the author's by the same code
+  -- what the table of calls refuses is refused there: the author's with the same code
   pub room_refuses : (code : Code) → call_of configuration request ≡ Err code → is_authors configuration request ≡ true → IsRefusedInRoom configuration request code
   room_refuses code resolved is held = room_own held is ∙ ap (λ r. r >>= authors_call >>= λ own. author_does held.0 held.1 own request) resolved
 

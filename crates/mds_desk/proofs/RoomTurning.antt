@@ -12,7 +12,7 @@ use Rattle.mds_fronts.specs.Room.{IsRoomTurn}
 use Rattle.mds_desk.specs.Room.{RoomState, held_in, IsRefusedInRoom, TakesRoomTurn}
 use Rattle.mds_desk.proofs.Resolved.{room_calls}
 
--- what the author's call gives is a turn of the room
+-- the outcome of the author's call is a turn of the room
 pub given_by_call : (r next : RoomState) (request : Request) (own : AuthorCall) (reply : Reply) → call_of r.configuration request ≡ Ok (call.Author own)
     → Gives (Unit {0}) (held_in r) (author_does r.drafts r.publications own request) reply (held_in next) → IsRoomTurn r.configuration (held_in r) request reply (held_in next)
 given_by_call r next request own reply resolved gives =
@@ -22,7 +22,7 @@ given_by_call r next request own reply resolved gives =
       | inr a ↦ inr ((own, resolved), a.1, a.2)
     ]
 
--- what the room refuses whatever it has leaves it as it is
+-- a request that the room refuses in any state doesn't change it
 pub refused_room_turn : (r : RoomState) (request : Request) (reply : Reply) (code : Code) → IsRefusedInRoom r.configuration request code → reply ≡ refused code → TakesRoomTurn r request reply None r
 refused_room_turn r request reply code refuses is =
     let same = refuses (held_in r) in

@@ -1,4 +1,4 @@
--- A desk's run grows by one turn at its end.
+-- A desk's run with one more turn at its end.
 use Rattle.std.proofs.Common.{◌≡◌, ℕ, ◌+◌, ◌<◌, ◌≤◌, List, [], ◌∷◌, ◌++◌, map, take, length, get_or, Some, refl, sym, ap, subst, ◌∙◌, arith, add-one}
 use Rattle.std.specs.List.{slice_get}
 use Rattle.std.proofs.Math.Seq.{take-suc, take-length}
@@ -19,7 +19,7 @@ begins d =
       run = λ operator found. no_turns d.configuration d.place operator d.known d.rows;
     }
 
--- a turn of the desk afterwards is one of the same operator's
+-- a turn of the desk afterwards is one of the same operator
 at_desk : (d between next : DeskState) (request : Request) (reply : Reply) (operator : Operator) → IsSameDesk d between → TakesTurn between request reply next → slice_get d.configuration.operators d.place ≡ Some operator → IsTurn d.configuration d.place operator between.known between.rows (record { request = request; front = next.known; reply = reply }) next.rows
 at_desk d between next request reply operator same takes found =
     let turn : Turn = record { request = request; front = next.known; reply = reply } in
@@ -28,7 +28,7 @@ at_desk d between next request reply operator same takes found =
     (takes.turn operator
     (ap (λ c. slice_get c.operators between.place) same.configuration ∙ ap (slice_get d.configuration.operators) same.place ∙ found)))
 
--- one turn more
+-- one more turn
 goes_on : (d between next : DeskState) (requests : List Request) (replies : List Reply) (request : Request) (reply : Reply) → TakesRun d requests replies between → TakesTurn between request reply next → TakesRun d (requests ++ request ∷ []) (replies ++ reply ∷ []) next
 goes_on d between next requests replies request reply run takes =
     record {

@@ -1,4 +1,4 @@
--- What lies ready is an answer, and so is a reply that is laid down.
+-- A cached body is an answer, and so is a reply that is then cached.
 use Rattle.std.proofs.Common.{◌≡◌, ◌⊎◌, ℕ, List, [], Option, Some, None, IfSome, IsSome, Result, Ok, Err, inl, inr, sym, ap, subst, ◌∙◌, arith}
 use Rattle.std.specs.Option.{option_map}
 use Rattle.mds_match.specs.declared.zone.Zone.{Zone}
@@ -26,7 +26,7 @@ module _ {S : Type 0} (ps : List Publication) (kept : S) (does : Result (Reply �
   abbrev told_it : List ℕ → Result (Reply × S) Code
   told_it body = Ok (success body, kept)
 
-  -- what was asked is a success with the body that lies ready under this key
+  -- the call is a success with the body cached under this key
   record Is (key : Ready) : Type 0 where
     body : List ℕ
     its : IsBodyOf ps key body

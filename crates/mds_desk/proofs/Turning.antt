@@ -23,13 +23,13 @@ module _ (configuration : Configuration) (place : ℕ) (known : List Publication
   abbrev desk : List Publication → Rows → DeskState
   desk front after = record { configuration = configuration; place = place; known = front; rows = after }
 
-  -- what is answered at the front of a look
+  -- the answer at the front of a snapshot
   abbrev Answered : List Publication → Reply → Rows → Operator → Type 0
   Answered front reply after operator =
       let does = desk_does configuration place operator front rows request in
       ((reply ≡ does.0) × (after ≡ does.1)) ⊎ ((reply ≡ refused NoMemory) × (after ≡ rows))
 
-  -- what a call of the desk's operator gives at that front
+  -- the outcome of a call of the desk's operator at that front
   abbrev pub Given : OperatorCall → List Publication → Reply → Rows → Operator → Type 0
   Given own front reply after operator = Gives (Unit {0}) rows (operator_does configuration.zone operator front rows own request) reply after
 
@@ -48,7 +48,7 @@ module _ (configuration : Configuration) (place : ℕ) (known : List Publication
   at_some own resolved front reply after (Some o) operator h is =
       subst (Answered front reply after) (let same : o ≡ operator = cc in same) (answered own resolved front reply after o h)
 
-  -- a call of the desk's operator is carried out at the front of a look
+  -- a call of the desk's operator is carried out at the front of a snapshot
   pub looked : (own : OperatorCall) → call_of configuration request ≡ Ok (call.Operator place own) → (shown front : List Publication) (reply : Reply) (after : Rows) → IsPrefix known front → shown ≡ front
       → IfSome (slice_get configuration.operators place) (Given own shown reply after) → TakesTurn (desk known rows) request reply (desk front after)
   looked own resolved shown front reply after begins same h =
@@ -78,7 +78,7 @@ module _ (configuration : Configuration) (place : ℕ) (known : List Publication
         shown = inl (is, ap (λ f. desk f rows) same);
       }
 
--- what the desk refuses at any front takes a turn at the front that it knows, and leaves it as it is
+-- a request that the desk refuses at any front is a turn at the front that it knows, and doesn't change the desk
 pub refused_turn : (d : DeskState) (request : Request) (reply : Reply) (code : Code) → IsRefusedAt d.configuration d.place request code → reply ≡ refused code → TakesTurn d request reply d
 refused_turn d request reply code refuses is =
     let all : (operator : Operator) → ((reply ≡ (desk_does d.configuration d.place operator d.known d.rows request).0) × (d.rows ≡ (desk_does d.configuration d.place operator d.known d.rows request).1)) =

@@ -1,4 +1,4 @@
--- The one history of the author's room and all desks, from their furnishing on.
+-- The one history of the author's room and all desks, from their creation on.
 use mathlib.Core.List.{IsPrefix}
 use Rattle.std.specs.Prelude.{◌≡◌, ℕ, List, [], ◌∷◌, ◌++◌, Option, Some, slice_get}
 use Rattle.mds_catalog.specs.Publication.{Publication}
@@ -12,7 +12,7 @@ use Rattle.mds_fronts.specs.Room.{AreRoomTurns}
 use Rattle.mds_desk.specs.Desk.{DeskState, TakesTurn, TakesRun, Learns, new_desk}
 use Rattle.mds_desk.specs.Room.{RoomState, held_in, TakesRoomTurn, new_room}
 
--- something that befalls a desk: a request is answered, a run of requests is, or a list of publications is learnt
+-- a call on a desk: a request is answered, a run of requests is answered, or a list of publications is learnt
 pub data Event : Type 0 where
   answered : Request → Reply → Event
   ran : List Request → List Reply → Event
@@ -28,7 +28,7 @@ Becomes d (ran requests replies ∷ events) next =
 Becomes d (learnt list ∷ events) next =
     (between : DeskState) × Learns d list between × Becomes between events next
 
--- the requests that a desk was asked in them, and its replies
+-- the requests to a desk in these calls, and its replies
 abbrev pub asked_in : List Event → List Request
 asked_in [] = []
 asked_in (answered request reply ∷ events) = (request ∷ []) ++ asked_in events
@@ -41,14 +41,14 @@ told_in (answered request reply ∷ events) = (reply ∷ []) ++ told_in events
 told_in (ran requests replies ∷ events) = replies ++ told_in events
 told_in (learnt list ∷ events) = told_in events
 
--- one exchange at the room after another
+-- exchanges at the room, one after another
 abbrev pub RoomBecomes : RoomState → List Exchange → RoomState → Type 0
 RoomBecomes r [] next = next ≡ r
 RoomBecomes r (e ∷ history) next =
     (between : RoomState) × (note : Option (List Publication)) × TakesRoomTurn r e.request e.reply note between
     × RoomBecomes between history next
 
--- What befell a new desk are its turns, with the same requests and replies, at fronts of what it knows.
+-- The calls on a new desk are its turns, with the same requests and replies, at fronts of what it knows.
 abbrev pub DeskTakesItsTurns : Type 0
 DeskTakesItsTurns =
     (configuration : Configuration) (place : ℕ) (operator : Operator) (events : List Event) (d : DeskState)
@@ -64,9 +64,9 @@ RoomTakesItsTurns =
     → RoomBecomes (new_room configuration) history r
     → AreRoomTurns configuration ((new_state configuration).drafts, []) history (held_in r)
 
--- The exchanges at a new room and what befell the new desk of each operator are one history of the machine, where all that
--- a desk knows is published at the room. It is made of the turns that each desk took, and the state after it has the room's
--- drafts and each desk's rows.
+-- The exchanges at a new room and the calls on the new desk of each operator form one history of the machine, where all
+-- that a desk knows is published at the room. It consists of the turns that each desk took, and the state after it has
+-- the room's drafts and each desk's rows.
 abbrev pub IsOneHistoryOfAll : Type 0
 IsOneHistoryOfAll =
     (configuration : Configuration) (history : List Exchange) (r : RoomState) (events : ℕ → List Event) (desks : ℕ → DeskState)

@@ -1,4 +1,4 @@
--- What the author's room holds, and what becomes of it.
+-- The state of the author's room, and how it changes.
 use Rattle.std.specs.Prelude.{◌≡◌, ◌⊎◌, List, [], ◌∷◌, ◌++◌, Bool, true, false, Option, Some, None, IfSome, Err}
 use Rattle.mds_catalog.specs.Publication.{Publication}
 use Rattle.mds_drafts.specs.Drafts.{Drafts}
@@ -16,7 +16,7 @@ use Rattle.mds_desk.specs.declared.author.AuthorRoom.{AuthorRoom}
 pub record RoomState : Type 0 where
   pub configuration : Configuration
   pub drafts : Drafts
-  -- what is published, in its order
+  -- what is published, in order
   pub publications : List Publication
   -- more can be published
   pub is_open : Bool
@@ -33,17 +33,17 @@ room_of r =
 abbrev pub held_in : RoomState → Drafts × List Publication
 held_in r = (r.drafts, r.publications)
 
--- the room refuses the request by this code, whatever it has
+-- the room refuses the request with this code, whatever its drafts and publications are
 abbrev pub IsRefusedInRoom : Configuration → Request → Code → Type 0
 IsRefusedInRoom configuration request code = (held : Drafts × List Publication) → room_does configuration held request ≡ Err code
 
--- A note comes exactly where one publication more stands, and it is of the list then.
+-- There is a note exactly where there is one more publication, and it is of the list then.
 abbrev pub IsNoted : List Publication → Option (List Publication) → List Publication → Type 0
 IsNoted publications None after = after ≡ publications
 IsNoted publications (Some note) after = (note ≡ after) × (p : Publication) × (after ≡ publications ++ p ∷ [])
 
--- The room takes one turn. Once it is closed it stays so and gives no note; an open one closes for want of memory alone,
--- and is open after each note that it gives.
+-- The room takes one turn. Once it is closed it stays closed and returns no note; an open one closes only where memory
+-- runs out, and is open after each note that it returns.
 pub record TakesRoomTurn (r : RoomState) (request : Request) (reply : Reply) (note : Option (List Publication)) (next : RoomState) : Type 0 where
   pub same : next.configuration ≡ r.configuration
   pub turn : IsRoomTurn r.configuration (held_in r) request reply (held_in next)
@@ -52,7 +52,7 @@ pub record TakesRoomTurn (r : RoomState) (request : Request) (reply : Reply) (no
   pub stays_open : r.is_open ≡ true → (next.is_open ≡ true) ⊎ (reply ≡ refused NoMemory)
   pub open_noted : IfSome note (λ list. next.is_open ≡ true)
 
--- the room without a draft and a publication
+-- the room without drafts and publications
 abbrev pub new_room : Configuration → RoomState
 new_room configuration =
     record { configuration = configuration; drafts = (new_state configuration).drafts; publications = []; is_open = true }

@@ -1,4 +1,4 @@
-//! The author's room.
+//! The author's room: the author's session, with its drafts and the publisher.
 ghost use Rattle.std.specs.Prelude.{◌≡◌, ◌⊎◌};
 
 use crate::desk::Desk;
@@ -13,8 +13,8 @@ use mds_world::{AuthorAct, author_step};
 use std::alloc::{AllocError, Global};
 use std::sync::{Arc, Wait};
 
-/// The author's own place: its drafts, and what is published. It is not `Drop`: end it by `finish`.
-/// Contracts see the configuration, the drafts and the list of what is published.
+/// The author's session: its drafts, and what is published. It is not `Drop`: end it with `finish`. Contracts see the
+/// configuration, the drafts and the list of publications.
 pub struct AuthorRoom<K: Naming> {
     alloc: Global,
     config: Arc<Config>,
@@ -40,7 +40,7 @@ impl<K: Naming> AuthorRoom<K> {
     ghost use Rattle.mds_desk.specs.Desk.{state_of};
     ghost use Rattle.mds_desk.specs.Room.{room_of, new_room, held_in, IsNoted, IsRefusedInRoom, TakesRoomTurn};
 
-    /// The room over this publisher and shelf, without a draft.
+    /// The room with this publisher and response cache, without drafts.
     pub(crate) fn new(
         alloc: Global,
         config: Arc<Config>,
@@ -61,22 +61,21 @@ impl<K: Naming> AuthorRoom<K> {
         }
     }
 
-    /// Answers a request, and carries it out. A publication gives a note of the list, for desks to learn.
+    /// Answers a request, and carries it out. A publication returns a note of the list, for desks to learn.
     ///
-    /// For a request of the author the reply is the success, the first refusal that applies, or 503
-    /// `no_memory`; for any other it is `too_large` or `token`. A request that isn't a success changes
-    /// nothing. The reply to a publication is made before it is published, so that nothing is published
-    /// without its success being told. Once memory ran out in the publishing itself, each further
-    /// publication is answered 503.
+    /// For a request of the author the reply is the success, the first refusal that applies, or 503 `no_memory`; for
+    /// any other request it is `too_large` or `token`. A request without success changes nothing. The reply to a
+    /// publication is made before it is published, so that nothing is published without a success being reported. Once
+    /// memory ran out in the publishing itself, each further publication is answered 503.
     pub fn answer<R: Wait>(&mut self, rt: &R, request: &Request<'_>) -> (Answer, Option<Note<K>>)
         ensures { TakesRoomTurn (room_of self.old) (request_of request.now) result.0 result.1 (room_of self.new) }
     {
         self.answer_with(rt, request, &mut Always)
     }
 
-    /// The same, where leave is asked once the reply to a publication is made, and just before all are shown it. Where
-    /// leave isn't given the reply is 503 `no_memory`, and nothing has changed. Where it is and the publishing then runs
-    /// out of memory, the reply is that too, and there is no note.
+    /// The same, but asks `leave` for permission once the reply to a publication is made, just before the publication
+    /// becomes visible. Without permission the reply is 503 `no_memory`, and nothing has changed. Where it is given and
+    /// the publishing then runs out of memory, the reply is that too, and there is no note.
     pub fn answer_with<R: Wait, L: Leave>(
         &mut self,
         rt: &R,
@@ -93,11 +92,11 @@ impl<K: Naming> AuthorRoom<K> {
         }
     }
 
-    /// What the author calls for.
+    /// The author's call of a request.
     ///
     /// # Errors
     ///
-    /// The request is refused: one of the author by the table of calls, any other by `TooLarge` or `Token`.
+    /// The refusal: of the author's request by the table of calls, of any other by `TooLarge` or `Token`.
     fn call(&self, request: &Request<'_>) -> Result<AuthorCall, Code>
         ensures calls { IfOk result (λ call. call_of (room_of self.now).configuration (request_of request.now) ≡ Ok (ByAuthor call)) }
         ensures refused { IfErr result (IsRefusedInRoom (room_of self.now).configuration (request_of request.now)) }
@@ -109,7 +108,7 @@ impl<K: Naming> AuthorRoom<K> {
         }
     }
 
-    /// The refusal here of a request that the table of calls refuses by this code.
+    /// The refusal in this room of a request that the table of calls refuses with this code.
     fn refusal(&self, request: &Request<'_>, code: Code) -> Code
         requires { call_of (room_of self.now).configuration (request_of request.now) ≡ Err code }
         ensures { IsRefusedInRoom (room_of self.now).configuration (request_of request.now) result }
@@ -120,8 +119,8 @@ impl<K: Naming> AuthorRoom<K> {
         }
     }
 
-    /// Carries out a call of the author, the one that the request is: with the body that lies ready for it, or
-    /// anew. Leave is asked as `answer_with` does, and the reply and the note are as its are.
+    /// Carries out a call of the author, the one of the request: answers it with the cached body, or makes the answer.
+    /// Asks for permission as `answer_with` does, with the same reply and note.
     pub fn carry_out<R: Wait, L: Leave>(
         &mut self,
         rt: &R,
@@ -141,8 +140,8 @@ impl<K: Naming> AuthorRoom<K> {
         }
     }
 
-    /// Carries out a call for which no body lies ready. The drafts of a publication are taken out after it. A
-    /// reply to what was asked of the published documents lies ready from then on, until the next publication.
+    /// Carries out a call without a cached body. After a publication its drafts are removed. A reply about what is
+    /// published is cached from then on, until the next publication.
     fn perform<R: Wait, L: Leave>(
         &mut self,
         rt: &R,
@@ -187,39 +186,39 @@ impl<K: Naming> AuthorRoom<K> {
         }
     }
 
-    /// Tells what a telling has to tell of the drafts and of what is published. Nothing changes.
+    /// Answers a query outside the protocol, about the drafts and about what is published. Nothing changes.
     ///
     /// # Errors
     ///
-    /// Memory ran out.
+    /// Out of memory.
     pub fn tell<T: AuthorTelling>(&self, telling: &T) -> Result<T::Told, AllocError>
         ensures { IfOk result (T.tells telling.now (room_of self.now).drafts (room_of self.now).publications) }
     {
         telling.tell(self.alloc, &self.drafts, self.publisher.catalogue())
     }
 
-    /// A share of the configuration.
+    /// A reference to the configuration.
     ///
     /// # Errors
     ///
-    /// No further share could be made.
+    /// No further reference could be made.
     pub fn configuration(&self) -> Result<Arc<Config>, AllocError>
         ensures { IfOk result (λ c. configuration c.value ≡ (room_of self.now).configuration) }
     {
         Arc::try_clone(&self.config)
     }
 
-    /// A share of the table of routes.
+    /// A reference to the table of routes.
     ///
     /// # Errors
     ///
-    /// No further share could be made.
+    /// No further reference could be made.
     pub fn routes(&self) -> Result<Arc<Routes>, AllocError> {
         Arc::try_clone(&self.routes)
     }
 
-    /// Whether all that a desk of the same opening knows is published here; if not, the desk knows all that
-    /// is published here, and more. Takes no memory.
+    /// Whether all that a desk of the same opening knows is published here; if not, the desk knows all that is
+    /// published here, and more. Allocates nothing.
     pub fn has_published(&self, desk: &Desk<K>) -> bool
         ensures { MatchBool result (IsPrefix (state_of desk.now).known (room_of self.now).publications)
             (IsShorterFront (room_of self.now).publications (state_of desk.now).known) }
@@ -227,8 +226,7 @@ impl<K: Naming> AuthorRoom<K> {
         self.publisher.has_published(desk.pane())
     }
 
-    /// Ends the room. It waits for the looks that are held; every request at a desk is then answered 503
-    /// `no_snapshot`.
+    /// Ends the room. Waits for the looks that are held; every request at a desk is then answered 503 `no_snapshot`.
     pub fn finish<R: Wait>(self, rt: &R) {
         let Self {
             alloc: _,

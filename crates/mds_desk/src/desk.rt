@@ -1,4 +1,4 @@
-//! An operator's own place.
+//! An operator's desk: the operator's session, with its book and a snapshot reader.
 ghost use Rattle.std.specs.Prelude.{◌≡◌, ◌⊎◌, IfErr, IfOk, Ok, Some, option_map, slice_get};
 ghost use Rattle.std.specs.FinMap.{len};
 ghost use Rattle.mds_fleet.specs.Fleet.{Fits};
@@ -21,25 +21,24 @@ use mds_snapshot::{Look, Naming, Note, Pane};
 use mds_verdict::Evaluator;
 use std::alloc::{AllocError, Global};
 
-/// An operator's own place: its book, and its pane on what is published. It is answered here without
-/// waiting for a lock: what is published lies ready on a shelf that all desks share, and a shelf that is
-/// taken is passed by. Contracts see the configuration, the operator's place in it, the publications that
-/// were seen or learnt, and the operator's rows.
+/// The operator's session: its book, and its pane on what is published. The operator is answered without waiting for a
+/// lock: the response cache is shared by all desks, and is skipped while it is locked. Contracts see the configuration,
+/// the operator's place in it, the publications that were seen or learnt, and the operator's rows.
 #[derive(Drop)]
 pub struct Desk<K: Naming> {
     seat: Seat<K>,
     book: Book,
     pane: Pane<K>,
     ghost limit: { Some book.limit ≡ option_map (λ o. o.limit) (slice_get (configuration seat.config.value).operators seat.place) },
-    // what the book keeps is right for all publications that were seen or learnt
+    // the book's index is right for all publications that were seen or learnt
     ghost fits: { Fits (lasting_in pane) book } by { fits_prop (lasting_in pane) book },
 }
 
-/// What a telling tells of a front of what is published.
+/// The answer to a query about a front of what is published.
 ///
 /// # Errors
 ///
-/// `NoMemory` where memory ran out.
+/// `NoMemory`: memory ran out.
 fn told<K: Naming, T: Telling>(alloc: Global, look: &Look<K>, telling: &T) -> Result<T::Told, Code>
     ensures told { IfOk result (T.tells telling.now look.now) }
     ensures refused { IfErr result (λ code. code ≡ NoMemory) }
@@ -55,7 +54,7 @@ impl<K: Naming> Desk<K> {
     ghost use Rattle.mds_request.specs.Request.{request_of};
     ghost use Rattle.mds_desk.specs.Desk.{state_of, new_desk, TakesTurn, TakesRun, Learns};
 
-    /// The desk of the operator at this seat, which knows of no publication and has no vehicle.
+    /// The desk of the operator at this place, which knows no publications and has no vehicles.
     pub(crate) fn new(seat: Seat<K>, pane: Pane<K>) -> Desk<K>
         requires { pane ≡ [] }
         ensures { state_of result ≡ new_desk (configuration seat.config.value) seat.place }
@@ -71,11 +70,11 @@ impl<K: Naming> Desk<K> {
         &self.pane
     }
 
-    /// Answers a request: reads its call and carries it out (`carry_out`), or gives the first refusal.
+    /// Answers a request: reads its call and carries it out (`carry_out`), or returns the first refusal.
     ///
-    /// For a request of this desk's operator the reply is the success or the first refusal that applies; for
-    /// any other it is `too_large` or `token`, and the vehicles stay. What the table of calls refuses is
-    /// answered without a look at what is published.
+    /// For a request of this desk's operator the reply is the success or the first refusal that applies; for any other
+    /// request it is `too_large` or `token`, and the vehicles stay. What the table of calls refuses is answered without
+    /// a snapshot of what is published.
     pub fn answer<G: Gate, E: Evaluator<Catalogue>>(
         &mut self,
         request: &Request<'_>,
@@ -91,12 +90,11 @@ impl<K: Naming> Desk<K> {
         }
     }
 
-    /// Carries out a call of this desk's operator, the one that the request is, from one look at what is
-    /// published: publications that begin with all that this desk has seen or learnt.
+    /// Carries out a call of this desk's operator, the one of the request, with one snapshot of what is published:
+    /// publications with all that this desk has seen or learnt as a prefix.
     ///
-    /// The reply is the success or the first refusal that applies at that front. Where memory runs out or
-    /// nothing is shown, which is so once the author's room is finished, the reply is 503 and the vehicles
-    /// stay.
+    /// The reply is the success or the first refusal that applies at that front. Where memory runs out or there is no
+    /// snapshot, which is so once the author's room is finished, the reply is 503 and the vehicles stay.
     pub fn carry_out<G: Gate, E: Evaluator<Catalogue>>(
         &mut self,
         request: &Request<'_>,
@@ -117,14 +115,14 @@ impl<K: Naming> Desk<K> {
         )
     }
 
-    /// Answers requests one after another, each as `answer` does, and gives their replies in that order.
+    /// Answers requests one after another, each as `answer` does, and returns their replies in that order.
     ///
-    /// The fronts at which they are answered rise, and the first begins with all that this desk has seen or
-    /// learnt. A reply may be 503; the requests behind it are answered all the same.
+    /// The fronts at which they are answered rise, and the first has all that this desk has seen or learnt as a prefix.
+    /// A reply may be 503; the requests after it are answered all the same.
     ///
     /// # Errors
     ///
-    /// There is no memory for the list of replies. No request was answered then, and nothing has changed.
+    /// Out of memory for the list of replies. Then no request was answered, and nothing has changed.
     pub fn run<G: Gate, E: Evaluator<Catalogue>>(
         &mut self,
         requests: &[Request<'_>],
@@ -143,27 +141,27 @@ impl<K: Naming> Desk<K> {
         Ok(answers)
     }
 
-    /// Learns what was published: later requests are answered at fronts that begin with the note's list
-    /// too. Takes no memory.
+    /// Learns what was published: later requests are answered at fronts that have the note's list as a prefix too.
+    /// Allocates nothing.
     pub fn learn(&mut self, note: &Note<K>)
         ensures { Learns (state_of self.old) note.now (state_of self.new) }
     {
         self.pane.learn(note);
     }
 
-    /// How many vehicles the operator has. Takes no memory.
+    /// The number of the operator's vehicles. Allocates nothing.
     pub fn vehicles(&self) -> usize
         ensures { result ≡ len (state_of self.now).rows }
     {
         self.book.len()
     }
 
-    /// Tells what a telling has to tell, from one look at what is published: publications that begin with all that this
-    /// desk has seen or learnt, which it knows from then on. The vehicles stay.
+    /// Answers a query outside the protocol, with one snapshot of what is published: publications with all that this
+    /// desk has seen or learnt as a prefix, which it knows from then on. The vehicles stay.
     ///
     /// # Errors
     ///
-    /// `NoSnapshot` where nothing is shown, and the desk is as it was; `NoMemory` where memory ran out.
+    /// `NoSnapshot` where there is no snapshot, and the desk is unchanged; `NoMemory` where memory ran out.
     pub fn tell<T: Telling>(&mut self, telling: &T) -> Result<T::Told, Code>
         ensures learnt { Learns (state_of self.old) (state_of self.new).known (state_of self.new) }
         ensures told { IfOk result (T.tells telling.now (state_of self.new).known) }

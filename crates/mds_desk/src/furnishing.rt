@@ -1,4 +1,4 @@
-//! The room and the desks of a server, all of one list.
+//! Creates the room and the desks of a server, all of one opening.
 ghost use Rattle.std.specs.Prelude.{◌≡◌, [], IfOk, length, map, replicate};
 ghost use Rattle.mds_request.specs.Configuration.{configuration};
 ghost use Rattle.mds_snapshot.specs.Opening.{book_of};
@@ -14,7 +14,7 @@ use mds_snapshot::{Blank, Naming, OpenFault, Pane, open};
 use std::alloc::{AllocError, Global};
 use std::sync::{Arc, Wait};
 
-/// A desk of each operator, in the configuration's order.
+/// A desk for each operator, in the order of the configuration.
 fn desks<K: Naming>(
     alloc: Global,
     config: &Arc<Config>,
@@ -43,13 +43,13 @@ fn desks<K: Naming>(
     Ok(desks)
 }
 
-/// The author's room, without a draft and a publication, and the desk of each operator, in the
-/// configuration's order, without a vehicle. They are of the one opening that the blank is; K names it.
-/// They share one shelf, on which nothing lies ready yet.
+/// Creates the author's room, without drafts and publications, and a desk for each operator, in the order of the
+/// configuration, without vehicles. All are of the one opening of this blank, which K names. They share one response
+/// cache, which is empty.
 ///
 /// # Errors
 ///
-/// `NoMemory` where memory ran out, `NoPlace` where no reader's place was to be had.
+/// `NoMemory` where memory ran out, `NoPlace` where there is no slot for a further reader.
 pub fn furnish<K: Naming, R: Wait>(
     rt: &R,
     alloc: Global,

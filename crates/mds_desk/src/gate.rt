@@ -1,11 +1,11 @@
-/// What is told when a desk has looked at what is published, before it answers: for tests that hold one
-/// desk while others answer.
+//! A test hook in a desk's turn.
+/// A test hook between the snapshot and the answer: with it a test holds one desk while others answer.
 pub trait Gate {
-    /// Called once for each call that is carried out, after the look and before the answer.
+    /// Called once for each call that is carried out, after the snapshot is taken and before the answer.
     fn held(&mut self);
 }
 
-/// Goes on at once.
+/// A gate that does nothing.
 #[derive(Clone, Copy, Debug)]
 pub struct OpenGate;
 

@@ -1,18 +1,18 @@
-//! Leave to show what is about to be published.
+//! Permission to show what is about to be published.
 
-/// What is asked before a publication is shown: for a server that keeps it first.
+/// Asked before a publication becomes visible: for a server that persists it first.
 pub trait Leave {
     ghost use Rattle.std.specs.Prelude.{◌≡◌, true};
 
-    /// Leave was given.
+    /// Permission was given.
     ghost given: { Self → Type 0 };
 
-    /// Whether what was made may be shown to all. It is asked once the reply is made, and nothing is shown yet.
+    /// Whether the publication may become visible. Asked once the reply is made, and before anything is visible.
     fn may_show(&mut self) -> bool
         ensures { result ≡ true → given self.new };
 }
 
-/// Leave is always given.
+/// Always gives permission.
 #[derive(Clone, Copy, Debug)]
 pub struct Always;
 

@@ -1,5 +1,5 @@
-//! Running desks: an operator's requests are answered at its own place without waiting, from one look
-//! at what is published, while the author publishes.
+//! The author's room and the operators' desks: an operator is answered from its own vehicles and one snapshot, without
+//! waiting, while the author publishes.
 #![tactic(auto)]
 
 mod author;

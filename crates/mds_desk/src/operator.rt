@@ -1,4 +1,4 @@
-//! What an operator is answered, over its own book and a front of what is published alone.
+//! Answers an operator's call over its own book and one snapshot of what is published.
 ghost use Rattle.std.specs.Prelude.{◌≡◌, IfSome, Some, option_map, slice_get};
 ghost use Rattle.mds_fleet.specs.Fleet.{Fits};
 ghost use Rattle.mds_request.specs.Configuration.{configuration};
@@ -16,8 +16,8 @@ use mds_snapshot::{Look, Naming};
 use mds_verdict::Evaluator;
 use mds_world::operator_step;
 
-/// Answers the operator's own call: with the body that lies ready for it, or with a reply of its own, which
-/// lies ready from then on where it tells what is published.
+/// Answers a call of the desk's operator: with the cached body, or with a reply of its own, which is cached from then
+/// on where it is about what is published.
 pub(crate) fn answer_call<K: Naming, E: Evaluator<Catalogue>>(
     seat: &Seat<K>,
     book: &mut Book,

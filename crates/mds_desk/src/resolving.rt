@@ -1,4 +1,4 @@
-//! What a request calls for where it is asked, or its refusal there.
+//! The call of a request at a desk, or its refusal there.
 ghost use Rattle.std.specs.Prelude.{◌≡◌, Err, IfErr, IfOk, Ok};
 ghost use Rattle.mds_request.specs.Call.{call_of};
 ghost use Rattle.mds_request.specs.Configuration.{configuration};
@@ -11,7 +11,7 @@ use crate::seat::Seat;
 use mds_request::{Actor, Call, Code, OperatorCall, Request, read_call};
 use mds_snapshot::Naming;
 
-/// The refusal of another's request that the table of calls refuses by this code: too large a body comes
+/// The refusal of another client's request that the table of calls refuses with this code: too large a body comes
 /// first.
 pub(crate) fn refusal_of_another(code: Code) -> Code
     ensures { result ≡ refusal_of (Err code) }
@@ -23,11 +23,11 @@ pub(crate) fn refusal_of_another(code: Code) -> Code
 }
 
 impl<K: Naming> Seat<K> {
-    /// What this seat's operator calls for.
+    /// The operator's call of a request.
     ///
     /// # Errors
     ///
-    /// The request is refused: one of this operator by the table of calls, any other by `TooLarge` or `Token`.
+    /// The refusal: of this operator's request by the table of calls, of any other by `TooLarge` or `Token`.
     pub(crate) fn call(&self, request: &Request<'_>) -> Result<OperatorCall, Code>
         ensures calls { IfOk result (λ call. call_of (configuration self.now.config.value) (request_of request.now) ≡ Ok (OperatorAt self.now.place call)) }
         ensures refused { IfErr result (IsRefusedAt (configuration self.now.config.value) self.now.place (request_of request.now)) }
@@ -45,7 +45,7 @@ impl<K: Naming> Seat<K> {
         }
     }
 
-    /// The refusal here of a request that the table of calls refuses by this code.
+    /// The refusal at this desk of a request that the table of calls refuses with this code.
     fn refusal(&self, request: &Request<'_>, code: Code) -> Code
         requires { call_of (configuration self.now.config.value) (request_of request.now) ≡ Err code }
         ensures { IsRefusedAt (configuration self.now.config.value) self.now.place (request_of request.now) result }

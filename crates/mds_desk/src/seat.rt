@@ -1,4 +1,4 @@
-//! An operator's place among what all desks of a server share.
+//! What a desk shares with the others, and its operator's place.
 ghost use Rattle.std.specs.Prelude.{◌≡◌, ◌<◌, length, Some, option_map, slice_get};
 ghost use Rattle.mds_request.specs.Configuration.{configuration};
 
@@ -9,7 +9,7 @@ use mds_text::Id;
 use std::alloc::Global;
 use std::sync::Arc;
 
-/// What a desk shares with the others and with the author's room, and its operator's place in the
+/// What a desk shares with the other desks and the author's room, and its operator's place in the
 /// configuration.
 #[derive(Drop)]
 pub(crate) struct Seat<K: Naming> {

@@ -8,7 +8,7 @@ use Rattle.mds_request.specs.Configuration.{Operator}
 use Rattle.mds_diagnosis.specs.declared.wrong.Wrong.{Wrong}
 use Rattle.mds_diagnosis.specs.Diagnosis.{◌>>=◌, says_at, operator_of, each_from}
 
--- the element at a place, in front of those behind it
+-- the element at an index, before those after it
 at : {X Y : Type 0} (f : X → Y) (xs : List X) (i : ℕ) (x : X) → i < length xs → x ≡ get_or xs i x → map f (drop i xs) ≡ f x ∷ map f (drop (i + 1) xs)
 at f xs i x within here = ap (map f) (drop_more xs i x within ∙ ap (λ y. y ∷ drop (i + 1) xs) (sym here))
 
@@ -27,7 +27,7 @@ search_ends p f n xs i x within here passes =
 pub map_push : {X Y : Type 0} (f : X → Y) (xs ys : List X) (y : X) → ys ≡ xs ++ y ∷ [] → map f ys ≡ map f xs ++ f y ∷ []
 map_push f xs ys y e = ap (map f) e ∙ map-append f xs (y ∷ [])
 
--- what was read, with more in front
+-- what was read, with more before it
 abbrev pub with_front : List Operator → Result (List Operator) Wrong → Result (List Operator) Wrong
 with_front front found = found >>= λ rest. Ok (front ++ rest)
 
@@ -35,7 +35,7 @@ push_front : (done : List Operator) (a : Operator) (found : Result (List Operato
 push_front done a (Ok xs) = ap Ok (append_assoc done (a ∷ []) xs)
 push_front done a (Err w) = refl
 
--- an operator that was read goes behind those before it
+-- an operator that was read comes after those before it
 pub read_on : {X : Type 0} (see : X → Json) (n : ℕ) (xs : List X) (i : ℕ) (x : X) (done more : List Operator) (a : Operator) → i < length xs →
     x ≡ get_or xs i x → says_at n (operator_of (see x)) ≡ Ok a → more ≡ done ++ a ∷ []
     → with_front more (each_from (n + 1) (map see (drop (i + 1) xs))) ≡ with_front done (each_from n (map see (drop i xs)))

@@ -1,5 +1,5 @@
 -- What is wrong with a text that is no configuration: the reading of a configuration, in its order, where each refusal
--- says the member and the operator's place.
+-- names the member and the operator's place.
 use Rattle.std.specs.Prelude.{◌≡◌, ℕ, ◌+◌, List, [], ◌∷◌, Bool, Option, Some, None, Result, Ok, Err, ⊤, bytes_eq, length, map, nat_le, if◌then◌else◌}
 use Rattle.std.specs.List.{position_from}
 use Rattle.std.specs.Result.{result_err}
@@ -17,18 +17,18 @@ use Rattle.mds_diagnosis.specs.declared.wrong.Flaw.TheVariants as flaw
 use Rattle.mds_diagnosis.specs.declared.wrong.Wrong.{Wrong}
 use Rattle.mds_diagnosis.specs.declared.wrong.Wrong.TheVariants as wrong
 
--- one reading after another; what is wrong first stays
+-- one reading after another; the first fault stays
 infixl 10 ◌>>=◌
 abbrev pub ◌>>=◌ : {A B W : Type 0} → Result A W → (A → Result B W) → Result B W
 (Ok x) >>= f = f x
 (Err w) >>= f = Err w
 
--- a reading, which says this where it is refused
+-- a reading, with this fault where it is refused
 abbrev pub says : {A V W : Type 0} → W → Result A V → Result A W
 says w (Ok a) = Ok a
 says w (Err fault) = Err w
 
--- the reading of the operator at a place
+-- the reading of the operator at this place
 abbrev pub says_at : {A : Type 0} → ℕ → Result A Flaw → Result A Wrong
 says_at place (Ok a) = Ok a
 says_at place (Err f) = Err (wrong.Operator place f)
@@ -43,7 +43,7 @@ operator_of value = do
   token ← says flaw.Token (access_at entry TokenName)
   Ok (record { id = id; limit = limit; token = token })
 
--- the operators in their order, the first at this place
+-- the operators in order, where the first is at this place
 abbrev pub each_from : ℕ → List Json → Result (List Operator) Wrong
 each_from place [] = Ok []
 each_from place (value ∷ values) = do
@@ -57,12 +57,12 @@ operators_of values = if nat_le (length values) MOST_OPERATORS then each_from 0 
 abbrev pub operators_at : Json → Result (List Operator) Wrong
 operators_at document = says wrong.Operators (required_at list_of document OperatorsName) >>= operators_of
 
--- what must differ between operators
+-- the member that must differ between operators
 abbrev pub key_of : Key → Operator → List ℕ
 key_of Id operator = operator.id
 key_of Token operator = operator.token
 
--- the first text that stands at two places, and its first two, where the list begins at this place
+-- the first text that is in the list twice, as its first two places, where the list begins at this place
 abbrev pub pair_at : ℕ → Option ℕ → Option (ℕ × ℕ) → Option (ℕ × ℕ)
 pair_at place None later = later
 pair_at place (Some other) later = Some (place, other)
@@ -71,28 +71,28 @@ abbrev pub pair_from : ℕ → List (List ℕ) → Option (ℕ × ℕ)
 pair_from place [] = None
 pair_from place (x ∷ xs) = pair_at place (position_from (bytes_eq x) (place + 1) xs) (pair_from (place + 1) xs)
 
--- two operators have one identifier or one access token
+-- two operators with the same identifier or the same access token
 abbrev pub pair_of : Key → List Operator → Option (ℕ × ℕ)
 pair_of key operators = pair_from 0 (map (key_of key) operators)
 
--- nothing is alike, or these are
+-- no duplicates, or these two
 abbrev pub unless_alike : Key → Option (ℕ × ℕ) → Result ⊤ Wrong
 unless_alike key None = Ok tt
 unless_alike key (Some pair) = Err (wrong.Alike key pair.0 pair.1)
 
--- nobody has the author's access token, or the operator at this place has
+-- no operator has the author's access token, or the one at this place has
 abbrev pub unless_author : Option ℕ → Result ⊤ Wrong
 unless_author None = Ok tt
 unless_author (Some place) = Err (wrong.AuthorsToken place)
 
--- no two things are alike: identifiers, the author's access token, and those of two operators
+-- no duplicates: of identifiers, of the author's access token, and of those of two operators
 abbrev pub unlike : List ℕ → List Operator → Result ⊤ Wrong
 unlike author operators = do
   ids ← unless_alike Id (pair_of Id operators)
   authors ← unless_author (position_from (bytes_eq author) 0 (tokens operators))
   unless_alike Token (pair_of Token operators)
 
--- the members of a configuration, in this order, and then what is alike among them
+-- the members of a configuration, in this order, and then the duplicates among them
 abbrev pub configuration_of : Json → Result ⊤ Wrong
 configuration_of value = do
   document ← says wrong.Document (document_of value)

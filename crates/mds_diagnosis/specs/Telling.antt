@@ -1,4 +1,4 @@
--- What readings that say what is wrong owe to their definitions.
+-- The relation of a reading to its definition.
 use Rattle.std.specs.Prelude.{◌≡◌, List, ℕ, Result, Ok, Err, string_bytes}
 use Rattle.mds_request.specs.Configuration.{Operator}
 use Rattle.mds_diagnosis.specs.declared.operators.Operator.{Operator as Named}
@@ -9,7 +9,7 @@ use Rattle.mds_diagnosis.specs.declared.wrong.Wrong.{Wrong}
 abbrev pub operator : Named → Operator
 operator o = record { id = o.id; limit = o.limit; token = string_bytes o.token }
 
--- what is read, seen by `view`, is what is defined
+-- the value that is read, under `view`, is the defined one
 abbrev pub Shows : {X Y E : Type 0} → (X → Y) → Result X E → Result Y E → Type 0
 Shows view (Ok x) defined = defined ≡ Ok (view x)
 Shows view (Err e) defined = defined ≡ Err e

@@ -1,4 +1,4 @@
--- What is written of what is wrong.
+-- The text of each fault.
 use Rattle.std.specs.Prelude.{◌≡◌, ℕ, List, ◌++◌, codes, decimal, Some}
 use Rattle.mds_diagnosis.specs.declared.detail.Detail.{Detail}
 use Rattle.mds_diagnosis.specs.declared.detail.Detail.TheVariants.{Unreadable, TooLong, Found, Untold}
@@ -10,7 +10,7 @@ use Rattle.mds_diagnosis.specs.declared.wrong.Wrong.{Wrong}
 use Rattle.mds_diagnosis.specs.declared.wrong.Wrong.TheVariants as wrong
 use Rattle.mds_diagnosis.specs.Diagnosis.{wrong_in}
 
--- what follows the operator
+-- the text after the operator
 abbrev pub flaw_wording : Flaw → List ℕ
 flaw_wording flaw.Entry = codes ": not an object"
 flaw_wording flaw.Id = codes ".id: not a UUID"
@@ -46,7 +46,7 @@ detail_wording TooLong = codes "longer than 2097152 bytes"
 detail_wording (Found w) = wrong_wording w
 detail_wording Untold = codes "no memory to say what is wrong"
 
--- what was found is what is wrong with the text
+-- the detail is what is wrong with the text, or `Untold`
 abbrev pub IsFound : Detail → List ℕ → Type 0
 IsFound (Found w) bytes = wrong_in bytes ≡ Some w
 IsFound detail bytes = detail ≡ Untold

@@ -1,4 +1,4 @@
-//! Two operators that are alike, and one that is like the author.
+//! Duplicates: two operators that are alike, and one with the author's access token.
 ghost use Rattle.std.specs.Prelude.{◌≡◌, ◌+◌, ◌≤◌, ℕ, map, length, bytes_eq};
 ghost use Rattle.std.specs.List.{position_from};
 ghost use Rattle.mds_request.specs.Configuration.{tokens};
@@ -9,7 +9,7 @@ ghost use Rattle.mds_diagnosis.specs.Telling.{operator};
 use crate::operators::Operator;
 use crate::wrong::{Key, Wrong};
 
-/// Whether identifiers and all access tokens differ; else the first two that don't.
+/// Whether all identifiers and all access tokens differ; else the first two that don't.
 pub(crate) fn unlike(author: &str, operators: &[Operator]) -> Result<(), Wrong>
     requires { length operators.now ≤ MOST_OPERATORS }
     ensures { result ≡ unlike author.now (map operator operators.now) }
@@ -26,7 +26,7 @@ pub(crate) fn unlike(author: &str, operators: &[Operator]) -> Result<(), Wrong>
     Ok(())
 }
 
-/// The place of the first operator with this access token.
+/// The index of the first operator with this access token.
 fn place_of_token(operators: &[Operator], token: &str) -> Option<usize>
     ensures { result ≡ position_from (bytes_eq token.now) 0 (tokens (map operator operators.now)) }
 {
@@ -38,7 +38,8 @@ fn place_of_token(operators: &[Operator], token: &str) -> Option<usize>
     None
 }
 
-/// The first operator that has a later one's identifier or access token, and the first such.
+/// The first operator whose identifier or access token a later one has too, with the first such
+/// one.
 fn pair_of(operators: &[Operator], key: Key) -> Option<(usize, usize)>
     requires { length operators.now ≤ MOST_OPERATORS }
     ensures { result ≡ pair_of key (map operator operators.now) }
@@ -52,7 +53,7 @@ fn pair_of(operators: &[Operator], key: Key) -> Option<(usize, usize)>
     None
 }
 
-/// The place of the first of these others, which begin at `from`, that is like an operator.
+/// The index of the first of these others, which begin at `from`, that is like an operator.
 fn place_behind(first: &Operator, from: usize, others: &[Operator], key: Key) -> Option<usize>
     requires { from + length others.now ≤ MOST_OPERATORS }
     ensures { result ≡ position_from (bytes_eq (key_of key (operator first.now))) from (map (key_of key) (map operator others.now)) }

@@ -1,26 +1,26 @@
-//! What is told of a line that is no configuration.
+//! What is reported of a configuration line that can't be used.
 use crate::judge::diagnose;
 use crate::wrong::Wrong;
 use std::alloc::Global;
 use std::fmt;
 
-/// What is told of a line that is no configuration.
+/// What is reported of a configuration line that can't be used.
 #[derive(Clone, Copy, Debug, PartialEq, Eq)]
 pub enum Detail {
     /// It couldn't be read.
     Unreadable,
     /// It has more than 2,097,152 bytes.
     TooLong,
-    /// What is wrong with its text.
+    /// This is wrong with its text.
     Found(Wrong),
-    /// There was no memory to find out what is wrong.
+    /// Out of memory while looking for what is wrong.
     Untold,
 }
 
 impl Detail {
     ghost use Rattle.mds_diagnosis.specs.Wording.{IsFound};
 
-    /// What is wrong with a text that is no configuration; `Untold` where there is no memory to find it out.
+    /// What is wrong with a text that is no configuration; `Untold` where memory runs out.
     pub fn of(alloc: Global, text: &[u8]) -> Detail
         ensures { IsFound result text.now }
     {

@@ -17,8 +17,8 @@ use mds_request::MOST_OPERATORS;
 use mds_text::{Field, TextFault};
 use std::alloc::{AllocError, Global};
 
-/// What is wrong with a text that is no configuration: the first in the order in which a configuration is
-/// read, with the operator's place. `None` where the text is a configuration. The only error is want of memory.
+/// What is wrong with a text that is no configuration: the first fault in the order in which a configuration is read,
+/// with the operator's place. `None` where the text is a configuration. The only error is out of memory.
 pub fn diagnose(alloc: Global, text: &[u8]) -> Result<Option<Wrong>, AllocError>
     ensures wrong { IfOk result (λ found. found ≡ wrong_in text.now) }
 {
@@ -29,7 +29,7 @@ pub fn diagnose(alloc: Global, text: &[u8]) -> Result<Option<Wrong>, AllocError>
     }
 }
 
-/// Whether a text is a configuration.
+/// Reads a text as a configuration, up to what is wrong.
 fn read(alloc: Global, text: &[u8]) -> Result<(), Stop>
     ensures { Tells (λ u. u) result (told text.now) }
 {
@@ -56,7 +56,7 @@ fn configuration_of(alloc: Global, tree: &Node<'_>) -> Result<(), Stop>
     Ok(())
 }
 
-/// The operators that have to be there, at most `MOST_OPERATORS`.
+/// The required member `operators`, with at most `MOST_OPERATORS`.
 fn operators_at(alloc: Global, document: &Node<'_>) -> Result<Vec<Operator>, Stop>
     ensures reading { Tells (λ v. map operator v.items) result (operators_at (node_view document.now)) }
     ensures few { IfOk result (λ v. vec_len v ≤ MOST_OPERATORS) }
@@ -73,7 +73,7 @@ fn operators_at(alloc: Global, document: &Node<'_>) -> Result<Vec<Operator>, Sto
     operators_of(alloc, entries)
 }
 
-/// The time zone that has to be there.
+/// The required member `zone`.
 fn zone_at(document: &Node<'_>) -> Result<Zone, Wrong>
     ensures { Shows (λ z. z) result (says wrong.Zone (zone_at (node_view document.now))) }
 {

@@ -1,4 +1,5 @@
-//! What is wrong with a text that is no configuration: the member, and the operator's place. No access token is told.
+//! What is wrong with a text that is no configuration, and where: the member, and the operator's place. No access token
+//! is reported.
 #![tactic(auto)]
 
 mod alike;

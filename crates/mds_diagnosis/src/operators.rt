@@ -1,4 +1,4 @@
-//! The operators of a configuration, with the place of the first that has a flaw.
+//! Reading the operators of a configuration, with the place of the first that has a flaw.
 ghost use Rattle.std.specs.Prelude.{◌≡◌, map, length, vec_len, IfOk};
 ghost use Rattle.std.specs.List.{list_all};
 ghost use Rattle.mds_text.specs.Fault.{Gives, text_cause, IsCaused};
@@ -18,7 +18,7 @@ use mds_request::MOST_TOKEN;
 use mds_text::{Field, Id, TextFault};
 use std::alloc::Global;
 
-/// An operator as a text names it.
+/// An operator as it is read.
 #[derive(Drop)]
 pub(crate) struct Operator {
     pub(crate) id: Id,
@@ -26,7 +26,7 @@ pub(crate) struct Operator {
     pub(crate) token: String,
 }
 
-/// Each operator in its order, up to the first that has a flaw.
+/// The operators in order, up to the first that has a flaw.
 pub(crate) fn operators_of(alloc: Global, entries: &[Node<'_>]) -> Result<Vec<Operator>, Stop>
     ensures reading { Tells (λ v. map operator v.items) result (each_from 0 (map node_view entries.now)) }
     ensures count { IfOk result (λ v. vec_len v ≡ length entries.now) }
@@ -39,7 +39,7 @@ pub(crate) fn operators_of(alloc: Global, entries: &[Node<'_>]) -> Result<Vec<Op
     Ok(operators)
 }
 
-/// The operator at a place.
+/// The operator at this place.
 fn operator_at(alloc: Global, place: usize, value: &Node<'_>) -> Result<Operator, Stop>
     ensures { Tells operator result (says_at place (operator_of (node_view value.now))) }
 {
@@ -52,7 +52,7 @@ fn operator_at(alloc: Global, place: usize, value: &Node<'_>) -> Result<Operator
     }
 }
 
-/// An operator's identifier, limit and access token.
+/// An operator's identifier, limit and access token, or the first flaw.
 fn operator_of<'a>(value: &Node<'a>) -> Result<(Id, usize, &'a str), Flaw>
     ensures { Shows (λ o. record { id = o.0; limit = o.1; token = o.2.now }) result (operator_of (node_view value.now)) }
 {
@@ -72,7 +72,7 @@ fn operator_of<'a>(value: &Node<'a>) -> Result<(Id, usize, &'a str), Flaw>
     Ok((id, limit, token))
 }
 
-/// The whole number that a limit has to be.
+/// The member `limit`, a whole number.
 fn number_at(entry: &Node<'_>) -> Result<i64, TextFault>
     ensures value { Gives text_cause (λ z. z) result (required_at int_of (node_view entry.now) LimitName) }
     ensures memory { IsCaused result }
@@ -91,7 +91,7 @@ fn in_limits(number: i64) -> Result<usize, Flaw>
     }
 }
 
-/// An access token that has to be there: 1 to 64 letters, digits, `-` and `_`.
+/// A required access token: 1 to 64 letters, digits, `-` and `_`.
 pub(crate) fn access_at<'a>(document: &Node<'a>, field: Field) -> Result<&'a str, TextFault>
     ensures value { Gives text_cause (λ s. s.now) result (access_at (node_view document.now) field) }
     ensures memory { IsCaused result }

@@ -1,4 +1,4 @@
-//! Why a reading stops.
+//! Why reading stops.
 use crate::wrong::{Flaw, Wrong};
 use mds_text::TextFault;
 use std::alloc::{AllocError, AllocFailed};
@@ -6,9 +6,9 @@ use std::alloc::{AllocError, AllocFailed};
 /// Why the reading of a configuration stops.
 #[derive(Clone, Copy, Debug, PartialEq, Eq)]
 pub(crate) enum Stop {
-    /// This is wrong.
+    /// This is wrong with the text.
     Wrong(Wrong),
-    /// Memory ran out.
+    /// Out of memory.
     NoMemory,
 }
 

@@ -1,7 +1,7 @@
 //! What is wrong with a text that is no configuration.
 use std::fmt;
 
-/// What has to differ between operators.
+/// A member that has to differ between operators.
 #[derive(Clone, Copy, Debug, PartialEq, Eq)]
 pub enum Key {
     /// The identifier.
@@ -29,13 +29,13 @@ impl fmt::Display for Key {
 pub enum Flaw {
     /// It is no object.
     Entry,
-    /// Its identifier is missing, or no UUID.
+    /// Its identifier is missing, or is no UUID.
     Id,
-    /// Its limit is missing, or no whole number.
+    /// Its limit is missing, or is no whole number.
     Limit,
     /// Its limit is below 1 or above 200,000.
     LimitRange,
-    /// Its access token is missing, or none.
+    /// Its access token is missing, or is none.
     Token,
 }
 
@@ -56,22 +56,22 @@ impl fmt::Display for Flaw {
     }
 }
 
-/// What is wrong with a text that is no configuration. Places among the operators are counted from 0.
+/// What is wrong with a text that is no configuration. Places of operators are counted from 0.
 #[derive(Clone, Copy, Debug, PartialEq, Eq)]
 pub enum Wrong {
     /// It is no JSON (RFC 8259).
     Json,
     /// It is JSON, but no object.
     Document,
-    /// The author's access token is missing, or none.
+    /// The author's access token is missing, or is none.
     Author,
-    /// The operators are missing, or no list.
+    /// The operators are missing, or are no list.
     Operators,
     /// There are more than `mds_request::MOST_OPERATORS`.
     TooManyOperators,
     /// The operator at this place has a flaw, and those before it have none.
     Operator(usize, Flaw),
-    /// The time zone is missing, or none.
+    /// The time zone is missing, or is none.
     Zone,
     /// The operators at these two places have the same identifier or access token.
     Alike(Key, usize, usize),
@@ -79,7 +79,7 @@ pub enum Wrong {
     AuthorsToken(usize),
 }
 
-/// The operator at a place, as it is written.
+/// The operator at this place, for display.
 #[derive(Clone, Copy)]
 struct Place(usize);
 
@@ -94,7 +94,7 @@ impl fmt::Display for Place {
     }
 }
 
-/// Two operators.
+/// Two operators, for display.
 #[derive(Clone, Copy)]
 struct Pair(Place, Place);
 

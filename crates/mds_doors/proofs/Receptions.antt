@@ -1,4 +1,5 @@
--- A reception may be shared by threads, where the handle, what judges and the clock may be.
+-- A `Reception` may be shared by threads, where its runtime handle, its evaluator and its clock may
+-- be.
 use denote.RattleType.{RattleType}
 use denote.Struct.Field.{row_field}
 use denote.Param.Send.{IsSend, IsSync}

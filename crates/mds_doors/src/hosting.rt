@@ -1,4 +1,4 @@
-//! A hall is served over a listener, and ended.
+//! Serves a listener, until so many connections are over or the server is to end.
 
 use crate::moments::Moments;
 use crate::reception::Reception;
@@ -21,7 +21,7 @@ use tokio::reactor;
 use tokio::runtime::Runtime;
 use tokio::time::Handle;
 
-/// A listener at the first address of that name that it takes.
+/// A listener at the first address of that name that can be bound.
 ///
 /// # Errors
 ///
@@ -35,7 +35,7 @@ pub fn bound<N: Net>(net: &N, address: &str, reactor: &reactor::Handle) -> io::R
     Err(io::ErrorKind::AddrNotAvailable.into())
 }
 
-/// What connections need beside their hall.
+/// What connections need in addition to their service.
 #[derive(Drop)]
 struct Fittings<R> {
     timers: Handle,
@@ -60,7 +60,7 @@ impl<R: Clock + RandomSource + AllocGlobal + Copy> Fittings<R> {
     }
 }
 
-/// What a server has, until its connections come.
+/// A server, before its connections come.
 #[derive(Drop)]
 struct Opened<A, R> {
     http: Builder<TokioTimer<R>>,
@@ -70,7 +70,7 @@ struct Opened<A, R> {
     shared: Arc<House<A, R>>,
 }
 
-/// The house of these answers and queues, in which nobody is.
+/// What connections share, for this service and these queues, with no connection yet.
 fn open_house<A: Drop, R>(
     rt: &R,
     runtime: &Runtime,
@@ -107,11 +107,11 @@ where
     })
 }
 
-/// Serves so many connections of a listener, or all, by this reception, and ends its hall.
+/// Serves so many connections of a listener, or all, by this service, and ends its hall.
 ///
 /// # Errors
 ///
-/// The server couldn't be started, or what waits for events failed.
+/// The server couldn't be started, or waiting for events failed.
 pub fn serve<K: Named + Send + Sync, R, M: Moments + Send + Sync>(
     rt: &R,
     runtime: &mut Runtime,
@@ -144,13 +144,14 @@ where
 /// A server that has ended.
 #[derive(Drop)]
 pub struct Ended<A> {
-    /// What answered; none, where something holds it yet.
+    /// The service; none, where something still holds it.
     pub answers: Option<A>,
-    /// Whether it was ended, or what waits for events failed.
+    /// Whether it was shut down, or waiting for events failed.
     pub outcome: io::Result<()>,
 }
 
-/// Serves the connections of a listener by these answers until it is to end, and then what has begun, within 10 seconds.
+/// Serves the connections of a listener by this service until it is to end, and then what has
+/// begun, within 10 seconds.
 ///
 /// # Errors
 ///

@@ -1,4 +1,5 @@
-//! A hall is served over a listener: who asks, at which moment, and what is answered.
+//! A listener that is served until it is to end, the machine's clock, and the service of a hall
+//! that persists nothing.
 #![tactic(auto)]
 
 mod hosting;

@@ -5,7 +5,8 @@ use std::time::{Clock, SystemTime, UNIX_EPOCH};
 
 /// Gives the moment of a request.
 pub trait Moments: Drop {
-    /// The moment, in milliseconds of the Unix epoch; none, where it is out of range or can't be read.
+    /// The moment, in milliseconds since the Unix epoch; none, where it is out of range or can't be
+    /// read.
     fn now(&self) -> Option<Moment>;
 }
 

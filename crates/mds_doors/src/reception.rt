@@ -1,4 +1,4 @@
-//! A hall that answers at the moments of a clock.
+//! The service of a hall, which answers at the moments of a clock.
 ghost use Rattle.std.specs.Prelude.{◌≡◌, ℕ, Option, IfOk, IfSome, IsOk, IsSome};
 ghost use Rattle.mds_request.specs.Configuration.{actor_of};
 ghost use Rattle.mds_hall.specs.Asked.{token_of};
@@ -20,7 +20,7 @@ use std::alloc::{AllocGlobal, Global};
 use std::sync::Wait;
 use std::thread::Threads;
 
-/// A hall, what judges its vehicles, and the clock that gives each request its moment.
+/// A hall, the evaluator of its vehicles, and the clock that gives each request its moment.
 #[derive(Drop)]
 pub struct Reception<K: Named, R, E, M> {
     pub rt: R,
@@ -31,8 +31,8 @@ pub struct Reception<K: Named, R, E, M> {
 }
 
 impl<K: Named, R: Threads + Sync + AllocGlobal + Copy, M> Reception<K, R, Chunked<R>, M> {
-    /// The reception of a hall whose vehicles are judged by as many threads as there are processors, each
-    /// request at the moment that this clock tells.
+    /// The service of a hall whose vehicles are judged by as many threads as there are processors,
+    /// each request at the moment of this clock.
     pub fn new(rt: R, hall: Hall<K>, moments: M) -> Reception<K, R, Chunked<R>, M> {
         Reception {
             rt,
@@ -70,7 +70,7 @@ impl<K: Named, R: Wait + Drop, E: Evaluator<Catalogue> + Drop, M: Moments> Answe
         head.cost(length)
     }
 
-    /// Nobody has a share here that could be used up.
+    /// No client has a share here that could be used up.
     fn answer(&self, head: &ResolvedCall<K>, body: &Arrived) -> Result<Ready<HttpResult>, Crowded>
         requires { E.may_judge }
         ensures answered { IsOk result }

@@ -1,4 +1,4 @@
--- What the maps of drafts have under an identifier, and what a change of the list does to them.
+-- What the maps of drafts have at an identifier, and what a change of the list does to them.
 use Rattle.std.proofs.Common.{◌≡◌, ℕ, ◌+◌, ◌-◌, ◌<◌, ◌≤◌, Bool, true, false, cond, not, ◌&&◌, List, [], ◌∷◌, ◌++◌, length, drop, get_or, zero, suc, add-one, drop-cons, map, Option, Some, None, option_map, is_some, refl, ap, sym, ◌∙◌, arith}
 use Rattle.std.proofs.Math.ListN.{set}
 use Rattle.std.specs.Prelude.{bytes_eq, position}
@@ -40,36 +40,36 @@ dropped : {A B : Type 0} (f : A → B) (b : Bool) (o : Option A) → option_map 
 dropped f true o = refl
 dropped f false o = refl
 
--- what a map has after an insert
+-- the value at a key after an insert
 pub get_inserted : {X : Type 0} (m : FinMap id_cmp X) (k : List ℕ) (v : X) (q : List ℕ) → get (insert m k v) q ≡ cond (bytes_eq k q) (Some v) (get m q)
 get_inserted m k v q = get-insert nat_list_cmp_total m k v q ∙ ap (λ b. cond b (Some v) (get m q)) (id_ties k q)
 
--- what a map has after a removal
+-- the value at a key after a removal
 pub get_removed : {X : Type 0} (m : FinMap id_cmp X) (k q : List ℕ) → get (remove m k) q ≡ cond (bytes_eq k q) None (get m q)
 get_removed m k q = get-remove nat_list_cmp_total m k q ∙ ap (λ b. cond b None (get m q)) (id_ties k q)
 
--- drafts with one more hold it, and else what they held
+-- drafts with one more have it, and else what they had
 pub draft_at-with : (ds : Drafts) (doc : Document) (kind : DraftKind) (id : List ℕ) → draft_at (with_draft ds doc) kind id ≡ cond (is_of doc kind id) (Some doc) (draft_at ds kind id)
 draft_at-with ds (policy d) kinds.Policy id = ap (option_map policy) (get_inserted ds.policies d.id d id) ∙ chosen policy (bytes_eq d.id id) d (get ds.policies id)
 draft_at-with ds (policy d) kinds.Geography id = refl
 draft_at-with ds (geography d) kinds.Policy id = refl
 draft_at-with ds (geography d) kinds.Geography id = ap (option_map geography) (get_inserted ds.geographies d.id d id) ∙ chosen geography (bytes_eq d.id id) d (get ds.geographies id)
 
--- two keys are one
+-- two keys are equal
 abbrev pub is_key : DraftKind → List ℕ → DraftKind → List ℕ → Bool
 is_key kinds.Policy id kinds.Policy q = bytes_eq id q
 is_key kinds.Policy id kinds.Geography q = false
 is_key kinds.Geography id kinds.Policy q = false
 is_key kinds.Geography id kinds.Geography q = bytes_eq id q
 
--- drafts without one hold what they held elsewhere
+-- drafts without one have what they had elsewhere
 pub draft_at-without : (ds : Drafts) (kind : DraftKind) (id : List ℕ) (k : DraftKind) (q : List ℕ) → draft_at (without_draft ds kind id) k q ≡ cond (is_key kind id k q) None (draft_at ds k q)
 draft_at-without ds kinds.Policy id kinds.Policy q = ap (option_map policy) (get_removed ds.policies id q) ∙ dropped policy (bytes_eq id q) (get ds.policies q)
 draft_at-without ds kinds.Policy id kinds.Geography q = refl
 draft_at-without ds kinds.Geography id kinds.Policy q = refl
 draft_at-without ds kinds.Geography id kinds.Geography q = ap (option_map geography) (get_removed ds.geographies id q) ∙ dropped geography (bytes_eq id q) (get ds.geographies q)
 
--- a first draft counts before the others
+-- a first draft comes before the others
 with_first : (d : Draft) (ds : List Draft) → drafts_in (d ∷ ds) ≡ with_draft (drafts_in ds) (document_of d)
 with_first (drafts.Policy share) ds = refl
 with_first (drafts.Geography share) ds = refl
@@ -81,13 +81,13 @@ pub draft_at_none : (kind : DraftKind) (id : List ℕ) → draft_at (drafts_in [
 draft_at_none kinds.Policy id = ap (option_map policy) (get-empty id_cmp id)
 draft_at_none kinds.Geography id = ap (option_map geography) (get-empty id_cmp id)
 
--- the drafts from a place on
+-- the drafts from an index on
 pub draft_from : (items : List Draft) (i : ℕ) (d : Draft) (kind : DraftKind) (id : List ℕ) → i < length items → d ≡ get_or items i d → draft_at (drafts_in (drop i items)) kind id ≡ cond (is_of (document_of d) kind id) (Some (document_of d)) (draft_at (drafts_in (drop (i + 1) items)) kind id)
 draft_from items i d kind id h e =
     let here : drop i items ≡ d ∷ drop (i + 1) items = rw (add-one, drop-cons items i d) (ap (λ y. y ∷ drop (suc i) items) (sym e)) in
     ap (λ ds. draft_at (drafts_in ds) kind id) here ∙ draft_at-cons d (drop (i + 1) items) kind id
 
--- drafts that answer alike are one
+-- drafts with equal look-ups are equal
 undo_policy : Option Document → Option Policy
 undo_policy None = None
 undo_policy (Some (policy d)) = Some d
@@ -116,7 +116,7 @@ drafts_same a b h =
     (λ q. sym (undone_geography (get a.geographies q)) ∙ ap undo_geography (h kinds.Geography q) ∙ undone_geography (get b.geographies q)) in
     λ i. record { policies = policies i; geographies = geographies i }
 
--- documents of one key answer alike
+-- documents with equal keys have equal look-ups
 same_key : (a b : Document) → is_of a (kind_of b) (id_of b) ≡ true → (kind : DraftKind) (id : List ℕ) → is_of a kind id ≡ is_of b kind id
 same_key (policy a) (policy b) h kinds.Policy id = ap (λ k. bytes_eq k id) ((bytes_eq-Decides a.id b.id).0 h)
 same_key (policy a) (policy b) h kinds.Geography id = refl
@@ -134,7 +134,7 @@ apart_swapped true true x y z h = absurd (h refl refl)
 apart_swapped true false x y z h = refl
 apart_swapped false b x y z h = refl
 
--- the first place at which a test passes
+-- the first index at which a test passes
 abbrev pub first_at : {A : Type 0} → (A → Bool) → List A → ℕ → Bool
 first_at p [] i = false
 first_at p (x ∷ xs) zero = p x
@@ -146,7 +146,7 @@ first_at_step p x xs n i rest false e h =
     let found = rest i h in
     (suc found.0, (let at = found.1 in omega arith), ap (λ b. not b && first_at p xs found.0) e ∙ found.2)
 
--- a place that was found is the first
+-- an index that was found is the first
 first_at_from : {A : Type 0} (p : A → Bool) (xs : List A) (n i : ℕ) → position_from p n xs ≡ Some i → (k : ℕ) × (i ≡ n + k) × (first_at p xs k ≡ true)
 first_at_from p [] n i h = absurd (cc)
 first_at_from p (x ∷ xs) n i h = first_at_step p x xs n i (λ j. first_at_from p xs (n + 1) j) (p x) refl h
@@ -175,7 +175,7 @@ not_true : (b : Bool) → not b ≡ true → b ≡ false
 not_true true h = absurd (false≢true h)
 not_true false h = refl
 
--- documents of two keys don't answer at one
+-- documents with different keys don't meet at one key
 keys_apart : (a b : Document) → not (is_of a (kind_of b) (id_of b)) ≡ true → (kind : DraftKind) (id : List ℕ) → is_of a kind id ≡ true → is_of b kind id ≡ true → ⊥
 keys_apart (policy a) (policy b) h kinds.Policy id p q = both_ways (bytes_eq a.id b.id) (not_true _ h) (ap (bytes_eq a.id) ((bytes_eq-Decides b.id id).0 q) ∙ p)
 keys_apart (policy a) (policy b) h kinds.Geography id p q = false≢true p
@@ -194,7 +194,7 @@ always : {A : Type 0} (b : Bool) (x : A) → cond b x x ≡ x
 always true x = refl
 always false x = refl
 
--- the first draft of a key replaced
+-- the first draft of a key is replaced
 set_first : (items : List Draft) (i : ℕ) (new : Draft) → first_at (λ d. is_of (document_of d) (kind_of (document_of new)) (id_of (document_of new))) items i ≡ true → (kind : DraftKind) (id : List ℕ) → draft_at (drafts_in (set items i new)) kind id ≡ cond (is_of (document_of new) kind id) (Some (document_of new)) (draft_at (drafts_in items) kind id)
 set_first [] i new h kind id = absurd (false≢true h)
 set_first (d ∷ ds) zero new h kind id =
@@ -211,7 +211,7 @@ set_first (d ∷ ds) (suc i) new h kind id =
     ∙ apart_swapped (is_of (document_of d) kind id) (is_of n kind id) (Some (document_of d)) (Some n) (draft_at (drafts_in ds) kind id) (keys_apart (document_of d) n parts.0 kind id)
     ∙ ap (cond (is_of n kind id) (Some n)) (sym (draft_at-cons d ds kind id))
 
--- a draft put last, where none of its key was held
+-- a draft is appended, where there was none of its key
 push_last : (items : List Draft) (new : Draft) → draft_at (drafts_in items) (kind_of (document_of new)) (id_of (document_of new)) ≡ None → (kind : DraftKind) (id : List ℕ) → draft_at (drafts_in (items ++ new ∷ [])) kind id ≡ cond (is_of (document_of new) kind id) (Some (document_of new)) (draft_at (drafts_in items) kind id)
 push_last [] new h kind id = draft_at-cons new [] kind id
 push_last (d ∷ ds) new h kind id =
@@ -222,7 +222,7 @@ push_last (d ∷ ds) new h kind id =
     ∙ apart_swapped (is_of (document_of d) kind id) (is_of n kind id) (Some (document_of d)) (Some n) (draft_at (drafts_in ds) kind id) (keys_apart (document_of d) n parts.0 kind id)
     ∙ ap (cond (is_of n kind id) (Some n)) (sym (draft_at-cons d ds kind id))
 
--- the drafts of a key taken away
+-- the drafts of a key are removed
 filter_step : (d : Draft) (ds : List Draft) (kind : DraftKind) (id : List ℕ) (k : DraftKind) (q : List ℕ) (b : Bool) → is_of (document_of d) kind id ≡ b → draft_at (drafts_in (cond (not b) (d ∷ filter (λ x. not (is_of (document_of x) kind id)) ds) (filter (λ x. not (is_of (document_of x) kind id)) ds))) k q ≡ cond b (draft_at (drafts_in (filter (λ x. not (is_of (document_of x) kind id)) ds)) k q) (cond (is_of (document_of d) k q) (Some (document_of d)) (draft_at (drafts_in (filter (λ x. not (is_of (document_of x) kind id)) ds)) k q))
 filter_step d ds kind id k q true e = refl
 filter_step d ds kind id k q false e = draft_at-cons d (filter (λ x. not (is_of (document_of x) kind id)) ds) k q
@@ -234,7 +234,7 @@ taken_away false true true x rest h g = absurd (g refl refl refl)
 taken_away false true false x rest h g = refl
 taken_away false false e x rest h g = refl
 
--- a document is of one key
+-- a document has one key
 is_of-key : (d : Document) (kind : DraftKind) (id : List ℕ) → is_of d kind id ≡ true → (k : DraftKind) (q : List ℕ) → is_of d k q ≡ is_key kind id k q
 is_of-key (policy d) kinds.Policy id h kinds.Policy q = ap (λ x. bytes_eq x q) ((bytes_eq-Decides d.id id).0 h)
 is_of-key (policy d) kinds.Policy id h kinds.Geography q = refl
@@ -265,7 +265,7 @@ filter_out (d ∷ ds) kind id k q =
     ∙ taken_away b c e (document_of d) rest (λ h. is_of-key (document_of d) kind id h k q) (key_is_of (document_of d) kind id k q)
     ∙ ap (cond c None) (sym (draft_at-cons d ds k q))
 
--- a draft in the place of the first of its key
+-- a draft replaces the first of its key
 pub replaced : (items : List Draft) (i : ℕ) (new : Draft) → position (λ d. is_of (document_of d) (kind_of (document_of new)) (id_of (document_of new))) items ≡ Some i → drafts_in (set items i new) ≡ with_draft (drafts_in items) (document_of new)
 replaced items i new h = drafts_same _ _ (λ kind id. set_first items i new (first_at_position _ items i h) kind id ∙ sym (draft_at-with (drafts_in items) (document_of new) kind id))
 
@@ -273,7 +273,7 @@ replaced items i new h = drafts_same _ _ (λ kind id. set_first items i new (fir
 pub added : (items : List Draft) (new : Draft) → position (λ d. is_of (document_of d) (kind_of (document_of new)) (id_of (document_of new))) items ≡ None → drafts_in (items ++ new ∷ []) ≡ with_draft (drafts_in items) (document_of new)
 added items new h = drafts_same _ _ (λ kind id. push_last items new (none_at_position items _ _ h) kind id ∙ sym (draft_at-with (drafts_in items) (document_of new) kind id))
 
--- the drafts of a key taken away
+-- the drafts of a key are removed
 pub taken : (items : List Draft) (kind : DraftKind) (id : List ℕ) → drafts_in (filter (λ x. not (is_of (document_of x) kind id)) items) ≡ without_draft (drafts_in items) kind id
 taken items kind id = drafts_same _ _ (λ k q. filter_out items kind id k q ∙ sym (draft_at-without (drafts_in items) kind id k q))
 
@@ -286,7 +286,7 @@ in_list p [] i h = absurd (false≢true h)
 in_list p (x ∷ xs) zero h = omega arith
 in_list p (x ∷ xs) (suc i) h = let rest = in_list p xs i (and_parts (not (p x)) (first_at p xs i) h).1 in omega arith
 
--- a place that was found is in the list
+-- an index that was found is in the list
 pub place_within : (p : Draft → Bool) (items : List Draft) (i : ℕ) → position p items ≡ Some i → i < length items
 place_within p items i h = in_list p items i (first_at_position p items i h)
 
@@ -298,7 +298,7 @@ pub some_mapped : {A B : Type 0} (f : A → B) (o : Option A) → is_some (optio
 some_mapped f None = refl
 some_mapped f (Some x) = refl
 
--- one where two kinds are one
+-- one where two kinds are equal
 abbrev pub one_if : DraftKind → DraftKind → ℕ
 one_if kinds.Policy kinds.Policy = 1
 one_if kinds.Policy kinds.Geography = 0
@@ -311,11 +311,11 @@ len_replaced m id v h = len-insert nat_list_cmp_total m id v ∙ ap (λ b. cond 
 len_added : {X : Type 0} (m : FinMap id_cmp X) (id : List ℕ) (v : X) → is_some (get m id) ≡ false → len (insert m id v) ≡ len m + 1
 len_added m id v h = len-insert nat_list_cmp_total m id v ∙ ap (λ b. cond b (len m) (len m + 1)) h
 
--- a draft of the document's kind and identifier is held
+-- there is a draft of the document's kind and identifier
 abbrev pub is_held : Drafts → Document → Bool
 is_held drafts document = has_draft drafts (kind_of document) (id_of document)
 
--- a draft that is replaced changes no count
+-- replacing a draft changes no count
 pub count_replaced : (ds : Drafts) (doc : Document) (k : DraftKind) → is_held ds doc ≡ true → count_of (with_draft ds doc) k ≡ count_of ds k
 count_replaced ds (policy d) kinds.Policy h = len_replaced ds.policies d.id d (sym (some_mapped policy (get ds.policies d.id)) ∙ h)
 count_replaced ds (policy d) kinds.Geography h = refl
@@ -336,7 +336,7 @@ len_removed m id h =
     let some : 0 < len m = positive (len m) (λ e. false≢true (sym (ap is_some (ap (λ n. get n id) (empty_of_len m e) ∙ get-empty id_cmp id)) ∙ h)) in
     omega arith
 
--- a draft that is taken away is one fewer of its kind
+-- removing a draft takes one from the count of its kind
 pub count_removed : (ds : Drafts) (kind : DraftKind) (id : List ℕ) (k : DraftKind) → is_some (draft_at ds kind id) ≡ true → count_of (without_draft ds kind id) k + one_if kind k ≡ count_of ds k
 count_removed ds kinds.Policy id kinds.Policy h = len_removed ds.policies id (sym (some_mapped policy (get ds.policies id)) ∙ h)
 count_removed ds kinds.Policy id kinds.Geography h = omega arith
@@ -353,7 +353,7 @@ none_stays : (b : Bool) (o : Option Document) → (b ≡ true → o ≡ None) �
 none_stays true o h = sym (h refl)
 none_stays false o h = refl
 
--- to take away a draft that isn't held changes nothing
+-- removing a draft that isn't there changes nothing
 pub without_absent : (ds : Drafts) (kind : DraftKind) (id : List ℕ) → draft_at ds kind id ≡ None → without_draft ds kind id ≡ ds
 without_absent ds kind id h = drafts_same _ _ (λ k q. draft_at-without ds kind id k q ∙ none_stays (is_key kind id k q) (draft_at ds k q) (at_key ds kind id k q h))
 
@@ -364,7 +364,7 @@ held_first (d ∷ ds) (suc i) kind id h =
     let parts = and_parts (not (is_of (document_of d) kind id)) (first_at (λ x. is_of (document_of x) kind id) ds i) h in
     ap is_some (draft_at-cons d ds kind id) ∙ some_either (is_of (document_of d) kind id) (document_of d) (draft_at (drafts_in ds) kind id) (held_first ds i kind id parts.1)
 
--- a draft whose place was found is held
+-- a draft whose index was found is there
 pub held_at : (items : List Draft) (i : ℕ) (kind : DraftKind) (id : List ℕ) → position (λ d. is_of (document_of d) kind id) items ≡ Some i → is_some (draft_at (drafts_in items) kind id) ≡ true
 held_at items i kind id h = held_first items i kind id (first_at_position (λ d. is_of (document_of d) kind id) items i h)
 
@@ -373,11 +373,11 @@ pub count_more : (ds new : Drafts) (doc : Document) (kind k : DraftKind) → new
 count_more ds new doc kind k e h same =
     ap (λ all. count_of all k) e ∙ count_added ds doc k h ∙ ap (λ x. count_of ds k + one_if x k) same
 
--- the count of a kind after a draft was taken away
+-- the count of a kind after a draft was removed
 pub count_less : (ds new : Drafts) (kind : DraftKind) (id : List ℕ) (k : DraftKind) → new ≡ without_draft ds kind id → is_some (draft_at ds kind id) ≡ true → count_of new k + one_if kind k ≡ count_of ds k
 count_less ds new kind id k e held = ap (λ all. count_of all k + one_if kind k) e ∙ count_removed ds kind id k held
 
--- how a put is answered
+-- the result of a put
 pub answer_replaced : (ds : Drafts) (doc : Document) → is_held ds doc ≡ true → put_answer ds doc ≡ Ok Replaced
 answer_replaced ds doc h = ap (λ b. cond b (Ok Replaced) (cond (nat_lt (count_of ds (kind_of doc)) MOST_DRAFTS) (Ok New) (Err DraftsFull))) h
 
@@ -391,15 +391,15 @@ answer_new ds doc h room =
     ap (λ b. cond b (Ok Replaced) (cond (nat_lt (count_of ds (kind_of doc)) MOST_DRAFTS) (Ok New) (Err DraftsFull))) h
     ∙ ap (λ b. cond b (Ok New) (Err DraftsFull)) (lt-ltb (count_of ds (kind_of doc)) MOST_DRAFTS room)
 
--- there is none where `is_some` says so
+-- there is none where `is_some` is false
 pub none_where : {A : Type 0} (o : Option A) → is_some o ≡ false → o ≡ None
 none_where None h = refl
 none_where (Some x) h = absurd (false≢true (sym h))
 
--- the identifiers of the policies from a place on
+-- the identifiers of the policies from an index on
 pub policies_turn : (m : FinMap id_cmp Policy) (shares : List (Arc program.Policy Global)) (i : ℕ) (share : Arc program.Policy Global) → i < length shares → share ≡ get_or shares i share → without_keys m (map (λ d. d.id) (map (λ s. policy_document s.value) (drop i shares))) ≡ without_keys (remove m (policy_document share.value).id) (map (λ d. d.id) (map (λ s. policy_document s.value) (drop (i + 1) shares)))
 policies_turn m shares i share h e = ap (λ ss. without_keys m (map (λ (d : Policy). d.id) (map (λ s. policy_document s.value) ss))) (drop_at shares i share h e)
 
--- the identifiers of the geographies from a place on
+-- the identifiers of the geographies from an index on
 pub geographies_turn : (m : FinMap id_cmp Geography) (shares : List (Arc program'.Geography Global)) (i : ℕ) (share : Arc program'.Geography Global) → i < length shares → share ≡ get_or shares i share → without_keys m (map (λ d. d.id) (map (λ s. geography_document s.value) (drop i shares))) ≡ without_keys (remove m (geography_document share.value).id) (map (λ d. d.id) (map (λ s. geography_document s.value) (drop (i + 1) shares)))
 geographies_turn m shares i share h e = ap (λ ss. without_keys m (map (λ (d : Geography). d.id) (map (λ s. geography_document s.value) ss))) (drop_at shares i share h e)

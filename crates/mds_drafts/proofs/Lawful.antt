@@ -25,7 +25,7 @@ keyed_step : (b : Bool) (d doc : Document) (o : Option Document) (kind : DraftKi
 keyed_step true d doc o kind id e h rest = ap (λ x. is_of x kind id) (let same : doc ≡ d = cc in same) ∙ e
 keyed_step false d doc o kind id e h rest = rest h
 
--- a draft stands under its own identifier
+-- a draft has its own identifier as its key
 keyed : (items : List Draft) (kind : DraftKind) (id : List ℕ) (doc : Document) → draft_at (drafts_in items) kind id ≡ Some doc → is_of doc kind id ≡ true
 keyed [] kind id doc h = absurd (let no : None ≡ Some doc = sym (draft_at_none kind id) ∙ h in cc)
 keyed (d ∷ ds) kind id doc h = keyed_step (is_of (document_of d) kind id) (document_of d) doc (draft_at (drafts_in ds) kind id) kind id refl (sym (draft_at-cons d ds kind id) ∙ h) (keyed ds kind id doc)
@@ -42,7 +42,7 @@ policy_ids_step : (items : List Draft) (id : List ℕ) (rest : List Policy) (o :
 policy_ids_step items id rest None e h = absurd (false≢true h)
 policy_ids_step items id rest (Some d) e h = ap (λ x. x ∷ map (λ (p : Policy). p.id) rest) ((bytes_eq-Decides d.id id).0 (keyed items kinds.Policy id (policy d) (ap (option_map policy) e)))
 
--- the drafts of identifiers have these identifiers
+-- the drafts found by identifiers have these identifiers
 drafted_policy_ids : (items : List Draft) (ids : List (List ℕ)) → find (λ id. not (has_draft (drafts_in items) kinds.Policy id)) ids ≡ None → map (λ d. d.id) (filter_map (get (drafts_in items).policies) ids) ≡ ids
 drafted_policy_ids items [] h = refl
 drafted_policy_ids items (id ∷ ids) h =
@@ -74,7 +74,7 @@ fits_where : (b : Bool) → cond b None (Some faults.CatalogFull) ≡ None → b
 fits_where true h = refl
 fits_where false h = absurd (cc)
 
--- drafts that are all there, each list without repeats, and that nothing refuses
+-- drafts that are all there, with distinct identifiers in each list, and that nothing refuses
 pub lawful_drafts : (items : List Draft) (named : Named) (publications : List Publication) (p : Publication) → are_distinct named.geographies ≡ true → are_distinct named.policies ≡ true → are_distinct named.withdraw ≡ true → names_nothing named ≡ false → first_undrafted (drafts_in items) named ≡ None → first_refusal publications p ≡ None → p.geographies ≡ filter_map (get (drafts_in items).geographies) named.geographies → p.policies ≡ filter_map (get (drafts_in items).policies) named.policies → p.withdrawn ≡ named.withdraw → is_lawful publications p ≡ true
 lawful_drafts items named publications p geographies_differ policies_differ withdraw_differ something drafted accepted geographies policies withdrawn =
     let held = neither_id _ _ drafted in

@@ -1,4 +1,5 @@
--- The drafts that a list of the program's drafts makes. Of those of one kind and identifier the first counts.
+-- The drafts that a list of the program's drafts stands for. Of those with the same kind and identifier the first
+-- counts.
 use Rattle.std.specs.Prelude.{ℕ, List, Option, Some, None}
 use Rattle.std.specs.List.{filter_map}
 use Rattle.std.specs.FinMap.{from_entries}

@@ -1,4 +1,4 @@
--- What a publish request reads as.
+-- Reading a publish request.
 use Rattle.std.specs.Prelude.{ℕ, List, Bool, ◌&&◌, ◌==◌, length, if◌then◌else◌, Result, Ok, Err}
 use Rattle.mds_text.specs.Tree.{Json}
 use Rattle.mds_text.specs.Fault.{Fault, bad_field, ◌>>=◌}
@@ -14,7 +14,7 @@ pub record Named : Type 0 where
   pub policies : List (List ℕ)
   pub withdraw : List (List ℕ)
 
--- an optional list of identifiers of which none stands twice
+-- an optional list of distinct identifiers
 abbrev pub distinct_ids_at : Json → Field → Result (List (List ℕ)) Fault
 distinct_ids_at document field = do
   ids ← optional_at (list_each id_of) document field

@@ -1,4 +1,4 @@
--- The publication that drafts make, or the first reason why not.
+-- The publication that drafts make, or the first reason why they make none.
 use Rattle.std.specs.Prelude.{◌≡◌, ◌≢◌, ℕ, List, not, if◌then◌else◌, Option, Some, None, Result, Ok, Err, find}
 use Rattle.std.specs.List.{filter_map}
 use Rattle.std.specs.Option.{option_or, option_map}
@@ -11,13 +11,13 @@ use Rattle.mds_text.specs.declared.draft_kind.DraftKind.TheVariants as kinds
 use Rattle.mds_drafts.specs.Drafts.{Drafts, has_draft}
 use Rattle.mds_drafts.specs.Named.{Named, names_nothing}
 
--- the first identifier that has no draft, geographies before policies
+-- the first identifier without a draft, geographies before policies
 abbrev pub first_undrafted : Drafts → Named → Option (List ℕ)
 first_undrafted drafts named =
     option_or (find (λ id. not (has_draft drafts kinds.Geography id)) named.geographies)
     (find (λ id. not (has_draft drafts kinds.Policy id)) named.policies)
 
--- the drafts of the named identifiers, in the order of the lists, and what is withdrawn
+-- the drafts with the named identifiers, in the order of the lists, and what is withdrawn
 abbrev pub publication_from : Drafts → Named → ℕ → Publication
 publication_from drafts named moment =
     record {
@@ -27,8 +27,8 @@ publication_from drafts named moment =
       withdrawn = named.withdraw;
     }
 
--- why a publication may not follow: the first of its identifiers that is published, the first
--- geography of a rule, predecessor and withdrawn policy that is missing, or a limit
+-- why a publication may not follow: the first of its identifiers that is published, the first geography of a rule,
+-- predecessor and withdrawn policy that is missing, or a limit
 abbrev pub first_refusal : List Publication → Publication → Option PublishFault
 first_refusal publications p =
     option_or (option_map Published (first_published publications p))
@@ -42,14 +42,14 @@ abbrev pub or_refused : {A : Type 0} → A → Option PublishFault → Result A 
 or_refused p None = Ok p
 or_refused p (Some fault) = Err fault
 
--- the publication of the named drafts, or the first fault; each is looked for in all lists before the next
+-- the publication of the named drafts, or the first fault; each fault is looked for in all lists before the next
 abbrev pub batch_of : Drafts → Named → List Publication → ℕ → Result Publication PublishFault
 batch_of drafts named publications moment =
     if names_nothing named then Err Empty
     else (let p = publication_from drafts named moment in
     or_refused p (option_or (option_map NoDraft (first_undrafted drafts named)) (first_refusal publications p)))
 
--- an answer is the defined one, unless memory ran out
+-- a result is the defined one, unless memory ran out
 abbrev pub AnswersPublish : Result Batch PublishFault → Result Publication PublishFault → Type 0
 AnswersPublish (Ok batch) defined = defined ≡ Ok (publication_of batch)
 AnswersPublish (Err NoMemory) defined = (defined ≢ Err Empty) × ((id : List ℕ) → defined ≢ Err (NoDraft id))

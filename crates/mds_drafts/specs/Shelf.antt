@@ -1,4 +1,4 @@
--- What a `Drafts` and a `PublishList` of the program stand for.
+-- The values of a `Drafts` and a `PublishList` of the program.
 use Rattle.mds_drafts.specs.declared.drafts.Drafts as program
 use Rattle.mds_drafts.specs.Drafts.{Drafts}
 use Rattle.mds_drafts.specs.Entries.{drafts_in}

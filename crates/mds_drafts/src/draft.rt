@@ -1,12 +1,15 @@
+//! A draft: a document of the author that isn't published yet.
 use mds_geography::Geography;
 use mds_policy::Policy;
 use mds_text::{DraftKind, Id};
 use std::sync::Arc;
 
-/// A document that isn't published yet, shared so that a batch can have it too.
+/// A document that isn't published yet, behind an `Arc` so that a batch can share it.
 #[derive(Drop)]
 pub enum Draft {
+    /// A policy.
     Policy(Arc<Policy>),
+    /// A geography.
     Geography(Arc<Geography>),
 }
 
@@ -35,7 +38,7 @@ impl Draft {
         }
     }
 
-    /// Whether the document is of this kind and under this identifier.
+    /// Whether the document has this kind and this identifier.
     pub(crate) fn is_of(&self, kind: DraftKind, id: Id) -> bool
         ensures { result ≡ is_of (document_of self.now) kind id }
     {

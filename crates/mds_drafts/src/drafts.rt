@@ -1,3 +1,4 @@
+//! The author's drafts, by kind and identifier.
 ghost use Rattle.std.specs.Prelude.{◌≡◌, ◌<◌, filter, not};
 ghost use Rattle.mds_drafts.specs.Entries.{drafts_in, document_of};
 ghost use Rattle.mds_drafts.specs.Drafts.{count_of, is_of};
@@ -15,29 +16,29 @@ use std::sync::Arc;
 /// The most drafts of a kind.
 pub const MOST_DRAFTS: usize = 256;
 
-/// How a draft was put.
+/// What putting a draft did.
 #[derive(Clone, Copy, Debug, PartialEq, Eq)]
 pub enum Put {
-    /// None of its kind and identifier was held.
+    /// There was no draft of its kind and identifier.
     New,
-    /// It stands in the place of the one that was held.
+    /// It replaced the draft of its kind and identifier.
     Replaced,
 }
 
-/// Why a draft isn't put.
+/// Why a draft can't be put.
 #[derive(Clone, Copy, Debug, PartialEq, Eq)]
 pub enum PutFault {
-    /// It is new, and as many of its kind are held as may be.
+    /// It is new, and there are `MOST_DRAFTS` of its kind.
     DraftsFull,
-    /// Memory ran out.
+    /// Out of memory.
     NoMemory,
 }
 
-/// No draft of this kind and identifier is held.
+/// There is no draft of this kind and identifier.
 #[derive(Clone, Copy, Debug, PartialEq, Eq)]
 pub struct NoDraft;
 
-/// The drafts of both kinds, one of a kind under each identifier. Contracts see two finite maps.
+/// The drafts of both kinds, at most one of a kind for an identifier. Contracts see two finite maps.
 #[derive(Drop)]
 pub struct Drafts {
     items: Vec<Draft>,
@@ -60,7 +61,7 @@ impl Drafts {
     ghost use Rattle.mds_drafts.specs.Drafts.{kind_of, id_of, draft_at, with_draft, without_draft, taken_out, put_answer, AnswersPut};
     ghost use Rattle.mds_drafts.specs.Shelf.{drafts_of};
 
-    /// No draft. Takes no memory.
+    /// No drafts. Allocates nothing.
     pub fn new(alloc: Global) -> Drafts
         ensures policies { (drafts_of result).policies ≡ empty }
         ensures geographies { (drafts_of result).geographies ≡ empty }
@@ -73,12 +74,12 @@ impl Drafts {
         }
     }
 
-    /// Reads the text of a policy as `Policy::read` does, by the scratch that is kept here for short ones. The drafts
-    /// stay as they are.
+    /// Reads the text of a policy as `Policy::read` does; a short one with the scratch memory that is here. The drafts
+    /// don't change.
     ///
     /// # Errors
     ///
-    /// As those of `Policy::read`.
+    /// Those of `Policy::read`.
     pub fn read_policy(&mut self, alloc: Global, text: &[u8]) -> Result<Policy, PolicyFault>
         ensures read { Gives policy_cause policy_document result (read_policy text.now) }
         ensures drafts { drafts_of self.new ≡ drafts_of self.old }
@@ -86,7 +87,7 @@ impl Drafts {
         Policy::read_with(alloc, &mut self.reading, text)
     }
 
-    /// All drafts, in no order that says anything. Takes no memory.
+    /// All drafts, in no particular order. Allocates nothing.
     pub fn all(&self) -> &[Draft]
         ensures { drafts_in result.now ≡ drafts_of self.now }
     {
@@ -105,7 +106,7 @@ impl Drafts {
         None
     }
 
-    /// The draft of this policy.
+    /// The draft of the policy with this identifier.
     pub(crate) fn policy(&self, id: Id) -> Option<&Arc<Policy>>
         ensures { option_map (λ share. policy_document share.now.value) result ≡ get (drafts_of self.now).policies id }
     {
@@ -115,7 +116,7 @@ impl Drafts {
         }
     }
 
-    /// The draft of this geography.
+    /// The draft of the geography with this identifier.
     pub(crate) fn geography(&self, id: Id) -> Option<&Arc<Geography>>
         ensures { option_map (λ share. geography_document share.now.value) result ≡ get (drafts_of self.now).geographies id }
     {
@@ -125,14 +126,14 @@ impl Drafts {
         }
     }
 
-    /// The place of the draft of this kind and identifier.
+    /// The index of the draft of this kind and identifier.
     fn place(&self, kind: DraftKind, id: Id) -> Option<usize>
         ensures { result ≡ position (λ d. is_of (document_of d) kind id) self.now.items.items }
     {
         self.items.iter().position(|draft| draft.is_of(kind, id))
     }
 
-    /// How many drafts of this kind are held.
+    /// The number of drafts of this kind.
     fn count(&self, kind: DraftKind) -> usize
         ensures { result ≡ count_of (drafts_of self.now) kind }
     {
@@ -142,7 +143,7 @@ impl Drafts {
         }
     }
 
-    /// Puts the draft in this place, which is that of its kind and identifier.
+    /// Replaces the draft at this index, which is the one of the new draft's kind and identifier.
     fn replace(&mut self, place: usize, draft: Draft)
         requires { position (λ d. is_of (document_of d) (kind_of (document_of draft)) (id_of (document_of draft)))
             self.old.items.items ≡ Some place }
@@ -151,7 +152,7 @@ impl Drafts {
         self.items[place] = draft;
     }
 
-    /// Puts a draft of a new kind and identifier.
+    /// Appends a draft of a new kind and identifier.
     fn add(&mut self, draft: Draft) -> Result<(), AllocError>
         requires absent { position (λ d. is_of (document_of d) (kind_of (document_of draft)) (id_of (document_of draft)))
             self.old.items.items ≡ None }
@@ -168,12 +169,12 @@ impl Drafts {
         Ok(())
     }
 
-    /// Puts a draft, in the place of any of its kind and identifier.
+    /// Puts a draft: it replaces one of its kind and identifier, or is added.
     ///
     /// # Errors
     ///
-    /// `DraftsFull` for a new draft where `MOST_DRAFTS` of its kind are held; `NoMemory` for a new draft alone.
-    /// Nothing is changed.
+    /// `DraftsFull` for a new draft where there are `MOST_DRAFTS` of its kind; `NoMemory` only for a new draft. Nothing
+    /// is changed.
     pub fn put(&mut self, draft: Draft) -> Result<Put, PutFault>
         ensures answer { AnswersPut result (put_answer (drafts_of self.old) (document_of draft)) }
         ensures ok { OnOk result (drafts_of self.new ≡ with_draft (drafts_of self.old) (document_of draft)) }
@@ -193,7 +194,7 @@ impl Drafts {
         }
     }
 
-    /// Takes away the draft of this kind and identifier.
+    /// Removes the draft of this kind and identifier, which is there.
     fn remove(&mut self, kind: DraftKind, id: Id)
         requires { IsTrue (is_some (draft_at (drafts_of self.old) kind id)) }
         ensures { drafts_of self.new ≡ without_draft (drafts_of self.old) kind id }
@@ -205,7 +206,7 @@ impl Drafts {
         }
     }
 
-    /// Takes away the draft of this kind and identifier, if there is one.
+    /// Removes the draft of this kind and identifier, if there is one.
     fn discard(&mut self, kind: DraftKind, id: Id)
         ensures { drafts_of self.new ≡ without_draft (drafts_of self.old) kind id }
     {
@@ -214,7 +215,7 @@ impl Drafts {
         }
     }
 
-    /// Drops the draft of this kind and identifier. Takes no memory.
+    /// Drops the draft of this kind and identifier. Allocates nothing.
     ///
     /// # Errors
     ///
@@ -231,8 +232,8 @@ impl Drafts {
         Ok(())
     }
 
-    /// Takes away the drafts of all documents of the batch, which has been published. A draft under an
-    /// identifier that it withdraws stays. Takes no memory.
+    /// Removes the drafts of all documents of the batch, which has been published. A draft whose identifier the batch
+    /// withdraws stays. Allocates nothing.
     pub fn take_out(&mut self, batch: &Batch)
         ensures { drafts_of self.new ≡ taken_out (drafts_of self.old) (publication_of batch.now) }
     {
@@ -245,7 +246,7 @@ impl Drafts {
     }
 }
 
-/// Keeps the drafts that aren't of this kind and identifier.
+/// Retains the drafts that aren't of this kind and identifier.
 fn keep_others(items: &mut Vec<Draft>, kind: DraftKind, id: Id)
     ensures { items.new.items ≡ filter (λ d. not (is_of (document_of d) kind id)) items.old.items }
 {

@@ -1,3 +1,4 @@
+//! The list of a publish request.
 ghost use Rattle.std.specs.Prelude.{◌≡◌, true, IfOk};
 ghost use Rattle.mds_text.specs.Fault.{Gives, text_cause};
 ghost use Rattle.mds_reading.specs.Node.{node_view};
@@ -9,8 +10,8 @@ use mds_reading::{Node, Source, document_of, ids_at};
 use mds_text::{Field, Id, TextFault};
 use std::alloc::Global;
 
-/// The identifiers of the drafts that are to be published and of the published policies that are to be
-/// withdrawn, each list in its order and without repeats.
+/// The identifiers of the drafts to publish and of the published policies to withdraw, each list in order and without
+/// repeats.
 #[derive(Drop)]
 pub struct PublishList {
     pub(crate) geographies: Vec<Id>,
@@ -25,12 +26,12 @@ impl PublishList {
     ghost use Rattle.mds_drafts.specs.Named.{names_nothing, publish_list_of, read_publish_list};
     ghost use Rattle.mds_drafts.specs.Shelf.{named_of};
 
-    /// Reads a publish request: `geographies`, then `policies`, then `withdraw`, each an optional list of
-    /// identifiers. Absent and null are the empty list.
+    /// Reads a publish request: `geographies`, then `policies`, then `withdraw`, each an optional list of identifiers.
+    /// Absent and null are the empty list.
     ///
     /// # Errors
     ///
-    /// The first line that isn't met; an identifier that stands twice in one list is a bad field.
+    /// The first line that isn't met; an identifier that is twice in one list is a bad field.
     pub fn read(alloc: Global, text: &[u8]) -> Result<PublishList, TextFault>
         ensures { Gives text_cause named_of result (read_publish_list text.now) }
     {
@@ -39,6 +40,7 @@ impl PublishList {
         PublishList::from_tree(alloc, &tree)
     }
 
+    /// The list of a publish request's tree.
     fn from_tree(alloc: Global, tree: &Node<'_>) -> Result<PublishList, TextFault>
         ensures { Gives text_cause named_of result (publish_list_of (node_view tree.now)) }
     {

@@ -1,3 +1,4 @@
+//! From drafts to the batch for a publication.
 ghost use Rattle.std.specs.Prelude.{◌≡◌, not, find, map, IfOk, IsTrue};
 ghost use Rattle.std.specs.List.{filter_map};
 ghost use Rattle.std.specs.FinMap.{get};
@@ -17,11 +18,11 @@ use std::sync::Arc;
 /// Why drafts make no batch.
 #[derive(Clone, Copy, PartialEq, Eq)]
 pub enum PublishFault {
-    /// No identifier is named.
+    /// The list names no identifier.
     Empty,
     /// This identifier has no draft.
     NoDraft(Id),
-    /// This identifier is published already.
+    /// This identifier is already published.
     Published(Id),
     /// This geography, which a rule names, is neither published nor in the batch.
     NoGeography(Id),
@@ -31,7 +32,7 @@ pub enum PublishFault {
     NotPublished(Id),
     /// The batch would pass a limit of the catalogue.
     CatalogFull,
-    /// Memory ran out.
+    /// Out of memory.
     NoMemory,
 }
 
@@ -53,7 +54,7 @@ impl Drafts {
     ghost use Rattle.mds_drafts.specs.Shelf.{drafts_of, named_of};
     ghost use Rattle.mds_drafts.specs.Publishing.{first_undrafted, batch_of, AnswersPublish};
 
-    /// The first of these identifiers that has no draft of this kind.
+    /// The first of these identifiers without a draft of this kind.
     fn first_without(&self, kind: DraftKind, ids: &[Id]) -> Option<Id>
         ensures { result ≡ find (λ id. not (has_draft (drafts_of self.now) kind id)) ids.now }
     {
@@ -65,7 +66,7 @@ impl Drafts {
         None
     }
 
-    /// The first identifier of the list that has no draft, geographies before policies.
+    /// The first identifier of the list without a draft, geographies before policies.
     fn undrafted(&self, list: &PublishList) -> Option<Id>
         ensures { result ≡ first_undrafted (drafts_of self.now) (named_of list.now) }
     {
@@ -75,7 +76,7 @@ impl Drafts {
         }
     }
 
-    /// Shares of the drafts of these policies.
+    /// References to the drafts of these policies.
     fn shared_policies(&self, alloc: Global, ids: &[Id]) -> Result<Vec<Arc<Policy>>, AllocError>
         ensures { IfOk result (λ v. map (λ share. policy_document share.value) v.items
             ≡ filter_map (get (drafts_of self.now).policies) ids.now) }
@@ -89,7 +90,7 @@ impl Drafts {
         Ok(shares)
     }
 
-    /// Shares of the drafts of these geographies.
+    /// References to the drafts of these geographies.
     fn shared_geographies(
         &self,
         alloc: Global,
@@ -107,15 +108,14 @@ impl Drafts {
         Ok(shares)
     }
 
-    /// The batch of the drafts that are named, published at this moment, and of the policies that are
-    /// withdrawn. It shares the documents, has their texts as they will be served, and is lawful on the
-    /// catalogue.
+    /// The batch of the drafts that are named, published at this moment, and of the policies that are withdrawn. It
+    /// shares the documents, has their texts as they will be served, and is lawful after the catalogue's publications.
     ///
     /// # Errors
     ///
-    /// The first reason why it isn't, each tested for the whole list before the next: no identifier,
-    /// one without a draft, one that is published, a rule's geography, a predecessor or a policy to
-    /// withdraw that is missing, a limit of the catalogue. `NoMemory` where the shares or the texts found none.
+    /// The first reason that applies, each tested for the whole list before the next: no identifier, one without a
+    /// draft, one that is published, a geography of a rule, a predecessor or a policy to withdraw that is missing, a
+    /// limit of the catalogue. `NoMemory` where memory for the lists or the texts is refused.
     pub fn batch(
         &self,
         alloc: Global,
@@ -145,7 +145,7 @@ impl Drafts {
     }
 }
 
-/// The first reason why the batch may not follow the catalogue's.
+/// The first reason why the batch may not follow the catalogue's publications.
 fn refusal(catalogue: &Catalogue, batch: &Batch) -> Option<PublishFault>
     ensures { result ≡ first_refusal (publications_of catalogue.now) (publication_of batch.now) }
 {

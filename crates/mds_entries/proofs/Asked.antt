@@ -1,4 +1,4 @@
--- An entry's asker has the access token that the request had.
+-- An entry's client has the access token that the request had.
 use Rattle.std.proofs.Common.{◌≡◌, ℕ, zero, suc, ◌+◌, ◌<◌, Bool, true, false, cond, List, [], ◌∷◌, length, map, get_or, Option, Some, None, refl, sym, ap, ◌∙◌, arith}
 use Rattle.std.specs.Prelude.{◌||◌, bytes_eq, option_map, position, slice_get}
 use Rattle.std.specs.List.{list_any, position_from}
@@ -24,7 +24,7 @@ the_same x y e = cc
 is_some : {X : Type 0} (x : X) → None ≡ Some x → ⊥
 is_some x e = cc
 
--- an identifier that isn't among the later operators' isn't any one's of them
+-- an identifier that isn't among the later operators' is none of theirs
 not_among : (id : List ℕ) (operators : List Operator) (place : ℕ) (o : Operator) → list_any (bytes_eq id) (ids operators) ≡ false
     → slice_get operators place ≡ Some o → bytes_eq id o.id ≡ false
 not_among id [] place o none is = absurd (is_some o is)

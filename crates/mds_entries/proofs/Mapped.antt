@@ -1,4 +1,4 @@
--- Searches in a list that is mapped.
+-- Searches in a mapped list.
 use Rattle.std.proofs.Common.{◌≡◌, ℕ, ◌+◌, Bool, true, false, cond, List, [], ◌∷◌, map, Option, Some, None, refl, sym, ap, ◌∙◌}
 use Rattle.std.specs.Prelude.{find, option_map, position}
 use Rattle.std.specs.List.{position_from}

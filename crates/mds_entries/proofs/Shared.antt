@@ -1,4 +1,4 @@
--- The texts of shares, one after another.
+-- Encodings of shares, one after another.
 use Rattle.std.specs.Prelude.{◌==◌}
 use Rattle.std.proofs.Common.{◌≡◌, ℕ, false, ◌+◌, ◌<◌, List, [], ◌∷◌, ◌++◌, length, refl, sym, ap, ◌∙◌, append_assoc, arith}
 use Rattle.std.proofs.lemmas.List.{append-nil, length-append}
@@ -17,7 +17,7 @@ pub are_more : (shares : List Share) (share : Share) → AreShares shares → Is
 are_more [] share are is = (is, tt)
 are_more (s ∷ ss) share are is = (are.0, are_more ss share are.1 is)
 
--- what shares stand in front of, in a text of shares, is a text of shares
+-- the bytes after some shares, in an encoding of shares, are an encoding of shares
 pub behind_shares : (some all : List Share) (rest : List ℕ) → AreShares all → shares_text some ++ rest ≡ shares_text all
     → (more : List Share) × AreShares more × (rest ≡ shares_text more)
 behind_shares [] all rest are e = (all, are, e)
@@ -27,7 +27,7 @@ behind_shares (s ∷ ss) (a ∷ later) rest are e =
     let p = same_front (share_text s) (share_text a) (shares_text ss ++ rest) (shares_text later) (share_length s ∙ sym (share_length a)) (sym (append_assoc (share_text s) (shares_text ss) rest) ∙ e) in
     behind_shares ss later rest are.1 p.1
 
--- where the bytes aren't empty and are a text of shares, a share stands in front
+-- where the bytes aren't empty and encode shares, they begin with a share
 pub no_share : (more : List Share) (rest : List ℕ) → 0 < length rest → AreShares more → rest ≡ shares_text more
     → ((share : Share) (behind : List ℕ) → IsShare share → rest ≡ share_text share ++ behind → ⊥) → ⊥
 no_share [] rest filled are e none = omega (arith, ap length e, filled)

@@ -1,4 +1,4 @@
--- A text of pieces has one spelling: what stands in front says what it is, and where the rest begins.
+-- Encodings are unambiguous: the first bytes say what stands there, and where the rest begins.
 use Rattle.std.proofs.Common.{◌≡◌, ℕ, ◌+◌, ◌^◌, ◌<◌, ◌≤◌, List, [], ◌∷◌, ◌++◌, length, take, drop, Some, cond, refl, sym, ap, ◌∙◌, arith}
 use Rattle.std.specs.Prelude.{◌==◌}
 use Rattle.std.specs.Int.{w32, w64, from_be_bytes, to_be_bytes}
@@ -85,7 +85,7 @@ verb_back Other = refl
 pub same_verb : (a b : Verb) → verb_code a ≡ verb_code b → a ≡ b
 same_verb a b e = sym (verb_back a) ∙ ap verb_at e ∙ verb_back b
 
--- a length that four bytes hold
+-- a length that fits four bytes
 pub size_fits : (target : List ℕ) → length target ≤ MOST_TARGET → length target < 2 ^ 32
 size_fits target h = omega arith
 
@@ -95,7 +95,7 @@ same_target a b r s small low e =
     let p = same_size (length a) (length b) (a ++ r) (b ++ s) (size_fits a small) (size_fits b low) e in
     same_front a b r s p.0 p.1
 
--- the same of whole entries, behind each field
+-- the same of whole entries, field after field
 pub record Same (a b : Entry) : Type 0 where
   pub at : a.at ≡ b.at
   pub verb : a.verb ≡ b.verb

@@ -1,4 +1,4 @@
--- The text of an entry: an accepted request, with who asked in place of the access token.
+-- The payload of an entry: an accepted request, with its client in place of the access token.
 use Rattle.std.specs.Prelude.{◌≡◌, ℕ, ◌≤◌, List, [], ◌∷◌, ◌++◌, length, Some}
 use Rattle.std.specs.Int.{w32, w64, to_be_bytes}
 use Rattle.uuid.specs.Text.{hyphenated_text, lower, parsed}
@@ -20,18 +20,18 @@ pub record Entry : Type 0 where
   pub target : List ℕ
   pub body : List ℕ
 
--- the entry that an `Entry` stands for
+-- the entry of an `Entry` in the code
 abbrev pub entry_of : Lent → Entry
 entry_of e = record { asker = e.asker; at = e.at; verb = e.verb; target = e.target.now; body = e.body.now }
 
--- a moment's milliseconds in eight bytes, and a length in four, both with the highest byte first
+-- a moment's milliseconds in eight bytes, and a length in four, both big-endian
 unfoldable pub moment_text : ℕ → List ℕ
 moment_text at = to_be_bytes w64 at
 
 unfoldable pub size_text : ℕ → List ℕ
 size_text size = to_be_bytes w32 size
 
--- an identifier's spelling (RFC 9562, section 4), with small letters
+-- an identifier's spelling (RFC 9562, section 4), with lowercase letters
 unfoldable pub id_text : List ℕ → List ℕ
 id_text id = hyphenated_text lower id
 
@@ -42,21 +42,21 @@ verb_code Post = 3
 verb_code Delete = 4
 verb_code Other = 5
 
--- who asked: a byte, and an operator's identifier
+-- the client: a byte, and an operator's identifier
 abbrev pub asker_text : Asker → List ℕ
 asker_text Author = BY_AUTHOR ∷ []
 asker_text (Operator id) = BY_OPERATOR ∷ id_text id
 
--- the moment, the verb, who asked, the target behind its length, and the body
+-- the moment, the method, the client, the target after its length, and the body
 abbrev pub fields_text : Entry → List ℕ
 fields_text e =
     moment_text e.at ++ (verb_code e.verb ∷ (asker_text e.asker ++ (size_text (length e.target) ++ (e.target ++ e.body))))
 
--- an entry's text: the layout's version, and the fields
+-- an entry's payload: the layout's version, and the fields
 abbrev pub entry_text : Entry → List ℕ
 entry_text e = ENTRY ∷ fields_text e
 
--- an identifier, as which its spelling reads
+-- an identifier that its spelling reads as
 abbrev pub IsId : List ℕ → Type 0
 IsId id = parsed (hyphenated_text lower id) ≡ Some id
 

@@ -1,4 +1,5 @@
--- The text of a journal's head: a word, the version of the layout, and each operator's share, without its access token.
+-- The payload of a journal's head: a magic word, the version of the layout, and each operator's share, without its
+-- access token.
 use Rattle.std.specs.Prelude.{◌≡◌, ◌≢◌, ℕ, ◌<◌, ◌^◌, List, [], ◌∷◌, ◌++◌, map, find, codes, bytes_eq, nat_le, if◌then◌else◌, Option, Some, None}
 use Rattle.std.specs.List.{AllByRecursion}
 use Rattle.mds_request.specs.Configuration.{Configuration, Operator}
@@ -9,7 +10,7 @@ use Rattle.mds_entries.specs.declared.head.TheConstants.{LAYOUT}
 use Rattle.mds_entries.specs.declared.fitting.Unfit.{Unfit}
 use Rattle.mds_entries.specs.declared.fitting.Unfit.TheVariants.{Missing, LowLimit}
 
--- an operator's identifier, with how many vehicles it may hold, or has held
+-- an operator's share: its identifier, with how many vehicles it may hold, or has held
 pub record Share : Type 0 where
   pub id : List ℕ
   pub vehicles : ℕ
@@ -43,7 +44,7 @@ head_word = codes "ruffletuff"
 abbrev pub head_text : List Share → List ℕ
 head_text shares = head_word ++ (LAYOUT ∷ shares_text shares)
 
--- what is against a share in a configuration: its operator is missing, or may hold fewer vehicles
+-- why a share doesn't fit a configuration: its operator is missing, or may hold fewer vehicles
 abbrev pub unfit_at : Share → Option Operator → Option Unfit
 unfit_at share None = Some (Missing share.id)
 unfit_at share (Some operator) = if nat_le share.vehicles operator.limit then None else Some (LowLimit share.id)
@@ -55,8 +56,8 @@ abbrev pub either : Option Unfit → Option Unfit → Option Unfit
 either None other = other
 either (Some one) other = Some one
 
--- What is first against going on with a configuration where these operators have entries and held so many vehicles. Access tokens, the zone
--- and further operators are no matter, nor are higher limits.
+-- The first reason why a server can't continue with a configuration, where these operators have entries and held so
+-- many vehicles. Access tokens, the zone, further operators and higher limits don't matter.
 abbrev pub unfit : Configuration → List Share → Option Unfit
 unfit configuration [] = None
 unfit configuration (share ∷ shares) = either (unfit_by configuration share) (unfit configuration shares)

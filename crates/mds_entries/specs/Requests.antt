@@ -1,4 +1,4 @@
--- What an entry has to do with requests: with the access tokens of a configuration it is the request that was accepted.
+-- Entries as requests: with the access tokens of a configuration an entry is the request that was accepted.
 use Rattle.std.specs.Prelude.{◌≡◌, ℕ, Bool, false, List, bytes_eq, option_map, position, slice_get, Option, Some, None}
 use Rattle.mds_request.specs.Configuration.{Configuration, Operator, operator_at, actor_of, ids}
 use Rattle.mds_request.specs.Configuration.{repeats}
@@ -12,7 +12,7 @@ use Rattle.mds_entries.specs.declared.entry.Asker.TheVariants.{Author as TheAuth
 abbrev pub has_id : List ℕ → Operator → Bool
 has_id id operator = bytes_eq operator.id id
 
--- who an entry's asker is in a configuration
+-- the client of an entry in a configuration
 abbrev pub actor_by : Configuration → Asker → Actor
 actor_by configuration TheAuthor = Author
 actor_by configuration (OperatorBy id) = operator_at (position (has_id id) configuration.operators)
@@ -25,7 +25,7 @@ token_of configuration Nobody = None
 abbrev pub with_token : Entry → List ℕ → Request
 with_token e token = record { at = e.at; token = token; verb = e.verb; target = e.target; body = e.body }
 
--- the request that an entry is, with its asker's access token, where the configuration has one
+-- the request of an entry, with its client's access token, where the configuration has one
 abbrev pub request_by : Configuration → Entry → Option Request
 request_by configuration e = option_map (with_token e) (token_of configuration (actor_by configuration e.asker))
 
@@ -37,11 +37,11 @@ asker_at configuration Nobody = None
 abbrev pub asked_by : Request → Asker → Entry
 asked_by r asker = record { asker = asker; at = r.at; verb = r.verb; target = r.target; body = r.body }
 
--- the entry that a request is, where its access token is somebody's
+-- the entry of a request, where its access token is a client's
 abbrev pub entry_by : Configuration → Request → Option Entry
 entry_by configuration r = option_map (asked_by r) (asker_at configuration (actor_of configuration r.token))
 
--- Where no two operators have one identifier, the entry of a request is read as that request.
+-- Where no two operators have the same identifier, the entry of a request reads as that request.
 abbrev pub ReadsTheRequest : Type 0
 ReadsTheRequest =
     (configuration : Configuration) (request : Request) (entry : Entry) → repeats (ids configuration.operators) ≡ false

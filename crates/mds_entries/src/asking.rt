@@ -1,4 +1,4 @@
-//! Entries and the requests that they are.
+//! Conversion between entries and requests.
 ghost use Rattle.std.specs.Prelude.{◌≡◌, option_map, map, position, bytes_eq};
 ghost use Rattle.mds_request.specs.Configuration.{configuration, operator};
 ghost use Rattle.mds_request.specs.Request.{request_of};
@@ -16,7 +16,7 @@ pub(crate) fn is_same(id: Id, other: Id) -> bool
     id == other
 }
 
-/// The place of the operator of an identifier.
+/// The index of the operator with this identifier.
 fn place_of(operators: &[Operator], id: Id) -> Option<usize>
     ensures { result ≡ position (λ o. has_id id (operator o)) operators.now }
 {
@@ -25,7 +25,7 @@ fn place_of(operators: &[Operator], id: Id) -> Option<usize>
         .position(|operator| is_same(operator.id, id))
 }
 
-/// Who an entry's asker is in a configuration; `Nobody` for an operator that isn't there.
+/// The client of an entry in a configuration; `Nobody` for an operator that isn't there.
 pub fn actor_by(config: &Config, asker: Asker) -> Actor
     ensures { result ≡ actor_by (configuration config.now) asker }
 {
@@ -38,7 +38,7 @@ pub fn actor_by(config: &Config, asker: Asker) -> Actor
     }
 }
 
-/// The access token of who asks.
+/// The client's access token.
 fn token_of(config: &Config, actor: Actor) -> Option<&[u8]>
     ensures { option_map (λ token. token.now) result ≡ token_of (configuration config.now) actor }
 {
@@ -52,7 +52,7 @@ fn token_of(config: &Config, actor: Actor) -> Option<&[u8]>
     }
 }
 
-/// The request that an entry is, with its asker's access token of this configuration; `None` where its operator isn't
+/// The request of an entry, with its client's access token in this configuration; `None` where its operator isn't
 /// there.
 pub fn request_by<'a>(config: &'a Config, entry: &Entry<'a>) -> Option<Request<'a>>
     ensures { option_map request_of result ≡ request_by (configuration config.now) (entry_of entry.now) }
@@ -69,7 +69,7 @@ pub fn request_by<'a>(config: &'a Config, entry: &Entry<'a>) -> Option<Request<'
     }
 }
 
-/// Who asks, as an entry has it.
+/// The client, as an entry has it.
 fn asker_at(config: &Config, actor: Actor) -> Option<Asker>
     ensures { result ≡ asker_at (configuration config.now) actor }
 {
@@ -83,7 +83,7 @@ fn asker_at(config: &Config, actor: Actor) -> Option<Asker>
     }
 }
 
-/// The entry that a request is; `None` where its access token is nobody's.
+/// The entry of a request; `None` where no client has its access token.
 pub fn entry_by<'a>(config: &Config, request: &Request<'a>) -> Option<Entry<'a>>
     ensures { option_map entry_of result ≡ entry_by (configuration config.now) (request_of request.now) }
 {
@@ -99,8 +99,8 @@ pub fn entry_by<'a>(config: &Config, request: &Request<'a>) -> Option<Entry<'a>>
     }
 }
 
-/// The entry of a request, with the access tokens of the configuration, is that request, where no two operators have
-/// one identifier, as in each configuration that was read.
+/// The entry of a request, with the access tokens of the configuration, reads as that request, where no two operators
+/// have the same identifier, as in each configuration that was read.
 pub fn reads_the_request()
     ensures { ReadsTheRequest }
 {}

@@ -1,4 +1,4 @@
-//! An accepted request with who asked, and its text.
+//! Journal entries: an accepted request with its client, and its payload.
 ghost use Rattle.std.specs.Prelude.{◌≡◌, ◌↔◌, ◌≤◌, length, true, IfOk, IsErrOf, IsTrue};
 ghost use Rattle.mds_entries.specs.Entries.{IsShort, entry_of, entry_text};
 
@@ -7,13 +7,13 @@ use mds_request::{MOST_BODY, Verb};
 use mds_text::{Id, Moment};
 use std::alloc::{AllocError, Global};
 
-/// The first byte of an entry's text: the layout's version.
+/// The first byte of an entry's payload: the layout's version.
 pub const ENTRY: u8 = 1;
 
 /// The most bytes of an entry's target.
 pub const MOST_TARGET: usize = 65_536;
 
-/// Who asked. An operator goes by its identifier, so that a text has no access token.
+/// The client. An operator is named by its identifier, so that no payload has an access token.
 #[derive(Clone, Copy, PartialEq, Eq)]
 pub enum Asker {
     /// The author of policies and geographies.
@@ -22,24 +22,24 @@ pub enum Asker {
     Operator(Id),
 }
 
-/// An accepted request, with who asked in place of the access token.
+/// An accepted request, with its client in place of the access token.
 #[derive(Clone, Copy)]
 pub struct Entry<'a> {
     pub asker: Asker,
     /// The moment at which it was answered.
     pub at: Moment,
     pub verb: Verb,
-    /// The path, with a query behind the first `?`.
+    /// The path, with a query after the first `?`.
     pub target: &'a [u8],
     pub body: &'a [u8],
 }
 
-/// Why no text was written.
+/// Why no payload was written.
 #[derive(Clone, Copy, Debug, PartialEq, Eq)]
 pub enum WriteFault {
     /// The target or the body is over its limit.
     TooLong,
-    /// Memory ran out.
+    /// Out of memory.
     NoMemory,
 }
 
@@ -61,7 +61,7 @@ pub fn is_short(entry: &Entry<'_>) -> bool
     entry.target.len() <= MOST_TARGET && entry.body.len() <= MOST_BODY
 }
 
-/// The text of an entry whose target has a length of four bytes.
+/// The payload of an entry whose target and body are within their limits.
 fn text_of(alloc: Global, entry: &Entry<'_>) -> Result<Vec<u8>, AllocError>
     requires { IsShort (entry_of entry.now) }
     ensures { IfOk result (λ text. text.items ≡ entry_text (entry_of entry.now)) }
@@ -77,12 +77,12 @@ fn text_of(alloc: Global, entry: &Entry<'_>) -> Result<Vec<u8>, AllocError>
     Ok(text)
 }
 
-/// The text of an entry, which `read_entry` reads as this entry.
+/// The payload of an entry, which `read_entry` decodes to this entry.
 ///
 /// # Errors
 ///
 /// `TooLong` where the target has more than [`MOST_TARGET`] bytes or the body more than `mds_request::MOST_BODY`;
-/// `NoMemory` where memory ran out.
+/// `NoMemory` where out of memory.
 pub fn entry_text(alloc: Global, entry: &Entry<'_>) -> Result<Vec<u8>, WriteFault>
     ensures text { IfOk result (λ text. text.items ≡ entry_text (entry_of entry.now)) }
     ensures short { IfOk result (λ text. IsShort (entry_of entry.now)) }

@@ -1,4 +1,4 @@
-//! A journal's head.
+//! A journal's head: its first payload, which lists the operators.
 ghost use Rattle.std.specs.Prelude.{◌≡◌, ◌≢◌, ◌↔◌, ◌≤◌, ◌<◌, ◌^◌, ℕ, List, ◌∷◌, ◌++◌, map, IfOk, IfErr, OnOk, IsErrOf};
 ghost use Rattle.mds_request.specs.Configuration.{configuration, operator as named};
 ghost use Rattle.mds_entries.specs.Entries.{id_text, size_text};
@@ -14,7 +14,7 @@ use std::alloc::{AllocError, Global};
 /// The version of the layout of heads and entries.
 pub const LAYOUT: u8 = 1;
 
-/// The word with which a head begins.
+/// The magic word with which a head begins.
 const WORD: [u8; 10] = *b"ruffletuff";
 
 /// An operator's share: its identifier, with how many vehicles it may hold, or has held.
@@ -24,18 +24,18 @@ pub struct Share {
     pub vehicles: u32,
 }
 
-/// Why a text is no head.
+/// Why a payload is no head.
 #[derive(Clone, Copy, Debug, PartialEq, Eq)]
 pub enum HeadFault {
     /// The layout has this version, which isn't known.
     Version(u8),
-    /// The text is no head's.
+    /// The payload isn't a head.
     Malformed,
-    /// Memory ran out.
+    /// Out of memory.
     NoMemory,
 }
 
-/// An operator's share: how many vehicles it may hold.
+/// The share for an operator's limit: how many vehicles it may hold.
 fn limit_of(operator: &Operator) -> Share
     ensures { share_of result ≡ limit_of (named operator.now) }
 {
@@ -45,7 +45,7 @@ fn limit_of(operator: &Operator) -> Share
     }
 }
 
-/// Adds a share's text.
+/// Appends the encoding of a share.
 fn push_share(alloc: Global, text: &mut Vec<u8>, share: Share) -> Result<(), AllocError>
     ensures { OnOk result (text.new.items ≡ text.old.items ++ share_text (share_of share)) }
 {
@@ -53,11 +53,11 @@ fn push_share(alloc: Global, text: &mut Vec<u8>, share: Share) -> Result<(), All
     push_size(text, share.vehicles)
 }
 
-/// Each operator's share of a configuration: how many vehicles it may hold.
+/// The share of each operator in a configuration: how many vehicles it may hold.
 ///
 /// # Errors
 ///
-/// Memory ran out.
+/// Out of memory.
 pub fn shares(alloc: Global, config: &Config) -> Result<Vec<Share>, AllocError>
     ensures { IfOk result (λ shares. map share_of shares.items ≡ shares_of (configuration config.now)) }
 {
@@ -69,11 +69,11 @@ pub fn shares(alloc: Global, config: &Config) -> Result<Vec<Share>, AllocError>
     Ok(shares)
 }
 
-/// The text of a head with these shares, which `read_head` reads as them.
+/// The payload of a head with these shares, which `read_head` decodes to them.
 ///
 /// # Errors
 ///
-/// Memory ran out.
+/// Out of memory.
 pub fn head_text(alloc: Global, shares: &[Share]) -> Result<Vec<u8>, AllocError>
     ensures { IfOk result (λ text. text.items ≡ head_text (map share_of shares.now)) }
 {
@@ -86,7 +86,7 @@ pub fn head_text(alloc: Global, shares: &[Share]) -> Result<Vec<u8>, AllocError>
     Ok(text)
 }
 
-/// The share in front, and the bytes behind it.
+/// Decodes the share at the start, and returns the bytes after it.
 fn share_in(alloc: Global, bytes: &[u8]) -> Result<(Share, &[u8]), Flaw>
     ensures read { IfOk result (λ r. (bytes.now ≡ share_text (share_of r.0) ++ r.1.now) × IsShare (share_of r.0)) }
     ensures malformed { IfErr result (λ flaw. flaw ≡ Flaw.Malformed
@@ -102,7 +102,7 @@ fn share_in(alloc: Global, bytes: &[u8]) -> Result<(Share, &[u8]), Flaw>
     }
 }
 
-/// The shares of which the bytes are the text.
+/// Decodes shares up to the end of the bytes.
 fn shares_in(alloc: Global, bytes: &[u8]) -> Result<Vec<Share>, Flaw>
     ensures read { IfOk result (λ shares. (bytes.now ≡ shares_text (map share_of shares.items)) × AreShares (map share_of shares.items)) }
     ensures malformed { IfErr result (λ flaw. flaw ≡ Flaw.Malformed
@@ -123,12 +123,12 @@ fn shares_in(alloc: Global, bytes: &[u8]) -> Result<Vec<Share>, Flaw>
     Ok(shares)
 }
 
-/// The shares of the head that a text is.
+/// Decodes a head's payload to its shares.
 ///
 /// # Errors
 ///
-/// `Version` where the head has another version, `Malformed` where the text is no head's, `NoMemory` where memory ran
-/// out.
+/// `Version` where the head has another version, `Malformed` where the payload isn't a head, `NoMemory` where out of
+/// memory.
 pub fn read_head(alloc: Global, text: &[u8]) -> Result<Vec<Share>, HeadFault>
     ensures read { IfOk result (λ shares. (text.now ≡ head_text (map share_of shares.items)) × AreShares (map share_of shares.items)) }
     ensures version { (version : ℕ) → IsErrOf result (HeadFault.Version version)

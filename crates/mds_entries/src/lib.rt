@@ -1,5 +1,5 @@
-//! The texts of a journal's records: one accepted request in each, with who asked in place of the access token, behind
-//! a head, which says whose journal it is.
+//! The payloads of a journal's records: an accepted request with its client in place of the access token, behind a head
+//! that says whose journal it is.
 #![tactic(auto)]
 
 mod asking;

@@ -1,4 +1,4 @@
-//! The pieces of texts, written.
+//! Encoders of the fields of payloads.
 ghost use Rattle.std.specs.Prelude.{◌≡◌, ◌++◌, OnOk};
 ghost use Rattle.mds_entries.specs.Entries.{moment_text, size_text, id_text, asker_text, verb_code};
 
@@ -7,12 +7,12 @@ use mds_request::Verb;
 use mds_text::{Id, Moment};
 use std::alloc::{AllocError, Global};
 
-/// The byte of the author.
+/// The byte that stands for the author.
 pub const BY_AUTHOR: u8 = 0;
 /// The byte before an operator's identifier.
 pub const BY_OPERATOR: u8 = 1;
 
-/// The byte of a verb.
+/// The byte of a method.
 pub(crate) fn verb_code(verb: Verb) -> u8
     ensures { result ≡ verb_code verb }
 {
@@ -25,7 +25,7 @@ pub(crate) fn verb_code(verb: Verb) -> u8
     }
 }
 
-/// Adds a moment's milliseconds, in eight bytes.
+/// Appends a moment's milliseconds, in eight bytes.
 #[tactic(auto, unfolding(crate::specs::Entries::moment_text))]
 pub(crate) fn push_moment(text: &mut Vec<u8>, at: Moment) -> Result<(), AllocError>
     ensures { OnOk result (text.new.items ≡ text.old.items ++ moment_text at) }
@@ -33,7 +33,7 @@ pub(crate) fn push_moment(text: &mut Vec<u8>, at: Moment) -> Result<(), AllocErr
     text.extend_from_slice(&(at.get() as u64).to_be_bytes())
 }
 
-/// Adds a length, in four bytes.
+/// Appends a length, in four bytes.
 #[tactic(auto, unfolding(crate::specs::Entries::size_text))]
 pub(crate) fn push_size(text: &mut Vec<u8>, size: u32) -> Result<(), AllocError>
     ensures { OnOk result (text.new.items ≡ text.old.items ++ size_text size) }
@@ -41,7 +41,7 @@ pub(crate) fn push_size(text: &mut Vec<u8>, size: u32) -> Result<(), AllocError>
     text.extend_from_slice(&size.to_be_bytes())
 }
 
-/// Adds an identifier's 36 characters.
+/// Appends an identifier's 36 characters.
 #[tactic(auto, unfolding(crate::specs::Entries::id_text))]
 pub(crate) fn push_id(alloc: Global, text: &mut Vec<u8>, id: Id) -> Result<(), AllocError>
     ensures { OnOk result (text.new.items ≡ text.old.items ++ id_text id) }
@@ -50,7 +50,7 @@ pub(crate) fn push_id(alloc: Global, text: &mut Vec<u8>, id: Id) -> Result<(), A
     text.extend_from_slice(printed.as_bytes())
 }
 
-/// Adds who asked.
+/// Appends the client.
 pub(crate) fn push_asker(alloc: Global, text: &mut Vec<u8>, asker: Asker) -> Result<(), AllocError>
     ensures { OnOk result (text.new.items ≡ text.old.items ++ asker_text asker) }
 {

@@ -1,4 +1,4 @@
-//! Texts of entries, read.
+//! The decoder of entries.
 ghost use Rattle.std.specs.Prelude.{◌≡◌, ◌≢◌, ◌↔◌, ◌≤◌, ◌<◌, ◌^◌, ℕ, List, ◌∷◌, ◌++◌, length, MatchOption, IfOk, IfErr, IsErrOf};
 ghost use Rattle.std.specs.Int.{w64, w32, from_be_bytes, to_be_bytes};
 ghost use Rattle.mds_text.specs.Fields.{last_moment};
@@ -16,23 +16,23 @@ use std::alloc::{AllocError, Global};
 /// How many characters an identifier has.
 const ID_SIZE: usize = 36;
 
-/// Why a text is no entry.
+/// Why a payload is no entry.
 #[derive(Clone, Copy, Debug, PartialEq, Eq)]
 pub enum EntryFault {
     /// The layout has this version, which isn't known.
     Version(u8),
-    /// The text is no entry's.
+    /// The payload isn't an entry.
     Malformed,
-    /// Memory ran out.
+    /// Out of memory.
     NoMemory,
 }
 
-/// Why bytes aren't what they are read as.
+/// Why bytes can't be decoded.
 #[derive(Clone, Copy, Debug, PartialEq, Eq)]
 pub(crate) enum Flaw {
-    /// They are no text of it.
+    /// They aren't an encoding of what was expected.
     Malformed,
-    /// Memory ran out.
+    /// Out of memory.
     NoMemory,
 }
 
@@ -47,7 +47,7 @@ impl From<AllocError> for Flaw {
     }
 }
 
-/// The number of the eight bytes in front, and the bytes behind them.
+/// Decodes the number in the first eight bytes, and returns the bytes after it.
 fn number_in(bytes: &[u8]) -> Option<(u64, &[u8])>
     ensures { MatchOption result (length bytes.now < 8) (λ r. (bytes.now ≡ to_be_bytes w64 r.0 ++ r.1.now) × (r.0 < 2 ^ 64)) }
 {
@@ -61,7 +61,7 @@ fn number_in(bytes: &[u8]) -> Option<(u64, &[u8])>
     Some((number, rest))
 }
 
-/// The moment in front, and the bytes behind it.
+/// Decodes the moment at the start, and returns the bytes after it.
 fn moment_in(bytes: &[u8]) -> Option<(Moment, &[u8])>
     ensures { MatchOption result ((at : ℕ) (rest : List ℕ) → at ≤ last_moment → bytes.now ≡ moment_text at ++ rest → ⊥)
         (λ r. (bytes.now ≡ moment_text r.0 ++ r.1.now) × (r.0 ≤ last_moment)) }
@@ -78,7 +78,7 @@ fn moment_in(bytes: &[u8]) -> Option<(Moment, &[u8])>
     }
 }
 
-/// The verb of a byte.
+/// The method of a byte.
 fn verb_of(code: u8) -> Option<Verb>
     ensures { MatchOption result ((verb : Method) → code ≡ verb_code verb → ⊥) (λ verb. code ≡ verb_code verb) }
 {
@@ -92,7 +92,7 @@ fn verb_of(code: u8) -> Option<Verb>
     }
 }
 
-/// The verb in front, and the bytes behind it.
+/// Decodes the method at the start, and returns the bytes after it.
 fn verb_in(bytes: &[u8]) -> Option<(Verb, &[u8])>
     ensures { MatchOption result ((verb : Method) (rest : List ℕ) → bytes.now ≡ verb_code verb ∷ rest → ⊥)
         (λ r. bytes.now ≡ verb_code r.0 ∷ r.1.now) }
@@ -106,7 +106,7 @@ fn verb_in(bytes: &[u8]) -> Option<(Verb, &[u8])>
     }
 }
 
-/// The identifier whose spelling this text is, in the hyphenated form with small letters.
+/// The identifier that is spelled so, in the hyphenated form with lowercase letters.
 #[tactic(auto, unfolding(crate::specs::Entries::id_text))]
 fn id_of(alloc: Global, text: &[u8]) -> Result<Id, Flaw>
     ensures read { IfOk result (λ id. (text.now ≡ id_text id) × IsId id) }
@@ -126,7 +126,7 @@ fn id_of(alloc: Global, text: &[u8]) -> Result<Id, Flaw>
     }
 }
 
-/// The identifier in front, and the bytes behind it.
+/// Decodes the identifier at the start, and returns the bytes after it.
 pub(crate) fn id_in(alloc: Global, bytes: &[u8]) -> Result<(Id, &[u8]), Flaw>
     ensures read { IfOk result (λ r. (bytes.now ≡ id_text r.0 ++ r.1.now) × IsId r.0) }
     ensures malformed { IfErr result (λ flaw. flaw ≡ Flaw.Malformed
@@ -142,7 +142,7 @@ pub(crate) fn id_in(alloc: Global, bytes: &[u8]) -> Result<(Id, &[u8]), Flaw>
     }
 }
 
-/// Who asked, in front, and the bytes behind it.
+/// Decodes the client at the start, and returns the bytes after it.
 fn asker_in(alloc: Global, bytes: &[u8]) -> Result<(Asker, &[u8]), Flaw>
     ensures read { IfOk result (λ r. (bytes.now ≡ asker_text r.0 ++ r.1.now) × IsAsker r.0) }
     ensures malformed { IfErr result (λ flaw. flaw ≡ Flaw.Malformed
@@ -158,7 +158,7 @@ fn asker_in(alloc: Global, bytes: &[u8]) -> Result<(Asker, &[u8]), Flaw>
     }
 }
 
-/// The length of the four bytes in front, and the bytes behind them.
+/// Decodes the length in the first four bytes, and returns the bytes after it.
 #[tactic(auto, unfolding(crate::specs::Entries::size_text))]
 pub(crate) fn size_in(bytes: &[u8]) -> Option<(u32, &[u8])>
     ensures { MatchOption result (length bytes.now < 4) (λ r. (bytes.now ≡ size_text r.0 ++ r.1.now) × (r.0 < 2 ^ 32)) }
@@ -171,7 +171,7 @@ pub(crate) fn size_in(bytes: &[u8]) -> Option<(u32, &[u8])>
     Some((size, rest))
 }
 
-/// The target behind its length, in front, and the bytes behind it.
+/// Decodes the length at the start and the target after it, and returns the bytes after both.
 fn target_in(bytes: &[u8]) -> Option<(&[u8], &[u8])>
     ensures { MatchOption result
         ((target rest : List ℕ) → length target ≤ MOST_TARGET → bytes.now ≡ size_text (length target) ++ (target ++ rest) → ⊥)
@@ -187,7 +187,7 @@ fn target_in(bytes: &[u8]) -> Option<(&[u8], &[u8])>
     Some(rest.split_at(size))
 }
 
-/// The entry of the fields behind a version.
+/// Decodes the fields after the version.
 fn entry_in(alloc: Global, bytes: &[u8]) -> Result<Entry<'_>, Flaw>
     ensures read { IfOk result (λ entry. (bytes.now ≡ fields_text (entry_of entry)) × IsEntry (entry_of entry)) }
     ensures malformed { IfErr result (λ flaw. flaw ≡ Flaw.Malformed
@@ -221,12 +221,12 @@ fn entry_in(alloc: Global, bytes: &[u8]) -> Result<Entry<'_>, Flaw>
     }
 }
 
-/// The entry that a text is. It borrows its target and its body from the text.
+/// Decodes an entry's payload. The entry borrows its target and its body from the payload.
 ///
 /// # Errors
 ///
-/// `Version` where the text begins with another version, `Malformed` where it is no entry's text, `NoMemory` where
-/// memory ran out.
+/// `Version` where the payload begins with another version, `Malformed` where it isn't an entry, `NoMemory` where out
+/// of memory.
 pub fn read_entry(alloc: Global, text: &[u8]) -> Result<Entry<'_>, EntryFault>
     ensures read { IfOk result (λ entry. (text.now ≡ entry_text (entry_of entry)) × IsEntry (entry_of entry)) }
     ensures version { (version : ℕ) → IsErrOf result (EntryFault.Version version)

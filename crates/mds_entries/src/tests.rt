@@ -1,4 +1,4 @@
-//! Texts whose bytes are worked out by hand.
+//! Tests of payloads whose bytes are worked out by hand.
 use crate::{
     Asker, Entry, EntryFault, HeadFault, Share, entry_text, head_text, read_entry, read_head,
 };
@@ -17,7 +17,7 @@ const REPORT: &[u8] =
 /// Layout 1, one operator with a limit of 200,000 (3 times 65,536, 13 times 256 and 64).
 const HEAD: &[u8] = b"ruffletuff\x0100000000-0000-4000-8000-0000000000a1\0\x03\x0d\x40";
 
-/// An operator's report has this text, which reads as the report.
+/// An operator's report has this payload, which decodes to the report.
 fn has_its_text<'a>(
     rt: &impl Abort,
     alloc: Global,

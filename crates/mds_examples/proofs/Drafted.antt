@@ -1,4 +1,4 @@
--- What the drafts of the examples hold, and how many they are.
+-- What the drafts of the examples are, and how many.
 use Rattle.std.proofs.Common.{◌≡◌, Some, None, refl, ◌∙◌}
 use Rattle.std.specs.Cmp.Lexicographic.{nat_list_cmp_total}
 use Rattle.std.specs.FinMap.{FinMap, empty, insert, remove, get, len, get-empty, get-insert, len-empty, len-insert, len-remove, empty_of_len}
@@ -39,7 +39,7 @@ the_square = get-insert nat_list_cmp_total no_geographies square_id square_docum
 pub the_cap : get one_policy cap_id ≡ Some cap
 the_cap = get-insert nat_list_cmp_total no_policies cap_id cap cap_id
 
--- what was put and taken out leaves nothing
+-- counts, by which nothing is left once what was put is taken out
 one_square : len one_geography ≡ 1
 one_square = len-insert nat_list_cmp_total no_geographies square_id square_document ∙ rw (no_square, geography_count) refl
 

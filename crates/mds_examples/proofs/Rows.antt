@@ -1,4 +1,4 @@
--- What the rows of the examples hold, and how many they are.
+-- What the rows of the examples are, and how many.
 use Rattle.std.proofs.Common.{◌≡◌, [], ◌∷◌, length, Some, None, refl, sym, ap, ◌∙◌}
 use Rattle.std.specs.Cmp.Lexicographic.{nat_list_cmp_total}
 use Rattle.std.specs.FinMap.{empty, remove, get, len, len-remove, put, entries, from_sorted, get-empty, get-insert, len-empty, len-insert, len-entries, empty_of_len, entries-from_sorted, entries-insert}
@@ -48,6 +48,6 @@ two_third = get-insert nat_list_cmp_total one_row second_device second_inside th
 pub two_count : len two_rows ≡ 2
 two_count = len-insert nat_list_cmp_total one_row second_device second_inside ∙ rw (one_second, one_count) refl
 
--- what was reported and removed leaves nothing
+-- nothing is left once what was reported is removed
 pub first_out : remove one_row first_device ≡ no_rows
 first_out = empty_of_len _ (len-remove nat_list_cmp_total one_row first_device ∙ rw (one_first, one_count) refl)

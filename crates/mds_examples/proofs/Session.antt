@@ -1,4 +1,5 @@
--- Requests of the session whose texts are long: what the machine answers to any text that reads so.
+-- Requests of the session with long texts: the machine's reply to any text of which the same is
+-- read.
 use Rattle.std.proofs.Common.{◌≡◌, ℕ, List, codes, Ok, refl}
 use Rattle.mds_fleet.specs.Reading.{read_report}
 use Rattle.mds_geography.specs.Reading.{read_geography}
@@ -20,7 +21,7 @@ use Rattle.mds_examples.specs.Policies.{cap}
 use Rattle.mds_examples.specs.Requests.{configuration, request}
 use Rattle.mds_examples.specs.Vehicles.{first_report, second_report, third_report}
 
--- a report by the operator at this place
+-- the call of a report by the operator at this index
 abbrev pub report_call : ℕ → Call
 report_call place = Operator place Report
 

@@ -1,4 +1,4 @@
--- What is unfolded to compute the examples, by subject.
+-- The definitions that are unfolded to compute the examples, by subject.
 use Rattle.std.specs.Prelude.{⊤}
 use Rattle.std.specs.Float.Numeral.{scan_numeral}
 use Rattle.std.specs.Fmt as fmt
@@ -19,17 +19,17 @@ use Rattle.mds_text.specs.Printed.{decimals}
 use Rattle.mds_text.specs.Quoting.{pieces_behind}
 use lib.Utf8.{encode}
 
--- the units of a number's text, and units as they are printed
+-- the units that a number's text stands for, and units as they are printed
 unfoldable pub numbers : ⊤
 unfolding number_of size_of units_of decimals fmt.digits
 numbers = tt
 
--- what a text reads as
+-- what is read of a text
 unfoldable pub texts : ⊤
 unfolding numbers pieces_behind encode chars is_utf8 lex punctuate json.value json.items json.members after_number word code_unit short_escape content scan_numeral serde.number_of
 texts = tt
 
--- what a document reads as, and how it is served
+-- what is read of a document, and how it is served
 unfoldable pub documents : ⊤
 unfolding texts by_index fleet.report_of policy.read_policy policy.policy_of policy.rule_of policy.window_of policy.bounds_of
 documents = tt

@@ -9,7 +9,7 @@ use Rattle.mds_geography.specs.Reading.{read_geography}
 use Rattle.mds_geography.specs.Served.{served}
 use Rattle.mds_examples.specs.Ids.{id_text, square_id, wide_id}
 
--- so many degrees east or west of Greenwich and north of the equator
+-- a position so many degrees east or west of Greenwich and north of the equator
 abbrev pub east : ℕ → ℕ → Position
 east lng lat = record { lng = pos (lng * units_of_degree); lat = pos (lat * units_of_degree) }
 
@@ -75,11 +75,11 @@ square_text = with_ring (codes "[[0,0],[10,0],[10,10],[0,10],[0,0]]")
 abbrev pub square_document : Geography
 square_document = record { id = square_id; name = codes "square"; description = None; polygons = square ∷ [] }
 
--- the text as which the geography of a text is served before it is published
+-- the text as which the geography that is read from a text is served before it is published
 abbrev pub served_as : List ℕ → Result (List ℕ) Fault
 served_as bytes = read_geography bytes >>= λ g. Ok (printed (served g None))
 
--- the text of a geography that is served, with the coordinates of its polygons and more members at its end
+-- the text of a served geography, with the coordinates of its polygons and more members at its end
 abbrev pub served_text : List ℕ → List ℕ → List ℕ → List ℕ
 served_text name coordinates more =
     codes "{\"geography_id\":\"" ++ id_text (codes "101")

@@ -19,7 +19,7 @@ no_drafts = record { policies = empty; geographies = empty }
 abbrev pub exchange : Request → Reply → Exchange
 exchange request reply = record { request = request; reply = reply }
 
--- a request that was answered with a success and this word as its result, and one for which there was no memory
+-- a request that was answered with a success and this word as its result, and one that was refused out of memory
 abbrev pub granted : Request → List ℕ → Exchange
 granted request word = exchange request (done word)
 
@@ -41,7 +41,7 @@ drop_cap = request 1000 (codes "city") Delete cap_path []
 abbrev pub cap_dropped : Exchange
 cap_dropped = exchange drop_cap (success (codes "{\"removed\":\"" ++ id_text (codes "201") ++ codes "\"}"))
 
--- the first operator asks for the policy
+-- the first operator requests the policy
 abbrev pub ask_for_cap : Request
 ask_for_cap = request 2000 (codes "alfa") Get (codes "/policies/" ++ id_text (codes "201")) []
 
@@ -50,8 +50,8 @@ abbrev pub other_report : Request
 other_report = request 2000 (codes "bravo") Post (codes "/fleet/events") (in_the_square (codes "402"))
 
 -- The geography and the policy are put and published, and each operator reports a vehicle, the first before the
--- publication. Refused are the first operator, which asks for the policy too early, a stranger, and the author, who
--- would publish the policy without its geography.
+-- publication. Refused are the first operator, which requests the policy too early, an anonymous client, and the
+-- author, who would publish the policy without its geography.
 abbrev pub before_question : List Exchange
 before_question =
     square_put

@@ -1,11 +1,11 @@
 -- Identifiers, as values and as they are written.
 use Rattle.std.specs.Prelude.{ℕ, List, [], ◌∷◌, ◌++◌, codes}
 
--- sixteen bytes that differ in the last two
+-- an identifier: sixteen bytes, of which the last two are given
 abbrev pub id : ℕ → ℕ → List ℕ
 id a b = 0 ∷ 0 ∷ 0 ∷ 0 ∷ 0 ∷ 0 ∷ 64 ∷ 0 ∷ 128 ∷ 0 ∷ 0 ∷ 0 ∷ 0 ∷ 0 ∷ a ∷ b ∷ []
 
--- the same in hexadecimal digits with hyphens, of which the last three are given
+-- an identifier in hexadecimal digits with hyphens, of which the last three digits are given
 abbrev pub id_text : List ℕ → List ℕ
 id_text end = codes "00000000-0000-4000-8000-000000000" ++ end
 

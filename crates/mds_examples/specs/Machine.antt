@@ -18,11 +18,11 @@ use Rattle.mds_examples.specs.Vehicles.{in_the_square, one_row, two_rows}
 abbrev pub done : List ℕ → Reply
 done word = success (codes "{\"result\":\"" ++ word ++ codes "\"}")
 
--- the reply of a refusal
+-- the reply of a refusal, with this status and code
 abbrev pub error : ℕ → List ℕ → Reply
 error status code = record { status = status; body = codes "{\"error\":\"" ++ code ++ codes "\"}" }
 
--- the reply of compliance at a moment after so many publications, with these reports
+-- the reply to a compliance question at a moment after so many publications, with these reports
 abbrev pub compliance : List ℕ → List ℕ → List ℕ → Reply
 compliance at reports revision =
     success (codes "{\"at\":" ++ at ++ codes ",\"policies\":[" ++ reports ++ codes "],\"revision\":" ++ revision ++ codes ",\"version\":2}")
@@ -62,7 +62,7 @@ publish =
 abbrev pub after_publication : State
 after_publication = record start { publications = first_publication ∷ [] }
 
--- the policy as a draft again after its publication, and then withdrawn
+-- the policy is a draft again after its publication, and is then withdrawn
 abbrev pub again_drafted : State
 again_drafted = record after_publication { drafts = record { policies = insert empty cap_id cap; geographies = empty } }
 
@@ -72,7 +72,7 @@ withdraw_cap at = request at (codes "city") Post (codes "/publish") (codes "{\"w
 abbrev pub after_withdrawal : State
 after_withdrawal = record again_drafted { publications = then_withdrawn }
 
--- a vehicle in the square, with the end of its identifier
+-- a report of a vehicle in the square, with the end of its identifier
 abbrev pub report : ℕ → List ℕ → Request
 report at device = request at (codes "alfa") Post (codes "/fleet/events") (in_the_square device)
 
@@ -82,26 +82,26 @@ after_first_vehicle = record after_publication { fleets = one_row ∷ empty ∷ 
 abbrev pub after_second_vehicle : State
 after_second_vehicle = record after_publication { fleets = two_rows ∷ empty ∷ [] }
 
--- one more policy under another path
+-- the policy, put at the path of another identifier
 abbrev pub put_elsewhere : Request
 put_elsewhere = request 1000 (codes "city") Put (codes "/drafts/policies/" ++ id_text (codes "202")) cap_text
 
--- the policy without its geography
+-- a publish request for the policy without its geography
 abbrev pub publish_alone : Request
 publish_alone = request 1000 (codes "city") Post (codes "/publish") (codes "{\"policies\":[\"" ++ id_text (codes "201") ++ codes "\"]}")
 
 abbrev pub remove_first : Request
 remove_first = request 2500 (codes "alfa") Delete (codes "/fleet/vehicles/" ++ id_text (codes "401")) []
 
--- compliance at a moment, asked by who has this access token
+-- a compliance question at a moment, with this access token
 abbrev pub ask : ℕ → List ℕ → Request
 ask at token = request at token Get (codes "/compliance") []
 
--- what else is asked at 2500
+-- any other GET request, at 2500
 abbrev pub get : List ℕ → List ℕ → Request
 get token target = request 2500 token Get target []
 
--- the text of the operator's vehicles where the first is all
+-- the text of an operator's vehicles, where the first is all that there are
 abbrev pub first_vehicle_text : List ℕ
 first_vehicle_text =
     codes "{\"vehicles\":[{\"device_id\":\"" ++ id_text (codes "401")

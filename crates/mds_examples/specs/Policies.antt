@@ -33,7 +33,7 @@ cap_rule_tree =
     ∷ (codes "rule_type", text (codes "count"))
     ∷ []))
 
--- the same with its names in byte order
+-- the tree of the policy, with its names in byte order
 abbrev pub cap_tree : Json
 cap_tree =
     object (members_of ((codes "name", text (codes "cap"))
@@ -49,7 +49,7 @@ cap_served more =
     ++ id_text (codes "101") ++ codes "\"],\"maximum\":1,\"name\":\"cap\",\"rule_id\":\"" ++ id_text (codes "301")
     ++ codes "\",\"rule_type\":\"count\"}],\"start_date\":1000}"
 
--- the text of a policy with every member, in an order of its own
+-- the text of a policy with every member, and an unknown one, in an order of its own
 abbrev pub full_text : List ℕ
 full_text =
     codes "{\"rules\":[{\"days\":[\"fri\",\"sun\"],\"end_time\":\"05:00:30\",\"start_time\":\"22:15\",\"rule_units\":\"minutes\",\"inclusive_maximum\":false,\"inclusive_minimum\":true,\"maximum\":72,\"minimum\":3,\"propulsion_types\":[\"electric\",\"human\"],\"vehicle_types\":[\"scooter\"],\"states\":{\"on_trip\":[\"trip_start\",\"trip_end\"],\"available\":null},\"geographies\":[\""
@@ -57,7 +57,7 @@ full_text =
     ++ codes "\"}],\"prev_policies\":[\"" ++ id_text (codes "201") ++ codes "\"],\"provider_ids\":[\"" ++ id_text (codes "0b1")
     ++ codes "\",\"" ++ id_text (codes "0a1") ++ codes "\"],\"end_date\":2000,\"start_date\":1000,\"description\":\"d\",\"name\":\"n\",\"policy_id\":\"" ++ id_text (codes "202") ++ codes "\",\"currency\":\"USD\"}"
 
--- what is read of its rule
+-- the rule that is read from it
 abbrev pub full_rule : Rule
 full_rule =
     record {
@@ -74,7 +74,7 @@ full_rule =
       window = record { start = 80100; end = 18030; days = true ∷ false ∷ false ∷ false ∷ false ∷ true ∷ false ∷ [] };
     }
 
--- what is read of the policy beside its tree
+-- what is read of a policy, without its tree
 abbrev pub Read : Type 0
 Read = List ℕ × ℕ × Option ℕ × List (List ℕ) × List (List ℕ) × List Rule
 
@@ -147,7 +147,7 @@ rule id kind geography bounds =
       window = always;
     }
 
--- five vehicles in the square, and five in the wide area around it
+-- at most five vehicles in the square, and at most five in the wide area around it
 abbrev pub downtown : Rule
 downtown = rule first_rule_id Count square_id (at_most 5)
 
@@ -173,7 +173,7 @@ more_than n = record { minimum = Some n; maximum = None; inclusive_minimum = fal
 abbrev pub unbounded : Bounds
 unbounded = record { minimum = None; maximum = None; inclusive_minimum = true; inclusive_maximum = true }
 
--- a rule for some of the vehicles that the rule in the square is for
+-- the rule in the square, for vehicles in these states, of these types, and with these types of propulsion
 abbrev pub for_states : List States → Rule
 for_states states = record downtown { states = states }
 

@@ -13,14 +13,14 @@ configuration_text author limit zone =
     codes "{\"author\":\"" ++ author ++ codes "\",\"operators\":[{\"id\":\"" ++ id_text (codes "0a1") ++ codes "\",\"limit\":" ++ limit
     ++ codes ",\"token\":\"alfa\"},{\"id\":\"" ++ id_text (codes "0b1") ++ codes "\",\"limit\":2,\"token\":\"bravo\"}],\"zone\":\"" ++ zone ++ codes "\"}"
 
--- two operators, each with two vehicles at most
+-- two operators, each with at most two vehicles
 abbrev pub alfa : Operator
 alfa = record { id = first_operator; limit = 2; token = codes "alfa" }
 
 abbrev pub bravo : Operator
 bravo = record { id = second_operator; limit = 2; token = codes "bravo" }
 
--- these two, in UTC
+-- the configuration with these two operators, in UTC
 abbrev pub configuration : Configuration
 configuration =
     record {

@@ -7,7 +7,7 @@ use Rattle.mds_match.specs.Row.{Row}
 use Rattle.mds_examples.specs.Geographies.{east}
 use Rattle.mds_examples.specs.Ids.{id, id_text}
 
--- an electric scooter that is available after a trip
+-- a report of an electric scooter that is available after a trip
 abbrev pub report_of : List ℕ → Position → ℕ → Report
 report_of device position timestamp =
     record {
@@ -26,11 +26,11 @@ first_device = id 4 1
 abbrev pub second_device : List ℕ
 second_device = id 4 2
 
--- in the square
+-- a report of the first device, in the square
 abbrev pub first_report : ℕ → Report
 first_report timestamp = report_of first_device (east 5 5) timestamp
 
--- the same vehicle on a trip
+-- a report of the same vehicle on a trip
 abbrev pub busy_report : ℕ → Report
 busy_report timestamp = record (first_report timestamp) { state = codes "on_trip"; events = codes "trip_start" ∷ [] }
 
@@ -50,12 +50,12 @@ report_text device location =
     ++ codes "\",\"vehicle_type\":\"scooter\",\"propulsion_types\":[\"electric\"],\"vehicle_state\":\"available\",\"event_types\":[\"trip_end\"],\"timestamp\":2000,\"location\":"
     ++ location ++ codes "}"
 
--- the same in the square
+-- the text of a report in the square
 abbrev pub in_the_square : List ℕ → List ℕ
 in_the_square device = report_text device (codes "{\"lat\":5,\"lng\":5}")
 
--- the rows after one report at 2000: in the square, beside it in the wide area, in the square too, and
--- beside both
+-- rows after one report at 2000: the first device in the square; the second outside it, in the wide area; the second
+-- in the square; and the third outside both
 abbrev pub first_vehicle : Row
 first_vehicle = row_from (first_report 2000) 2000
 
@@ -68,7 +68,7 @@ second_inside = row_from (second_report 2000) 2000
 abbrev pub far_vehicle : Row
 far_vehicle = row_from (report_of third_device (east 25 5) 2000) 2000
 
--- a second vehicle in the square that came three days later
+-- a second vehicle in the square, which came almost three days later
 abbrev pub late_vehicle : Row
 late_vehicle = row_from (second_report 259000000) 259000000
 

@@ -9,7 +9,7 @@ use Rattle.mds_examples.specs.Ids.{id_text}
 abbrev pub verdict : List ℕ → Status → ℕ → Verdict
 verdict rule status measure = record { rule = rule; status = status; measure = measure; devices = [] }
 
--- the verdict on a rule that is violated, with the devices that it names
+-- the verdict on a rule that is violated, with the devices that it lists
 abbrev pub violated : List ℕ → ℕ → List (List ℕ) → Verdict
 violated rule measure devices = record { rule = rule; status = Violated; measure = measure; devices = devices }
 
@@ -22,11 +22,11 @@ entry_text devices measure rule status =
 abbrev pub report_text : List ℕ → List ℕ
 report_text entries = codes "{\"policy_id\":\"" ++ id_text (codes "201") ++ codes "\",\"rules\":[" ++ entries ++ codes "]}"
 
--- its rule is kept, with this measure
+-- the text of the report where the cap's rule is kept, with this measure
 abbrev pub kept_text : List ℕ → List ℕ
 kept_text measure = report_text (entry_text [] measure (codes "301") (codes "ok"))
 
--- its rule is violated by two vehicles
+-- the text of the report where the cap's rule is violated by two vehicles
 abbrev pub violated_text : List ℕ
 violated_text =
     report_text (entry_text (codes "\"devices\":[\"" ++ id_text (codes "401") ++ codes "\",\"" ++ id_text (codes "402") ++ codes "\"],") (codes "2") (codes "301") (codes "violated"))

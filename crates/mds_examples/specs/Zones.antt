@@ -10,7 +10,8 @@ use Rattle.mds_match.specs.declared.local.Local.{Local}
 abbrev pub local_in : List ℕ → ℕ → Result Local Fault
 local_in text moment = zone_of text >>= λ zone. Ok (local_of zone moment)
 
--- eight hours west of Greenwich, and seven from the second Sunday of March at 02:00 to the first of November at 02:00
+-- Pacific time: eight hours west of Greenwich, and seven from the second Sunday of March at 02:00 to the first of
+-- November at 02:00
 abbrev pub pacific_summer : DstText
 pacific_summer =
     record {
@@ -23,7 +24,8 @@ pacific_summer =
 abbrev pub pacific : TzText
 pacific = record { std_name = codes "PST"; std_seconds = neg_ℤ (pos 28800); dst = Some pacific_summer }
 
--- ten hours east of Greenwich, and eleven from the first Sunday of October at 02:00 to the first of April at 03:00
+-- Sydney time: ten hours east of Greenwich, and eleven from the first Sunday of October at 02:00 to the first of
+-- April at 03:00
 abbrev pub sydney_summer : DstText
 sydney_summer =
     record {

@@ -1,4 +1,4 @@
-//! What reports and removals make of an operator's rows.
+//! How reports and removals change an operator's rows.
 #![tactic(auto)]
 
 ghost use Rattle.std.specs.Prelude.{◌≡◌, [], ◌∷◌, Some, None, Ok, Err, codes};
@@ -22,7 +22,7 @@ pub fn accepted()
     ensures in_a_full_fleet { outcome two_rows 2 (first_report 2001) 2001 ≡ Ok Changed }
 {}
 
-/// A report from the future is refused before a stale one, and before one for which there is no room.
+/// A report from the future is refused as such, also where it is stale or there is no room for it.
 pub fn refused()
     ensures future { outcome one_row 2 (first_report 3000) 2999 ≡ Err Future }
     ensures future_and_stale { outcome one_row 2 (first_report 1000) 999 ≡ Err Future }
@@ -31,8 +31,8 @@ pub fn refused()
     ensures full { outcome two_rows 2 (third_report 2000) 2500 ≡ Err FleetFull }
 {}
 
-/// The beginning of a run stays while the state does, and another state begins a run of its own, also
-/// when it is one that was before.
+/// The beginning of a run stays while the state does, and another state begins a run of its own, also when the device
+/// was in it before.
 pub fn runs()
     ensures first { row_after None (first_report 2000) ≡ row_from (first_report 2000) 2000 }
     ensures same_state { row_after (Some first_vehicle) (first_report 5000) ≡ row_from (first_report 5000) 2000 }
@@ -49,7 +49,7 @@ pub fn histories()
     ensures future { row_by (accepted_reports 2 (arrival (first_report 3000) 2999 ∷ []) first_device) ≡ None }
 {}
 
-/// After a removal a device begins anew, with an earlier report too, and leaves its place until then.
+/// After a removal a device begins anew, with an earlier report too; until then there is room for another.
 pub fn removals()
     ensures removed { row_by (accepted_reports 2 (removal first_device ∷ arrival (first_report 2000) 2000 ∷ []) first_device) ≡ None }
     ensures anew { row_by (accepted_reports 2 (arrival (first_report 1999) 2500 ∷ removal first_device ∷ arrival (first_report 2000) 2000 ∷ []) first_device) ≡ Some (row_from (first_report 1999) 1999) }

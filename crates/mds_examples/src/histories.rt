@@ -1,5 +1,4 @@
-//! What a history of requests has drafted and published, what an operator sees of it, and what it is
-//! answered.
+//! Histories of requests: their replies, what is drafted and published after them, and what an operator sees of them.
 #![tactic(auto, unfolding(crate::specs::Computed::documents))]
 
 ghost use Rattle.std.specs.Prelude.{◌≡◌, [], ◌∷◌, Some, None, codes};
@@ -30,8 +29,8 @@ pub fn drafts()
     ensures publish_denied { draft_after configuration no_drafts (square_put ∷ cap_put ∷ denied publish ∷ []) Policy cap_id ≡ Some (policy cap) }
 {}
 
-/// The publication of a history, and what each operator sees: its own requests, refused ones too, and
-/// the publication among them; of a stranger's request and of a refused publication nothing.
+/// The publication of a history, and what each operator sees: its own requests, refused ones too, and the publication
+/// among them; nothing of an anonymous request and of a refused publication.
 pub fn views()
     ensures publications { publications_after configuration no_drafts history ≡ first_publication ∷ [] }
     ensures of_the_first { view configuration no_drafts history 0 ≡ asked (report 2000 (codes "401")) ∷ asked ask_for_cap ∷ published first_publication ∷ asked question ∷ [] }
@@ -45,7 +44,7 @@ pub fn withdrawal()
     ensures draft { draft_after configuration no_drafts withdrawn_again_drafted Policy cap_id ≡ Some (policy cap) }
 {}
 
-/// The first operator's question has the answer that its view before defines.
+/// The answer to the first operator's question is the one that its view before the question defines.
 pub fn meaning()
     ensures of_the_view { IsAnswer configuration alfa (view configuration no_drafts before_question 0) question answer }
 {}

@@ -1,6 +1,6 @@
-//! The definitions tried on worked examples. Each function's contract is an example, or a few of one
-//! kind, and each clause is named by what it shows; the check computes both sides, so a definition
-//! that gave anything else would be refused. The functions themselves do nothing.
+//! The definitions of the core tried on worked examples. Each function's contract is an example, or a few of one
+//! kind, and each clause is named by what it shows. The check computes both sides, so a definition that gave anything
+//! else would be refused. The functions themselves do nothing.
 #![tactic(auto)]
 
 pub mod books;

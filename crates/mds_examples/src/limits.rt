@@ -1,5 +1,5 @@
-//! The limits are numbers, by the crate in which each stands: a constant that is changed, or a definition of
-//! its own where no constant can be named, is refused here too.
+//! The limits as numbers, by the crate of each: a change of a constant, or of a definition where no constant can be
+//! named, is refused here too.
 #![tactic(auto)]
 
 ghost use Rattle.std.specs.Prelude.{◌≡◌};
@@ -15,9 +15,8 @@ ghost use Rattle.mds_text.specs.Fields.{most_bound};
 ghost use Rattle.mds_text.specs.Numbers.{most_bytes, most_exponent_digits, most_units};
 ghost use Rattle.mds_verdict.specs.declared.verdict.TheConstants.{MOST_DEVICES};
 
-/// A coordinate's text has at most 64 bytes and three digits of exponent, it lies within 180 degrees in units of
-/// 10^-7 degree, and a rule's bound is at most a thousand million. (How deep a text is read is tried at
-/// `texts::depth`.)
+/// A coordinate's text has at most 64 bytes and three digits of exponent, it is within 180 degrees in units of 10^-7
+/// degree, and a rule's bound is at most 1,000,000,000. (`texts::depth` tries how deep a text is read.)
 pub fn limits_of_texts()
     ensures coordinate { most_bytes ≡ 64 }
     ensures exponent { most_exponent_digits ≡ 3 }
@@ -25,7 +24,7 @@ pub fn limits_of_texts()
     ensures bound { most_bound ≡ 1000000000 }
 {}
 
-/// A position lies at most 180 degrees east or west and 90 degrees north or south.
+/// A position is at most 180 degrees east or west and 90 degrees north or south.
 pub fn limits_of_positions()
     ensures degree { units_of_degree ≡ 10000000 }
     ensures longitude { most_longitude ≡ 180 }
@@ -38,7 +37,7 @@ pub fn limits_of_documents()
     ensures rules { most_rules ≡ 64 }
 {}
 
-/// At most 512 policies and 512 geographies stand published, by at most 1,024 publications.
+/// At most 512 policies and 512 geographies are published, by at most 1,024 publications.
 pub fn limits_of_catalogues()
     ensures policies { MOST_POLICIES ≡ 512 }
     ensures geographies { MOST_GEOGRAPHIES ≡ 512 }
@@ -50,14 +49,14 @@ pub fn limits_of_drafts()
     ensures drafts { MOST_DRAFTS ≡ 256 }
 {}
 
-/// At most 64 operators ask, with access tokens of at most 64 bytes and bodies of at most a mebibyte.
+/// There are at most 64 operators, access tokens have at most 64 bytes and bodies at most a mebibyte.
 pub fn limits_of_requests()
     ensures operators { MOST_OPERATORS ≡ 64 }
     ensures token { MOST_TOKEN ≡ 64 }
     ensures body { MOST_BODY ≡ 1048576 }
 {}
 
-/// An operator holds at most 200,000 vehicles, of which a report names the first 100.
+/// An operator has at most 200,000 vehicles, of which a report lists the first 100.
 pub fn limits_of_fleets()
     ensures vehicles { MOST_VEHICLES ≡ 200000 }
     ensures devices { MOST_DEVICES ≡ 100 }

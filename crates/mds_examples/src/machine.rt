@@ -1,4 +1,4 @@
-//! What the machine answers, and what becomes of its state.
+//! The machine's replies, and its state after them.
 #![tactic(auto, unfolding(crate::specs::Computed::documents, crate::specs::Computed::places, crate::specs::Computed::zones))]
 
 ghost use Rattle.std.specs.Prelude.{◌≡◌, ◌++◌, [], codes};
@@ -12,12 +12,12 @@ ghost use Rattle.mds_examples.specs.Policies.{cap_served};
 ghost use Rattle.mds_examples.specs.Requests.{request};
 ghost use Rattle.mds_examples.specs.Verdicts.{kept_text, violated_text};
 
-/// A new machine tells of no policy and no publication.
+/// A new machine reports no policy and no publication.
 pub fn nothing_published()
     ensures answered { answered start (ask 2000 (codes "alfa")) ≡ (compliance (codes "2000") (codes "") (codes "0"), start) }
 {}
 
-/// The author puts a geography and a policy, and publishes both: they are drafts no more.
+/// The author puts a geography and a policy, and publishes both: then they are no drafts any more.
 pub fn publication()
     ensures geography { answered start put_square ≡ (done (codes "new"), after_square) }
     ensures policy { answered after_square put_cap ≡ (done (codes "new"), after_cap) }
@@ -45,8 +45,8 @@ pub fn withdrawal()
     ensures not_published { answered after_cap (withdraw_cap 3000) ≡ (error 409 (codes "not_published"), after_cap) }
 {}
 
-/// What was published is served to operators with its moment, a draft to the author without one, and
-/// an operator's vehicles to itself.
+/// A published document is served to operators with the moment of its publication, a draft to the author without one,
+/// and an operator's vehicles to that operator.
 pub fn served()
     ensures policy { (answered after_publication (get (codes "alfa") (codes "/policies/" ++ id_text (codes "201")))).0 ≡ success (codes "{\"policy\":" ++ cap_served (codes "\"published_date\":1000,") ++ codes ",\"revision\":1}") }
     ensures geographies { (answered after_publication (get (codes "alfa") (codes "/geographies"))).0 ≡ success (codes "{\"geographies\":[" ++ served_text (codes "square") (codes "[[[0,0],[10,0],[10,10],[0,10],[0,0]]]") (codes ",\"published_date\":1000") ++ codes "],\"revision\":1}") }

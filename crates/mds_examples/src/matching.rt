@@ -19,7 +19,7 @@ pub fn first_rule_alone()
     ensures of_second { caught two_rules 1 areas (first_vehicle ∷ second_vehicle ∷ far_vehicle ∷ []) (at 4 0 0 2) ≡ second_vehicle ∷ [] }
 {}
 
-/// A rule that is closed catches nobody, and leaves its vehicles to the rules behind it.
+/// A rule that is closed catches no vehicle, and leaves its vehicles to the rules after it.
 pub fn closed_rule()
     ensures thursday { first (with_rules (on_sundays downtown ∷ citywide ∷ [])) areas first_vehicle (at 4 0 0 2) ≡ Some 1 }
     ensures sunday { first (with_rules (on_sundays downtown ∷ citywide ∷ [])) areas first_vehicle (at 0 0 0 2) ≡ Some 0 }
@@ -35,8 +35,8 @@ pub fn states()
     ensures one_of_two { IsTrue (meets (for_states (state (codes "on_trip") [] ∷ state (codes "available") [] ∷ [])) areas first_vehicle (at 4 0 0 2)) }
 {}
 
-/// Where types are listed the vehicle's has to be among them. A rule in no geography, or in one that
-/// isn't known, is met by no vehicle.
+/// Where a rule lists types the vehicle's has to be among them. A rule in no geography, or in an unknown one, is met
+/// by no vehicle.
 pub fn types_and_geographies()
     ensures type_listed { IsTrue (meets (for_types (codes "car" ∷ codes "scooter" ∷ [])) areas first_vehicle (at 4 0 0 2)) }
     ensures other_types { ¬ IsTrue (meets (for_types (codes "car" ∷ codes "bicycle" ∷ [])) areas first_vehicle (at 4 0 0 2)) }

@@ -1,4 +1,4 @@
-//! Numbers of degrees: what a number's text is in units of 10^-7 degree, and how units are printed.
+//! Degrees: how a number's text is read as units of 10^-7 degree, and how units are printed.
 #![tactic(auto, unfolding(crate::specs::Computed::numbers))]
 
 ghost use Rattle.std.specs.Prelude.{◌≡◌, ◌++◌, replicate, codes, pos, neg_ℤ, Ok, Err};
@@ -6,8 +6,8 @@ ghost use Rattle.mds_text.specs.Fault.{out_of_range, bad_number};
 ghost use Rattle.mds_text.specs.Numbers.{units_of};
 ghost use Rattle.mds_text.specs.Printed.{printed_degrees};
 
-/// A coordinate with more decimals than are kept is rounded to the nearest unit, and half a unit
-/// away from zero, whichever its sign.
+/// A coordinate with more decimals than units have is rounded to the nearest unit, and half a unit
+/// away from zero, whatever its sign.
 pub fn rounding()
     ensures half_below_zero { units_of (codes "-118.24370005") ≡ Ok (neg_ℤ (pos 1182437001)) }
     ensures half_above_zero { units_of (codes "118.24370005") ≡ Ok (pos 1182437001) }
@@ -15,7 +15,7 @@ pub fn rounding()
     ensures half_of_one { units_of (codes "-0.00000005") ≡ Ok (neg_ℤ (pos 1)) }
 {}
 
-/// Exponents count, zero has no sign, and zeros behind the point change nothing.
+/// Exponents count, zero has no sign, and trailing zeros change nothing.
 pub fn spellings()
     ensures least { units_of (codes "1e-7") ≡ Ok (pos 1) }
     ensures raised { units_of (codes "1.5E+1") ≡ Ok (pos 150000000) }
@@ -23,7 +23,7 @@ pub fn spellings()
     ensures zeros { units_of (codes "1.50") ≡ Ok (pos 15000000) }
 {}
 
-/// 180 degrees in either direction is the end, and it is the rounded number that counts.
+/// The limit is 180 degrees in either direction, and it is the rounded number that counts.
 pub fn range()
     ensures end { units_of (codes "-180") ≡ Ok (neg_ℤ (pos 1800000000)) }
     ensures rounded_to_the_end { units_of (codes "180.00000004") ≡ Ok (pos 1800000000) }
@@ -39,7 +39,7 @@ pub fn lengths()
     ensures one_more { units_of (codes "0." ++ replicate 63 48) ≡ Err bad_number }
 {}
 
-/// What the grammar of numbers doesn't have is no number.
+/// A text that the grammar of numbers doesn't allow is no number.
 pub fn no_numbers()
     ensures zero_in_front { units_of (codes "01") ≡ Err bad_number }
     ensures plus_in_front { units_of (codes "+1") ≡ Err bad_number }
@@ -49,7 +49,7 @@ pub fn no_numbers()
     ensures nothing { units_of (codes "") ≡ Err bad_number }
 {}
 
-/// Units are printed as degrees, without zeros behind the last decimal that isn't one.
+/// Units are printed as degrees, without trailing zeros.
 pub fn printing()
     ensures all_decimals { printed_degrees (neg_ℤ (pos 1182437001)) ≡ codes "-118.2437001" }
     ensures one_unit { printed_degrees (pos 1) ≡ codes "0.0000001" }

@@ -16,8 +16,8 @@ pub fn between_the_rings()
     ensures in_the_hole { ¬ IsTrue (holds holed (east 5 5)) }
 {}
 
-/// What lies beside the square isn't held, whatever the eastward ray meets: both sides, the hole's
-/// too, a side along its whole length, or nothing.
+/// No position outside the square is held, whatever the eastward ray meets: both sides, the hole's too, a side along
+/// its whole length, or nothing.
 pub fn outside()
     ensures west_of_it { ¬ IsTrue (holds holed (west 5 2)) }
     ensures west_of_the_hole { ¬ IsTrue (holds holed (west 5 5)) }
@@ -37,7 +37,7 @@ pub fn vertices()
     ensures beside_the_bottom { ¬ IsTrue (holds diamond (east 2 0)) }
 {}
 
-/// The border counts, and one unit of 10^-7 degree beyond it doesn't.
+/// A position on the border is held, and one a unit of 10^-7 degree beyond it isn't.
 pub fn border()
     ensures east_side { IsTrue (holds square (record { lng = pos 100000000; lat = pos 50000000 })) }
     ensures beyond_the_east_side { ¬ IsTrue (holds square (record { lng = pos 100000001; lat = pos 50000000 })) }

@@ -1,5 +1,4 @@
-//! Documents of policies: what a text reads as, which of its faults is given, and how a policy is
-//! served.
+//! Policies: what is read of a text, which of its faults is reported, and how a policy is served.
 #![tactic(auto, unfolding(crate::specs::Computed::documents))]
 
 ghost use Rattle.std.specs.Prelude.{◌≡◌, [], ◌∷◌, ◌++◌, codes, Ok, Err, Some, None};
@@ -13,13 +12,13 @@ ghost use Rattle.mds_policy.specs.declared.rule.TimeUnit.TheVariants.{Hours};
 ghost use Rattle.mds_examples.specs.Ids.{square_id, first_rule_id};
 ghost use Rattle.mds_examples.specs.Policies.{cap, cap_text, full_text, full_policy, read_of, read_without_tree, cap_with, cap_served, in_the_square, with_rules, rule, below, more_than};
 
-/// The text of a policy reads as the policy that it says.
+/// A policy is read from its text.
 pub fn policy()
     ensures read { read_policy cap_text ≡ Ok cap }
 {}
 
-/// Every member is read into its own place; states stand in the order of their names, and null means all
-/// their events. A member that isn't known is read past.
+/// Every member is read into a field of its own; states come in the order of their names, and null means all their
+/// events. An unknown member is skipped.
 pub fn all_members()
     ensures read { read_without_tree full_text ≡ Ok full_policy }
 {}
@@ -29,13 +28,13 @@ pub fn nulls()
     ensures rule { read_without_tree (cap_with (in_the_square ++ codes ",\"maximum\":1,\"minimum\":null,\"states\":null,\"vehicle_types\":null,\"inclusive_maximum\":null,\"start_time\":null,\"end_time\":null,\"days\":null")) ≡ Ok (read_of cap) }
 {}
 
-/// A bound is included unless it is said not to be, each of the two by itself.
+/// A bound is included unless its own flag says otherwise.
 pub fn excluded_bounds()
     ensures minimum { read_without_tree (cap_with (in_the_square ++ codes ",\"minimum\":1,\"inclusive_minimum\":false")) ≡ Ok (read_of (with_rules (rule first_rule_id Count square_id (more_than 1) ∷ []))) }
     ensures maximum { read_without_tree (cap_with (in_the_square ++ codes ",\"maximum\":1,\"inclusive_maximum\":false")) ≡ Ok (read_of (with_rules (rule first_rule_id Count square_id (below 1) ∷ []))) }
 {}
 
-/// The same text with one fault.
+/// The text of a policy with one fault.
 pub fn faults_of_rules()
     ensures fraction { read_policy (cap_with (in_the_square ++ codes ",\"maximum\":1.5")) ≡ Err decimal }
     ensures great_bound { read_policy (cap_with (in_the_square ++ codes ",\"maximum\":1000000001")) ≡ Err out_of_range }
@@ -48,8 +47,7 @@ pub fn faults_of_rules()
     ensures nowhere { read_policy (cap_with (codes ",\"maximum\":1")) ≡ Err (bad_field Geographies) }
 {}
 
-/// Of several faults the first one in the order of the tables is given, wherever they stand in the
-/// text.
+/// Of several faults the first one in the order of the tables is reported, wherever they are in the text.
 pub fn first_fault_of_a_policy()
     ensures bound_before_days { read_policy (cap_with (in_the_square ++ codes ",\"days\":[\"sunday\"],\"maximum\":1000000001")) ≡ Err out_of_range }
     ensures geographies_before_bound { read_policy (cap_with (codes ",\"maximum\":1000000001")) ≡ Err (bad_field Geographies) }
@@ -66,8 +64,7 @@ pub fn served_policy()
     ensures published { printed (served cap (Some 1000)) ≡ cap_served (codes "\"published_date\":1000,") }
 {}
 
-/// The units count for rules on time alone, and a rule on time without one of the four is kept and
-/// not evaluated.
+/// Units count for rules on time alone. A rule on time without one of the four units is accepted and not evaluated.
 pub fn kinds()
     ensures time { kind_of (codes "time") (Some (codes "hours")) ≡ Time Hours }
     ensures weeks { kind_of (codes "time") (Some (codes "weeks")) ≡ Other }

@@ -7,8 +7,8 @@ ghost use Rattle.mds_examples.specs.Ids.{cap_id, next_id};
 ghost use Rattle.mds_examples.specs.Policies.{cap};
 ghost use Rattle.mds_examples.specs.Publications.{first_operator, second_operator, next_policy, publication, first_publication, withdrawal, then_withdrawn, then_next, alone, ids_of, ids_in_force};
 
-/// A policy is in force from its publication and its start on, whichever is later, until before its
-/// end, for the operators that it names or for all.
+/// A policy is in force from its publication and its start on, whichever is later, until just before its end, for the
+/// operators that it names or for all.
 pub fn alone_in_force()
     ensures from_start { ids_in_force (alone cap) first_operator 1000 ≡ cap_id ∷ [] }
     ensures before { ids_in_force (alone cap) first_operator 999 ≡ [] }
@@ -20,8 +20,8 @@ pub fn alone_in_force()
     ensures not_named { ids_in_force (alone (record cap { providers = second_operator ∷ [] })) first_operator 1000 ≡ [] }
 {}
 
-/// A policy that names operators is shown to these and to the author, and to no other operator; one that
-/// names nobody is shown to all.
+/// A policy that names operators is shown to these and to the author, and to no other operator; one that names none
+/// is shown to all.
 pub fn shown()
     ensures to_another { ids_of (policies_for (alone (record cap { providers = second_operator ∷ [] })) (Some first_operator)) ≡ [] }
     ensures to_the_named { ids_of (policies_for (alone (record cap { providers = second_operator ∷ [] })) (Some second_operator)) ≡ cap_id ∷ [] }
@@ -29,8 +29,8 @@ pub fn shown()
     ensures to_all { ids_of (policies_for (alone cap) (Some first_operator)) ≡ cap_id ∷ [] }
 {}
 
-/// A successor takes a policy's place from its own publication and start on. A moment before that
-/// brings the predecessor back.
+/// A successor supersedes a policy from its own publication and start on. At a moment before that the predecessor is
+/// in force.
 pub fn superseded()
     ensures before_start { ids_in_force (then_next (next_policy 86401000 None [])) first_operator 86400999 ≡ cap_id ∷ [] }
     ensures from_start { ids_in_force (then_next (next_policy 86401000 None [])) first_operator 86401000 ≡ next_id ∷ [] }
@@ -38,16 +38,15 @@ pub fn superseded()
     ensures from_publication { ids_in_force (then_next (next_policy 1500 None [])) first_operator 2000 ≡ next_id ∷ [] }
 {}
 
-/// A successor takes a policy's place also when it has ended itself, and when it is meant for another
-/// operator.
+/// A successor supersedes a policy also after its own end, and where it is meant for another operator.
 pub fn superseded_by_one_not_in_force()
     ensures ended { ids_in_force (then_next (next_policy 3000 (Some 4000) [])) first_operator 4000 ≡ [] }
     ensures for_another { ids_in_force (then_next (next_policy 3000 None (second_operator ∷ []))) first_operator 3000 ≡ [] }
     ensures for_this { ids_in_force (then_next (next_policy 3000 None (second_operator ∷ []))) second_operator 3000 ≡ next_id ∷ [] }
 {}
 
-/// A policy is out of force from the earliest moment on at which a publication withdraws it. It stays
-/// published, and goes on superseding.
+/// A policy is out of force from the earliest moment on at which a publication withdraws it. It stays published, and
+/// goes on superseding others.
 pub fn withdrawn()
     ensures before { ids_in_force then_withdrawn first_operator 2999 ≡ cap_id ∷ [] }
     ensures from_then_on { ids_in_force then_withdrawn first_operator 3000 ≡ [] }

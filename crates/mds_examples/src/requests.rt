@@ -1,4 +1,4 @@
-//! What a configuration reads as, and which call a request is.
+//! How a configuration is read, and which call a request is.
 #![tactic(auto, unfolding(crate::specs::Computed::documents, crate::specs::Computed::zones))]
 
 ghost use Rattle.std.specs.Prelude.{◌≡◌, ◌++◌, [], ◌∷◌, replicate, codes, Ok, Err};
@@ -15,8 +15,7 @@ ghost use Rattle.mds_request.specs.declared.request.Verb.TheVariants.{Get, Post,
 ghost use Rattle.mds_examples.specs.Ids.{id, id_text, cap_id};
 ghost use Rattle.mds_examples.specs.Requests.{configuration_text, configuration, alfa, bravo, request};
 
-/// The text of a configuration reads as what it says; its faults come in the order of its table, and
-/// what is alike is told last.
+/// A configuration is read from its text. Its faults come in the order of its table, and `alike` comes last.
 pub fn configurations()
     ensures read { read_configuration (configuration_text (codes "city") (codes "2") (codes "Z")) ≡ Ok configuration }
     ensures alike_tokens { read_configuration (configuration_text (codes "alfa") (codes "2") (codes "Z")) ≡ Err alike }
@@ -27,8 +26,8 @@ pub fn configurations()
     ensures no_token { read_configuration (configuration_text (codes "the city") (codes "0") (codes "Z")) ≡ Err (bad_field Author) }
 {}
 
-/// The refusals of a request come in this order: the size of its body, the token, the path, the method,
-/// who may ask, and the identifier.
+/// The refusals of a request come in this order: the size of its body, the token, the path, the method, the client's
+/// role, and the identifier.
 pub fn refusals()
     ensures size { call_of configuration (request 2000 (codes "nobody") Get (codes "/nowhere") (replicate 1048577 0)) ≡ Err TooLarge }
     ensures largest { call_of configuration (request 2000 (codes "nobody") Get (codes "/nowhere") (replicate 1048576 0)) ≡ Err Token }
@@ -39,8 +38,8 @@ pub fn refusals()
     ensures identifier { call_of configuration (request 2000 (codes "alfa") Get (codes "/compliance/x") []) ≡ Err BadId }
 {}
 
-/// A path goes to the question mark; a segment that is an identifier isn't empty, and its case and its
-/// hyphens don't matter.
+/// A path ends at the question mark; a segment that is an identifier isn't empty, and its letter case and its hyphens
+/// don't matter.
 pub fn paths()
     ensures query { call_of configuration (request 2000 (codes "alfa") Get (codes "/compliance?at=5") []) ≡ Ok (call.Operator 0 Compliance) }
     ensures identifier { call_of configuration (request 2000 (codes "alfa") Get (codes "/compliance/" ++ id_text (codes "201")) []) ≡ Ok (call.Operator 0 (PolicyCompliance cap_id)) }

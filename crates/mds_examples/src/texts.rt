@@ -1,5 +1,5 @@
-//! Texts of JSON values: which numbers of a text are quoted before it is read, what it reads as, and
-//! how a value is printed.
+//! Texts of JSON values: which numbers of a text are quoted before it is read, what is read of it, and how a value is
+//! printed.
 #![tactic(auto, unfolding(crate::specs::Computed::texts))]
 
 ghost use Rattle.std.specs.Prelude.{◌≡◌, ◌∷◌, ◌++◌, [], true, replicate, codes, pos, neg_ℤ, Ok, Err};
@@ -10,7 +10,7 @@ ghost use Rattle.mds_text.specs.Reading.{read_text};
 ghost use Rattle.mds_text.specs.Tree.{null, boolean, int, text, degrees, list, object, no_items, no_members, items_of, members_of};
 ghost use Rattle.mds_examples.specs.Values.{nested};
 
-/// A number that isn't plain is put between quotation marks, and the digits of a string stay.
+/// A number that isn't plain is put between quotation marks, and the digits within a string stay.
 pub fn quoting()
     ensures numbers { quoted_text (codes "{\"a\":-0,\"b\":[1.50,12]}") ≡ codes "{\"a\":\"-0\",\"b\":[\"1.50\",12]}" }
     ensures count { quoted_count (codes "{\"a\":-0,\"b\":[1.50,12]}") ≡ 2 }
@@ -20,14 +20,14 @@ pub fn quoting()
     ensures signs { quoted_text (codes "[-5,1e5,2E-1]") ≡ codes "[-5,\"1e5\",\"2E-1\"]" }
 {}
 
-/// What is no number stays as it is, and the text is refused.
+/// A token that is no number stays as it is, and the text is refused.
 pub fn no_numbers()
     ensures stays { quoted_text (codes "[01]") ≡ codes "[01]" }
     ensures count { quoted_count (codes "[01]") ≡ 0 }
     ensures refused { read_text (codes "[01]") ≡ Err bad_json }
 {}
 
-/// The members of an object stand in the order of their names, and the last of equal names is kept.
+/// The members of an object come in the order of their names, and the last of equal names counts.
 pub fn members()
     ensures order { read_text (codes "{\"b\":1,\"a\":2,\"b\":3}") ≡ Ok (object (members_of ((codes "a", int (pos 2)) ∷ (codes "b", int (pos 3)) ∷ []))) }
 {}
@@ -38,7 +38,7 @@ pub fn depth()
     ensures too_deep { read_text (replicate 128 91 ++ replicate 128 93) ≡ Err bad_json }
 {}
 
-/// A text is in UTF-8, and its escapes stand for what they say.
+/// A text is one whole value in UTF-8, and its escapes are decoded.
 pub fn strings()
     ensures escapes { read_text (codes "\"\\u00e9\\n\\/\"") ≡ Ok (text (195 ∷ 169 ∷ 10 ∷ 47 ∷ [])) }
     ensures no_utf8 { read_text (34 ∷ 255 ∷ 34 ∷ []) ≡ Err bad_json }
@@ -46,8 +46,8 @@ pub fn strings()
     ensures two_values { read_text (codes "1 2") ≡ Err bad_json }
 {}
 
-/// A value is printed without spaces. Five of the bytes below 32 are escaped by a letter, the others by
-/// their number, and all from 32 on but two stand as they are.
+/// A value is printed without spaces. Five of the bytes below 32 are escaped by a letter and the others by their
+/// number. All bytes from 32 on are printed as they are, but for `"` and `\`, which are escaped.
 pub fn printing()
     ensures escapes { printed (text (34 ∷ 92 ∷ 8 ∷ 9 ∷ 10 ∷ 12 ∷ 13 ∷ 31 ∷ 127 ∷ 195 ∷ 169 ∷ [])) ≡ codes "\"\\\"\\\\\\b\\t\\n\\f\\r\\u001f" ++ 127 ∷ 195 ∷ 169 ∷ 34 ∷ [] }
     ensures values { printed (object (members_of ((codes "a", list (items_of (null ∷ boolean true ∷ int (neg_ℤ (pos 5)) ∷ degrees (pos 15000000) ∷ []))) ∷ (codes "b", list no_items) ∷ (codes "c", object no_members) ∷ []))) ≡ codes "{\"a\":[null,true,-5,1.5],\"b\":[],\"c\":{}}" }

@@ -7,7 +7,7 @@ ghost use Rattle.mds_match.specs.Examples.{at};
 ghost use Rattle.mds_match.specs.Zone.{zone_of, local_of, ruled};
 ghost use Rattle.mds_examples.specs.Zones.{local_in, pacific, sydney};
 
-/// The epoch was on a Thursday at midnight; a second lasts to its last millisecond.
+/// The Unix epoch was a Thursday at midnight; a second lasts to its last millisecond.
 pub fn epoch()
     ensures midnight { local_in (codes "Z") 0 ≡ Ok (at 4 0 0 0) }
     ensures last_millisecond { local_in (codes "Z") 86399999 ≡ Ok (at 4 23 59 59) }
@@ -35,8 +35,9 @@ pub fn daylight_saving()
     ensures second_time { local_of (ruled pacific) 1699174800000 ≡ at 0 1 0 0 }
 {}
 
-/// In the south daylight saving time is in force over the end of the year: on 1 January 2023 at
-/// midnight in UTC it is Sunday 11:00:00 in Sydney, and on 1 July Saturday 10:00:00.
+/// In the southern hemisphere daylight saving time is in force over the end of the year: on 1
+/// January 2023 at midnight in UTC it is Sunday 11:00:00 in Sydney, and on 1 July Saturday
+/// 10:00:00.
 pub fn southern_summer()
     ensures read { zone_of (codes "AEST-10AEDT,M10.1.0,M4.1.0/3") ≡ Ok (ruled sydney) }
     ensures january { local_of (ruled sydney) 1672531200000 ≡ at 0 11 0 0 }

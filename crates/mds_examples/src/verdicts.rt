@@ -19,9 +19,9 @@ pub fn counts()
     ensures both { verdicts two_rules areas (first_vehicle ∷ second_vehicle ∷ []) (at 4 0 0 2) 2000 ≡ verdict first_rule_id Ok 1 ∷ verdict second_rule_id Ok 1 ∷ [] }
 {}
 
-/// A count at its maximum is kept, above it violated, and at a bound that isn't included violated;
-/// none are fewer than a minimum of one. The devices of a rule that is violated are those that it
-/// counts, in their order.
+/// A rule is kept at its maximum, violated above it, and violated at a bound that isn't included; no vehicle is too
+/// few for a minimum of one. The devices of a violated rule are those that it counts, in their order, and of more
+/// than 100 the first 100.
 pub fn bounds()
     ensures maximum { verdicts cap areas (first_vehicle ∷ []) (at 4 0 0 2) 2000 ≡ verdict first_rule_id Ok 1 ∷ [] }
     ensures above { verdicts cap areas (first_vehicle ∷ second_inside ∷ []) (at 4 0 0 2) 2000 ≡ violated first_rule_id 2 (first_device ∷ second_device ∷ []) ∷ [] }
@@ -31,21 +31,20 @@ pub fn bounds()
     ensures most_devices { listed Violated (replicate 100 first_vehicle ++ second_inside ∷ []) ≡ replicate 100 first_device }
 {}
 
-/// A rule of another type isn't evaluated, open or not, and catches nobody, so the rule behind it does.
+/// A rule of another type isn't evaluated, open or not, and catches no vehicle, so the rule after it does.
 pub fn other_type()
     ensures closed { verdicts (with_rules (on_sundays (rule second_rule_id Other square_id (at_most 15)) ∷ [])) areas (first_vehicle ∷ []) (at 4 0 0 2) 2000 ≡ verdict second_rule_id NotEvaluated 0 ∷ [] }
     ensures behind { verdicts (with_rules (rule second_rule_id Other square_id (at_most 15) ∷ rule first_rule_id Count square_id (at_most 1) ∷ [])) areas (first_vehicle ∷ []) (at 4 0 0 2) 2000 ≡ verdict second_rule_id NotEvaluated 0 ∷ verdict first_rule_id Ok 1 ∷ [] }
 {}
 
-/// A rule that is closed is inactive, and isn't judged by its minimum; the rule behind it catches its
-/// vehicles.
+/// A rule that is closed is inactive, whatever its minimum; the rule after it catches its vehicles.
 pub fn closed()
     ensures minimum { verdicts (with_rules (on_sundays (rule first_rule_id Count square_id (at_least 1)) ∷ [])) areas [] (at 4 0 0 2) 2000 ≡ verdict first_rule_id Inactive 0 ∷ [] }
     ensures behind { verdicts (with_rules (on_sundays (rule first_rule_id Count square_id (at_least 1)) ∷ citywide ∷ [])) areas (first_vehicle ∷ []) (at 4 0 0 2) 2000 ≡ verdict first_rule_id Inactive 0 ∷ verdict second_rule_id Ok 1 ∷ [] }
 {}
 
-/// Three days are within a maximum of 72 hours, and a millisecond more isn't. The measure is the
-/// number of vehicles for which the time is outside the bounds, and these are the devices.
+/// Three days are within a maximum of 72 hours, and a millisecond more isn't. The measure is the number of vehicles
+/// whose time is outside the bounds, and these are the devices.
 pub fn hours()
     ensures three_days { verdicts (with_rules (rule first_rule_id (Time Hours) square_id (at_most 72) ∷ [])) areas (first_vehicle ∷ []) (at 0 0 0 2) 259202000 ≡ verdict first_rule_id Ok 0 ∷ [] }
     ensures longer { verdicts (with_rules (rule first_rule_id (Time Hours) square_id (at_most 72) ∷ [])) areas (first_vehicle ∷ late_vehicle ∷ []) (at 0 0 0 2) 259202001 ≡ violated first_rule_id 1 (first_device ∷ []) ∷ [] }
@@ -54,7 +53,7 @@ pub fn hours()
     ensures before { dwell first_vehicle 1999 ≡ 0 }
 {}
 
-/// The report on a policy names the devices of a violated rule, also where there are none.
+/// The report on a policy lists the devices of a violated rule, also where there are none.
 pub fn report()
     ensures text { printed (reported cap (verdict first_rule_id NotEvaluated 0 ∷ verdict second_rule_id Inactive 0 ∷ violated first_rule_id 0 [] ∷ [])) ≡ report_text (entry_text [] (codes "0") (codes "301") (codes "not_evaluated") ++ codes "," ++ entry_text [] (codes "0") (codes "302") (codes "inactive") ++ codes "," ++ entry_text (codes "\"devices\":[],") (codes "0") (codes "301") (codes "violated")) }
 {}

@@ -1,4 +1,4 @@
-//! A city of two operators, where a policy is published, met, broken and withdrawn.
+//! A city of two operators, where a policy is published, kept, violated and withdrawn.
 use crate::Exchange;
 
 /// Two operators, alfa and bravo, each with two vehicles at most; the author is city.
@@ -18,7 +18,7 @@ pub const CAP: &str = concat!(
     r#""geographies":["00000000-0000-4000-8000-000000000101"],"maximum":1}]}"#,
 );
 
-/// Nothing is published.
+/// No policy is published.
 pub const NO_POLICIES: Exchange = Exchange {
     at: 900,
     token: "city",
@@ -29,7 +29,7 @@ pub const NO_POLICIES: Exchange = Exchange {
     reply: r#"{"policies":[],"revision":0}"#,
 };
 
-/// Nothing is published, for an operator too.
+/// No geography is published either, for an operator.
 pub const NO_GEOGRAPHIES: Exchange = Exchange {
     at: 900,
     token: "alfa",
@@ -40,7 +40,7 @@ pub const NO_GEOGRAPHIES: Exchange = Exchange {
     reply: r#"{"geographies":[],"revision":0}"#,
 };
 
-/// Alfa asks before anything is published.
+/// Alfa asks for compliance before anything is published.
 pub const NOTHING_FOR_ALFA: Exchange = Exchange {
     at: 2000,
     token: "alfa",
@@ -51,7 +51,7 @@ pub const NOTHING_FOR_ALFA: Exchange = Exchange {
     reply: r#"{"at":2000,"policies":[],"revision":0,"version":2}"#,
 };
 
-/// Bravo asks before anything is published.
+/// Bravo asks for compliance before anything is published.
 pub const NOTHING_FOR_BRAVO: Exchange = Exchange {
     at: 2000,
     token: "bravo",
@@ -164,7 +164,7 @@ pub const NONE_FOR_BRAVO: Exchange = Exchange {
     ),
 };
 
-/// Bravo asks long afterwards, and has no vehicle.
+/// Bravo asks for compliance long afterwards, and has no vehicle.
 pub const FAR: Exchange = Exchange {
     at: 4000000000000,
     token: "bravo",
@@ -220,7 +220,7 @@ pub const REPORT_SECOND: Exchange = Exchange {
     reply: r#"{"result":"new"}"#,
 };
 
-/// Two vehicles are over the cap, and are named.
+/// Two vehicles are over the cap, and are listed.
 pub const EXCEEDED: Exchange = Exchange {
     at: 2001,
     token: "alfa",
@@ -295,7 +295,7 @@ pub const DRAFTS: &[Exchange] = &[PUT_SQUARE, PUT_CAP];
 /// Both drafts are put and published.
 pub const SET_UP: &[Exchange] = &[PUT_SQUARE, PUT_CAP, PUBLISH];
 
-/// After `SET_UP`, alfa's requests: it keeps within the cap and then crosses it.
+/// After `SET_UP`, alfa's requests: its first vehicle is within the cap, its second exceeds it.
 pub const CROSSED: &[Exchange] = &[REPORT_FIRST, WITHIN, REPORT_SECOND, EXCEEDED];
 
 /// A whole history, from nothing published to the withdrawal.

@@ -1,5 +1,5 @@
-//! Exchanges of a city with two operators: requests, and the replies that they are given. Tests ask them of the machine, of desks and
-//! of halls. The replies are worked out by hand from the protocol.
+//! Fixtures: exchanges of a city with two operators, requests with replies worked out by hand from the protocol.
+//! Tests send them to the machine, to desks and to halls.
 #![tactic(auto)]
 
 mod city;
@@ -16,7 +16,7 @@ pub use city::{
 pub struct Exchange {
     /// The moment of the request, in milliseconds since the Unix epoch.
     pub at: i64,
-    /// The access token that it carries.
+    /// The access token of the request.
     pub token: &'static str,
     /// The name of the method, in capitals.
     pub method: &'static str,

@@ -1,12 +1,12 @@
--- What is published, as files: documents of MDS 2.0 as the server tells them, and features of GeoJSON (RFC 7946). A number that was read as
--- the text of its characters is written as a number again.
+-- What is published, as files: documents of MDS 2.0 as the server answers with them, and features of GeoJSON (RFC
+-- 7946). A number that was read as the text of its characters is written as a number again.
 use Rattle.std.specs.Prelude.{ℕ, List, [], ◌∷◌, ◌++◌, Bool, true, false, if◌then◌else◌, Option, Some, None, option_and_then, codes}
 use Rattle.mds_text.specs.Printed.{printed, quoted, comma_if}
 use Rattle.mds_text.specs.Quoting.{is_quoted}
 use Rattle.mds_text.specs.Tree.{Json, null, boolean, int, text, degrees, list, object, Items, no_items, item, Members, no_members, member}
 use Rattle.mds_import.specs.Members.{named, list_named, or_none}
 
--- a text that reads as a number that isn't plain stands as that number
+-- a text that reads as a number that isn't plain is written as that number
 abbrev pub bare_text : List ℕ → List ℕ
 bare_text s = if is_quoted s then s else quoted s
 
@@ -29,12 +29,12 @@ abbrev mutual
   bare_members later no_members = []
   bare_members later (member name t ms) = comma_if later ++ quoted name ++ 58 ∷ [] ++ bare t ++ bare_members true ms
 
--- a value where it is there, and null else
+-- a value where it is there, or else null
 abbrev pub or_null : (Json → List ℕ) → Option Json → List ℕ
 or_null shown None = codes "null"
 or_null shown (Some value) = shown value
 
--- a geography as the server tells it, its shape with numbers
+-- a geography as the server answers with it, its shape with numbers
 unfoldable pub geography_text : Json → List ℕ
 geography_text g =
     codes "{\"description\":" ++ or_null printed (named (codes "description") g) ++ codes ",\"geography_id\":" ++ or_null printed (named (codes "geography_id") g)
@@ -51,7 +51,7 @@ shape_of g =
     option_and_then (named (codes "geometry"))
     (option_and_then (λ shape. first_of (or_none (list_named (codes "features") shape))) (named (codes "geography_json") g))
 
--- a geography as a feature
+-- a geography as a feature of GeoJSON
 unfoldable pub feature_text : Json → List ℕ
 feature_text g =
     codes "{\"geometry\":" ++ or_null bare (shape_of g) ++ codes ",\"id\":" ++ or_null printed (named (codes "geography_id") g)
@@ -59,12 +59,12 @@ feature_text g =
     ++ codes ",\"geography_id\":" ++ or_null printed (named (codes "geography_id") g)
     ++ codes ",\"name\":" ++ or_null printed (named (codes "name") g) ++ codes "},\"type\":\"Feature\"}"
 
--- texts of values with commas between
+-- the texts of values, with commas between them
 abbrev pub joined : (Json → List ℕ) → Bool → List Json → List ℕ
 joined shown later [] = []
 joined shown later (t ∷ ts) = comma_if later ++ shown t ++ joined shown true ts
 
--- the three files: front, what is listed, and end
+-- the three files: beginning, entries, and end
 abbrev pub policies_file : List Json → List ℕ
 policies_file ts = codes "{\"version\":\"2.0.0\",\"data\":{\"policies\":[" ++ joined printed false ts ++ codes "]}}\n"
 

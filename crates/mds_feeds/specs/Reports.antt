@@ -15,23 +15,23 @@ use Rattle.mds_feeds.specs.declared.report.Meant as program_meant
 use Rattle.mds_feeds.specs.declared.report.Meant.TheVariants as meant
 use Rattle.mds_feeds.specs.declared.report.Place as program_place
 
--- a report that is sent, a vehicle that is taken away, or the member for which nothing is sent
+-- a report that is sent, a vehicle that is removed from the fleet, or the member for which nothing is sent
 pub data Meant : Type 0 where
   present : (body : List ℕ) → Meant
   gone : (device : List ℕ) → Meant
   faulty : (member : List ℕ) → Meant
 
--- where a vehicle was seen, in degrees as they are written: its latitude and its longitude
+-- a vehicle's position, in degrees as they are written: its latitude and its longitude
 pub record Place : Type 0 where
   pub lat : List ℕ
   pub lng : List ℕ
 
--- what a vehicle is: its type between quotation marks, and the text of the list of its propulsion types
+-- a vehicle's type as the text of a JSON string, and the text of the list of its propulsion types
 pub record Make : Type 0 where
   pub kind : List ℕ
   pub propulsion : List ℕ
 
--- what a vehicle does: its state between quotation marks, the text of the list of its events, and that of their moment
+-- a vehicle's state as the text of a JSON string, the text of the list of its events' types, and that of their moment
 pub record Deed : Type 0 where
   pub state : List ℕ
   pub events : List ℕ
@@ -54,11 +54,11 @@ abbrev pub report_text : List ℕ → Place → Make → Deed → List ℕ
 report_text device place make deed =
     device_text device ++ deed_text deed ++ place_text place ++ make_text make ++ codes "}"
 
--- the states of a vehicle that isn't on the street (MDS 2.0, vehicle states): it is taken away
+-- the states of a vehicle that isn't on the street (MDS 2.0, vehicle states): it is removed from the fleet
 abbrev pub is_away : List ℕ → Bool
 is_away state = bytes_eq state (codes "removed") || bytes_eq state (codes "missing") || bytes_eq state (codes "elsewhere")
 
--- the text of a list, empty where there is none
+-- the text of a list; of an empty one where there is none
 abbrev pub list_text : Option Json → List ℕ
 list_text None = codes "[]"
 list_text (Some value) = printed value
@@ -76,14 +76,14 @@ abbrev pub or_other : {A : Type 0} → Option A → Option A → Option A
 or_other None other = other
 or_other (Some a) other = Some a
 
--- MDS: where an event was, or else the last telemetry
+-- MDS: the position of an event, or else that of the last telemetry
 abbrev pub located : Json → Option Place
 located value = option_and_then (place_at (codes "lat") (codes "lng")) (named (codes "location") value)
 
 abbrev pub mds_place : Json → Json → Option Place
 mds_place status event = or_other (located event) (option_and_then located (named (codes "last_telemetry") status))
 
--- MDS: what a vehicle is, by its entry among the vehicles
+-- MDS: a vehicle's type and propulsion, by its entry among the vehicles
 abbrev pub mds_make : Json → Option Make
 mds_make vehicle =
     option_map (λ kind. record { kind = quoted kind; propulsion = list_text (named (codes "propulsion_types") vehicle) }) (text_named (codes "vehicle_type") vehicle)
@@ -92,14 +92,14 @@ abbrev pub mds_deed : List ℕ → Json → Option Deed
 mds_deed state event =
     option_map (λ moment. record { state = quoted state; events = list_text (named (codes "event_types") event); moment = printed moment }) (named (codes "timestamp") event)
 
--- a report of what is known, or the first member that is missing
+-- a report of the parts of a vehicle, or the first member that is missing
 abbrev pub told : List ℕ → List ℕ → Option Place → Option Make → Option Deed → Meant
 told device where_named None make deed = faulty where_named
 told device where_named (Some place) None deed = faulty (codes "vehicle_type")
 told device where_named (Some place) (Some make) None = faulty (codes "timestamp")
 told device where_named (Some place) (Some make) (Some deed) = present (report_text device place make deed)
 
--- MDS: a status whose vehicle's entry is known, in a state
+-- MDS: a vehicle in a state, by its status, its last event and its own entry
 abbrev pub mds_in_state : List ℕ → List ℕ → Json → Json → Json → Meant
 mds_in_state device state status event vehicle =
     if is_away state then gone device else told device (codes "location") (mds_place status event) (mds_make vehicle) (mds_deed state event)
@@ -133,18 +133,18 @@ instant_of (text s) = millis_in s
 instant_of (int z) = millis_at z
 instant_of value = None
 
--- GBFS: a member that is true
+-- GBFS: whether a member is there and true
 abbrev pub is_true : Option Json → Bool
 is_true (Some (boolean b)) = b
 is_true value = false
 
--- GBFS: a vehicle is out of order, or reserved, or available
+-- GBFS: the state of a vehicle: out of order, reserved or available
 abbrev pub gbfs_state : Json → List ℕ
 gbfs_state vehicle =
     if is_true (named (codes "is_disabled") vehicle) then codes "non_operational"
     else (if is_true (named (codes "is_reserved") vehicle) then codes "reserved" else codes "available")
 
--- GBFS: what a vehicle is, by its type's entry
+-- GBFS: a vehicle's type and propulsion, by the entry of its type
 abbrev pub one_text : Option Json → List ℕ
 one_text None = codes "[]"
 one_text (Some value) = codes "[" ++ printed value ++ codes "]"
@@ -157,7 +157,7 @@ gbfs_make (Some type) =
 abbrev pub gbfs_deed : Json → Option ℤ → Option Deed
 gbfs_deed vehicle moment = option_map (λ at. record { state = quoted (gbfs_state vehicle); events = codes "[]"; moment = signed_decimal at }) moment
 
--- GBFS: a vehicle at a moment, whose device is known by the identifier that its `vehicle_id` gives
+-- GBFS: a vehicle at a moment; its device is the identifier derived from its `vehicle_id`
 abbrev pub gbfs_with : Option (List ℕ) → Json → Option Json → Option ℤ → Meant
 gbfs_with None vehicle type moment = faulty (codes "vehicle_id")
 gbfs_with (Some name) vehicle type moment =

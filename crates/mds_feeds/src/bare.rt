@@ -1,4 +1,4 @@
-//! Values whose numbers were read as the texts of their characters, written as they were.
+//! Prints values whose numbers were read as the texts of their characters, with these as numbers again.
 ghost use Rattle.std.specs.Prelude.{◌≡◌, false, [], ◌∷◌, ◌++◌, IfOk, OnOk, map, option_map};
 ghost use Rattle.mds_text.specs.Tree.{items_of, members_of};
 ghost use Rattle.mds_text.specs.View.{view, member_view};
@@ -8,14 +8,14 @@ ghost use Rattle.mds_feeds.specs.Published.{bare, bare_text, bare_items, bare_me
 use mds_text::{Member, Tree, is_quoted, print_tree, text_tree};
 use std::alloc::{AllocError, Global};
 
-/// A text between quotation marks.
+/// The text of a JSON string.
 pub(crate) fn quoted(alloc: Global, text: &str) -> Result<Vec<u8>, AllocError>
     ensures { IfOk result (λ v. v.items ≡ quoted text.now) }
 {
     print_tree(alloc, &text_tree(alloc, text)?)
 }
 
-/// Adds a text between quotation marks.
+/// Appends the text of a JSON string.
 fn push_quoted(out: &mut Vec<u8>, text: &str) -> Result<(), AllocError>
     ensures { OnOk result (out.new.items ≡ out.old.items ++ quoted text.now) }
 {
@@ -23,7 +23,7 @@ fn push_quoted(out: &mut Vec<u8>, text: &str) -> Result<(), AllocError>
     out.extend_from_slice(&text)
 }
 
-/// A text, or the number that it reads as where that isn't plain.
+/// Appends a JSON string, or the number that the text reads as where that isn't plain.
 fn push_text(out: &mut Vec<u8>, text: &str) -> Result<(), AllocError>
     ensures { OnOk result (out.new.items ≡ out.old.items ++ bare_text text.now) }
 {
@@ -34,7 +34,7 @@ fn push_text(out: &mut Vec<u8>, text: &str) -> Result<(), AllocError>
     }
 }
 
-/// A value as it is printed.
+/// Appends a value as it is printed, such numbers as strings.
 pub(crate) fn push_printed(out: &mut Vec<u8>, value: &Tree) -> Result<(), AllocError>
     ensures { OnOk result (out.new.items ≡ out.old.items ++ printed (view value.now)) }
 {
@@ -42,7 +42,7 @@ pub(crate) fn push_printed(out: &mut Vec<u8>, value: &Tree) -> Result<(), AllocE
     out.extend_from_slice(&text)
 }
 
-/// A value with its numbers.
+/// Appends a value, such numbers as numbers.
 #[cycle(push_bare)]
 fn push_bare(out: &mut Vec<u8>, value: &Tree) -> Result<(), AllocError>
     ensures { OnOk result (out.new.items ≡ out.old.items ++ bare (view value.now)) }
@@ -91,7 +91,7 @@ fn push_bare_object(out: &mut Vec<u8>, members: &[Member]) -> Result<(), AllocEr
     Ok(())
 }
 
-/// The text of a value with its numbers.
+/// Prints a value, such numbers as numbers.
 pub(crate) fn print_bare(alloc: Global, value: &Tree) -> Result<Vec<u8>, AllocError>
     ensures { IfOk result (λ v. v.items ≡ bare (view value.now)) }
 {
@@ -100,7 +100,7 @@ pub(crate) fn print_bare(alloc: Global, value: &Tree) -> Result<Vec<u8>, AllocEr
     Ok(text)
 }
 
-/// A value as it is printed, or null.
+/// Appends a value as it is printed, or null.
 fn push_or_null(out: &mut Vec<u8>, value: Option<&Tree>) -> Result<(), AllocError>
     ensures { OnOk result (out.new.items ≡ out.old.items ++ or_null printed (option_map (λ t. view t.now) value.entry)) }
 {
@@ -110,7 +110,7 @@ fn push_or_null(out: &mut Vec<u8>, value: Option<&Tree>) -> Result<(), AllocErro
     }
 }
 
-/// A value with its numbers, or null.
+/// Appends a value, such numbers as numbers, or null.
 fn push_bare_or_null(out: &mut Vec<u8>, value: Option<&Tree>) -> Result<(), AllocError>
     ensures { OnOk result (out.new.items ≡ out.old.items ++ or_null bare (option_map (λ t. view t.now) value.entry)) }
 {
@@ -120,7 +120,7 @@ fn push_bare_or_null(out: &mut Vec<u8>, value: Option<&Tree>) -> Result<(), Allo
     }
 }
 
-/// What stands before a value, and the value as it is printed, or null.
+/// Appends these bytes, and a value as it is printed, or null.
 pub(crate) fn push_member(
     out: &mut Vec<u8>,
     before: &[u8],
@@ -132,7 +132,7 @@ pub(crate) fn push_member(
     push_or_null(out, value)
 }
 
-/// What stands before a value, and the value with its numbers, or null.
+/// Appends these bytes, and a value, such numbers as numbers, or null.
 pub(crate) fn push_bare_member(
     out: &mut Vec<u8>,
     before: &[u8],

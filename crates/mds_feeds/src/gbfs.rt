@@ -1,4 +1,4 @@
-//! Vehicles of GBFS 3.
+//! Vehicles of GBFS 3 as reports.
 ghost use Rattle.std.specs.Prelude.{◌≡◌, IfOk, option_map};
 ghost use Rattle.mds_text.specs.View.{view};
 ghost use Rattle.mds_feeds.specs.Reports.{millis_in, millis_at, instant_of, is_true, gbfs_state, one_text, gbfs_make, gbfs_deed, gbfs_with, gbfs_meant, make_view, deed_view, meant_view};
@@ -10,10 +10,10 @@ use mds_import::{id_of_name, named, text_named};
 use mds_text::{Tree, print_tree};
 use std::alloc::{AllocError, Global};
 
-/// Behind the last second that has ten digits.
+/// The first number of seconds with more than ten digits.
 const END_OF_SECONDS: i64 = 10_000_000_000;
 
-/// The moment that a text is.
+/// Reads a moment of RFC 3339, in milliseconds since the Unix epoch.
 fn millis_in(text: &str) -> Option<i64>
     ensures { result ≡ millis_in text.now }
 {
@@ -23,7 +23,7 @@ fn millis_in(text: &str) -> Option<i64>
     }
 }
 
-/// The moment so many seconds behind the Unix epoch.
+/// A moment in seconds since the Unix epoch, in milliseconds; `None` where it isn't a count of at most ten digits.
 fn millis_at(seconds: i64) -> Option<i64>
     ensures { result ≡ millis_at seconds }
 {
@@ -34,8 +34,8 @@ fn millis_at(seconds: i64) -> Option<i64>
     }
 }
 
-/// The moment that a value of a feed is, in milliseconds of the Unix epoch: a text is one of RFC 3339, and a whole number of
-/// at most ten digits one in seconds (GBFS before version 3); `None` for any other value.
+/// The moment that a value of a feed is, in milliseconds since the Unix epoch: a text is one of RFC 3339, and a whole
+/// number of at most ten digits one in seconds (GBFS before version 3); `None` for any other value.
 pub fn instant_of(value: &Tree) -> Option<i64>
     ensures { result ≡ instant_of (view value.now) }
 {
@@ -46,7 +46,7 @@ pub fn instant_of(value: &Tree) -> Option<i64>
     }
 }
 
-/// Whether a member is true.
+/// Whether a member is there and true.
 fn is_true(value: Option<&Tree>) -> bool
     ensures { result ≡ is_true (option_map (λ t. view t.now) value.entry) }
 {
@@ -56,7 +56,7 @@ fn is_true(value: Option<&Tree>) -> bool
     }
 }
 
-/// A vehicle's state.
+/// A vehicle's state: out of order, reserved or available.
 fn gbfs_state(vehicle: &Tree) -> &'static str
     ensures { result.now ≡ gbfs_state (view vehicle.now) }
 {
@@ -69,7 +69,7 @@ fn gbfs_state(vehicle: &Tree) -> &'static str
     }
 }
 
-/// The text of the list of one value, or of none.
+/// The text of a list of one value, or of an empty list.
 fn one_text(alloc: Global, value: Option<&Tree>) -> Result<Vec<u8>, AllocError>
     ensures { IfOk result (λ v. v.items ≡ one_text (option_map (λ t. view t.now) value.entry)) }
 {
@@ -84,7 +84,7 @@ fn one_text(alloc: Global, value: Option<&Tree>) -> Result<Vec<u8>, AllocError>
     Ok(text)
 }
 
-/// What a vehicle is, by its type's entry.
+/// A vehicle's type and propulsion, by the entry of its type.
 fn gbfs_make(alloc: Global, kind: Option<&Tree>) -> Result<Option<Make>, AllocError>
     ensures { IfOk result (λ m. option_map make_view m ≡ gbfs_make (option_map (λ t. view t.now) kind.entry)) }
 {
@@ -100,7 +100,7 @@ fn gbfs_make(alloc: Global, kind: Option<&Tree>) -> Result<Option<Make>, AllocEr
     }
 }
 
-/// What a vehicle does at this moment.
+/// A vehicle's state at this moment.
 fn gbfs_deed(alloc: Global, vehicle: &Tree, moment: Option<i64>) -> Result<Option<Deed>, AllocError>
     ensures { IfOk result (λ d. option_map deed_view d ≡ gbfs_deed (view vehicle.now) moment) }
 {
@@ -115,9 +115,9 @@ fn gbfs_deed(alloc: Global, vehicle: &Tree, moment: Option<i64>) -> Result<Optio
     }))
 }
 
-/// What a vehicle (GBFS 3, vehicle_status.json) becomes at the moment at which it was last reported, with the entry of its
-/// type (vehicle_types.json): a report, or the member for which nothing is sent. Its device is the identifier that its
-/// `vehicle_id` alone gives (RFC 9562, section 5.5).
+/// What a vehicle (GBFS 3, vehicle_status.json) becomes at the moment at which it was last reported, with the entry of
+/// its type (vehicle_types.json): a report, or the member for which nothing is sent. Its device is the identifier
+/// derived from its `vehicle_id` alone (RFC 9562, section 5.5).
 pub fn gbfs_meant(
     alloc: Global,
     vehicle: &Tree,

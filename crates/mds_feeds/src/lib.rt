@@ -1,4 +1,5 @@
-//! Vehicles of feeds as reports: MDS 2.0 vehicle status, and GBFS 3 vehicle status.
+//! Vehicles of MDS or GBFS as reports, removals or faults, and what is published as files of MDS
+//! and GeoJSON.
 #![tactic(auto)]
 
 mod bare;

@@ -1,4 +1,4 @@
-//! Vehicles of MDS 2.0.
+//! Vehicles of MDS 2.0 as reports and removals.
 ghost use Rattle.std.specs.Prelude.{◌≡◌, IfOk, codes, option_map, option_and_then};
 ghost use Rattle.mds_text.specs.View.{view};
 ghost use Rattle.mds_import.specs.Members.{named};
@@ -17,7 +17,7 @@ fn is_away(state: &str) -> bool
     state == "removed" || state == "missing" || state == "elsewhere"
 }
 
-/// The place of an event or of telemetry.
+/// The position of an event or of telemetry.
 fn located(alloc: Global, value: &Tree) -> Result<Option<Place>, AllocError>
     ensures { IfOk result (λ p. option_map place_view p ≡ located (view value.now)) }
 {
@@ -27,7 +27,7 @@ fn located(alloc: Global, value: &Tree) -> Result<Option<Place>, AllocError>
     }
 }
 
-/// Where the last telemetry was.
+/// The position of the last telemetry.
 fn last_seen(alloc: Global, status: &Tree) -> Result<Option<Place>, AllocError>
     ensures { IfOk result (λ p. option_map place_view p ≡ option_and_then located (named (codes "last_telemetry") (view status.now))) }
 {
@@ -37,7 +37,7 @@ fn last_seen(alloc: Global, status: &Tree) -> Result<Option<Place>, AllocError>
     }
 }
 
-/// Where a vehicle was at its last event, or else at its last telemetry.
+/// A vehicle's position: that of its last event, or else that of its last telemetry.
 fn mds_place(alloc: Global, status: &Tree, event: &Tree) -> Result<Option<Place>, AllocError>
     ensures { IfOk result (λ p. option_map place_view p ≡ mds_place (view status.now) (view event.now)) }
 {
@@ -47,7 +47,7 @@ fn mds_place(alloc: Global, status: &Tree, event: &Tree) -> Result<Option<Place>
     }
 }
 
-/// What a vehicle is, by its entry among the vehicles.
+/// A vehicle's type and propulsion, by its entry among the vehicles.
 fn mds_make(alloc: Global, vehicle: &Tree) -> Result<Option<Make>, AllocError>
     ensures { IfOk result (λ m. option_map make_view m ≡ mds_make (view vehicle.now)) }
 {
@@ -60,7 +60,7 @@ fn mds_make(alloc: Global, vehicle: &Tree) -> Result<Option<Make>, AllocError>
     }
 }
 
-/// What a vehicle does in this state, by its last event.
+/// A vehicle's state, and the types and the moment of its last event.
 fn mds_deed(alloc: Global, state: &str, event: &Tree) -> Result<Option<Deed>, AllocError>
     ensures { IfOk result (λ d. option_map deed_view d ≡ mds_deed state.now (view event.now)) }
 {
@@ -74,7 +74,7 @@ fn mds_deed(alloc: Global, state: &str, event: &Tree) -> Result<Option<Deed>, Al
     }
 }
 
-/// A vehicle's status with its last event and the vehicle's own entry.
+/// A vehicle's status, with its last event and with the vehicle's own entry.
 #[derive(Clone, Copy)]
 struct Seen<'t> {
     status: &'t Tree,
@@ -98,9 +98,9 @@ fn in_state(alloc: Global, device: Id, state: &str, seen: &Seen<'_>) -> Result<M
     told(alloc, "location", &known)
 }
 
-/// What a vehicle's status (MDS 2.0, vehicle status) becomes, with the vehicle's own entry, which says its type: a report by
-/// its last event, at the event's place or else that of the last telemetry; or that it is taken away, in the states `removed`,
-/// `missing` and `elsewhere`; or the member for which nothing is sent.
+/// What a vehicle's status (MDS 2.0, vehicle status) becomes, with the vehicle's own entry, which has its type: a
+/// report by its last event, at the event's position or else that of the last telemetry; or a removal, in the states
+/// `removed`, `missing` and `elsewhere`; or the member for which nothing is sent.
 pub fn mds_meant(alloc: Global, status: &Tree, vehicle: &Tree) -> Result<Meant, AllocError>
     ensures { IfOk result (λ m. meant_view m ≡ mds_meant (view status.now) (view vehicle.now)) }
 {

@@ -1,4 +1,4 @@
-//! What is published, as files.
+//! What is published, as files of MDS 2.0 and GeoJSON.
 ghost use Rattle.std.specs.Prelude.{◌≡◌, ◌++◌, false, IfOk, OnOk, codes, map, option_map};
 ghost use Rattle.mds_text.specs.View.{view};
 ghost use Rattle.mds_text.specs.Printed.{printed};
@@ -10,7 +10,7 @@ use mds_import::{list_named, named};
 use mds_text::Tree;
 use std::alloc::{AllocError, Global};
 
-/// A geography as the server tells it.
+/// A geography as the server answers with it, its shape with numbers.
 #[tactic(auto, unfolding(crate::specs::Published::geography_text))]
 fn geography_text(alloc: Global, geography: &Tree) -> Result<Vec<u8>, AllocError>
     ensures { IfOk result (λ v. v.items ≡ geography_text (view geography.now)) }
@@ -41,7 +41,7 @@ fn geography_text(alloc: Global, geography: &Tree) -> Result<Vec<u8>, AllocError
     Ok(text)
 }
 
-/// The first of the features of a shape.
+/// The first feature of a FeatureCollection.
 fn first_feature(shape: &Tree) -> Option<&Tree>
     ensures { option_map (λ t. view t.now) result ≡ first_of (or_none (list_named (codes "features") (view shape.now))) }
 {
@@ -64,7 +64,7 @@ fn shape_of(geography: &Tree) -> Option<&Tree>
     }
 }
 
-/// A geography as a feature.
+/// A geography as a feature of GeoJSON.
 #[tactic(auto, unfolding(crate::specs::Published::feature_text))]
 fn feature_text(alloc: Global, geography: &Tree) -> Result<Vec<u8>, AllocError>
     ensures { IfOk result (λ v. v.items ≡ feature_text (view geography.now)) }

@@ -1,4 +1,4 @@
-//! The text of a report.
+//! Reports as text.
 ghost use Rattle.std.specs.Prelude.{◌≡◌, ◌++◌, IfOk, OnOk, option_map};
 ghost use Rattle.mds_text.specs.View.{view};
 ghost use Rattle.mds_feeds.specs.Reports.{device_text, place_text, make_text, deed_text, report_text, list_text, place_with, place_at, told, meant_view, place_view, make_view, deed_view};
@@ -8,45 +8,45 @@ use mds_import::named;
 use mds_text::{Id, Tree, print_tree};
 use std::alloc::{AllocError, Global};
 
-/// What a vehicle of a feed becomes.
+/// What a vehicle of a feed becomes: a report, a removal or a fault.
 #[derive(Drop)]
 pub enum Meant {
-    /// A report, by its text.
+    /// The text of a report.
     Present(Vec<u8>),
-    /// A vehicle that isn't on the street: it is taken away.
+    /// A vehicle that isn't on the street, and is removed from the fleet.
     Gone(Id),
     /// The member for which nothing is sent.
     Faulty(&'static str),
 }
 
-/// Where a vehicle was seen, in degrees as they are written.
+/// A vehicle's position, in degrees as they are written.
 #[derive(Drop)]
 pub(crate) struct Place {
     pub lat: Vec<u8>,
     pub lng: Vec<u8>,
 }
 
-/// What a vehicle is.
+/// A vehicle's type and propulsion.
 #[derive(Drop)]
 pub(crate) struct Make {
-    /// Its type, between quotation marks.
+    /// Its type, as the text of a JSON string.
     pub kind: Vec<u8>,
     /// The text of the list of its propulsion types.
     pub propulsion: Vec<u8>,
 }
 
-/// What a vehicle does.
+/// A vehicle's state, with the types and the moment of its events.
 #[derive(Drop)]
 pub(crate) struct Deed {
-    /// Its state, between quotation marks.
+    /// Its state, as the text of a JSON string.
     pub state: Vec<u8>,
-    /// The text of the list of its events.
+    /// The text of the list of its events' types.
     pub events: Vec<u8>,
-    /// Their moment.
+    /// The text of their moment.
     pub moment: Vec<u8>,
 }
 
-/// The text of a list, empty where there is none.
+/// The text of a list; of an empty one where there is none.
 pub(crate) fn list_text(alloc: Global, value: Option<&Tree>) -> Result<Vec<u8>, AllocError>
     ensures { IfOk result (λ v. v.items ≡ list_text (option_map (λ t. view t.now) value.entry)) }
 {
@@ -85,7 +85,7 @@ pub(crate) fn place_at(
     place_with(alloc, named(value, lat), named(value, lng))
 }
 
-/// What a vehicle does, as members of a report.
+/// A vehicle's events, moment and state, as members of a report.
 #[tactic(auto, unfolding(crate::specs::Reports::deed_text))]
 fn deed_text(alloc: Global, deed: &Deed) -> Result<Vec<u8>, AllocError>
     ensures { IfOk result (λ v. v.items ≡ deed_text (deed_view deed.now)) }
@@ -100,7 +100,7 @@ fn deed_text(alloc: Global, deed: &Deed) -> Result<Vec<u8>, AllocError>
     Ok(text)
 }
 
-/// Where a vehicle was seen, as a member of a report.
+/// A vehicle's position, as a member of a report.
 #[tactic(auto, unfolding(crate::specs::Reports::place_text))]
 fn place_text(alloc: Global, place: &Place) -> Result<Vec<u8>, AllocError>
     ensures { IfOk result (λ v. v.items ≡ place_text (place_view place.now)) }
@@ -114,7 +114,7 @@ fn place_text(alloc: Global, place: &Place) -> Result<Vec<u8>, AllocError>
     Ok(text)
 }
 
-/// What a vehicle is, as members of a report.
+/// A vehicle's propulsion and type, as members of a report.
 #[tactic(auto, unfolding(crate::specs::Reports::make_text))]
 fn make_text(alloc: Global, make: &Make) -> Result<Vec<u8>, AllocError>
     ensures { IfOk result (λ v. v.items ≡ make_text (make_view make.now)) }
@@ -127,7 +127,7 @@ fn make_text(alloc: Global, make: &Make) -> Result<Vec<u8>, AllocError>
     Ok(text)
 }
 
-/// The front of a report, which names its vehicle.
+/// The beginning of a report, with its device.
 #[tactic(auto, unfolding(crate::specs::Reports::device_text))]
 fn device_text(alloc: Global, device: Id) -> Result<Vec<u8>, AllocError>
     ensures { IfOk result (λ v. v.items ≡ device_text device) }
@@ -158,7 +158,7 @@ fn report_text(
     Ok(text)
 }
 
-/// What is known of a vehicle, where it may be missing.
+/// What a feed has of a vehicle: each part may be missing.
 #[derive(Drop)]
 pub(crate) struct Known {
     pub device: Id,
@@ -167,7 +167,7 @@ pub(crate) struct Known {
     pub deed: Option<Deed>,
 }
 
-/// A report of what is known, or the first member that is missing.
+/// A report of the parts of a vehicle, or the first member that is missing.
 pub(crate) fn told(
     alloc: Global,
     where_named: &'static str,

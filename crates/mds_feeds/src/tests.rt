@@ -1,4 +1,4 @@
-//! Vehicles of feeds, and what is published.
+//! Tests of vehicles of feeds, and of files of what is published.
 use crate::{
     Meant, features_file, gbfs_meant, geographies_file, instant_of, mds_meant, policies_file,
 };

@@ -1,4 +1,4 @@
--- Rows that reports and removals lead to are told by the list of these alone.
+-- The rows that reports and removals result in follow from the list of these alone.
 use Rattle.std.proofs.Common.{◌≡◌, ◌≢◌, ℕ, ◌<◌, ◌≤◌, nat_lt, cond, ◌&&◌, ◌||◌, ◌↔◌, List, [], ◌∷◌, Bool, true, false, Option, Some, None, Result, Ok, Err, refl, sym, ap, subst, ◌∙◌, arith}
 use Rattle.std.specs.Prelude.{bytes_eq, nat_le, filter}
 use Rattle.std.specs.Ordering.{eq_by_cmp}
@@ -26,7 +26,7 @@ use Rattle.mds_fleet.proofs.Determined.{can_be, less, not_less}
 use Rattle.mds_fleet.proofs.Rows.{device_total, device_exact, is_true, rising_keys}
 use Rattle.mds_fleet.proofs.Taking.{tie_false}
 
--- ---- devices are told apart in one way
+-- ---- one comparison of devices
 
 same_test : (a b : List ℕ) → eq_by_cmp device_cmp a b ≡ bytes_eq a b
 same_test a b = by (bytes_eq a b) refl
@@ -100,7 +100,7 @@ module _ (limit : ℕ) (report : Report) (moment held : ℕ) where
   by_room h [] e = ap (λ b. b && nat_lt held limit) (le _ _ h)
   by_room h (last ∷ earlier) e = absurd (false≢true (sym (ap is_some e)))
 
--- ---- how many devices are held
+-- ---- how many devices have rows
 
 held_tail : (b : Bool) (reports : List Report) → is_held (cond b [] reports) ≡ true → is_held reports ≡ true
 held_tail true reports h = absurd (false≢true h)
@@ -214,7 +214,7 @@ after_removal limit before old agrees removed rows is q =
     by true = refl
     by false = refl
 
--- ---- an outcome isn't want of memory
+-- ---- an outcome isn't out of memory
 
 abbrev is_memory : Result Taken BookFault → Bool
 is_memory (Ok result) = false
@@ -254,7 +254,7 @@ agrees_all limit (event ∷ before) rows h = next_agrees limit event before h.0 
 pub follows_history : (limit : ℕ) (events : List Event) (rows : Rows) (device : List ℕ) → Leads limit events rows → get rows device ≡ row_by (accepted_reports limit events device)
 follows_history limit events rows device h = agrees_all limit events rows h device
 
--- a list leads to one thing
+-- a list results in one set of rows
 one_end : (limit : ℕ) (events : List Event) (rows others : Rows) → Leads limit events rows → Leads limit events others → rows ≡ others
 one_end limit events rows others h k = same_map device_total device_exact rows others (λ q. agrees_all limit events rows h q ∙ sym (agrees_all limit events others k q))
 
@@ -264,13 +264,13 @@ leads_on limit before event rows after h = (
   λ follows. (rows, h, follows),
 )
 
--- ---- there are such rows
+-- ---- every list results in rows
 
 -- what a report makes of the rows, by its outcome
 pub follows_report : (limit : ℕ) (report : Report) (moment : ℕ) (rows : Rows) → Follows limit (arrival report moment) rows (rows_after rows report (outcome rows limit report moment))
 follows_report limit report moment rows = refl
 
--- the removal of a device that isn't held leaves the rows
+-- the removal of a device without a row changes nothing
 pub follows_absent : (limit : ℕ) (device : List ℕ) (rows : Rows) → get rows device ≡ None → Follows limit (removal device) rows rows
 follows_absent limit device rows absent = same_map device_total device_exact rows (remove rows device) (λ q. by q (bytes_eq q device) refl ∙ sym (after_remove rows device q))
   where

@@ -8,13 +8,13 @@ use Rattle.mds_fleet.specs.declared.book.BookFault.{BookFault}
 use Rattle.mds_fleet.specs.declared.book.BookFault.TheVariants.{Future, Stale, FleetFull, NoMemory}
 use Rattle.mds_fleet.specs.Books.{Report, Rows, reported, row_from, run_start}
 
--- a report of a device that isn't held, with room for it
+-- a report of a device without a row, below the limit
 pub record IsNew (rows : Rows) (limit : ℕ) (report : Report) (moment : ℕ) : Type 0 where
   pub past : report.timestamp ≤ moment
   pub absent : get rows report.device ≡ None
   pub room : len rows < limit
 
--- a report of a device that is held, and that isn't older than what is held
+-- a report of a device with a row, and not older than that row
 pub record IsHeld (rows : Rows) (report : Report) (moment : ℕ) (row : Row) : Type 0 where
   pub past : report.timestamp ≤ moment
   pub held : get rows report.device ≡ Some row

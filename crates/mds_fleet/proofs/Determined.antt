@@ -1,4 +1,4 @@
--- What the functions of the outcome and of the rows after it say, case by case.
+-- The outcome and the rows after it, case by case.
 use Rattle.std.proofs.Common.{◌≡◌, ◌≢◌, ℕ, ◌<◌, ◌≤◌, nat_lt, cond, ◌&&◌, Bool, true, false, Option, Some, None, Result, Ok, Err, inl, inr, refl, sym, ap, subst, ◌∙◌, arith}
 use Rattle.std.specs.Bool.{Decides}
 use Rattle.std.specs.FinMap.{get, insert, len}
@@ -72,15 +72,15 @@ module _ (rows : Rows) (limit : ℕ) (report : Report) (moment : ℕ) where
     h.3,
   )
 
-  -- a case that isn't want of memory is what taking the report comes to
+  -- a case that isn't out of memory is an outcome of `Take`
   pub take_of_case : (result : Result Taken BookFault) (after : Rows) → Case rows limit report moment result after → result ≢ Err NoMemory → Take rows limit report moment result after
   take_of_case result after h real = let d = case_determined result after h real in (inl d.0, d.1)
 
-  -- where memory doesn't run out, taking a report comes to what the functions say
+  -- where memory doesn't run out, taking a report does what the functions say
   pub determined : (result : Result Taken BookFault) (after : Rows) → Take rows limit report moment result after → result ≢ Err NoMemory → (result ≡ outcome rows limit report moment) × (after ≡ rows_after rows report result)
   determined result after h real = (elim h.0 [ inl is ↦ is | inr none ↦ absurd (real none.0) ], h.1)
 
-  -- an outcome that is the function's can be
+  -- an outcome that the function gives is possible
   abbrev Can : Result Taken BookFault → Type 0
   Can result = Case rows limit report moment result (rows_after rows report result)
 
@@ -112,7 +112,7 @@ module _ (rows : Rows) (limit : ℕ) (report : Report) (moment : ℕ) where
     | inr is_past ↦ by_held is_past (get rows report.device) refl
   ]
 
--- the outcome of a report of a device that is held so
+-- the outcome of a report of a device with this row
 module _ (row : Row) (held limit : ℕ) (report : Report) where
   abbrev unless_stale : Bool → Result Taken BookFault
   unless_stale b = cond b (Err Stale) (cond (is_same (reported row) report) (Ok Same) (Ok Changed))

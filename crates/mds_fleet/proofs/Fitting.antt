@@ -1,4 +1,4 @@
--- What is kept of vehicles is as right for others with the same rows.
+-- An index that is right for vehicles is right for others with the same rows.
 use Rattle.std.proofs.Common.{◌≡◌, ℕ, Bool, true, false, cond, List, [], ◌∷◌, get_or, Option, Some, None, refl, sym, ap, subst, ◌∙◌}
 use Rattle.std.specs.declared.alloc.Global.{Global}
 use Rattle.std.specs.declared.boxed.Box.{Box}
@@ -23,7 +23,7 @@ use Rattle.mds_fleet.specs.Books.{device_cmp}
 use Rattle.mds_fleet.specs.Fleet.{Fits, Fleet, Vehicles, rows_of}
 use Rattle.mds_fleet.proofs.Rows.{Updates, device_exact, get_row, held_row, keys_rows}
 
--- where one device has another vehicle or none, the others have theirs
+-- where one device gets another vehicle or loses its own, the others keep theirs
 pub others_same : (old new : Vehicles) (device : List ℕ) (held : Option (Box Vehicle Global)) → Updates old device held new → (other : List ℕ) → (other ≡ device → ⊥) → tree.get device_cmp new other ≡ tree.get device_cmp old other
 others_same old new device held updates other away = updates other ∙ by other away (is_at (device_cmp device) other) refl
   where
@@ -54,7 +54,7 @@ keys_without test (e ∷ es) = by (test e.0) (keys_without test es)
     by true h = refl
     by false h = ap (λ (ks : List (List ℕ)). e.0 ∷ ks) h
 
--- a device came, with its vehicle
+-- a device came
 pub arrived_one : (old new : Vehicles) (device : List ℕ) (vehicle : Box Vehicle Global) → Updates old device (Some vehicle) new → new.entries ≡ insert_entry device_cmp old.entries device vehicle → HasArrived device old new
 arrived_one old new device vehicle updates entries = (ap keys_of entries ∙ keys_with old.entries device vehicle, others_same old new device (Some vehicle) updates)
 
@@ -93,7 +93,7 @@ module _ (old new : Vehicles) (old_ordered : IsOrdered device_cmp old) (new_orde
         }) listed.columns.items is.columns;
       }) fits
 
--- what is kept right for the vehicles of a book is right for the book
+-- an index that is right for the vehicles of a book is right for the book
 pub fits_book : (published : Published) (vehicles : Vehicles) (fleet : Fleet) → IsOrdered device_cmp vehicles → rows_of vehicles ≡ fleet.rows → kept.Fits published vehicles fleet.kept → Fits published fleet
 fits_book published vehicles fleet ordered are fits others rises same =
     same_fit vehicles others ordered rises (are ∙ sym same) published fleet.kept fits

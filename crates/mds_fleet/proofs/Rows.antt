@@ -84,7 +84,7 @@ sorted_entries (e ∷ es) rise = both _ _ (below e.0 es rise.0) (sorted_entries 
     below k [] h = tt
     below k (e ∷ es) h = both _ _ (subst (λ r. T (is_lt r)) (sym h.0) tt) (below k es h.1)
 
--- ---- what is held of a device
+-- ---- the row of a device
 
 abbrev pub held_row : Option (Box Vehicle Global) → Option Row
 held_row held = option_map (λ v. row_of v.value) held
@@ -101,7 +101,7 @@ find_row (e ∷ es) device =
 pub get_row : (vehicles : Vehicles) (device : List ℕ) → finite.get (rows_of vehicles) device ≡ held_row (tree.get device_cmp vehicles device)
 get_row vehicles device = get-from_entries device_total (map entry vehicles.entries) device ∙ find_row vehicles.entries device
 
--- new has this vehicle of the device, or none of it, and of each other device what old has
+-- `new` has this vehicle for the device, or none for it, and for each other device what `old` has
 abbrev pub Updates : Vehicles → List ℕ → Option (Box Vehicle Global) → Vehicles → Type 0
 Updates old device held new =
     (other : List ℕ) → tree.get device_cmp new other ≡ cond (is_at (device_cmp device) other) held (tree.get device_cmp old other)
@@ -118,9 +118,9 @@ module _ (old new : Vehicles) (device : List ℕ) where
   pub removed_row : Updates old device None new → rows_of new ≡ finite.remove (rows_of old) device
   removed_row updates = same_map device_total device_exact _ _ (λ other. get_updated None updates other ∙ sym (get-remove device_total (rows_of old) device other))
 
--- ---- all that is held
+-- ---- all rows
 
--- the vehicle stands under its own id
+-- the vehicle's own id is its key
 abbrev IsOwn : List ℕ × Box Vehicle Global → Type 0
 IsOwn e = e.1.value.device ≡ e.0
 
@@ -145,13 +145,13 @@ module _ (vehicles : Vehicles) (ordered : IsOrdered device_cmp vehicles) where
   pub keys_rows : finite.keys (rows_of vehicles) ≡ tree.keys vehicles
   keys_rows = ap (map (λ e. e.0)) entries_rows ∙ map_map entry (λ e. e.0) vehicles.entries
 
-  -- where each stands under its own id, these are the keys
+  -- where each vehicle has its own id as its key, the ids of the vehicles are the keys
   pub own_keys : ((device : List ℕ) → IfSome (tree.get device_cmp vehicles device) (λ v. v.value.device ≡ device)) → map (λ b. b.value.device) (tree.values vehicles) ≡ tree.keys vehicles
   own_keys own =
       map_map (λ e. e.1) (λ b. b.value.device) vehicles.entries
       ∙ same_devices vehicles.entries (All-weaker (λ e. tree.get device_cmp vehicles e.0 ≡ Some e.1) IsOwn (λ e found. subst (λ (held : Option (Box Vehicle Global)). IfSome held (λ v. v.value.device ≡ e.0)) found (own e.0)) vehicles.entries (All-found device_total vehicles ordered))
 
--- ---- what is left of the limit and of the ids
+-- ---- the limit and the ids after a change
 
 own_kept : (old new : Vehicles) (device : List ℕ) (held : Option (Box Vehicle Global)) → Updates old device held new → IfSome held (λ v. v.value.device ≡ device) → ((other : List ℕ) → IfSome (tree.get device_cmp old other) (λ v. v.value.device ≡ other)) → (other : List ℕ) → IfSome (tree.get device_cmp new other) (λ v. v.value.device ≡ other)
 own_kept old new device held updates here own other =
@@ -165,9 +165,9 @@ pub removed_kept : (limit : ℕ) (old new : Vehicles) (device : List ℕ) → Up
 removed_kept limit old new device updates ordered fewer kept =
     record { ordered = ordered; own = own_kept old new device None updates tt kept.own; within = omega (arith, fewer, kept.within) }
 
--- ---- a report of a device that is held
+-- ---- a report of a device with a row
 
--- a report of a device that is held is no new one
+-- a report of a device with a row isn't `New`
 abbrev is_new_one : Result Taken BookFault → Bool
 is_new_one (Ok New) = true
 is_new_one other = false
@@ -183,7 +183,7 @@ held_not_new row held limit report =
 pub never_new : (row : Row) (held limit : ℕ) (report : Report) (r : Result Taken BookFault) → r ≡ outcome_at (Some row) held limit report → r ≡ Ok New → ⊥
 never_new row held limit report r outcome new = false≢true (sym (held_not_new row held limit report) ∙ ap is_new_one (sym outcome ∙ new))
 
--- to insert the row that is there changes nothing
+-- inserting the row that is there changes nothing
 same_row : (rows : Rows) (device : List ℕ) (row : Row) → finite.get rows device ≡ Some row → finite.insert rows device row ≡ rows
 same_row rows device row held = same_map device_total device_exact _ _ (λ other. get-insert device_total rows device row other ∙ by other (eq_by_cmp device_cmp other device) refl)
   where
@@ -205,7 +205,7 @@ module _ (old new : Vehicles) (report : Report) (before after : Box Vehicle Glob
   unchanged : row_of after.value ≡ row_of before.value → rows_of new ≡ rows_of old
   unchanged same = inserted_row old new report.device after updates ∙ ap (finite.insert (rows_of old) report.device) same ∙ same_row (rows_of old) report.device _ row_held
 
-  -- an update of the vehicle of a held device is a report's taking
+  -- an update of the vehicle of a device with a row is an outcome of `Take`
   pub take_held : (limit moment : ℕ) (r : Result Taken BookFault) → report.timestamp ≤ moment → ByOutcome r → r ≡ outcome_at (Some (row_of before.value)) (finite.len (rows_of old)) limit report → Take (rows_of old) limit report moment r (rows_of new)
   take_held limit moment r is_past rows is = (inl (is ∙ sym (past (rows_of old) limit report moment is_past _ row_held)), by r rows is)
     where
@@ -243,7 +243,7 @@ module _ (old : Vehicles) (ordered : IsOrdered device_cmp old) (report : Report)
   take_full full = take_of_case (rows_of old) limit report moment (Err FleetFull) (rows_of old) (is_past, row_absent, rw (rows_len old ordered) full, refl) (λ e. absurd (cc))
 
   module _ (room : btree_map_len old < limit) where
-    -- a further device comes to a new row, with room for it
+    -- the outcome for a further device below the limit is `New`
     is_new : outcome (rows_of old) limit report moment ≡ Ok New
     is_new = past (rows_of old) limit report moment is_past None row_absent ∙ ap (λ b. cond b (Ok New) (Err FleetFull)) (less _ _ (rw (rows_len old ordered) room))
 

@@ -16,11 +16,11 @@ use Rattle.mds_fleet.proofs.Cases.{Case}
 use Rattle.mds_fleet.proofs.Determined.{can_be}
 use Rattle.mds_fleet.proofs.Rows.{device_total, device_exact}
 
--- a device that isn't held adds one row
+-- a device without a row adds one row
 pub len_new : (rows : Rows) (device : List ℕ) (row : Row) → get rows device ≡ None → len (insert rows device row) ≡ len rows + 1
 len_new rows device row absent = len-insert device_total rows device row ∙ ap (λ found. cond (is_some found) (len rows) (len rows + 1)) absent
 
--- one that is held adds none
+-- a device with a row adds none
 pub len_held : (rows : Rows) (device : List ℕ) (row old : Row) → get rows device ≡ Some old → len (insert rows device row) ≡ len rows
 len_held rows device row old held = len-insert device_total rows device row ∙ ap (λ found. cond (is_some found) (len rows) (len rows + 1)) held
 
@@ -41,7 +41,7 @@ refused_same rows limit report moment Stale after h = h.2
 refused_same rows limit report moment FleetFull after h = h.3
 refused_same rows limit report moment NoMemory after h = h
 
--- the keys that tie are one
+-- keys that differ don't tie
 pub tie_false : (a b : List ℕ) → a ≢ b → eq_by_cmp device_cmp a b ≡ false
 tie_false a b apart = by (device_cmp a b) refl
   where

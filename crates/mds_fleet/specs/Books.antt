@@ -12,7 +12,7 @@ use Rattle.mds_fleet.specs.declared.book.Taken.TheVariants.{New, Changed, Same}
 use Rattle.mds_fleet.specs.declared.book.BookFault.{BookFault}
 use Rattle.mds_fleet.specs.declared.book.BookFault.TheVariants.{Future, Stale, FleetFull, NoMemory}
 
--- what is reported of a device
+-- what a report says of a device
 pub record Report : Type 0 where
   pub device : List ℕ
   pub vehicle_type : List ℕ
@@ -56,7 +56,7 @@ reported row =
       position = row.position;
     }
 
--- the row of a report, and of when the run of its state began
+-- the row of a report, whose state lasts since this moment
 abbrev pub row_from : Report → ℕ → Row
 row_from r since =
     record {
@@ -70,7 +70,7 @@ row_from r since =
       since = since;
     }
 
--- the run goes on where the state is the same, and else begins at the report's timestamp
+-- the run goes on where the state is the same; else it begins at the report's timestamp
 abbrev pub run_start : Row → Report → ℕ
 run_start row report = if bytes_eq row.state report.state then row.since else report.timestamp
 
@@ -81,7 +81,7 @@ is_same a b =
     && (bytes_eq a.state b.state && (pointwise bytes_eq a.events b.events && (nat_eq a.timestamp b.timestamp
     && (int_eq a.position.lng b.position.lng && int_eq a.position.lat b.position.lat))))))
 
--- the outcome of a report of a device that is held so, if it is, among so many
+-- the outcome of a report of a device with this row, if it has one, where so many devices have rows
 abbrev pub outcome_at : Option Row → ℕ → ℕ → Report → Result Taken BookFault
 outcome_at None held limit report = if nat_lt held limit then Ok New else Err FleetFull
 outcome_at (Some row) held limit report =
@@ -89,8 +89,8 @@ outcome_at (Some row) held limit report =
     else if is_same (reported row) report then Ok Same
     else Ok Changed
 
--- The outcome of a report to an operator with this limit, unless memory runs out: refused are first one from the future,
--- then a stale one, which is older than what is held, then one of a further device in a full fleet.
+-- The outcome of a report to an operator with this limit, unless memory runs out: a report from the future is refused
+-- first, then a stale one, older than the device's row, then one of a further device in a full fleet.
 abbrev pub outcome : Rows → ℕ → Report → ℕ → Result Taken BookFault
 outcome rows limit report moment =
     if nat_lt moment report.timestamp then Err Future else outcome_at (get rows report.device) (len rows) limit report
@@ -106,7 +106,7 @@ rows_after rows report (Ok New) = insert rows report.device (row_after (get rows
 rows_after rows report (Ok Changed) = insert rows report.device (row_after (get rows report.device) report)
 rows_after rows report other = rows
 
--- what taking a report comes to: its outcome, or want of memory for a further device
+-- what taking a report does: its outcome, or out of memory for a further device
 abbrev pub Take : Rows → ℕ → Report → ℕ → Result Taken BookFault → Rows → Type 0
 Take rows limit report moment result after =
     ((result ≡ outcome rows limit report moment) ⊎ ((result ≡ Err NoMemory) × (outcome rows limit report moment ≡ Ok New)))

@@ -1,4 +1,4 @@
--- What a book holds: an operator's rows, how many there may be, and what is kept of them between questions.
+-- The value of a book: an operator's rows, the most that there may be, and the bitmap index.
 use Rattle.std.specs.Prelude.{◌≡◌, ℕ, ℤ, ◌≤◌, List, map, IfSome, refl}
 use Rattle.std.specs.Coded.{Coded, code_by, coded×, coded_ℕ, coded_ℤ, coded_list}
 use Rattle.std.specs.declared.boxed.Box.{Box}
@@ -15,7 +15,7 @@ use Rattle.mds_kept.specs.Kept.{IsPublished, Published}
 use Rattle.mds_kept.specs.declared.kept.Kept.{Kept}
 use Rattle.mds_fleet.specs.Books.{Rows, device_cmp}
 
--- an operator's rows, the most that there may be, and what is kept of them
+-- an operator's rows, the most that there may be, and the bitmap index
 pub record Fleet : Type 0 where
   pub rows : Rows
   pub limit : ℕ
@@ -29,18 +29,18 @@ Vehicles = BTreeMap (List ℕ) (Box Vehicle Global)
 abbrev pub rows_of : Vehicles → Rows
 rows_of vehicles = from_entries (map (λ e. (e.0, row_of e.1.value)) vehicles.entries)
 
--- each under its own device id, in the order of these, and at most as many as the limit
+-- each vehicle under its own device id, in the order of the ids, and at most as many as the limit
 pub record IsKept (limit : ℕ) (vehicles : Vehicles) : Type 0 where
   pub ordered : IsOrdered device_cmp vehicles
   pub own : (device : List ℕ) → IfSome (get device_cmp vehicles device) (λ v. v.value.device ≡ device)
   pub within : btree_map_len vehicles ≤ limit
 
--- what is kept is right for vehicles with these rows and for what is published
+-- the index is right for vehicles with these rows and for what is published
 abbrev pub Fits : Published → Fleet → Type 0
 Fits published fleet =
     (vehicles : Vehicles) → IsOrdered device_cmp vehicles → rows_of vehicles ≡ fleet.rows → kept.Fits published vehicles fleet.kept
 
--- what is kept is right for what is published, and the policy is among that
+-- the index is right for what is published, and the policy is published
 abbrev pub MayAsk : Fleet → Policy → (List ℕ → List (List (List Position))) → Type 0
 MayAsk fleet policy polygons = (published : Published) × Fits published fleet × IsPublished published policy polygons
 

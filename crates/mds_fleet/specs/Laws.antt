@@ -16,27 +16,27 @@ LeavesOthers =
     (rows : Rows) (limit : ℕ) (report : Report) (moment : ℕ) (device : List ℕ)
     → device ≢ report.device → get (rows_after rows report (outcome rows limit report moment)) device ≡ get rows device
 
--- what an event makes of the rows: a report is taken, a removal takes its device's row away
+-- what an event makes of the rows: a report is taken, a removal removes its device's row
 abbrev pub Follows : ℕ → Event → Rows → Rows → Type 0
 Follows limit (arrival report moment) rows after = after ≡ rows_after rows report (outcome rows limit report moment)
 Follows limit (removal device) rows after = after ≡ remove rows device
 
--- the rows that events lead to from no rows on, the last event first
+-- the rows that events result in from no rows on, the last event first
 abbrev pub Leads : ℕ → List Event → Rows → Type 0
 Leads limit [] rows = rows ≡ empty
 Leads limit (event ∷ before) rows = (earlier : Rows) × Leads limit before earlier × Follows limit event earlier rows
 
--- the law of books: where events lead to rows, each device's row is what its accepted reports come to
+-- the law of books: each device's row follows from its accepted reports
 abbrev pub FollowsHistory : Type 0
 FollowsHistory =
     (limit : ℕ) (events : List Event) (rows : Rows) (device : List ℕ)
     → Leads limit events rows → get rows device ≡ row_by (accepted_reports limit events device)
 
--- each list of events leads to rows
+-- each list of events results in rows
 abbrev pub AlwaysLeads : Type 0
 AlwaysLeads = (limit : ℕ) (events : List Event) → (rows : Rows) × Leads limit events rows
 
--- Where events lead to rows, and one more event follows, they lead on to just what that event makes of these rows.
+-- One more event leads from the rows that events result in to just what it makes of them.
 abbrev pub LeadsOn : Type 0
 LeadsOn =
     (limit : ℕ) (before : List Event) (event : Event) (rows after : Rows)

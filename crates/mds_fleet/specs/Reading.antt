@@ -1,4 +1,4 @@
--- What a text of a vehicle report reads as: the report, or the first line of its table that isn't met.
+-- What a text of a vehicle report reads as: the report, or the first line of its table that it doesn't meet.
 use Rattle.std.specs.Prelude.{ℕ, ℤ, List, Result, Ok}
 use Rattle.mds_text.specs.Tree.{Json}
 use Rattle.mds_text.specs.Fault.{Fault, ◌>>=◌}
@@ -10,19 +10,19 @@ use Rattle.mds_geometry.specs.Coordinate.{coordinate_of}
 use Rattle.mds_geometry.specs.declared.position.Position.{Position}
 use Rattle.mds_fleet.specs.Books.{Report}
 
--- tokens; absent and null are the empty list
+-- a list of tokens; absent and null are the empty list
 abbrev pub tokens_at : Json → Field → Result (List (List ℕ)) Fault
 tokens_at document field = optional_at (list_each token_of) document field >>= λ found. Ok (or_empty found)
 
--- where the vehicle is: an object
+-- the member `location`: an object
 abbrev pub location_of : Json → Result Json Fault
 location_of document = required_member document Location >>= object_of Location
 
--- a coordinate at most so many degrees from zero
+-- a coordinate of at most so many degrees from zero
 abbrev pub coordinate_at : ℕ → Json → Field → Result ℤ Fault
 coordinate_at most document field = required_member document field >>= coordinate_of most field
 
--- the latitude, then the longitude
+-- the position: its latitude is read first, then its longitude
 abbrev pub position_of : Json → Result Position Fault
 position_of location = do
   lat ← coordinate_at 90 location Lat
@@ -51,6 +51,6 @@ report_of tree = do
     position = position;
   })
 
--- the report that a text is
+-- the report of a text
 abbrev pub read_report : List ℕ → Result Report Fault
 read_report bytes = read_text bytes >>= report_of

@@ -1,3 +1,4 @@
+//! An operator's vehicle store: the last accepted report of each device, with a bitmap index.
 ghost use Rattle.std.specs.Prelude.{◌≡◌, ◌≢◌, ℕ, ◌^◌, ◌≤◌, ◌<◌, ◌↔◌, Ok, Some, option_map, IsTrue, IfOk, IfSome, OnOk, OnErr, All, map};
 ghost use Rattle.std.specs.Result.{result_ok};
 ghost use Rattle.std.specs.FinMap as finite;
@@ -28,9 +29,9 @@ use std::marker::Model;
 /// What an accepted report did to a book.
 #[derive(Clone, Copy, Debug, PartialEq, Eq)]
 pub enum Taken {
-    /// The device wasn't held.
+    /// The device had no row; now it has one.
     New,
-    /// The device was held, and its row is that of this report.
+    /// The device had a row, and now has the row of this report.
     Changed,
     /// The report is equal to the last accepted one, and nothing changed.
     Same,
@@ -39,26 +40,26 @@ pub enum Taken {
 /// Why a book refuses a report.
 #[derive(Clone, Copy, Debug, PartialEq, Eq)]
 pub enum BookFault {
-    /// Its timestamp is after the moment at which it came.
+    /// Its timestamp is after the moment of the request.
     Future,
-    /// The device is held with a later timestamp.
+    /// The device's row has a later timestamp.
     Stale,
-    /// The device isn't held, and the book holds as many as its limit.
+    /// The device has no row, and the book is at its limit.
     FleetFull,
-    /// Memory ran out.
+    /// Out of memory.
     NoMemory,
 }
 
-/// A device that a book doesn't hold.
+/// The device has no row in the book.
 #[derive(Clone, Copy, Debug, PartialEq, Eq)]
 pub struct Absent;
 
-/// The vehicles of one operator, by device id, and the most that it may hold. Between questions it
-/// keeps what each vehicle is to the policies that were asked about, and so a question costs no more
-/// than a pass over words. Contracts see the map from device ids to rows, the limit, and what is kept.
+/// The vehicle store of one operator: rows by device id, and the most that it may hold. Between questions it keeps a
+/// bitmap index of the policies that were asked about, so that a question costs no more than a pass over words.
+/// Contracts see the map from device ids to rows, the limit, and the index.
 #[derive(Drop)]
 pub struct Book {
-    // each under its own device id, and boxed, since a node of the map has room for more than it holds
+    // each vehicle under its own device id; boxed, because a node of the map has room for more entries than it holds
     vehicles: BTreeMap<Id, Box<Vehicle>>,
     limit: u32,
     alloc: Global,
@@ -94,7 +95,7 @@ impl<T: Drop> From<AllocFailed<T>> for BookFault {
 impl Book {
     ghost use Rattle.mds_fleet.specs.Fleet.{Fits, MayAsk};
 
-    /// An empty book with this limit, at most `MOST_VEHICLES`. Takes no memory.
+    /// An empty book with this limit, at most `MOST_VEHICLES`. Allocates nothing.
     pub fn new(alloc: Global, limit: u32) -> Book
         requires least { 1 ≤ limit }
         requires most { limit ≤ MOST_VEHICLES }
@@ -112,11 +113,11 @@ impl Book {
         }
     }
 
-    /// Reads a report as `Report::read` does, by the scratch that the book keeps for short ones. The book stays as it is.
+    /// Reads a report as `Report::read` does; a short one with the scratch memory of the book. The rows don't change.
     ///
     /// # Errors
     ///
-    /// As those of `Report::read`.
+    /// Those of `Report::read`.
     pub fn read_report(&mut self, text: &[u8]) -> Result<Report, TextFault>
         ensures read { Gives text_cause report_document result (read_report text.now) }
         ensures rows { self.new.rows ≡ self.old.rows }
@@ -126,14 +127,13 @@ impl Book {
         Report::read_with(self.alloc, &mut self.reading, text)
     }
 
-    /// Takes a report that comes at this moment. What is kept stays right for whatever is published.
+    /// Takes a report that arrives at this moment. The index stays right for whatever is published.
     ///
     /// # Errors
     ///
-    /// In this order: `Future` for a timestamp after the moment; `Stale` where the device is held
-    /// with a later timestamp; `FleetFull` where the device isn't held and the book holds as many as
-    /// its limit. `NoMemory` where there is none for a further device. A refused report changes
-    /// nothing.
+    /// In this order: `Future` for a timestamp after the moment; `Stale` where the device's row has a later timestamp;
+    /// `FleetFull` where the device has no row and the book is at its limit. `NoMemory` where the allocation for a
+    /// further device fails. A refused report changes nothing.
     pub fn report(&mut self, report: Report, moment: Moment) -> Result<Taken, BookFault>
         ensures taken { Take self.old.rows self.old.limit (report_document report) moment result self.new.rows }
         ensures limit { self.new.limit ≡ self.old.limit }
@@ -156,12 +156,11 @@ impl Book {
         taken
     }
 
-    /// Removes a device, and gives what was held of it. Takes no memory. What is kept stays right for
-    /// whatever is published.
+    /// Removes a device, and returns its row. Allocates nothing. The index stays right for whatever is published.
     ///
     /// # Errors
     ///
-    /// `Absent` where the device isn't held; the book is as it was then.
+    /// `Absent` where the device has no row; then the book is unchanged.
     pub fn remove(&mut self, device: Id) -> Result<Vehicle, Absent>
         ensures held { option_map row_of (result_ok result) ≡ finite.get self.old.rows device }
         ensures rows { OnOk result (self.new.rows ≡ finite.remove self.old.rows device) }
@@ -178,11 +177,10 @@ impl Book {
         }
     }
 
-    /// The verdict on each rule of a policy, in their order, at a local time and at the moment up to
-    /// which a vehicle's time in its state counts, by what is kept. `None` the first time that the policy
-    /// is asked about since all was dropped, where it has more than 64 rules, where there are more
-    /// than 4,194,304 vehicles or where memory ran out; then the rows are to be asked. The vehicles stay
-    /// as they are.
+    /// The verdict on each rule of a policy, in the order of the rules, by the bitmap index. `local` is the local time
+    /// of the question, `moment` the one up to which a vehicle's time in its state counts. `None` at the first question
+    /// about the policy since the index was dropped, where the policy has more than 64 rules, where there are more than
+    /// 4,194,304 vehicles, or where memory runs out; the caller then evaluates the rows. The rows don't change.
     pub fn verdicts<P: Places>(
         &mut self,
         policy: &Policy,
@@ -204,7 +202,7 @@ impl Book {
         self.kept.verdicts(alloc, policy, places, vehicles, at)
     }
 
-    /// What is held of a device, for who asks for one alone. Takes no memory.
+    /// The row of a device, without a list of all rows. Allocates nothing.
     pub fn get(&self, device: Id) -> Option<&Vehicle>
         ensures { option_map (λ v. row_of v.now) result ≡ finite.get self.now.rows device }
     {
@@ -214,7 +212,7 @@ impl Book {
         }
     }
 
-    /// How many devices are held, for who asks for no more. Takes no memory.
+    /// The number of devices, without a list of all rows. Allocates nothing.
     pub fn len(&self) -> usize
         ensures count { result ≡ finite.len self.now.rows }
         ensures within { result ≤ self.now.limit }
@@ -222,11 +220,11 @@ impl Book {
         self.vehicles.len()
     }
 
-    /// All that is held, ascending by device id.
+    /// All rows, ascending by device id.
     ///
     /// # Errors
     ///
-    /// Memory ran out.
+    /// Out of memory.
     pub fn rows(&self) -> Result<Vec<&Vehicle>, AllocError>
         ensures whole { IfOk result (λ rows. map (λ v. row_of v.now) rows.items ≡ finite.values self.now.rows) }
         ensures ascending { IfOk result (λ rows. IsStrictlySortedBy device_cmp (map (λ v. v.now.device) rows.items)) }
@@ -236,7 +234,7 @@ impl Book {
     }
 }
 
-// Each vehicle, lent, ascending by device id.
+// References to all vehicles, ascending by device id.
 fn lent(alloc: Global, vehicles: &BTreeMap<Id, Box<Vehicle>>) -> Result<Vec<&Vehicle>, AllocError>
     ensures whole { IfOk result (λ rows. map (λ v. v.now) rows.items ≡ map (λ b. b.value) (values vehicles.now)) }
     ensures ordered { IsOrdered device_cmp vehicles.now }
@@ -244,7 +242,7 @@ fn lent(alloc: Global, vehicles: &BTreeMap<Id, Box<Vehicle>>) -> Result<Vec<&Veh
     vehicles.values().map(|vehicle| &**vehicle).collect(alloc)
 }
 
-// Takes a report into vehicles that stand each under its own device id.
+// Takes a report into a map in which each vehicle has its own device id as its key.
 fn take(
     alloc: Global,
     vehicles: &mut BTreeMap<Id, Box<Vehicle>>,
@@ -274,7 +272,7 @@ fn take(
     Ok(Taken::New)
 }
 
-// Takes a report of a device that is held.
+// Takes a report of a device that has a row.
 fn update(vehicle: &mut Vehicle, shares: &mut Shares, report: Report) -> Result<Taken, BookFault>
     ensures outcome { (held limit : ℕ) → result ≡ outcome_at (Some (row_of vehicle.old)) held limit (report_document report) }
     ensures changed { result ≡ Ok Taken.Changed → row_of vehicle.new ≡ row_after (Some (row_of vehicle.old)) (report_document report) }
@@ -291,7 +289,7 @@ fn update(vehicle: &mut Vehicle, shares: &mut Shares, report: Report) -> Result<
     Ok(Taken::Changed)
 }
 
-// When the run of a report's state began, where this vehicle was reported before.
+// Since when the state lasts that this report names, where this vehicle is the device's row so far.
 fn run_start(vehicle: &Vehicle, report: &Report) -> Moment
     ensures { result ≡ run_start (row_of vehicle.now) (report_document report.now) }
 {
@@ -302,7 +300,7 @@ fn run_start(vehicle: &Vehicle, report: &Report) -> Moment
     }
 }
 
-// Whether a report says all that the last accepted one said.
+// Whether a report equals the last accepted one in every member.
 fn is_reported(vehicle: &Vehicle, report: &Report) -> bool
     ensures { IsTrue result ↔ (reported (row_of vehicle.now) ≡ report_document report.now) }
 {
@@ -315,21 +313,21 @@ fn is_reported(vehicle: &Vehicle, report: &Report) -> bool
         && vehicle.position == report.position
 }
 
-// Whether two tokens are one.
+// Whether two tokens are equal.
 pub(crate) fn is_token(token: Token, other: Token) -> bool
     ensures { IsTrue result ↔ (token ≡ other) }
 {
     token == other
 }
 
-// Whether two lists of tokens are one.
+// Whether two lists of tokens are equal.
 pub(crate) fn are_tokens(tokens: &[Token], others: &[Token]) -> bool
     ensures { IsTrue result ↔ (tokens.now ≡ others.now) }
 {
     tokens == others
 }
 
-// The vehicle of a report, with words that others share, and of when the run of its state began.
+// The vehicle of a report, with interned words, whose state lasts since this moment.
 fn vehicle_of(shares: &mut Shares, report: Report, since: Moment) -> Vehicle
     ensures { row_of result ≡ row_from (report_document report) since }
 {

@@ -1,5 +1,5 @@
-//! Vehicle reports, and an operator's book of the vehicles that it reported: each device's last
-//! accepted report, with the beginning of the run of its state.
+//! Vehicle reports, and the store of an operator's vehicles: each device's last accepted report,
+//! and since when its state lasts.
 #![tactic(auto)]
 
 mod book;

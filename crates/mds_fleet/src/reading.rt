@@ -1,4 +1,4 @@
-//! A vehicle report, read line by line of its table.
+//! Reading a vehicle report, member by member in the order of the protocol.
 ghost use Rattle.std.specs.Prelude.{◌≡◌, ◌≤◌};
 ghost use Rattle.mds_reading.specs.Node.{node_view};
 ghost use Rattle.mds_text.specs.Fault.{Gives, text_cause};
@@ -37,7 +37,7 @@ pub(crate) fn report_of(alloc: Global, tree: &Node<'_>) -> Result<Report, TextFa
     })
 }
 
-/// Tokens; absent and null are the empty list.
+/// A list of tokens; absent and null are the empty list.
 fn tokens_at(alloc: Global, document: &Node<'_>, field: Field) -> Result<Vec<Token>, TextFault>
     ensures { Gives text_cause (λ v. v.items) result (tokens_at (node_view document.now) field) }
 {
@@ -47,14 +47,14 @@ fn tokens_at(alloc: Global, document: &Node<'_>, field: Field) -> Result<Vec<Tok
     }
 }
 
-/// Where the vehicle is: an object.
+/// The member `location`, which must be an object.
 fn location_of<'t, 'a>(document: &'t Node<'a>) -> Result<&'t Node<'a>, TextFault>
     ensures { Gives text_cause (λ t. node_view t.now) result (location_of (node_view document.now)) }
 {
     object_of(required_member(document, Field::Location)?, Field::Location)
 }
 
-/// The latitude, then the longitude.
+/// The position: its latitude is read first, then its longitude.
 fn position_of(location: &Node<'_>) -> Result<Position, TextFault>
     ensures { Gives text_cause (λ p. p) result (position_of (node_view location.now)) }
 {
@@ -63,7 +63,7 @@ fn position_of(location: &Node<'_>) -> Result<Position, TextFault>
     Ok(Position { lng, lat })
 }
 
-/// A coordinate at most so many degrees from zero.
+/// A coordinate of at most `most` degrees from zero.
 fn coordinate_at(location: &Node<'_>, field: Field, most: u8) -> Result<Units7, TextFault>
     requires { most ≤ 180 }
     ensures { Gives text_cause (λ u. u) result (coordinate_at most (node_view location.now) field) }

@@ -1,3 +1,4 @@
+//! A vehicle report: what an operator sends about one vehicle.
 use crate::reading::report_of;
 use mds_geometry::Position;
 use mds_match::Words;
@@ -6,19 +7,18 @@ use mds_text::{Id, Moment, TextFault, Token, Tree};
 use std::alloc::Global;
 use std::sync::Arc;
 
-/// What an operator reports of one of its vehicles. Lists are kept as reported, in order and with
-/// repeats.
+/// What an operator reports of one of its vehicles. Lists stay as reported, in order and with repeats.
 #[derive(Drop)]
 pub struct Report {
     /// The device's identifier.
     pub device: Id,
-    /// The vehicle's type, with its types of propulsion.
+    /// The vehicle's type and its types of propulsion.
     pub make: Arc<Words>,
-    /// The state that it is in, with the types of the events that led to it.
+    /// The vehicle's state and the types of the events that led to it.
     pub condition: Arc<Words>,
-    /// When it was so, in milliseconds since the Unix epoch.
+    /// When the vehicle was in that state, in milliseconds since the Unix epoch.
     pub timestamp: Moment,
-    /// Where it is.
+    /// Where the vehicle is.
     pub position: Position,
 }
 
@@ -45,11 +45,12 @@ impl Report {
         report_of(alloc, &tree)
     }
 
-    /// Reads a report as `read` does, a short one by the scratch that is kept.
+    /// Reads a report as `read` does; a text of at most `KeptScratch::MOST_BYTES` bytes with scratch memory that is
+    /// reused.
     ///
     /// # Errors
     ///
-    /// As those of `read`.
+    /// Those of `read`.
     pub fn read_with(
         alloc: Global,
         kept: &mut KeptScratch,
@@ -72,21 +73,21 @@ impl Report {
         self.make.word
     }
 
-    /// Its types of propulsion.
+    /// The vehicle's types of propulsion.
     pub fn propulsion(&self) -> &[Token]
         ensures { result.now ≡ (report_document self.now).propulsion }
     {
         &self.make.types
     }
 
-    /// The state that it is in.
+    /// The vehicle's state.
     pub fn state(&self) -> Token
         ensures { result ≡ (report_document self.now).state }
     {
         self.condition.word
     }
 
-    /// The types of the events that led to its state.
+    /// The types of the events that led to the state.
     pub fn events(&self) -> &[Token]
         ensures { result.now ≡ (report_document self.now).events }
     {

@@ -1,4 +1,4 @@
-//! Words that vehicles share.
+//! Interned words: vehicles with equal words share one `Arc`.
 ghost use Rattle.std.specs.Prelude.{◌≡◌, ◌≤◌, IfSome, IsTrue};
 ghost use Rattle.mds_match.specs.Row.{words_of};
 
@@ -8,31 +8,30 @@ use mds_text::Token;
 use std::alloc::Global;
 use std::sync::Arc;
 
-/// How many sets of places there are.
+/// The number of sets.
 const SETS: usize = 256;
 
-/// How many places a set has.
+/// The number of slots of a set.
 const PLACES: usize = 4;
 
-/// Words that were reported, at most 1,024, so that vehicles with the same words hold one share of
-/// them. What is found is compared, and so contracts don't see what is in it. Words that no vehicle
-/// has any more stay until others take their place.
+/// An interner for the words of vehicles: a set-associative cache of at most 1,024 entries. Each hit is compared, so
+/// that contracts need not see the entries. Words that no vehicle has any more stay until others replace them.
 #[derive(Drop)]
 pub(crate) struct Shares {
-    // set by set; none before the first words, and while there is no memory for all
+    // set by set; empty before the first words, and while memory for all slots is refused
     places: Vec<Option<Arc<Words>>>,
 }
 
 impl Shares {
-    /// No words. Takes no memory.
+    /// An empty interner. Allocates nothing.
     pub fn new(alloc: Global) -> Shares {
         Shares {
             places: Vec::new(alloc),
         }
     }
 
-    /// A share of these words: the one that was given before, where it is found, else this one. Where
-    /// there is no memory for the places, it is this one.
+    /// A reference to these words: the interned one, where there is an equal one, else this one. Where memory for the
+    /// slots is refused, it is this one.
     pub fn share(&mut self, words: Arc<Words>) -> Arc<Words>
         ensures { words_of result.value ≡ words_of words.value }
     {
@@ -45,7 +44,7 @@ impl Shares {
     }
 }
 
-/// Puts a share of words into the set that begins at this place.
+/// Puts a reference to words into the set that begins at this slot.
 fn keep(places: &mut Vec<Option<Arc<Words>>>, first: usize, words: &Arc<Words>)
     requires { first ≤ 1020 }
 {
@@ -56,7 +55,7 @@ fn keep(places: &mut Vec<Option<Arc<Words>>>, first: usize, words: &Arc<Words>)
     }
 }
 
-/// Makes the places, where there are none and there is memory for all.
+/// Allocates the slots, unless they are there or the allocation fails.
 fn furnish(places: &mut Vec<Option<Arc<Words>>>) {
     if places.is_empty() && places.reserve(SETS * PLACES).is_ok() {
         for _ in 0..SETS * PLACES {
@@ -65,7 +64,7 @@ fn furnish(places: &mut Vec<Option<Arc<Words>>>) {
     }
 }
 
-/// The first place of a set that is free, else its first.
+/// The first free slot of a set, else its first slot.
 fn free_place(places: &[Option<Arc<Words>>], first: usize) -> usize
     requires { first ≤ 1020 }
 {
@@ -77,7 +76,7 @@ fn free_place(places: &[Option<Arc<Words>>], first: usize) -> usize
     first
 }
 
-/// A share of the same words that stands in the set that begins at this place.
+/// A reference to equal words, looked up in the set that begins at this slot.
 fn found(places: &[Option<Arc<Words>>], first: usize, words: &Words) -> Option<Arc<Words>>
     requires { first ≤ 1020 }
     ensures { IfSome result (λ share. words_of share.value ≡ words_of words.now) }
@@ -90,7 +89,7 @@ fn found(places: &[Option<Arc<Words>>], first: usize, words: &Words) -> Option<A
     None
 }
 
-/// A further share of what stands in a place, where it is the same words.
+/// A further reference to the words in a slot, where they equal these.
 fn share_of(place: &Option<Arc<Words>>, words: &Words) -> Option<Arc<Words>>
     ensures { IfSome result (λ share. words_of share.value ≡ words_of words.now) }
 {
@@ -100,14 +99,14 @@ fn share_of(place: &Option<Arc<Words>>, words: &Words) -> Option<Arc<Words>>
     }
 }
 
-/// Whether words are the same.
+/// Whether words are equal.
 fn are_words(words: &Words, others: &Words) -> bool
     ensures { IsTrue result → words_of words.now ≡ words_of others.now }
 {
     is_token(words.word, others.word) && are_tokens(&words.types, &others.types)
 }
 
-/// The place at which the set of words begins.
+/// The first slot of the set for these words.
 fn first_place(words: &Words) -> usize
     ensures { result ≤ 1020 }
 {
@@ -118,7 +117,7 @@ fn first_place(words: &Words) -> usize
     (sum >> 32) as usize % SETS * PLACES
 }
 
-/// A sum with the bytes of a further word.
+/// The hash with the bytes of a further word (FNV-1a).
 fn mixed(sum: u64, word: Token) -> u64 {
     let mut mixed = sum;
     for byte in word.as_str().as_bytes() {

@@ -1,4 +1,4 @@
--- Which entries of a journal are answered again, and which are told.
+-- Which entries of a journal are replayed, and which are extracted.
 use Rattle.std.specs.Prelude.{ℕ, Bool, true, false, not, List, [], ◌∷◌, map, bytes_eq, nat_lt, if◌then◌else◌, Option, Some, None}
 use Rattle.std.specs.List.{filter, list_any}
 use Rattle.mds_entries.specs.Entries.{Entry}
@@ -10,7 +10,7 @@ use Rattle.mds_entries.specs.declared.entry.Asker.TheVariants.{Author, Operator}
 abbrev pub is_dropped : List (List ℕ) → List ℕ → Bool
 is_dropped dropped id = list_any (bytes_eq id) dropped
 
--- who asks is left out
+-- the client is left out
 abbrev pub asks_dropped : List (List ℕ) → Asker → Bool
 asks_dropped dropped Author = false
 asks_dropped dropped (Operator id) = is_dropped dropped id
@@ -19,8 +19,8 @@ asks_dropped dropped (Operator id) = is_dropped dropped id
 abbrev pub without : List (List ℕ) → List Entry → List Entry
 without dropped entries = filter (λ e. not (asks_dropped dropped e.asker)) entries
 
--- What a configuration has to have room for: each operator of a head that isn't left out. Its limit is no matter here: whether a lower one
--- has room for what is kept, answering the entries again tells.
+-- What a head requires of a configuration: each operator of it that isn't left out. Its limit doesn't matter here:
+-- whether a lower one has room for what is persisted shows as the entries are replayed.
 abbrev pub present : Share → Share
 present share = record { id = share.id; vehicles = 0 }
 
@@ -43,6 +43,6 @@ abbrev pub in_time : Option ℕ → List Entry → List Entry
 in_time last [] = []
 in_time last (e ∷ entries) = if is_later last e.at then [] else e ∷ in_time last entries
 
--- the entries that are told: of those, the ones of who is asked for
+-- the entries that are extracted: of those, the ones of the author and of the operator that is asked for
 abbrev pub told : Option ℕ → Option (List ℕ) → List Entry → List Entry
 told last operator entries = filter (λ e. concerns operator e.asker) (in_time last entries)

@@ -5,7 +5,8 @@ use Rattle.mds_records.specs.declared.ending.Ending.TheVariants as ends
 use Rattle.mds_folder.specs.declared.fault.Damage.{Damage}
 use Rattle.mds_folder.specs.declared.fault.Damage.TheVariants.{Lost, Moved, Foreign, Unexplained}
 
--- nothing where it is whole, or torn as the program leaves it when it is killed; also what is opened, and cut then, but isn't explained so
+-- none where it is whole, or torn as a kill of the program leaves it; an unexplained tail is reported, though the
+-- journal is opened and the tail is cut
 abbrev pub damage_of : ℕ → Ending → Option Damage
 damage_of whole ends.Whole = None
 damage_of whole ends.Torn = None

@@ -8,7 +8,8 @@ use Rattle.mds_folder.specs.declared.fault.Damage.TheVariants.{Lost, Moved, Fore
 use Rattle.mds_folder.specs.declared.fault.FolderFault.{FolderFault}
 use Rattle.mds_folder.specs.declared.fault.FolderFault.TheVariants.{Unusable, Linked, Locked, NoMemory, Damaged, Unfitting}
 
--- 3 for want of memory, 4 for a folder that can't be used, 5 for a damaged journal, 6 for a configuration that doesn't fit it
+-- 3 where out of memory, 4 for a folder that can't be used, 5 for a damaged journal, 6 for a configuration that doesn't
+-- fit it
 abbrev pub exit_status : FolderFault → ℕ
 exit_status NoMemory = 3
 exit_status Unusable = 4
@@ -17,13 +18,13 @@ exit_status Locked = 4
 exit_status (Damaged damage) = 5
 exit_status (Unfitting unfit) = 6
 
--- the fault of a journal whose first text is no head
+-- the fault of a journal whose first payload is no head
 abbrev pub fault_of_head : HeadFault → FolderFault
 fault_of_head (head.Version version) = Damaged (Version version)
 fault_of_head head.Malformed = Damaged NoHead
 fault_of_head head.NoMemory = NoMemory
 
--- the fault of a journal that isn't opened: a damaged one where what it holds isn't what was written, whoever opens it
+-- the fault of a journal that isn't opened: a damaged one where its contents aren't what was written, whoever opens it
 abbrev pub fault_of_opening : OpenFault → FolderFault
 fault_of_opening (opening.Damaged said) = Damaged (Lost said)
 fault_of_opening (opening.Moved place) = Damaged (Moved place)

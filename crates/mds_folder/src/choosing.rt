@@ -1,4 +1,4 @@
-//! Which entries of a journal are answered again, and which are told.
+//! Which entries of a journal are replayed, and which are extracted.
 ghost use Rattle.std.specs.Prelude.{◌≡◌, ◌≤◌, ◌++◌, ◌∷◌, [], length, map, take, IfOk, OnOk, bytes_eq};
 ghost use Rattle.mds_entries.specs.Entries.{entry_of};
 ghost use Rattle.mds_folder.specs.Choosing.{is_dropped, asks_dropped, without, concerns, is_later, in_time, told};
@@ -7,12 +7,12 @@ use mds_entries::{Asker, Entry};
 use mds_text::{Id, Moment};
 use std::alloc::{AllocError, Global};
 
-/// What of a journal is told.
+/// Which entries of a journal are extracted.
 #[derive(Clone, Copy)]
 pub struct Extract {
-    /// The entries before the first that is later; none, for all.
+    /// Only the entries before the first that is later; none for all.
     pub until: Option<Moment>,
-    /// The author's entries and this operator's; none, for everyone's.
+    /// Only the author's entries and this operator's; none for everyone's.
     pub operator: Option<Id>,
 }
 
@@ -35,7 +35,7 @@ pub(crate) fn is_dropped(dropped: &[Id], id: Id) -> bool
     false
 }
 
-/// Whether who asks is left out.
+/// Whether the client is left out.
 fn asks_dropped(dropped: &[Id], asker: Asker) -> bool
     ensures { result ≡ asks_dropped dropped.now asker }
 {
@@ -45,7 +45,7 @@ fn asks_dropped(dropped: &[Id], asker: Asker) -> bool
     }
 }
 
-/// The same entry.
+/// A copy of an entry.
 fn again<'a>(entry: &Entry<'a>) -> Entry<'a>
     ensures { entry_of result ≡ entry_of entry.now }
 {
@@ -58,7 +58,7 @@ fn again<'a>(entry: &Entry<'a>) -> Entry<'a>
     }
 }
 
-/// Adds an entry.
+/// Appends a copy of an entry.
 fn keep<'a>(kept: &mut Vec<Entry<'a>>, entry: &Entry<'a>) -> Result<(), AllocError>
     ensures { OnOk result (map entry_of kept.new.items ≡ map entry_of kept.old.items ++ entry_of entry.now ∷ []) }
 {
@@ -72,7 +72,7 @@ fn keep<'a>(kept: &mut Vec<Entry<'a>>, entry: &Entry<'a>) -> Result<(), AllocErr
 ///
 /// # Errors
 ///
-/// Memory ran out.
+/// Out of memory.
 pub fn without<'a>(
     alloc: Global,
     entries: &[Entry<'a>],
@@ -89,7 +89,7 @@ pub fn without<'a>(
     Ok(kept)
 }
 
-/// Whether an entry is the author's, or of the operator that is asked for, if one is.
+/// Whether the client is the author, or the operator that is asked for, or any where none is.
 fn concerns(extract: &Extract, asker: Asker) -> bool
     ensures { result ≡ concerns extract.now.operator asker }
 {
@@ -122,11 +122,11 @@ fn front(entries: &[Entry<'_>], extract: &Extract) -> usize
     entries.len()
 }
 
-/// The entries that are told, in their order.
+/// The entries that are extracted, in their order.
 ///
 /// # Errors
 ///
-/// Memory ran out.
+/// Out of memory.
 pub fn told<'a>(
     alloc: Global,
     entries: &[Entry<'a>],

@@ -1,4 +1,4 @@
-//! The files beside a journal in which what is cut off it is kept.
+//! The files next to a journal in which bytes that are cut off it are saved.
 
 use crate::fault::FolderFault;
 use crate::files::open_new;
@@ -8,10 +8,11 @@ use std::alloc::{AllocError, Global};
 use std::fs::{self, File, Files};
 use std::io::Write;
 
-/// How many such files a folder has at the most.
+/// The most such files that a folder has.
 const MOST_FILES: u32 = 10_000;
 
-/// The files `journal.cut`, `journal.cut.1`, `journal.cut.2` and so on of a city's folder. None that is there is ever changed.
+/// The files `journal.cut`, `journal.cut.1`, `journal.cut.2` and so on of a city's folder. An existing one is never
+/// changed.
 #[derive(Drop)]
 pub struct CutFiles<R> {
     rt: R,
@@ -28,7 +29,7 @@ fn path_of(alloc: Global, folder: &str, number: u32) -> Result<String, AllocErro
     }
 }
 
-/// Why nothing was kept, by why the folder can't be used.
+/// The storage fault of a folder's fault.
 fn medium_fault(fault: FolderFault) -> MediumFault {
     match fault {
         FolderFault::NoMemory => MediumFault::NoMemory,
@@ -41,7 +42,7 @@ impl<R: Files<File = File> + Drop> CutFiles<R> {
     ///
     /// # Errors
     ///
-    /// Memory ran out.
+    /// Out of memory.
     pub fn new(rt: R, alloc: Global, folder: &str) -> Result<CutFiles<R>, AllocError> {
         Ok(CutFiles {
             rt,
@@ -50,11 +51,11 @@ impl<R: Files<File = File> + Drop> CutFiles<R> {
         })
     }
 
-    /// A new file, and its path.
+    /// Creates a new file, and returns it with its path.
     ///
     /// # Errors
     ///
-    /// The folder has as many as it may have, none can be made there, or memory ran out.
+    /// The folder has as many as it may have, none can be made there, or out of memory.
     fn create(&self) -> Result<(File, String), MediumFault> {
         for number in 0..MOST_FILES {
             let path = path_of(self.alloc, self.folder.as_str(), number)?;
@@ -67,7 +68,7 @@ impl<R: Files<File = File> + Drop> CutFiles<R> {
         Err(MediumFault::Failed)
     }
 
-    /// Whether all bytes are written to a file, and both it and its name are on the disk.
+    /// Writes all bytes to a file, syncs it and its name, and returns whether that succeeded.
     fn is_written(&self, file: File, bytes: &[u8]) -> bool {
         let mut file = file;
         file.write_all(bytes).is_ok()
@@ -79,7 +80,7 @@ impl<R: Files<File = File> + Drop> CutFiles<R> {
 impl<R: Files<File = File> + Drop> Aside for CutFiles<R> {
     ghost use Rattle.std.specs.Prelude.{⊤};
 
-    // of what stands in files nothing is known in the proofs
+    // nothing is known in the proofs of the contents of files
     ghost has_kept = { λ _ _ _. ⊤ };
 
     fn keep(&mut self, _from: u64, bytes: &[u8]) -> Result<(), MediumFault> {
@@ -87,7 +88,7 @@ impl<R: Files<File = File> + Drop> Aside for CutFiles<R> {
         if self.is_written(file, bytes) {
             return Ok(());
         }
-        // What couldn't be written whole takes no room.
+        // A file that couldn't be written whole takes no disk space.
         let _ = fs::remove_file(&self.rt, path.as_str());
         Err(MediumFault::Failed)
     }

@@ -12,11 +12,11 @@ use std::fmt;
 pub enum Damage {
     /// It was synced up to this byte, and isn't whole up to there.
     Lost(u64),
-    /// At this byte a mark stands that was written for another place.
+    /// At this byte stands a mark that was written for another position.
     Moved(u64),
     /// It doesn't begin as a journal does, but with this.
     Foreign(Signature),
-    /// From this byte on something stands that no kill of the program leaves.
+    /// From this byte on stands something that no kill of the program leaves.
     Unexplained(u64),
     /// It is longer than a journal may be.
     TooLong,
@@ -24,7 +24,7 @@ pub enum Damage {
     Version(u8),
     /// Its first record is no head.
     NoHead,
-    /// The record of this number, counted from 0, is no entry, or one of a version that isn't known.
+    /// The record with this number, counted from 0, is no entry, or one of a version that isn't known.
     NoEntry(usize),
 }
 
@@ -33,21 +33,21 @@ pub enum Damage {
 pub enum FolderFault {
     /// It can't be made, read or written.
     Unusable,
-    /// In the place of one of its files a link stands, or something else that is no file.
+    /// In the place of one of its files stands a link, or something else that is no file.
     Linked,
     /// Another program has it.
     Locked,
-    /// Memory ran out.
+    /// Out of memory.
     NoMemory,
     /// The journal isn't what was written.
     Damaged(Damage),
-    /// The configuration isn't one that the journal may go on with.
+    /// The server can't continue from the journal with this configuration.
     Unfitting(Unfit),
 }
 
 impl FolderFault {
-    /// The program's exit status: 3 for want of memory, 4 for a folder that can't be used, 5 for a damaged journal, 6 for
-    /// a configuration that doesn't fit it.
+    /// The program's exit status: 3 where out of memory, 4 for a folder that can't be used, 5 for a damaged journal, 6
+    /// for a configuration that doesn't fit it.
     pub fn status(self) -> u8
         ensures { result ≡ exit_status self }
     {
@@ -143,7 +143,7 @@ impl From<Unfit> for FolderFault {
     }
 }
 
-/// Why the record of this number isn't read as an entry.
+/// The fault where the record with this number can't be read as an entry.
 pub(crate) fn at(number: usize, fault: EntryFault) -> FolderFault {
     match fault {
         EntryFault::NoMemory => FolderFault::NoMemory,
@@ -153,7 +153,7 @@ pub(crate) fn at(number: usize, fault: EntryFault) -> FolderFault {
     }
 }
 
-/// What a signature is, in words.
+/// The words for what stands at the beginning of a file.
 fn found(signature: Signature) -> &'static str {
     match signature {
         Signature::Gzip => "data that was compressed with gzip",

@@ -7,13 +7,13 @@ use std::fs::{self, File, Files, Metadata, TryLockError};
 use std::io::ErrorKind;
 use std::os::unix::fs::{MetadataExt, OpenOptionsExt};
 
-/// Who may read and write a file of the folder: its owner alone.
+/// The mode of a file of the folder: only its owner may read and write it.
 const MODE: u32 = 0o600;
 
-/// How often a file is opened again whose name was given to another meanwhile.
+/// How often opening a file is tried, where its name was given to another meanwhile.
 const ATTEMPTS: u32 = 16;
 
-/// By what the system tells a file from others: its device, and its number there.
+/// What identifies a file in the system: its device, and its inode number there.
 #[derive(Clone, Copy, Debug, PartialEq, Eq)]
 pub(crate) struct Identity {
     pub(crate) device: u64,
@@ -31,7 +31,7 @@ pub(crate) enum Entry {
     Other,
 }
 
-/// Whose a name is by which a file was opened.
+/// Whose the name is by which a file was opened.
 #[derive(Clone, Copy, Debug, PartialEq, Eq)]
 pub(crate) enum Owner {
     /// It is that file's.
@@ -42,7 +42,7 @@ pub(crate) enum Owner {
     NoFile,
 }
 
-/// Whose a name is at which this stands, by which a file was opened.
+/// Whose the name is by which a file was opened, by what stands at it now.
 pub(crate) fn owner_of(opened: Identity, entry: Entry) -> Owner
     ensures { result ≡ owner_of opened entry }
 {
@@ -54,7 +54,7 @@ pub(crate) fn owner_of(opened: Identity, entry: Entry) -> Owner
     }
 }
 
-/// By what the system tells the file of this metadata.
+/// The identity of the file with this metadata.
 fn identity_of(metadata: &Metadata) -> Identity {
     Identity {
         device: metadata.dev(),
@@ -62,7 +62,7 @@ fn identity_of(metadata: &Metadata) -> Identity {
     }
 }
 
-/// What stands at a path, of which the last name isn't followed where it is a link.
+/// What stands at a path. Its last component isn't followed where it is a link.
 fn entry_at<R: Files<File = File>>(rt: &R, path: &str) -> Result<Entry, FolderFault> {
     match fs::symlink_metadata(rt, path) {
         Ok(metadata) if metadata.is_file() => Ok(Entry::File(identity_of(&metadata))),
@@ -88,7 +88,8 @@ fn is_named<R: Files<File = File>>(rt: &R, path: &str, file: &File) -> Result<bo
     }
 }
 
-/// The file at a path, which is made where nothing stands there; none, where the path came to name another meanwhile.
+/// Opens the file at a path, which is made where nothing stands there; none, where the path came to name another
+/// meanwhile.
 fn opened_once<R: Files<File = File>>(rt: &R, path: &str) -> Result<Option<File>, FolderFault> {
     let is_new = match entry_at(rt, path)? {
         Entry::Nothing => true,
@@ -106,7 +107,7 @@ fn opened_once<R: Files<File = File>>(rt: &R, path: &str) -> Result<Option<File>
     }
 }
 
-/// The file at a path, to read and write it. It is made where nothing stands there.
+/// Opens the file at a path for reading and writing. It is made where nothing stands there.
 ///
 /// # Errors
 ///
@@ -133,8 +134,8 @@ pub fn lock_file(file: &File) -> Result<(), FolderFault> {
     }
 }
 
-/// The file at a path, as `open_file` gives it, locked: the path named it when it was locked already, so that who opens the path then
-/// finds a locked file.
+/// Opens the file at a path, as `open_file` does, and locks it: the path still named it once it was locked, so that
+/// whoever opens the path then finds a locked file.
 ///
 /// # Errors
 ///
@@ -152,7 +153,7 @@ pub(crate) fn open_locked<R: Files<File = File>>(rt: &R, path: &str) -> Result<F
     Err(FolderFault::Locked)
 }
 
-/// The file at a path, to read it alone.
+/// Opens the file at a path for reading only.
 ///
 /// # Errors
 ///
@@ -172,7 +173,7 @@ pub(crate) fn open_to_read<R: Files<File = File>>(rt: &R, path: &str) -> Result<
     Err(FolderFault::Unusable)
 }
 
-/// A new file at a path, to read and write it; none, where something stands there.
+/// Creates a new file at a path, for reading and writing; none, where something stands there.
 ///
 /// # Errors
 ///
@@ -190,7 +191,8 @@ pub(crate) fn open_new<R: Files<File = File>>(
     }
 }
 
-/// A new file at a path, locked, to read and write it. What stood there is removed: a link itself, and not what it leads to.
+/// Creates a new, locked file at a path, for reading and writing. What stood there is removed: a link itself, and not
+/// what it leads to.
 ///
 /// # Errors
 ///

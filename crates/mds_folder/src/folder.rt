@@ -1,4 +1,4 @@
-//! The files of a city's folder.
+//! A city's folder and its files.
 
 use crate::fault::FolderFault;
 use crate::files::{lock_file, open_file, open_locked, open_to_read};
@@ -7,17 +7,17 @@ use std::fs::{self, DirBuilder, File, Files, Permissions};
 use std::io::{ErrorKind, Read};
 use std::os::unix::fs::{DirBuilderExt, PermissionsExt};
 
-/// Who may do what in a folder that is made: its owner alone, everything.
+/// The mode of a folder that is made: only its owner may use it.
 const FOLDER_MODE: u32 = 0o700;
 
-/// The files of a city's folder, which this program alone has until the journal is closed.
+/// The files of a city's folder, which only this program has until the journal is closed.
 #[derive(Drop)]
 pub struct Folder {
-    /// Is locked as long as it is open, for programs that lock this file alone.
+    /// Locked as long as it is open, for programs that lock only this file.
     pub lock: File,
-    /// Is locked as long as it is open, or another handle of it by `try_clone`.
+    /// Locked as long as it is open, or another handle of it by `try_clone`.
     pub journal: File,
-    /// Room that is set aside for the journal.
+    /// Disk space reserved for the journal.
     pub ballast: File,
 }
 
@@ -36,8 +36,7 @@ pub fn sync_names<R: Files<File = File>>(rt: &R, folder: &str) -> Result<(), Fol
     }
 }
 
-/// Makes a folder that isn't there, with those above it, which its owner alone may use, whatever the process takes away
-/// from the modes of what it makes.
+/// Makes a folder that isn't there, with those above it. Only its owner may use it, whatever umask the process has.
 fn create_folder<R: Files<File = File>>(rt: &R, folder: &str) -> Result<(), FolderFault> {
     let mut how = DirBuilder::new();
     how.recursive(true).mode(FOLDER_MODE);
@@ -50,8 +49,8 @@ fn create_folder<R: Files<File = File>>(rt: &R, folder: &str) -> Result<(), Fold
     }
 }
 
-/// Makes a folder where it isn't there, and waits until its name is on the disk: each time, since a start that made it may have
-/// been killed before that. Where the folder above can't be read, nothing is waited for.
+/// Makes a folder where it isn't there, and waits until its name is on the disk: each time, since a start that made it
+/// may have been killed before that. Where the folder above can't be read, it doesn't wait.
 fn make<R: Files<File = File>>(rt: &R, alloc: Global, folder: &str) -> Result<(), FolderFault> {
     match fs::metadata(rt, folder) {
         Ok(found) if found.is_dir() => {}
@@ -65,19 +64,19 @@ fn make<R: Files<File = File>>(rt: &R, alloc: Global, folder: &str) -> Result<()
     sync_names(rt, above.as_str())
 }
 
-/// The path of a file of a folder.
+/// The path of a file in a folder.
 fn path_of(alloc: Global, folder: &str, name: &str) -> Result<String, FolderFault> {
     Ok(format!(in alloc; "{folder}/{name}")?)
 }
 
-/// The files of a city's folder, locked. The folder and the files are made where they aren't there, and their names are on the disk.
-/// No link is followed that stands in the folder. The lock is on the journal itself: whatever else is removed from the folder, no
-/// second program has it.
+/// Opens and locks the files of a city's folder. The folder and the files are made where they aren't there, and their
+/// names are on the disk. No link in the folder is followed. The lock is on the journal itself: whatever else is
+/// removed from the folder, no second program has it.
 ///
 /// # Errors
 ///
-/// `Unusable` where the folder or a file can't be made or opened, `Linked` where something stands in the place of a file that is none,
-/// `Locked` where another program has it, `NoMemory`.
+/// `Unusable` where the folder or a file can't be made or opened, `Linked` where something that is no file stands in
+/// the place of one, `Locked` where another program has it, `NoMemory`.
 pub fn open_folder<R: Files<File = File>>(
     rt: &R,
     alloc: Global,
@@ -96,7 +95,8 @@ pub fn open_folder<R: Files<File = File>>(
     })
 }
 
-/// The bytes of a folder's journal, for who looks at it alone: nothing is locked or changed, so a program may be writing it.
+/// Reads the bytes of a folder's journal, only to look at it: nothing is locked or changed, so a program may be writing
+/// it.
 ///
 /// # Errors
 ///

@@ -1,4 +1,4 @@
-//! A journal's texts: the head, and the entries behind it.
+//! A journal's payloads: the head, and the entries after it.
 ghost use Rattle.std.specs.Prelude.{◌≡◌, ◌⊎◌, ℕ, List, [], ◌∷◌, ◌++◌, map, drop, take, Some, None, IfOk, IfErr, OnOk, IsErrOf};
 ghost use Rattle.mds_request.specs.Configuration.{configuration};
 ghost use Rattle.mds_entries.specs.Entries.{IsEntry, entry_of, entry_text};
@@ -14,11 +14,11 @@ use mds_request::Config;
 use mds_text::Id;
 use std::alloc::{AllocError, Global};
 
-/// The texts of a log. Of one that has none the configuration's head is the first: it is appended and synced.
+/// The payloads of a log. Where it has none, the configuration's head becomes the first: it is appended and synced.
 ///
 /// # Errors
 ///
-/// The log couldn't be read, appended to or synced, or memory ran out.
+/// The log couldn't be read, appended to or synced, or out of memory.
 pub fn begun<L: Log>(
     alloc: Global,
     log: &mut L,
@@ -37,7 +37,7 @@ pub fn begun<L: Log>(
     Ok(group)
 }
 
-/// The configuration's head, alone.
+/// A group of only the configuration's head.
 fn head_group(alloc: Global, config: &Config) -> Result<Vec<Vec<u8>>, AllocError>
     ensures { IfOk result (λ group. map (λ t. t.items) group.items ≡ head_text (shares_of (configuration config.now)) ∷ []) }
 {
@@ -48,7 +48,7 @@ fn head_group(alloc: Global, config: &Config) -> Result<Vec<Vec<u8>>, AllocError
     Ok(group)
 }
 
-/// What a configuration has to have room for of a head: each operator that isn't left out.
+/// What a head requires of a configuration: each operator that isn't left out.
 fn needed(alloc: Global, shares: &[Share], dropped: &[Id]) -> Result<Vec<Share>, AllocError>
     ensures { IfOk result (λ kept. map share_of kept.items ≡ needed dropped.now (map share_of shares.now)) }
 {
@@ -64,12 +64,12 @@ fn needed(alloc: Global, shares: &[Share], dropped: &[Id]) -> Result<Vec<Share>,
     Ok(kept)
 }
 
-/// Whether a server may go on from a journal of this first text with a configuration: each operator of the head is there,
-/// but for those that are left out.
+/// Whether a server may continue, with a configuration, from a journal with this head: each operator of the head is
+/// there, except for those that are left out.
 ///
 /// # Errors
 ///
-/// The text is no head of a known version, an operator is missing, or memory ran out.
+/// The payload is no head of a known version, an operator is missing, or out of memory.
 pub fn suits(alloc: Global, config: &Config, head: &[u8], dropped: &[Id]) -> Result<(), FolderFault>
     ensures suits { OnOk result ((shares : List Part) × AreShares shares × (head.now ≡ head_text shares)
         × (unfit (configuration config.now) (needed dropped.now shares) ≡ None)) }
@@ -84,12 +84,12 @@ pub fn suits(alloc: Global, config: &Config, head: &[u8], dropped: &[Id]) -> Res
     }
 }
 
-/// The entries that texts are, in their order. They borrow from the texts, of which the first is the record of this number,
-/// counted from 0.
+/// Decodes payloads to entries, in their order. They borrow from the payloads, of which the first is the record with
+/// the number `first`, counted from 0.
 ///
 /// # Errors
 ///
-/// The first text that is no entry of a known version, by the number of its record, or memory ran out.
+/// The first payload that is no entry of a known version, by the number of its record, or out of memory.
 pub fn entries_in(
     alloc: Global,
     first: usize,

@@ -1,4 +1,4 @@
-//! A city's folder: its lock, its journal, what of a journal a server starts again from, and a journal as a script.
+//! A city's state folder: its lock and files, the head and entries of its journal, and a journal as a script.
 #![tactic(auto)]
 
 mod choosing;

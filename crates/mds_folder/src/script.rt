@@ -21,7 +21,7 @@ fn word_of(verb: Verb) -> &'static [u8]
     }
 }
 
-/// A byte of a text on one line.
+/// A byte of a text that is put on one line: a line break becomes a space.
 fn blank(byte: u8) -> u8
     ensures { result ≡ blank byte }
 {
@@ -32,11 +32,11 @@ fn blank(byte: u8) -> u8
     }
 }
 
-/// Adds a text on one line: a line's end within it is space.
+/// Appends a text on one line: a line break in it becomes a space.
 ///
 /// # Errors
 ///
-/// Memory ran out.
+/// Out of memory.
 pub fn push_blanked(line: &mut Vec<u8>, text: &[u8]) -> Result<(), AllocError>
     ensures { OnOk result (line.new.items ≡ line.old.items ++ blanked text.now) }
 {
@@ -46,7 +46,7 @@ pub fn push_blanked(line: &mut Vec<u8>, text: &[u8]) -> Result<(), AllocError>
     Ok(())
 }
 
-/// Adds a body, behind a space where it has a byte.
+/// Appends a body, after a space unless it is empty.
 fn push_body(line: &mut Vec<u8>, body: &[u8]) -> Result<(), AllocError>
     ensures { OnOk result (line.new.items ≡ line.old.items ++ body_text body.now) }
 {
@@ -57,7 +57,7 @@ fn push_body(line: &mut Vec<u8>, body: &[u8]) -> Result<(), AllocError>
     push_blanked(line, body)
 }
 
-/// Adds a moment's digits.
+/// Appends a moment's digits.
 fn push_moment(alloc: Global, line: &mut Vec<u8>, at: Moment) -> Result<(), AllocError>
     ensures { OnOk result (line.new.items ≡ line.old.items ++ decimal at) }
 {
@@ -66,11 +66,11 @@ fn push_moment(alloc: Global, line: &mut Vec<u8>, at: Moment) -> Result<(), Allo
     line.extend_from_slice(digits.as_bytes())
 }
 
-/// A request's line, with its end.
+/// A request's line, with its line break.
 ///
 /// # Errors
 ///
-/// Memory ran out.
+/// Out of memory.
 pub fn request_line(alloc: Global, request: &Request<'_>) -> Result<Vec<u8>, AllocError>
     ensures { IfOk result (λ line. line.items ≡ request_text (request_of request.now)) }
 {

@@ -1,4 +1,4 @@
-//! What a journal's bytes are, and how they end.
+//! A survey of a journal's bytes: its payloads, and how it ends.
 ghost use Rattle.std.specs.Prelude.{◌≡◌, ℕ, List, map, drop, IfOk};
 ghost use Rattle.mds_records.specs.Records.{Reads, extent};
 ghost use Rattle.mds_records.specs.Endings.{ending_of};
@@ -12,15 +12,15 @@ use std::alloc::{AllocError, Global};
 /// What a journal's bytes are.
 #[derive(Debug, Drop)]
 pub struct Survey {
-    /// The texts of its records, without the marks.
+    /// The payloads of its records, without the marks.
     pub texts: Vec<Vec<u8>>,
     /// How many bytes its whole records take.
     pub whole: u64,
-    /// How it ends behind them.
+    /// How it ends after them.
     pub ending: Ending,
 }
 
-/// The texts of records that are no marks.
+/// The payloads of the records that are no marks.
 fn plain_texts(alloc: Global, records: &[Record<'_>]) -> Result<Vec<Vec<u8>>, AllocError>
     ensures { IfOk result (λ texts. map (λ v. v.items) texts.items ≡ listed (map (λ x. x.text.now) records.now)) }
 {
@@ -33,11 +33,11 @@ fn plain_texts(alloc: Global, records: &[Record<'_>]) -> Result<Vec<Vec<u8>>, Al
     Ok(texts)
 }
 
-/// What a journal's bytes are. A torn tail is left where it stands.
+/// Surveys a journal's bytes. A torn tail is left where it stands.
 ///
 /// # Errors
 ///
-/// Memory ran out.
+/// Out of memory.
 pub fn surveyed(alloc: Global, bytes: &[u8]) -> Result<Survey, AllocError>
     ensures { IfOk result (λ survey. (all : List (List ℕ)) × Reads 0 bytes.now all
         × (map (λ v. v.items) survey.texts.items ≡ listed all) × (survey.whole ≡ extent all)
@@ -51,8 +51,8 @@ pub fn surveyed(alloc: Global, bytes: &[u8]) -> Result<Survey, AllocError>
     })
 }
 
-/// What is wrong with a journal that ends so behind this many whole bytes. Of what is opened only that is told which no kill of the
-/// program leaves.
+/// What is wrong with a journal that ends so after this many whole bytes. Of the endings that are opened, only the one
+/// that no kill of the program leaves is reported.
 pub fn damage_of(whole: u64, ending: Ending) -> Option<Damage>
     ensures { result ≡ damage_of whole ending }
 {

@@ -1,4 +1,4 @@
-//! Tests of what is decided of files and of journals.
+//! Tests of the decisions on files and on journals.
 use crate::fault::{Damage, FolderFault};
 use crate::files::{Entry, Identity, Owner, owner_of};
 use crate::survey::{damage_of, surveyed};

@@ -1,4 +1,4 @@
--- Steps of the machine where one operator has other rows.
+-- Steps of the machine with other rows for one operator.
 use Rattle.std.proofs.Common.{◌≡◌, ◌≢◌, ℕ, false, List, Option, Some, None, Result, Ok, Err, inl, inr, refl, sym, ap, subst, ◌∙◌}
 use Rattle.std.specs.List.{slice_get}
 use Rattle.std.proofs.lemmas.Bool.{eqb-false}
@@ -94,7 +94,7 @@ module _ (w : State) (request : Request) (place : ℕ) (rows : Rows) where
       (sym (set_there w.fleets place other rows (λ same. apart (sym same))))
       (operator_moves other _ _ own apart)
 
-  -- a step of another is one whatever the operator's rows are
+  -- a step of another client is a step whatever the operator's rows are
   pub others_move : (reply : Reply) (next : State) → is_of w.configuration place request ≡ false → Step w request reply next → Step (with_rows w place rows) request reply (with_rows next place rows)
   others_move reply next is step =
       let same = call_moves (actor_of w.configuration request.token) (call_of w.configuration request) (call_by w.configuration request) is in

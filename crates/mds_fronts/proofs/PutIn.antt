@@ -1,4 +1,4 @@
--- The turns of one operator and a history of all others are one history of the machine.
+-- The turns of one operator and a history of all other clients form one history of the machine.
 use mathlib.Core.List.{IsPrefix}
 use Rattle.std.proofs.Common.{◌≡◌, ◌≢◌, ℕ, zero, suc, Bool, true, false, cond, not, List, [], ◌∷◌, ◌++◌, map, set, Option, Some, None, refl, sym, ap, subst, ◌∙◌}
 use Rattle.std.specs.Prelude.{◌==◌}
@@ -27,7 +27,7 @@ use Rattle.mds_fronts.proofs.Views.{both_true, last_past, followed_is}
 
 -- ---- lists
 
--- what begins with a list, in two ways
+-- the element after a common prefix is the same
 same_first : {A : Type 0} (xs : List A) (x y : A) (us vs : List A) → xs ++ x ∷ us ≡ xs ++ y ∷ vs → x ≡ y
 same_first xs x y us vs is = let same : x ∷ us ≡ y ∷ vs = append_cancel_left xs (x ∷ us) (y ∷ vs) is in cc
 
@@ -42,21 +42,21 @@ nothing : {A : Type 0} (xs ys : List A) → xs ++ ys ≡ [] → xs ≡ []
 nothing [] ys is = refl
 nothing (x ∷ xs) ys is = absurd (let no : x ∷ (xs ++ ys) ≡ [] = is in cc)
 
--- a place is not another one
+-- two places differ
 pub not_there : (a b : ℕ) (test : Bool) → (a == b) ≡ test → a ≢ b → (a == b) ≡ false
 not_there a b true is apart = absurd (apart (eqb-true a b is))
 not_there a b false is apart = is
 
 -- ---- own steps
 
--- each reply is that of the operator's own step at the front and at the rows that the turns before it left
+-- each reply is that of the operator's own step at the front, with the rows that the turns before it left
 abbrev pub AreOwn : Configuration → Operator → Rows → List Turn → Rows → Type 0
 AreOwn configuration operator rows [] after = after ≡ rows
 AreOwn configuration operator rows (turn ∷ turns) after =
     let own = own_step configuration operator turn.front rows turn.request in
     (turn.reply ≡ own.0) × AreOwn configuration operator own.1 turns after
 
--- the first of the publications of a front may be seen at once
+-- the first publications of a front may be seen one by one
 seen_before : (seen : List Seen) (had past : List Publication) (q : Publication) (turn : Turn) (turns : List Turn) → publications_of seen ≡ had → publications_of (seen ++ published q ∷ []) ≡ had ++ q ∷ [] → turn.front ≡ had ++ q ∷ past → continued (seen ++ published q ∷ []) (turn ∷ turns) ≡ continued seen (turn ∷ turns)
 seen_before seen had past q turn turns shown shown' is =
     ap (λ s. continued (s ++ asked turn.request ∷ []) turns)
@@ -78,8 +78,8 @@ module _ (first next : State) (place : ℕ) (operator : Operator) (old final : R
   abbrev is_mine : Request → Bool
   is_mine request = is_of first.configuration place request
 
-  -- Where both histories stand, with what is still to come of the other history and of the turns: the states are the same
-  -- but for the operator's rows.
+  -- How far both histories have come, with the rest of the other history and of the turns: the states are the same
+  -- except for the operator's rows.
   record Point (history : List Exchange) (turns : List Turn) : Type 0 where
     before : List Exchange
     so_far : List Exchange
@@ -107,9 +107,9 @@ module _ (first next : State) (place : ℕ) (operator : Operator) (old final : R
     unseen : (other : ℕ) → other ≢ place → seen_from p.so_far whole other ≡ seen_from p.before history other
     seen : p.seen ++ seen_from p.so_far whole place ≡ continued p.seen turns ++ map published p.past
 
-  -- ---- a turn is put in where its front is reached
+  -- ---- a turn is inserted where its front is reached
 
-  -- all others see nothing of it
+  -- no other client sees anything of it
   is_unseen : (so_far : List Exchange) (v after : State) (e : Exchange) → IsAfter first so_far v → Step v e.request e.reply after → after.publications ≡ v.publications → actor_of first.configuration e.request.token ≡ OperatorAt place → (other : ℕ) → other ≢ place → seen_at so_far e other ≡ []
   is_unseen so_far v after e is step same whose other apart =
       let none : news so_far e ≡ [] = none_past v.publications (news so_far e) (sym same ∙ now_published first so_far v e after is step) in
@@ -170,9 +170,9 @@ module _ (first next : State) (place : ℕ) (operator : Operator) (old final : R
             (sym (followed_is p.seen front front [] (p.shown ∙ here) (sym (append-nil front)) ∙ append-nil p.seen));
       }
 
-  -- ---- an exchange of the other history goes by
+  -- ---- an exchange of the other history is passed
 
-  -- where it has gone by
+  -- after it is passed
   module _ {history : List Exchange} {turns : List Turn} (e : Exchange) (p : Point (e ∷ history) turns) where
     abbrev between : State
     between = p.run.0
@@ -287,7 +287,7 @@ module _ (first next : State) (place : ℕ) (operator : Operator) (old final : R
 
   -- ---- all of it
 
-  -- where the other history has ended, each front is reached
+  -- at the end of the other history each front is reached
   reached : {turns : List Turn} (turn : Turn) (p : Point [] (turn ∷ turns)) → p.rise.0.0 ≡ []
   reached {turns} turn p =
       let had = p.w.publications in
@@ -313,7 +313,7 @@ module _ (first next : State) (place : ℕ) (operator : Operator) (old final : R
       (sym (append-nil p.w.publications) ∙ ap (λ ps. p.w.publications ++ ps) (sym (reached turn p)) ∙ p.rise.0.1)
       (at_end turns)
 
-  -- a front is reached, or it isn't yet
+  -- a front is reached, or isn't yet
   by_rest : {history : List Exchange} {turns : List Turn} (e : Exchange) (turn : Turn) (p : Point (e ∷ history) (turn ∷ turns)) → ((q : Point (e ∷ history) turns) → Rest q) → ((q : Point history (turn ∷ turns)) → Rest q) → (rest : List Publication) → p.w.publications ++ rest ≡ turn.front → Rest p
   by_rest e turn p now later [] is = put_in turn p (sym (append-nil p.w.publications) ∙ is) now
   by_rest e turn p now later (x ∷ rest) is = go_by_ahead e turn p x rest (sym is) later
@@ -327,14 +327,14 @@ module _ (first next : State) (place : ℕ) (operator : Operator) (old final : R
   rest_of [] turns p = at_end turns p
   rest_of (e ∷ history) turns p = at_one e history (rest_of history) turns p
 
--- a state with the rows that it has
+-- setting the rows that are there changes nothing
 set_as_is : (fleets : List Rows) (place : ℕ) (rows : Rows) → slice_get fleets place ≡ Some rows → set fleets place rows ≡ fleets
 set_as_is [] place rows is = refl
 set_as_is (r ∷ fleets) zero rows is = let same : rows ≡ r = cc in ap (λ r. r ∷ fleets) same
 set_as_is (r ∷ fleets) (suc place) rows is = ap (λ fs. r ∷ fs) (set_as_is fleets place rows is)
 
--- One operator's requests, each answered by its own step at a front, can be put into any history of all others whose
--- publications begin with the last front, from any state and any view that shows its publications.
+-- One operator's requests, each answered by its own step at a front, can be inserted into any history of all other
+-- clients whose publications have the last front as a prefix, from any state and any view that shows its publications.
 abbrev pub ArePutIn : Type 0
 ArePutIn =
     (w next : State) (history : List Exchange) (place : ℕ) (operator : Operator) (rows final : Rows) (seen : List Seen)

@@ -71,7 +71,7 @@ module _ (configuration : Configuration) (fleets : List Rows) where
           )
         ]
 
-    -- any other changes nothing
+    -- a request of any other client changes nothing
     others_leave : (reply : Reply) (after : Held) → is_authors configuration request ≡ false → IsRoomTurn configuration held request reply after → after ≡ held
     others_leave reply after is turn = elim turn [
       | inl a ↦ a.1 ∙ ap (λ b. (settled held (does_if b)).1) is
@@ -86,7 +86,7 @@ module _ (configuration : Configuration) (fleets : List Rows) where
       by true is rest = (state are.0, author_step held e.request e.reply are.0 is are.1, rest)
       by false is rest = subst (λ h. Run (state h) (authors_in configuration history) (state after)) (others_leave held e.request e.reply are.0 is are.1) rest
 
--- what the exchanges at the room leave is told by them
+-- the drafts and publications that the exchanges at the room leave follow from them
 module _ (configuration : Configuration) where
   one_left : (held : Held) (request : Request) (reply : Reply) (after other : Held) → IsRoomTurn configuration held request reply after → IsRoomTurn configuration held request reply other → after ≡ other
   one_left held request reply after other turn apart = by (is_authors configuration request) refl

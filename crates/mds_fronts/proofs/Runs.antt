@@ -1,4 +1,4 @@
--- The turns of a desk, and what they mean.
+-- The turns of a desk, and their meaning.
 use mathlib.Core.List.{IsPrefix}
 use Rattle.std.proofs.Common.{◌≡◌, ℕ, Bool, true, false, cond, not, List, [], ◌∷◌, ◌++◌, inl, inr, refl, sym, ap, subst, ◌∙◌}
 use Rattle.std.specs.Prelude.{◌==◌, ◌&&◌}
@@ -28,13 +28,13 @@ use Rattle.mds_fronts.proofs.Views.{prefix_on, prefix_self, both_true, rise_from
 
 -- ---- turns that are served
 
--- a reply other than 503 isn't that of a refusal with 503
+-- a reply other than 503 isn't a refusal with 503
 pub not_unavailable : (reply : Reply) (code : Code) → (refused code).status ≡ 503 → not (reply.status == 503) ≡ true → reply ≡ refused code → ⊥
 not_unavailable reply code is other same =
     false≢true (sym (ap (λ status. not (status == 503)) (ap (λ r. r.status) same ∙ is)) ∙ other)
 
 module _ (configuration : Configuration) (place : ℕ) (operator : Operator) where
-  -- a turn of the operator's is its own step
+  -- a turn for a request of the operator is the operator's own step
   served_own : (known : List Publication) (rows : Rows) (turn : Turn) (after : Rows) → IsTurn configuration place operator known rows turn after → is_served configuration place turn ≡ true → (turn.reply ≡ (own_step configuration operator turn.front rows turn.request).0) × (after ≡ (own_step configuration operator turn.front rows turn.request).1)
   served_own known rows turn after is served =
       let parts = both_true (is_of configuration place turn.request) (not (turn.reply.status == 503)) served in
@@ -59,7 +59,7 @@ module _ (configuration : Configuration) (place : ℕ) (operator : Operator) whe
   rise_of known rows [] after are = tt
   rise_of known rows (turn ∷ turns) after are = (are.1.begins, rise_of turn.front are.0 turns after are.2)
 
--- ---- what they mean
+-- ---- their meaning
 
 -- own steps are the answers of the continued view
 pub answers_of : (configuration : Configuration) (operator : Operator) (seen : List Seen) (rows : Rows) (turns : List Turn) (after : Rows) → AreRows configuration operator (requests_of seen) rows → AreRising (publications_of seen) turns → AreOwn configuration operator rows turns after → AreAnswers configuration operator seen turns × AreRows configuration operator (requests_of (continued seen turns)) after
@@ -89,9 +89,9 @@ turns_are_meant configuration place operator known rows after turns are =
           (own_of configuration place operator known rows turns after are served),
     )
 
--- ---- one after another
+-- ---- turns after turns
 
--- turns of a desk that knew more are turns of one that knew less
+-- turns of a desk that knew more are turns of a desk that knew less
 from_less : (configuration : Configuration) (place : ℕ) (operator : Operator) (known learnt : List Publication) (rows : Rows) (turns : List Turn) (after : Rows) → IsPrefix known learnt → AreTurns configuration place operator learnt rows turns after → AreTurns configuration place operator known rows turns after
 from_less configuration place operator known learnt rows [] after begins are = are
 from_less configuration place operator known learnt rows (turn ∷ turns) after begins are =
@@ -106,7 +106,7 @@ turns_are_joined configuration place operator known learnt rows between after (t
 
 -- ---- turns that aren't served
 
--- a reply of an operator's own step with status 503 leaves the rows
+-- a reply with status 503 to an operator's own step doesn't change the rows
 own_leaves : (configuration : Configuration) (operator : Operator) (front : List Publication) (rows : Rows) (request : Request) → (own_step configuration operator front rows request).0.status ≡ 503 → (own_step configuration operator front rows request).1 ≡ rows
 own_leaves configuration operator front rows request out =
     settled_leaves rows (call_of configuration request >>= own_call >>= λ own. operator_does configuration.zone operator front rows own request)

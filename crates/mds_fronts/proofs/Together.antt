@@ -42,7 +42,7 @@ module _ {A : Type 0} (p q : A → Bool) (apart : (x : A) → q x ≡ true → p
   kept_by x xs true is = ap (λ b. cond b (x ∷ filter p xs) (filter p xs)) (apart x is)
   kept_by x xs false is = refl
 
-  -- what passes one stays where what passes the other is left out
+  -- what passes one test stays where what passes the other is left out
   kept : (xs : List A) → filter p (filter (λ x. not (q x)) xs) ≡ filter p xs
   kept [] = refl
   kept (x ∷ xs) = by (q x) refl (kept xs)
@@ -60,7 +60,7 @@ module _ {A : Type 0} (p q : A → Bool) (apart : (x : A) → q x ≡ true → p
       by true is more = ap (λ b. cond b (x ∷ filter p (filter q xs)) (filter p (filter q xs))) (apart x is) ∙ more
       by false is more = more
 
--- what passes one passes the other too
+-- what passes one test passes the other too
 all_kept : {A : Type 0} (p q : A → Bool) → ((x : A) → q x ≡ true → p x ≡ true) → (xs : List A) → filter p (filter q xs) ≡ filter q xs
 all_kept p q passes [] = refl
 all_kept p q passes (x ∷ xs) = by (q x) refl (all_kept p q passes xs)
@@ -84,7 +84,7 @@ memory_by_own configuration place history has before e stands mine =
 abbrev exchange_of : Turn → Exchange
 exchange_of turn = record { request = turn.request; reply = turn.reply }
 
--- and it does for turns that are served
+-- memory suffices for turns that are served
 memory_in : (configuration : Configuration) (place : ℕ) (turns : List Turn) → list_all (is_served configuration place) turns ≡ true → HasMemory configuration place (exchanges_in turns)
 memory_in configuration place [] served [] e stands mine = absurd (let no : [] ≡ e ∷ stands.0 = stands.1 in cc)
 memory_in configuration place [] served (x ∷ before) e stands mine = absurd (let no : [] ≡ x ∷ (before ++ e ∷ stands.0) = stands.1 in cc)
@@ -107,13 +107,13 @@ memory_of configuration place turns whole served own =
 
 -- ---- one operator
 
--- what own steps leave is told by them
+-- the rows that own steps leave follow from them
 own_left : (configuration : Configuration) (operator : Operator) (rows : Rows) (turns : List Turn) (after other : Rows) → AreOwn configuration operator rows turns after → AreOwn configuration operator rows turns other → after ≡ other
 own_left configuration operator rows [] after other own apart = own ∙ sym apart
 own_left configuration operator rows (turn ∷ turns) after other own apart =
     own_left configuration operator (own_step configuration operator turn.front rows turn.request).1 turns after other own.1 apart.1
 
--- and so is what the turns of a desk leave
+-- the rows that the turns of a desk leave follow from them
 rows_left : (configuration : Configuration) (place : ℕ) (operator : Operator) (turns : List Turn) (rows other : Rows) → AreItsTurns configuration place operator turns rows → AreItsTurns configuration place operator turns other → rows ≡ other
 rows_left configuration place operator turns rows other its apart =
     let served = served_in configuration place turns in
@@ -189,7 +189,7 @@ module _ (configuration : Configuration) where
     abbrev served : ℕ → List Turn
     served place = served_in configuration place (turns place)
 
-    -- with the first of the operators in it
+    -- the one history with the first `n` operators in it
     record With (n : ℕ) : Type 0 where
       whole : List Exchange
       after : State
@@ -218,7 +218,7 @@ module _ (configuration : Configuration) where
           rows_outside = λ place above. refl;
         }
 
-    -- what a part is that was there before another operator's exchanges were put in
+    -- a part stays what it is when another operator's exchanges are inserted
     part_kept : (n place : ℕ) (operator : Operator) → slice_get configuration.operators place ≡ Some operator → (own before whole : List Exchange) → place ≢ n → IsPutInto new n own before whole → HasPart configuration place (served place) before → HasPart configuration place (served place) whole
     part_kept n place operator found own before whole apart put part =
         let same = others_kept n place apart whole before put.of_others ∙ part.own in
@@ -272,7 +272,7 @@ module _ (configuration : Configuration) where
         rows_by place one rows there its false is that =
             let apart = eqb-false place n is in set_there with.after.fleets n place (has.desks n operator found).0 apart ∙ that apart
 
-    -- no operator is there
+    -- there is no such operator
     no_more : (n : ℕ) → slice_get configuration.operators n ≡ None → With n → With (suc n)
     no_more n found with =
         record {
@@ -337,11 +337,11 @@ module _ (configuration : Configuration) (operator : Operator) where
       past_published (seen ++ published p ∷ []) ps more
       ∙ ap (λ s. replies_after s more) (append_assoc seen (published p ∷ []) (map published ps))
 
-  -- the news of a front
+  -- the further publications of a front
   abbrev news_of : List Seen → List Publication → List Publication
   news_of seen front = drop (length (publications_of seen)) front
 
-  -- what a view is continued by
+  -- what turns add to a view
   abbrev added : List Seen → List Turn → List Seen
   added seen [] = []
   added seen (turn ∷ turns) = map published (news_of seen turn.front) ++ asked turn.request ∷ added (then seen turn) turns
@@ -363,7 +363,7 @@ module _ (configuration : Configuration) (operator : Operator) where
       ∙ ap (λ rs. reply_after now turn.request ∷ rs) (replies_by_view (then seen turn) turns are.1)
       ∙ sym (past_published seen (news_of seen turn.front) (asked turn.request ∷ added (then seen turn) turns))
 
-  -- served turns from a new desk are answered, and leave the rows, as the view that they continue says
+  -- served turns from a new desk have the replies and leave the rows that the continued view defines
   by_view : (place : ℕ) (turns : List Turn) (rows : Rows) → AreItsTurns configuration place operator turns rows → (replies_in (served_in configuration place turns) ≡ replies_after [] (continued [] (served_in configuration place turns))) × AreRows configuration operator (requests_of (continued [] (served_in configuration place turns))) rows
   by_view place turns rows its =
       let served = served_in configuration place turns in

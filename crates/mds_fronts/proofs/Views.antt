@@ -24,12 +24,12 @@ both_true false b is = absurd (false≢true is)
 
 -- ---- fronts
 
--- fronts rise from the beginning of what they rise from
+-- fronts that rise from a list rise from its prefixes
 pub rise_from : (before known : List Publication) (turns : List Turn) → IsPrefix before known → AreRising known turns → AreRising before turns
 rise_from before known [] begins rising = tt
 rise_from before known (turn ∷ turns) begins rising = (prefix_on before known turn.front begins rising.0, rising.1)
 
--- the last front begins with what was known before
+-- the last front has what was known before as a prefix
 pub last_past : (known : List Publication) (turns : List Turn) → AreRising known turns → IsPrefix known (last_front known turns)
 last_past known [] rising = prefix_self known
 last_past known (turn ∷ turns) rising = prefix_on known turn.front _ rising.0 (last_past turn.front turns rising.1)
@@ -54,14 +54,14 @@ none_asked : (ps : List Publication) → requests_of (map published ps) ≡ []
 none_asked [] = refl
 none_asked (p ∷ ps) = none_asked ps
 
--- a view followed by a front shows this front
+-- a view followed by a front has the publications of this front
 pub front_shown : (seen : List Seen) (front : List Publication) → IsPrefix (publications_of seen) front → publications_of (followed seen front) ≡ front
 front_shown seen front is =
     ap publications_of (followed_is seen (publications_of seen) front is.0 refl (sym is.1))
     ∙ filter_map-append as_publication seen (map published is.0)
     ∙ ap (λ ps. publications_of seen ++ ps) (all_published is.0) ∙ is.1
 
--- and has no other requests
+-- such a view has no other requests
 pub requests_left : (seen : List Seen) (front : List Publication) → requests_of (followed seen front) ≡ requests_of seen
 requests_left seen front =
     let past = drop (length (publications_of seen)) front in

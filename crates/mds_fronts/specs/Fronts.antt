@@ -1,5 +1,5 @@
 -- Fronts, and views that are continued by them. A front is the list of the publications at which a request is answered:
--- the first of all that are ever published, as many as had been when the desk looked.
+-- a prefix of all that are ever published, as long as it was when the desk looked.
 use mathlib.Core.List.{IsPrefix}
 use Rattle.std.specs.Prelude.{ℕ, ◌==◌, ◌&&◌, Bool, List, [], ◌∷◌, ◌++◌, map, filter, not, drop, length}
 use Rattle.mds_catalog.specs.Publication.{Publication}
@@ -9,8 +9,8 @@ use Rattle.mds_request.specs.Reply.{Reply}
 use Rattle.mds_machine.specs.Meaning.{IsAnswer}
 use Rattle.mds_machine.specs.Views.{Seen, asked, published, is_of, publications_of}
 
--- One turn at a desk: a request, the front at which it is answered, and the reply. Where nothing is shown to the desk,
--- the front is what the desk knew.
+-- One turn at a desk: a request, the front at which it is answered, and the reply. Where the desk has no snapshot, the
+-- front is what the desk knew.
 pub record Turn : Type 0 where
   pub request : Request
   pub front : List Publication
@@ -22,21 +22,21 @@ requests_in turns = map (λ turn. turn.request) turns
 abbrev pub replies_in : List Turn → List Reply
 replies_in turns = map (λ turn. turn.reply) turns
 
--- the first front begins with what was known before, and each other with the one before it
+-- the first front has what was known before as a prefix, and each other front has the one before it
 abbrev pub AreRising : List Publication → List Turn → Type 0
 AreRising known [] = Unit {0}
 AreRising known (turn ∷ turns) = IsPrefix known turn.front × AreRising turn.front turns
 
--- the last front, or what was known before all where there is none
+-- the last front, or what was known at first where there is none
 abbrev pub last_front : List Publication → List Turn → List Publication
 last_front known [] = known
 last_front known (turn ∷ turns) = last_front turn.front turns
 
--- a view followed by the publications of a front past as many as the view has
+-- a view followed by the further publications of a front, after as many as the view has
 abbrev pub followed : List Seen → List Publication → List Seen
 followed seen front = seen ++ map published (drop (length (publications_of seen)) front)
 
--- A view continued by turns: it is followed, for each in turn, by its front, and then by its request.
+-- A view continued by turns: for each turn in order, it is followed by the turn's front, and then by its request.
 abbrev pub continued : List Seen → List Turn → List Seen
 continued seen [] = seen
 continued seen (turn ∷ turns) = continued (followed seen turn.front ++ asked turn.request ∷ []) turns
@@ -49,7 +49,7 @@ AreAnswers configuration operator seen (turn ∷ turns) =
     IsAnswer configuration operator now turn.request turn.reply
     × AreAnswers configuration operator (now ++ asked turn.request ∷ []) turns
 
--- the request carries the operator's token, and the reply isn't 503
+-- the request has the operator's token, and the reply isn't 503
 abbrev pub is_served : Configuration → ℕ → Turn → Bool
 is_served configuration place turn = is_of configuration place turn.request && not (turn.reply.status == 503)
 

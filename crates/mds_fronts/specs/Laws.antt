@@ -1,4 +1,4 @@
--- Laws of desks, of fronts and of the history that all desks are parts of.
+-- Laws of desks, of fronts and of the one history that all desks are part of.
 use mathlib.Core.List.{IsPrefix}
 use Rattle.std.specs.Prelude.{◌≡◌, ℕ, List, [], ◌++◌, true, Some, slice_get}
 use Rattle.std.specs.List.{list_all}
@@ -14,7 +14,7 @@ use Rattle.mds_fronts.specs.Fronts.{Turn, AreRising, last_front, continued, requ
 use Rattle.mds_fronts.specs.OneHistory.{exchanges_in, exchanges_of, IsPutInto, HasPart, AreItsTurns, HasServed, IsHistoryOfAll}
 use Rattle.mds_fronts.specs.Room.{AreRoomTurns, authors_in}
 
--- the fronts of turns rise, and the turns mean what they are to mean
+-- the fronts of turns rise, and turns have their meaning
 abbrev pub TurnsAreMeant : Type 0
 TurnsAreMeant =
     (configuration : Configuration) (place : ℕ) (operator : Operator) (known : List Publication) (rows after : Rows)
@@ -22,7 +22,7 @@ TurnsAreMeant =
     → AreTurns configuration place operator known rows turns after
     → AreRising known turns × AreMeant configuration place operator known rows turns after
 
--- turns one after another are turns, whatever the desk learns in between
+-- turns after turns are turns, whatever the desk learns in between
 abbrev pub TurnsAreJoined : Type 0
 TurnsAreJoined =
     (configuration : Configuration) (place : ℕ) (operator : Operator) (known learnt : List Publication)
@@ -31,8 +31,8 @@ TurnsAreJoined =
     → AreTurns configuration place operator learnt between more after
     → AreTurns configuration place operator known rows (turns ++ more) after
 
--- Turns on requests of others, and turns answered 503, leave no trace: the served ones are turns without them, at fronts
--- that the last front begins with.
+-- Turns for requests of other clients, and turns answered 503, have no effect: the served ones are turns without them,
+-- at fronts that are prefixes of the last front.
 abbrev pub ServedAreTurns : Type 0
 ServedAreTurns =
     (configuration : Configuration) (place : ℕ) (operator : Operator) (known : List Publication) (rows after : Rows)
@@ -43,22 +43,22 @@ ServedAreTurns =
     × (list_all (is_served configuration place) served ≡ true)
     × IsPrefix (last_front known served) (last_front known turns)
 
--- a continued view has the requests of its turns, each once and in order, and it shows the publications of the last front
+-- a continued view has the requests of its turns, each once and in order, and the publications of the last front
 abbrev pub ShowsLastFront : Type 0
 ShowsLastFront =
     (seen : List Seen) (turns : List Turn) → AreRising (publications_of seen) turns
     → (requests_of (continued seen turns) ≡ requests_of seen ++ requests_in turns)
     × (publications_of (continued seen turns) ≡ last_front (publications_of seen) turns)
 
--- a view is continued by turns one after another
+-- a view that is continued by turns, and then by more, is continued by all of them
 abbrev pub ViewsAreJoined : Type 0
 ViewsAreJoined =
     (seen : List Seen) (turns more : List Turn) → continued seen (turns ++ more) ≡ continued (continued seen turns) more
 
--- The turns of one operator's desk that are served can be put into any history of all others from a new machine whose
--- publications begin with the last front. The result is again a history of the machine, which leaves the state that the
--- other history leaves, but with the desk's rows for the operator; and the operator's view of it is the empty one,
--- continued by these turns, followed by the publications past the last front.
+-- The served turns of one operator's desk can be inserted into any history of all other clients from a new machine
+-- whose publications have the last front as a prefix. The result is again a history of the machine, with the same final
+-- state as the other history, but with the desk's rows for the operator; and the operator's view of it is the empty
+-- one, continued by these turns, followed by the publications past the last front.
 abbrev pub TurnsArePutIn : Type 0
 TurnsArePutIn =
     (configuration : Configuration) (next : State) (history : List Exchange) (place : ℕ) (operator : Operator)
@@ -81,16 +81,16 @@ RoomIsHistory =
     → Run new (authors_in configuration history)
     (record { configuration = configuration; publications = publications; drafts = drafts; fleets = new.fleets })
 
--- what a server did is one history of all
+-- the exchanges of a server form one history
 abbrev pub IsOneHistory : Type 0
 IsOneHistory =
     (configuration : Configuration) (history : List Exchange) (publications : List Publication) (turns : ℕ → List Turn)
     → HasServed configuration history publications turns
     → (whole : List Exchange) × (after : State) × IsHistoryOfAll configuration history publications turns whole after
 
--- Isolation at running desks. Take the turns of one operator's desk at two servers of one configuration, up to any point
--- in each. If those that are served continue the empty view to the same view, then the operator's replies in them are the
--- same, byte for byte, and so are its rows, whatever the authors drafted and the other operators asked.
+-- Isolation at running desks. Take the turns of one operator's desk at two servers of one configuration, up to any
+-- point in each. If those that are served continue the empty view to the same view, then the operator's replies in them
+-- are the same, byte for byte, and so are its rows, whatever the authors drafted and the other operators asked.
 abbrev pub DesksAreIsolated : Type 0
 DesksAreIsolated =
     (configuration : Configuration) (place : ℕ) (operator : Operator) (turns others : List Turn) (rows other_rows : Rows) →

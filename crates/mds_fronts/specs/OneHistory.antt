@@ -1,4 +1,4 @@
--- The turns of desks, put into one history of the machine.
+-- The turns of desks, inserted into one history of the machine.
 use mathlib.Core.List.{IsPrefix}
 use Rattle.std.specs.Prelude.{◌≡◌, ◌≢◌, ℕ, Bool, true, false, List, [], ◌++◌, map, filter, not, Some, slice_get}
 use Rattle.std.specs.FinMap.{empty}
@@ -27,16 +27,16 @@ exchanges_of configuration place history = filter (λ e. is_of configuration pla
 abbrev pub exchanges_but_of : Configuration → ℕ → List Exchange → List Exchange
 exchanges_but_of configuration place history = filter (λ e. not (is_of configuration place e.request)) history
 
--- One history has an operator's own exchanges put into another: it has both, each in its order, and nothing else. What is
--- published in it, and what every other operator sees of it, are as in the other.
+-- A history is another one with an operator's own exchanges inserted: it has both, each in its order, and nothing else.
+-- Its publications, and what every other operator sees of it, are as in the other.
 pub record IsPutInto (w : State) (place : ℕ) (own history whole : List Exchange) : Type 0 where
   pub of_operator : exchanges_of w.configuration place whole ≡ own
   pub of_others : exchanges_but_of w.configuration place whole ≡ history
   pub publications : publications_after w.configuration w.drafts whole ≡ publications_after w.configuration w.drafts history
   pub views : (other : ℕ) → other ≢ place → view w.configuration w.drafts whole other ≡ view w.configuration w.drafts history other
 
--- An operator's part in a history: the exchanges of its turns, for which memory sufficed, and the empty view continued by
--- them, followed by what is published past the last front.
+-- An operator's part in a history: the exchanges of its turns, none of which ran out of memory, and the empty view
+-- continued by them, followed by what is published past the last front.
 pub record HasPart (configuration : Configuration) (place : ℕ) (turns : List Turn) (history : List Exchange) : Type 0 where
   pub own : exchanges_of configuration place history ≡ exchanges_in turns
   pub memory : HasMemory configuration place history
@@ -44,12 +44,12 @@ pub record HasPart (configuration : Configuration) (place : ℕ) (turns : List T
       × (publications_after configuration (new_state configuration).drafts history ≡ last_front [] turns ++ past)
       × (view configuration (new_state configuration).drafts history place ≡ continued [] turns ++ map published past)
 
--- the turns of an operator's desk since it was made, when it knew nothing and had no rows
+-- the turns of an operator's desk since it was created, when it knew nothing and had no rows
 abbrev pub AreItsTurns : Configuration → ℕ → Operator → List Turn → Rows → Type 0
 AreItsTurns configuration place operator turns rows = AreTurns configuration place operator [] empty turns rows
 
--- What a server did since it was made: the exchanges at the author's room, after which this list is published, and the
--- turns of each operator's desk, the last front of which is the beginning of this list.
+-- What a server did since it was created: the exchanges at the author's room, after which this list is published, and
+-- the turns of each operator's desk, whose last front is a prefix of this list.
 pub record HasServed (configuration : Configuration) (history : List Exchange) (publications : List Publication) (turns : ℕ → List Turn) : Type 0 where
   pub drafts : Drafts
   pub room : AreRoomTurns configuration ((new_state configuration).drafts, []) history (drafts, publications)
@@ -61,15 +61,15 @@ abbrev pub is_operator : Actor → Bool
 is_operator (OperatorAt place) = true
 is_operator other = false
 
--- the exchanges of no operator
+-- the exchanges of the author and of anonymous clients
 abbrev pub exchanges_of_none : Configuration → List Exchange → List Exchange
 exchanges_of_none configuration history = filter (λ e. not (is_operator (actor_of configuration e.request.token))) history
 
--- One history of all, to which the isolation of the machine applies: each operator's replies in it are what its view alone
--- defines, and are the same in any history of which it sees the same. What isn't an operator's in it are the author's
--- exchanges at the room, what is published in it is what is published there, and each operator has the part of its turns
--- that are served. The state after it has the drafts that the room's exchanges leave, and each operator's rows are those
--- that the turns of its desk leave.
+-- One history of all, to which the isolation of the machine applies: each operator's replies in it are what its view
+-- alone defines, and are the same in any history of which it sees the same. Its exchanges that aren't an operator's are
+-- the author's at the room, its publications are those of the room, and each operator's part in it are its served
+-- turns. The state after it has the drafts that the room's exchanges leave, and for each operator the rows that the
+-- turns of its desk leave.
 pub record IsHistoryOfAll (configuration : Configuration) (history : List Exchange) (publications : List Publication) (turns : ℕ → List Turn) (whole : List Exchange) (after : State) : Type 0 where
   pub run : Run (new_state configuration) whole after
   pub meant : IsMeantFrom (new_state configuration) whole after

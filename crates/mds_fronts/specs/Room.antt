@@ -1,4 +1,4 @@
--- What the author's room does: one turn, and turns one after another.
+-- The author's room: one turn, and turns one after another.
 use Rattle.std.specs.Prelude.{◌≡◌, Bool, true, false, List, [], ◌∷◌, filter, if◌then◌else◌, Result, Ok, Err}
 use Rattle.mds_catalog.specs.Publication.{Publication}
 use Rattle.mds_drafts.specs.Drafts.{Drafts}
@@ -22,17 +22,16 @@ abbrev pub is_the_author : Actor → Bool
 is_the_author actor.Author = true
 is_the_author other = false
 
--- the request carries the author's token
+-- the request has the author's token
 abbrev pub is_authors : Configuration → Request → Bool
 is_authors configuration request = is_the_author (actor_of configuration request.token)
 
--- the author's own call; one of an operator is none, and no request of the author has it
+-- the author's own call; a call of an operator is none, and no request of the author has one
 abbrev pub authors_call : Call → Result AuthorCall Code
 authors_call (Author call) = Ok call
 authors_call (OperatorAt place call) = Err Role
 
--- What the room does with the drafts and the publications: what the author calls for; a request with any other token is
--- refused.
+-- The room, with these drafts and publications: what the author calls for; a request with any other token is refused.
 abbrev pub room_does : Configuration → Drafts × List Publication → Request → Result (Reply × (Drafts × List Publication)) Code
 room_does configuration held request =
     if is_authors configuration request then (call_of configuration request >>= authors_call >>= λ call. author_does held.0 held.1 call request)
@@ -53,6 +52,6 @@ AreRoomTurns configuration held (e ∷ history) after =
     (between : Drafts × List Publication) × IsRoomTurn configuration held e.request e.reply between
     × AreRoomTurns configuration between history after
 
--- the author's exchanges among them
+-- the author's exchanges in a history
 abbrev pub authors_in : Configuration → List Exchange → List Exchange
 authors_in configuration history = filter (λ e. is_authors configuration e.request) history

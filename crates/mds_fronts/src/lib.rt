@@ -1,5 +1,5 @@
-//! Running desks, as definitions: the fronts at which an operator's requests are answered, the view that
-//! they continue, and the one history of the machine that the requests at all desks are part of.
+//! Running desks, in definitions: the prefixes of the publications at which an operator is answered, and the one
+//! history that all desks' requests are part of.
 #![tactic(auto)]
 
 pub mod laws;

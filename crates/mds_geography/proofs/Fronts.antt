@@ -1,8 +1,8 @@
--- A list that is read entry by entry, with what was read already in front.
+-- Reading a list entry by entry, with what was read before it.
 use Rattle.std.proofs.Common.{◌≡◌, ℕ, List, [], ◌∷◌, ◌++◌, Result, Ok, Err, refl, append_assoc, ap}
 use Rattle.mds_text.specs.Fault.{Fault, ◌>>=◌}
 
--- what was read before a list, and then the list
+-- what was read before, then the list
 abbrev pub with_front : {A : Type 0} → List A → Result (List A × ℕ) Fault → Result (List A × ℕ) Fault
 with_front front reading = reading >>= λ rest. Ok (front ++ rest.0, rest.1)
 

@@ -11,13 +11,13 @@ abbrev pub ring_cause : RingFault → Fault
 ring_cause Short = ring_short
 ring_cause Open = ring_open
 
--- the reason that an answer names, or none for want of memory
+-- the reason that a fault stands for; out of memory is none
 abbrev pub geo_cause : GeoFault → Option Fault
 geo_cause (Text fault) = text_cause fault
 geo_cause (Ring fault) = Some (ring_cause fault)
 geo_cause TooManyPoints = Some too_many_points
 
--- what is written of a fault of a geography
+-- the message of a geography's fault
 abbrev pub geo_wording : GeoFault → List ℕ
 geo_wording (Text fault) = text_wording fault
 geo_wording (Ring Short) = codes "a ring is short"

@@ -1,4 +1,4 @@
--- A geography (MDS 2.0 Geography), and what the type of the program stands for.
+-- A geography document (MDS 2.0 Geography), and the documents that the program's types stand for.
 use Rattle.std.specs.Prelude.{ℕ, List, Option, option_map, string_bytes}
 use Rattle.mds_geometry.specs.declared.position.Position.{Position}
 use Rattle.mds_geography.specs.declared.geography.Geography as program
@@ -11,7 +11,7 @@ pub record Geography : Type 0 where
   pub description : Option (List ℕ)
   pub polygons : List (List (List Position))
 
--- the document that a `Geography` of the program stands for
+-- the document of the program's `Geography`
 abbrev pub geography_document : program.Geography → Geography
 geography_document g =
     record {
@@ -21,7 +21,7 @@ geography_document g =
       polygons = g.area;
     }
 
--- the document that was read, before its area is made
+-- the document that was read, before its area is indexed
 abbrev pub said_document : Said → Geography
 said_document s =
     record {

@@ -1,5 +1,5 @@
--- What a text of a geography reads as: the document, or the first fault in document order (MDS 2.0 Geography;
--- RFC 7946, sections 3.1 to 3.3).
+-- What the text of a geography is read as: the document, or the first fault in document order (MDS 2.0 Geography; RFC
+-- 7946, sections 3.1 to 3.3).
 use Rattle.std.specs.Prelude.{ℕ, ◌+◌, ◌-◌, List, [], ◌∷◌, ◌++◌, Bool, false, ◌&&◌, nat_lt, if◌then◌else◌, Option, Some, None, Result, Ok, Err, length, bytes_eq, codes, slice_get}
 use Rattle.std.specs.Ordering.{int_eq}
 use Rattle.mds_text.specs.Tree.{Json}
@@ -12,11 +12,11 @@ use Rattle.mds_text.specs.declared.field.Field.TheVariants.{GeographyId, Name, D
 use Rattle.mds_geometry.specs.declared.position.Position.{Position}
 use Rattle.mds_geography.specs.Geography.{Geography}
 
--- a geography has at most 20,000 positions, closing ones counted
+-- a geography has at most 20,000 positions, the closing ones counted too
 abbrev pub most_positions : ℕ
 most_positions = 20000
 
--- what was read, and how many positions of the document were read up to there
+-- a value, and how many positions of the document were read up to its end
 abbrev pub Counted : Type 0 → Type 0
 Counted A = A × ℕ
 
@@ -24,16 +24,16 @@ Counted A = A × ℕ
 abbrev pub Polygons : Type 0
 Polygons = List (List (List Position))
 
--- what was read, without how many positions it has
+-- the value without its count
 abbrev pub uncounted : {A : Type 0} → Result (Counted A) Fault → Result A Fault
 uncounted (Ok x) = Ok x.0
 uncounted (Err fault) = Err fault
 
--- the position that comes next may be read
+-- the count with one more position, unless there are too many
 abbrev pub room_after : ℕ → Result ℕ Fault
 room_after read = if nat_lt read most_positions then Ok (read + 1) else Err too_many_points
 
--- longitude, then latitude; further entries aren't looked at (RFC 7946, section 3.1.1)
+-- longitude, then latitude; further entries are ignored (RFC 7946, section 3.1.1)
 abbrev pub position_of : List Json → Result Position Fault
 position_of (lng ∷ lat ∷ more) = do
   x ← coordinate_of most_longitude Coordinates lng
@@ -41,7 +41,7 @@ position_of (lng ∷ lat ∷ more) = do
   Ok (record { lng = x; lat = y })
 position_of entries = Err (bad_field Coordinates)
 
--- the position that an entry of a ring is
+-- the position of one entry of a ring
 abbrev pub position_at : Json → Result Position Fault
 position_at value = list_of Coordinates value >>= position_of
 
@@ -55,11 +55,11 @@ positions_of read (t ∷ ts) = do
   rest ← positions_of next ts
   Ok (position ∷ rest.0, rest.1)
 
--- the positions of the list that a ring is
+-- the positions of a ring, from its list
 abbrev pub positions_in : ℕ → Json → Result (Counted (List Position)) Fault
 positions_in read value = list_of Coordinates value >>= positions_of read
 
--- the ends of a ring agree
+-- the first and the last position of a ring are equal
 abbrev pub ends_meet : Option Position → Option Position → Bool
 ends_meet (Some p) (Some q) = int_eq p.lng q.lng && int_eq p.lat q.lat
 ends_meet first last = false
@@ -99,8 +99,8 @@ polygons_of read (t ∷ ts) = do
 abbrev pub multipolygon_of : ℕ → Json → Result (Counted Polygons) Fault
 multipolygon_of read value = list_of Coordinates value >>= polygons_of read
 
--- The polygons of a geometry of this type; a type other than Polygon and MultiPolygon adds none, and its members
--- aren't read (RFC 7946, section 3.1).
+-- The polygons of a geometry of this type; a type other than Polygon and MultiPolygon has none, and its members aren't
+-- read (RFC 7946, section 3.1).
 abbrev pub geometry_of : ℕ → List ℕ → Json → Result (Counted Polygons) Fault
 geometry_of read kind geometry =
     if bytes_eq kind (codes "Polygon")
@@ -109,23 +109,23 @@ geometry_of read kind geometry =
     then (required_member geometry Coordinates >>= λ coordinates. multipolygon_of read coordinates)
     else Ok ([], read)
 
--- a fault is one of this member, whatever it was
+-- any fault becomes a bad field of this name
 abbrev pub renamed : {A : Type 0} → Field → Result A Fault → Result A Fault
 renamed field (Ok a) = Ok a
 renamed field (Err fault) = Err (bad_field field)
 
--- the text `type` of an object (RFC 7946, section 1.4); anything else is a bad field of this name
+-- the string `type` of an object (RFC 7946, section 1.4); anything else is a bad field of this name
 abbrev pub kind_of : Field → Json → Result (List ℕ) Fault
 kind_of field value = renamed field (required_at text_of value Kind)
 
--- a feature's geometry, where it has one
+-- the polygons of a feature's geometry, where it has one
 abbrev pub feature_geometry : ℕ → Option Json → Result (Counted Polygons) Fault
 feature_geometry read None = Ok ([], read)
 feature_geometry read (Some geometry) = do
   kind ← kind_of Geometry geometry
   geometry_of read kind geometry
 
--- a feature's geometry: absent and null add no polygon (RFC 7946, section 3.2)
+-- the polygons of a feature; an absent or null geometry has none (RFC 7946, section 3.2)
 abbrev pub feature_of : ℕ → Json → Result (Counted Polygons) Fault
 feature_of read feature = member_at feature Geometry >>= feature_geometry read
 
@@ -142,7 +142,7 @@ features_of read (t ∷ ts) = do
   rest ← features_of polygons.1 ts
   Ok (polygons.0 ++ rest.0, rest.1)
 
--- the polygons of a GeoJSON object of this type; a type other than these two is a geometry's
+-- the polygons of a GeoJSON object of this type; any other type than these two is that of a geometry
 abbrev pub geojson_of : List ℕ → Json → Result (Counted Polygons) Fault
 geojson_of kind value =
     if bytes_eq kind (codes "FeatureCollection")
@@ -150,7 +150,7 @@ geojson_of kind value =
     else if bytes_eq kind (codes "Feature") then feature_of 0 value
     else geometry_of 0 kind value
 
--- a geography, line by line of its table
+-- a geography, in the order of its table
 abbrev pub geography_of : Json → Result Geography Fault
 geography_of tree = do
   document ← document_of tree
@@ -162,6 +162,6 @@ geography_of tree = do
   polygons ← uncounted (geojson_of kind value)
   Ok (record { id = id; name = name; description = description; polygons = polygons })
 
--- what a text reads as
+-- what a text is read as
 abbrev pub read_geography : List ℕ → Result Geography Fault
 read_geography bytes = read_text bytes >>= geography_of

@@ -39,7 +39,7 @@ abbrev pub date_member : Option ℕ → List (List ℕ × Json)
 date_member None = []
 date_member (Some t) = (codes "published_date", int (pos t)) ∷ []
 
--- the geography as it is served, with its publication's moment where one is given
+-- the geography as it is served, with the moment of its publication where one is given
 abbrev pub served : Geography → Option ℕ → Json
 served g moment =
     object (members_of (description_member g.description

@@ -4,12 +4,13 @@ use std::alloc::{AllocError, AllocFailed};
 use std::error::Error;
 use std::fmt;
 
-/// Why a text is no geography.
+/// Why a text is refused as a geography.
 #[derive(Clone, Copy, Debug)]
 pub enum GeoFault {
-    /// The text, or a member of it.
+    /// The text is not JSON, a member is not as it must be, or out of memory.
     Text(TextFault),
-    /// A ring has fewer than four positions, or its ends differ (RFC 7946, section 3.1.6).
+    /// A ring has fewer than four positions, or its first and last differ (RFC 7946, section
+    /// 3.1.6).
     Ring(RingFault),
     /// There are more than 20,000 positions.
     TooManyPoints,

@@ -12,7 +12,7 @@ use mds_reading::{
 use mds_text::{Field, Id, Moment, Tree, add_member, id_tree, int_tree, object_tree, text_tree};
 use std::alloc::{AllocError, Global};
 
-/// A geography: an area of one or more polygons under an identifier (MDS 2.0 Geography).
+/// A geography: an area of polygons with an identifier and a name (MDS 2.0 Geography).
 #[derive(Drop)]
 pub struct Geography {
     id: Id,
@@ -28,12 +28,12 @@ impl Geography {
     ghost use Rattle.mds_geography.specs.Reading.{read_geography};
     ghost use Rattle.mds_geography.specs.Served.{served};
 
-    /// Reads a geography document: its members by the table, then its GeoJSON in document order
-    /// (MDS 2.0 Geography; RFC 7946, section 3). Other members are read past.
+    /// Reads a geography document: its members in the order of the table, then its GeoJSON in
+    /// document order (MDS 2.0 Geography; RFC 7946, section 3). Other members are ignored.
     ///
     /// # Errors
     ///
-    /// The first fault of the document in that order, or want of memory.
+    /// The first fault of the document in that order, or out of memory.
     pub fn read(alloc: Global, text: &[u8]) -> Result<Geography, GeoFault>
         ensures { Gives geo_cause geography_document result (read_geography text.now) }
     {
@@ -66,7 +66,7 @@ impl Geography {
         self.area.polygons()
     }
 
-    /// The polygons as an area, which answers questions of places by itself.
+    /// The polygons as an area, which is indexed for tests of positions.
     pub fn area(&self) -> &Area
         ensures { result.now ≡ (geography_document self.now).polygons }
     {
@@ -84,7 +84,7 @@ impl Geography {
     ///
     /// # Errors
     ///
-    /// Memory ran out.
+    /// Out of memory.
     pub fn served(&self, alloc: Global, moment: Option<Moment>) -> Result<Tree, AllocError>
         ensures { IfOk result (λ t. view t ≡ served (geography_document self.now) moment) }
     {
@@ -104,7 +104,7 @@ impl Geography {
     }
 }
 
-/// What a geography document says. The tree of its text is given back before the area is made.
+/// The content of a geography document. The tree of its text is freed before the area is indexed.
 #[derive(Drop)]
 struct Said {
     id: Id,

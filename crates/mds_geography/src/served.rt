@@ -1,5 +1,5 @@
-//! The area of a geography as it is served: a FeatureCollection with one Feature of one MultiPolygon
-//! (RFC 7946, sections 3.1.7, 3.2 and 3.3).
+//! The area of a geography as it is served: a FeatureCollection with one Feature of one
+//! MultiPolygon (RFC 7946, sections 3.1.7, 3.2 and 3.3).
 ghost use Rattle.std.specs.Prelude.{◌≡◌, IfOk};
 ghost use Rattle.mds_text.specs.Tree.{degrees};
 ghost use Rattle.mds_text.specs.View.{view};

@@ -1,5 +1,5 @@
-//! The walk through the GeoJSON of a geography, in document order. Each step is told how many
-//! positions were read before it, and tells how many were read after it.
+//! Reads the GeoJSON of a geography, in document order. Each step gets the number of positions that
+//! were read before it, and returns the number after it.
 ghost use Rattle.std.specs.Prelude.{◌≡◌, ◌≤◌, ◌∷◌, [], map, IfOk, Ok, Some};
 ghost use Rattle.mds_text.specs.Fault.{Gives, bad_field, text_cause};
 ghost use Rattle.mds_text.specs.Fields.{list_of, required_at};
@@ -18,17 +18,17 @@ use mds_reading::{Entries, Node, entries_of, member_at, required_member, require
 use mds_text::{Field, TextFault};
 use std::alloc::Global;
 
-/// The most positions of a geography, closing ones counted.
+/// The most positions of a geography, the closing ones counted too.
 const MOST_POSITIONS: usize = 20_000;
 
-/// The fault of what is no position.
+/// The fault of a value that is not a position.
 fn no_position() -> GeoFault
     ensures { geo_cause result ≡ Some (bad_field Coordinates) }
 {
     GeoFault::Text(TextFault::BadField(Field::Coordinates))
 }
 
-/// Longitude, then latitude; further entries aren't looked at (RFC 7946, section 3.1.1).
+/// Longitude, then latitude; further entries are ignored (RFC 7946, section 3.1.1).
 fn position_of(entries: &[Node<'_>]) -> Result<Position, GeoFault>
     ensures { Gives geo_cause (λ p. p) result (position_of (map node_view entries.now)) }
 {
@@ -40,7 +40,7 @@ fn position_of(entries: &[Node<'_>]) -> Result<Position, GeoFault>
     Ok(Position { lng, lat })
 }
 
-/// The position of two numbers' texts: longitude, then latitude.
+/// The position of two numbers in their text: longitude, then latitude.
 #[inline(always)]
 fn position_of_texts(lng: &str, lat: &str) -> Result<Position, GeoFault>
     ensures { Gives geo_cause (λ p. p) result (position_of (text lng.now ∷ text lat.now ∷ [])) }
@@ -50,7 +50,7 @@ fn position_of_texts(lng: &str, lat: &str) -> Result<Position, GeoFault>
     Ok(Position { lng, lat })
 }
 
-/// The position that an entry of a ring is.
+/// The position of one entry of a ring.
 fn position_at(entry: &Node<'_>) -> Result<Position, GeoFault>
     ensures { Gives geo_cause (λ p. p) result (position_at (node_view entry.now)) }
 {
@@ -83,7 +83,7 @@ fn positions_of(
     Ok((positions, read))
 }
 
-/// The positions of a ring of pairs, each counted before it is read.
+/// The positions of a ring that is read as pairs, each counted before it is read.
 fn positions_of_pairs(
     alloc: Global,
     mut read: usize,
@@ -104,7 +104,7 @@ fn positions_of_pairs(
     Ok((positions, read))
 }
 
-/// The positions of the list that a ring is.
+/// The positions of a ring, from its list.
 fn positions_in(
     alloc: Global,
     read: usize,
@@ -121,7 +121,7 @@ fn positions_in(
     positions_of(alloc, read, entries.as_slice())
 }
 
-/// A ring and its end: too few positions come before ends that differ (RFC 7946, section 3.1.6).
+/// A ring. Too few positions are reported before ends that differ (RFC 7946, section 3.1.6).
 fn ring_of(alloc: Global, read: usize, value: &Node<'_>) -> Result<(Ring, usize), GeoFault>
     requires { read ≤ most_positions }
     ensures value { Gives geo_cause (λ x. (x.0, x.1)) result (ring_of read (node_view value.now)) }
@@ -172,7 +172,8 @@ fn multipolygon_of(
     Ok((polygons, read))
 }
 
-/// The text `type` of an object (RFC 7946, section 1.4); anything else is a bad field of this name.
+/// The string `type` of an object (RFC 7946, section 1.4); anything else is a bad field of this
+/// name.
 pub(crate) fn kind_of<'a>(value: &Node<'a>, field: Field) -> Result<&'a str, TextFault>
     ensures { Gives text_cause (λ s. s.now) result (kind_of field (node_view value.now)) }
 {
@@ -183,8 +184,8 @@ pub(crate) fn kind_of<'a>(value: &Node<'a>, field: Field) -> Result<&'a str, Tex
     }
 }
 
-/// The polygons of a geometry of this type. A type other than Polygon and MultiPolygon adds none, and
-/// its members aren't read (RFC 7946, section 3.1).
+/// The polygons of a geometry of this type. A type other than Polygon and MultiPolygon has none,
+/// and its members aren't read (RFC 7946, section 3.1).
 fn geometry_of(
     alloc: Global,
     read: usize,
@@ -207,7 +208,7 @@ fn geometry_of(
     }
 }
 
-/// The polygons of a feature: absent and null geometries add none (RFC 7946, section 3.2).
+/// The polygons of a feature; an absent or null geometry has none (RFC 7946, section 3.2).
 fn feature_of(
     alloc: Global,
     read: usize,
@@ -241,7 +242,7 @@ fn features_of(alloc: Global, entries: &[Node<'_>]) -> Result<Vec<Polygon>, GeoF
     Ok(polygons)
 }
 
-/// The list of a collection's features, which has to be there (RFC 7946, section 3.3).
+/// The list of a collection's features, which is required (RFC 7946, section 3.3).
 fn features_at<'t, 'a>(alloc: Global, value: &'t Node<'a>) -> Result<Entries<'t, 'a>, TextFault>
     ensures { Gives text_cause (λ entries. entries_view entries) result (required_at list_of (node_view value.now) Features) }
 {
@@ -249,7 +250,7 @@ fn features_at<'t, 'a>(alloc: Global, value: &'t Node<'a>) -> Result<Entries<'t,
     entries_of(alloc, features, Field::Features)
 }
 
-/// The polygons of a GeoJSON object, in document order: a FeatureCollection's, a Feature's, or those of
+/// The polygons of a GeoJSON object, in document order: those of a FeatureCollection, a Feature, or
 /// a geometry (RFC 7946, section 3).
 pub(crate) fn geojson_of(
     alloc: Global,

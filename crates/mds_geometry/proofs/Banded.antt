@@ -26,12 +26,12 @@ edges_of_ring-split (suc size) (x ∷ y ∷ ring) = ap (λ es. (x, y) ∷ es) (e
 beside_band : (band : Band) (a b x : ℤ) → lies_in band a ≡ true → lies_in band b ≡ true → lies_in band x ≡ false → is_between a b x ≡ false
 beside_band band a b x p q r = grind (arith, ints)
 
--- no edge of a block matters whose band doesn't hold the latitude
+-- the edges of a block whose band doesn't hold the latitude don't matter
 pub barren_block : (band : Band) (at : Position) (block : List Position) → AreIn band block → lies_in band at.lat ≡ false → IsBarren at block
 barren_block band at block all off =
     barren_beside (λ p. lies_in band p.lat ≡ true) at (λ p q r s. beside_band band p.lat q.lat at.lat r s off) block all
 
--- a ring's edges with those left, and the parity so far
+-- a ring's edges against those that are left, and the parity so far
 pub record IsSeenFrom (ring rest : List Position) (at : Position) (odd : Bool) : Type 0 where
   pub touched : touches (edges_of_ring rest) at ≡ touches (edges_of_ring ring) at
   pub parity : turned odd (is_odd (crossings (edges_of_ring rest) at)) ≡ is_odd (crossings (edges_of_ring ring) at)
@@ -47,7 +47,7 @@ parity-split size ring at =
     ∙ ap is_odd (sum_by-append _ (edges_of_ring (take (suc size) ring)) _)
     ∙ is_odd-add _ _
 
--- a block that is touched is a ring that is touched
+-- a position on an edge of a block is on an edge of the ring
 pub seen_touched : (ring rest : List Position) (at : Position) (odd : Bool) (size : ℕ) → IsSeenFrom ring rest at odd
     → touches (edges_of_ring (take (suc size) rest)) at ≡ true → touches (edges_of_ring ring) at ≡ true
 seen_touched ring rest at odd size seen on = sym seen.touched ∙ touches-split size rest at ∙ rw on refl

@@ -1,4 +1,4 @@
--- Two positions of one row of cells, between which no edge covers a cell, are held alike.
+-- Of two positions in one row of cells, with no edge covering a cell between them, both are held or neither is.
 use Rattle.std.proofs.Common.{arith, inl, inr, ◌⊎◌, ◌≡◌, sym, ◌∙◌, ap, refl, ℕ, ◌+◌, ◌≤◌, ◌<◌, Bool, true, false, cond, ◌&&◌, ◌||◌, ℤ, List, [], ◌∷◌, ◌++◌, map}
 use Rattle.std.specs.Prelude.{◌≤ℤ◌, ◌<ℤ◌, nat_lt}
 use Rattle.std.specs.List.{All, list_any}
@@ -21,7 +21,7 @@ use Rattle.mds_geometry.proofs.Reaching.{idle_unreached, lies_down, lies_up, str
 use Rattle.mds_geometry.proofs.Seen.{turned, turned_more, is_odd-add}
 use Rattle.mds_geometry.proofs.Signs.{above, crossed_west, crossed_east}
 
--- ---- where an edge lies that covers no cell of a run
+-- ---- where an edge lies that covers no cell of a run of cells
 
 no_span_up : (a b c d : ℕ) → a ≤ b → c ≤ b → a ≤ d → c ≤ d → ((n : ℕ) → c ≤ n → n ≤ d → lies_between a b n ≡ false) → ⊥
 no_span_up a b c d up from to run none =
@@ -37,7 +37,7 @@ no_span_down a b c d down from to run none =
       | inr le ↦ let both : true ≡ false = sym (lies_down a b c (omega arith) (omega arith)) ∙ none c (omega arith) (omega arith) in cc
     ]
 
--- an interval that meets no number of a run lies on one side of it
+-- an interval without a number of the run lies on one side of it
 beside_run : (a b c d : ℕ) → c ≤ d → ((n : ℕ) → c ≤ n → n ≤ d → lies_between a b n ≡ false) → ((a < c) × (b < c)) ⊎ ((d < a) × (d < b))
 beside_run a b c d run none =
     elim (cases_lt b a) [
@@ -90,11 +90,11 @@ turned-cross true true false true = refl
 turned-cross true true true false = refl
 turned-cross true true true true = refl
 
--- of an end of an edge: whether it is east of a run of columns and between the latitudes of two positions
+-- whether an end of an edge is east of a run of columns and between the latitudes of two positions
 abbrev pub side : Scale → ℕ → Position → Position → Position → Bool
 side columns d at to p = nat_lt d (strip_of columns p.lng) && turned (above at p) (above to p)
 
--- two positions aren't on an edge, and it is crossed from one of them alone where its ends are on different sides
+-- neither position is on the edge, and it is crossed from exactly one of them where its ends are on different sides
 pub record IsAlike (at to : Position) (S : Position → Bool) (e : Position × Position) : Type 0 where
   pub off : is_on e.0 e.1 at ≡ false
   pub off_to : is_on e.0 e.1 to ≡ false
@@ -138,7 +138,7 @@ alike_west columns c d at to p q run a b u v =
           refl;
     }
 
--- an end that is on a side of the row of two positions
+-- both ends of an interval that lacks the row are off it
 off_row : (a b r : ℕ) → lies_between a b r ≡ false → ((r < a) ⊎ (a < r)) × ((r < b) ⊎ (b < r))
 off_row a b r h = grind (arith, nat_tests)
 
@@ -179,7 +179,7 @@ alike_beside columns rows d r at to p q a b beside =
           refl;
     }
 
--- two positions of one row, and a run of columns from one to the other
+-- two positions of one row, with a run of columns from one to the other
 pub record AreInRun (columns rows : Scale) (r c d : ℕ) (at to : Position) : Type 0 where
   pub row : strip_of rows at.lat ≡ r
   pub row_to : strip_of rows to.lat ≡ r
@@ -215,7 +215,8 @@ odd_cons at x y rest =
     ∙ turned_more false (is_crossed x y at) (crossings (edges_of_ring (y ∷ rest)) at)
     ∙ ap (λ b. turned b (is_odd (crossings (edges_of_ring (y ∷ rest)) at))) (flip (is_crossed x y at))
 
--- neither position is on some edges, and an odd number of them is crossed from both or from neither
+-- neither position is on one of these edges, and the parities of the edges crossed from each differ where `ends` says
+-- so
 pub record AreAlike (at to : Position) (es : List (Position × Position)) (ends : Bool) : Type 0 where
   pub off : touches es at ≡ false
   pub off_to : touches es to ≡ false

@@ -1,4 +1,4 @@
--- What a text with digits, a point and few decimals is in units.
+-- The units of a text of digits, a point and few decimals.
 use Rattle.std.proofs.Common.{arith, ◌≡◌, ◌∙◌, sym, ap, refl, ℕ, ℤ, ◌+◌, ◌-◌, ◌*◌, ◌^◌, ◌<◌, ◌≤◌, true, false, eqb, Bool, List, [], ◌++◌, Ok, Option, Some, None, IfSome, subst, length, take, drop, get_or}
 use Rattle.std.specs.Char.{is_ascii_digit}
 use Rattle.std.specs.List.{prefix_len}
@@ -33,7 +33,7 @@ number_is : (s : List ℕ) → is_whole (digits (behind_minus s)) ≡ true → b
 unfolding number_of
 number_is s whole point some all = rw (whole, point, some, all) refl
 
--- so many decimals are units, once they are filled up to seven
+-- decimals, filled up with zeros to seven, are units
 filled : (m f : ℕ) → f ≤ 7 → scaled m 7 (f + 0) ≡ m * 10 ^ (7 - f)
 filled m f few =
     let up : 7 - (f + 0) ≡ 7 - f = omega arith in
@@ -71,7 +71,7 @@ units_is s degrees decimals z short whole point some few all d f within =
     ap (λ o. short_number (length s) o >>= λ n. in_range n.negative (size_of n)) number
     ∙ rw (fits, size, ← d, ← f) within
 
--- the same of what may have been found
+-- the same for an optional result
 pub some_units : (s rest fraction : List ℕ) (negative : Bool) (degrees decimals : ℕ) (o : Option ℤ) → length s ≤ 64
     → negative ≡ begins_with 45 s → rest ≡ behind_minus s → fraction ≡ drop 1 (behind_digits rest)
     → is_whole (digits rest) ≡ true → begins_with 46 (behind_digits rest) ≡ true
@@ -91,7 +91,7 @@ some_units s rest fraction negative degrees decimals (Some z) short sign r u who
     (f ∙ ap (λ t. digits_value 10 (digits t) * 10 ^ (7 - length (digits t))) behind)
     (ap (λ b. in_range b (degrees * 10000000 + decimals)) (sym sign) ∙ within)
 
--- ---- digits in front
+-- ---- leading digits
 
 pub digits_end : (s : List ℕ) (n : ℕ) → n ≤ length s → ((k : ℕ) → k < n → is_ascii_digit (get_or s k 0) ≡ true)
     → (n < length s → is_ascii_digit (get_or s n 0) ≡ false) → n ≡ prefix_len is_ascii_digit s

@@ -13,7 +13,7 @@ use Rattle.std.proofs.lemmas.List.Sorted.{IsPermutation-reverse, list_any-IsPerm
 use Rattle.mds_geometry.specs.declared.position.Position.{Position}
 use Rattle.mds_geometry.specs.Inside.{edges, edges_of_ring, turn, is_between, is_on, rises_past, is_crossed, touches, crossings, holds}
 
--- ---- an edge walked the other way
+-- ---- a reversed edge
 
 pub turn-swap : (from to at : Position) → turn to from at ≡ neg_ℤ (turn from to at)
 turn-swap from to at = omega (arith, ints)
@@ -45,7 +45,7 @@ is_crossed-swap from to at =
     rw (turn-swap from to at, int_lt-neg (turn from to at), neg-int_lt (turn from to at))
     (or_comm (rises_past to from at && int_lt (turn from to at) (pos 0)) (rises_past from to at && int_lt (pos 0) (turn from to at)))
 
--- ---- a ring walked the other way
+-- ---- a reversed ring
 
 swap : Position × Position → Position × Position
 swap e = (e.1, e.0)
@@ -53,7 +53,7 @@ swap e = (e.1, e.0)
 reverse-cons : {X : Type 0} (x : X) (xs : List X) → reverse (x ∷ xs) ≡ reverse xs ++ x ∷ []
 reverse-cons x xs = reverse-append (x ∷ []) xs
 
--- one more position at the end of a ring is one more edge
+-- one more position at the end of a ring makes one more edge
 edges_of_ring-push : (xs : List Position) (y z : Position) → edges_of_ring ((xs ++ y ∷ []) ++ z ∷ []) ≡ edges_of_ring (xs ++ y ∷ []) ++ (y, z) ∷ []
 edges_of_ring-push [] y z = refl
 edges_of_ring-push (x ∷ []) y z = refl
@@ -113,7 +113,7 @@ crossings-middle before after ring at =
     ap (λ es. crossings es at) (edges-append before (ring ∷ after)) ∙ sum_by-append _ (edges before) _
     ∙ ap (λ n. crossings (edges before) at + n) (sum_by-append _ (edges_of_ring ring) _)
 
--- rings that a position lies to alike are alike to the polygon
+-- a ring may be exchanged for another to which the position lies in the same way
 pub holds-middle :
     (before after : List (List Position)) (ring other : List Position) (at : Position)
     → touches (edges_of_ring other) at ≡ touches (edges_of_ring ring) at
@@ -159,7 +159,7 @@ vertex_touches (suc (suc k)) x y [] v lt e = absurd (omega arith)
 vertex_touches (suc (suc k)) x y (z ∷ rest) v lt e =
     or_right (is_on x y v) _ (vertex_touches (suc k) y z rest v (omega arith) e)
 
--- a polygon's edges hold what those of one of its rings hold
+-- a position on an edge of a ring is on an edge of its polygon
 ring_touches :
     (k : ℕ) (rings : List (List Position)) (ring : List Position) (at : Position)
     → k < length rings → get_or rings k ring ≡ ring → touches (edges_of_ring ring) at ≡ true → touches (edges rings) at ≡ true

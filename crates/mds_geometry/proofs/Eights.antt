@@ -1,4 +1,4 @@
--- Digits that are read as the eight bytes of one word.
+-- Eight digits read as the bytes of one word.
 use Rattle.std.proofs.Common.{arith, ◌≡◌, ◌∙◌, sym, ap, refl, subst, ℕ, ℤ, suc, ◌+◌, ◌*◌, ◌^◌, ◌<◌, ◌≤◌, true, false, eqb, Bool, List, [], ◌∷◌, ◌++◌, length, take, drop, get_or, Ok, Option, None, Some, IfSome, if◌then◌else◌, bit_xor}
 use Rattle.std.specs.Char.{is_ascii_digit}
 use Rattle.std.specs.Int.{w64, from_le_bytes}
@@ -18,7 +18,7 @@ use Rattle.mds_text.specs.Numbers.{begins_with, behind_digits, behind_minus, dig
 use Rattle.mds_text.proofs.Digits.{AllDigits-digits}
 use Rattle.mds_geometry.proofs.Decimals.{some_units}
 
--- a word of digits, once it is less the zeros
+-- a word of digits, once the zeros are taken off
 pub digits_are : (xs : List ℕ) (word lanes value : ℕ) → IsEightBytes xs → word ≡ number_l 256 xs → prefix_len is_ascii_digit xs ≡ 8
     → lanes ≡ bit_xor word 0x3030_3030_3030_3030 → lanes < 2 ^ 64
     → ((ds : List ℕ) → IsEightDigits ds → lanes ≡ number_l 256 ds → value ≡ number_from_digits 10 ds)
@@ -27,7 +27,7 @@ digits_are xs word lanes value eight is all l small worth =
     let s = shifted_is xs 8 lanes eight (omega arith) (omega arith) (omega (arith, l ∙ lanes_are xs word eight is)) in
     worth s.0 s.1 s.2 ∙ s.3 ∙ ap (digits_value 10) (take_all 8 xs (omega arith))
 
--- seven digits behind a point, as a word: two more make a zero of the point
+-- a point and seven digits as a word: adding two makes the point a zero
 pub behind_point : (t : List ℕ) (word : ℕ) → length t ≡ 8 → ((k : ℕ) → get_or t k 0 < 256) → get_or t 0 0 ≡ 46 → word ≡ from_le_bytes w64 t
     → IsEightBytes (48 ∷ drop 1 t) × (word + 2 ≡ number_l 256 (48 ∷ drop 1 t))
 behind_point [] word long small point is = absurd (omega arith)
@@ -43,7 +43,7 @@ begins (c ∷ s) long point = ap (λ b. eqb 46 b) point
 pub eight_behind_zero : (s : List ℕ) → prefix_len is_ascii_digit (48 ∷ s) ≡ 8 → prefix_len is_ascii_digit s ≡ 7
 eight_behind_zero s e = omega arith
 
--- where all seven are digits, nothing stands behind them
+-- where all seven are digits, nothing follows them
 pub whole_is : (s : List ℕ) → length s ≡ 7 → prefix_len is_ascii_digit s ≡ 7 → (digits s ≡ s) × (behind_digits s ≡ [])
 whole_is s long all = (take_all _ s (omega arith), drop_all _ s (omega arith))
 
@@ -53,7 +53,7 @@ whole_small s long all =
     let below = digits_value-lt 10 (digits s) (AllDigits-digits s) in
     subst (λ n. digits_value 10 s < 10 ^ n) long (subst (λ t. digits_value 10 t < 10 ^ length t) whole below)
 
--- what seven digits give
+-- what is known of seven digits
 pub record IsSeven (s : List ℕ) (n : ℕ) : Type 0 where
   pub count : prefix_len is_ascii_digit s ≡ 7
   pub value : n ≡ digits_value 10 (digits s)
@@ -73,9 +73,9 @@ seven_found s (Some n) long eight value =
       small = subst (λ k. k < 10000000) (sym value) (whole_small s long count);
     }
 
--- ---- few whole digits in front of the point
+-- ---- one to three whole digits before the point
 
--- what one to three digits give
+-- what is known of one to three digits
 pub record IsFew (s : List ℕ) (n : ℕ) : Type 0 where
   pub whole : is_whole s ≡ true
   pub count : prefix_len is_ascii_digit s ≡ length s
@@ -92,7 +92,7 @@ count_is w t all point =
     let same : eqb (length w) (length w) ≡ true = grind (arith, nat_tests) in
     rw (prefix_len-append is_ascii_digit w t, all, same, no_digit t point) (omega arith)
 
--- digits in front of a point are the whole part
+-- the digits before a point are the whole part
 pub front_is : (w t : List ℕ) → prefix_len is_ascii_digit w ≡ length w → begins_with 46 t ≡ true → (digits (w ++ t) ≡ w) × (behind_digits (w ++ t) ≡ t)
 front_is w t all point =
     let count = count_is w t all point in
@@ -102,7 +102,7 @@ short : (s : List ℕ) (b : Bool) → length s ≤ length (if b then drop 1 s el
 short s true = omega (arith, length-drop 1 s)
 short s false = omega arith
 
--- the units of a text with few whole digits and seven decimals
+-- the units of a text of one to three whole digits and seven decimals
 pub usual_is : (s rest w t : List ℕ) (negative : Bool) (degrees decimals : ℕ) (o : Option ℤ)
     → negative ≡ begins_with 45 s → rest ≡ behind_minus s → rest ≡ w ++ t → length t ≡ 8 → IsFew w degrees
     → begins_with 46 t ≡ true → IsSeven (drop 1 t) decimals

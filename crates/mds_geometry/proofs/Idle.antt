@@ -14,7 +14,7 @@ use Rattle.mds_geometry.specs.Inside.{edges, touches, crossings, is_odd, is_on, 
 use Rattle.mds_geometry.specs.Strips.{edge_of, edges_from, any_holds}
 use Rattle.mds_geometry.proofs.Seen.{turned, turned_more, turned_false}
 
--- edges stand in the order of their polygons' places, and these begin here
+-- the edges are in the order of their polygons' indices, which begin here
 abbrev pub IsAscending : ℕ → List Edge → Type 0
 IsAscending place [] = Unit {0}
 IsAscending place (e ∷ es) = (place ≤ e.polygon) × IsAscending e.polygon es
@@ -54,19 +54,19 @@ or_false : (b : Bool) → b ≡ (b || false)
 or_false false = refl
 or_false true = refl
 
--- where only edges of later polygons are left, what was seen of this one is settled
+-- where only edges of later polygons are left, the result for this polygon is final
 pub settled : (at : Position) (j k : ℕ) (odd : Bool) (es : List Edge) → k < j → IsAscending j es
     → any_holds at k odd es ≡ (odd || any_holds at j false es)
 settled at j k odd [] lt a = or_false odd
 settled at j k odd (e ∷ es) lt a =
     later_next at k odd e es (omega (arith, a.0)) ∙ ap (λ b. odd || b) (sym (first_next at j e es a.0))
 
--- an edge that isn't touched and not crossed
+-- an edge that the position is not on and its ray doesn't cross
 pub record IsIdle (at : Position) (e : Edge) : Type 0 where
   pub off : is_on e.from e.to at ≡ false
   pub uncrossed : is_crossed e.from e.to at ≡ false
 
--- edges that are neither touched nor crossed may be left out
+-- such edges may be left out
 pub any_holds-filter :
     (at : Position) (p : Edge → Bool) → ((e : Edge) → p e ≡ false → IsIdle at e)
     → (k : ℕ) (odd : Bool) (es : List Edge) → IsAscending k es
@@ -93,7 +93,7 @@ any_holds-filter at p idle k odd (e ∷ es) a =
           ]
     ]
 
--- the edges of one polygon, and then others
+-- the edges of one polygon, followed by others
 any_holds-polygon : (at : Position) (k : ℕ) (odd : Bool) (es : List (Position × Position)) (rest : List Edge)
     → any_holds at k odd (map (edge_of k) es ++ rest) ≡ (touches es at || any_holds at k (turned odd (is_odd (crossings es at))) rest)
 any_holds-polygon at k odd [] rest = ap (λ b. any_holds at k b rest) (turned_false odd)
@@ -118,7 +118,7 @@ edges_ascend k (rings ∷ polygons) =
 turned_from_false : (b : Bool) → turned false b ≡ b
 turned_from_false b = refl
 
--- all edges of some polygons tell what the polygons hold
+-- all edges of the polygons decide what the polygons hold
 pub any_holds-edges : (at : Position) (k : ℕ) (polygons : List (List (List Position))) → any_holds at k false (edges_from k polygons) ≡ area_holds polygons at
 unfolding holds
 any_holds-edges at k [] = refl

@@ -1,4 +1,4 @@
--- One strip tells what the polygons of an index hold.
+-- One strip decides what the polygons of an index hold.
 use Rattle.std.proofs.Common.{arith, ◌≡◌, ◌∙◌, ap, ℕ, ℤ, ◌+◌, ◌-◌, ◌/◌, ◌^◌, ◌<◌, ◌≤◌, false, List, [], length, get_or}
 use Rattle.std.proofs.lemmas.Bool.Decides.{nat_tests}
 use Rattle.std.proofs.lemmas.List.{get_or_default}
@@ -34,6 +34,6 @@ strip_tells polygons bounds scale strips at index =
     ∙ any_holds-filter at (reaches scale s) (idle_unreached scale at) 0 false (edges_from 0 polygons) (edges_ascend 0 polygons)
     ∙ any_holds-edges at 0 polygons
 
--- an element within a list, whatever stands in for what is past it
+-- an element of a list, whatever the default beyond its end
 pub strip_at : (strips : List (List Start)) (i j : ℕ) (strip : List Start) → strip ≡ get_or strips i strip → i ≡ j → j < length strips → strip ≡ get_or strips j []
 strip_at strips i j strip is same within = is ∙ ap (λ k. get_or strips k strip) same ∙ get_or_default strips j strip [] within

@@ -12,7 +12,7 @@ use Rattle.mds_geometry.specs.declared.strip.Edge.{Edge}
 use Rattle.mds_geometry.specs.Grid.{covers, place_of}
 use Rattle.mds_geometry.specs.Strips.{lies_between, strip_of}
 
--- a cell lies between rows and between columns
+-- a cell lies in a box of rows and columns
 abbrev pub IsCovered : ℕ → ℕ → ℕ → ℕ → ℕ → ℕ → Type 0
 IsCovered south north west east r c = (south ≤ r) × (r ≤ north) × (west ≤ c) × (c ≤ east)
 
@@ -35,7 +35,7 @@ uncovered columns rows e south north west east r c lat lng none =
     ∙ ap (λ b. (nat_le south r && nat_le r north) && b) (lng c)
     ∙ outside south north west east r c none
 
--- no edge covered a cell before, and the next one doesn't
+-- no edge so far covered a cell, and the next one doesn't
 pub none_more : (p : Edge → Bool) (es : List Edge) (i : ℕ) (e : Edge) → i < length es → e ≡ get_or es i e
     → list_any p (take i es) ≡ false → p e ≡ false → list_any p (take (i + 1) es) ≡ false
 none_more p es i e within is before here =
@@ -43,7 +43,7 @@ none_more p es i e within is before here =
 
 -- ---- one more mark, one more row
 
--- what isn't marked wasn't marked before, and doesn't stand between two places
+-- a cell that isn't marked wasn't marked before, and its index isn't from `first` up to `end`
 abbrev pub IsSpared : List Bool → List Bool → ℕ → ℕ → Type 0
 IsSpared old marks first end = (k : ℕ) → get_or marks k false ≡ false → (get_or old k false ≡ false) × ((first ≤ k) × (k < end) → ⊥)
 
@@ -63,7 +63,7 @@ spared_more old marks first place within before k free =
       ]
     ]
 
--- what isn't marked wasn't marked before, and isn't covered in the rows up to one
+-- a cell that isn't marked wasn't marked before, and isn't in the box up to a row
 abbrev pub AreSpared : List Bool → List Bool → ℕ → ℕ → ℕ → ℕ → Type 0
 AreSpared old marks south end west east =
     (r c : ℕ) → get_or marks (place_of r c) false ≡ false → (get_or old (place_of r c) false ≡ false) × ((south ≤ r) × (r < end) × (west ≤ c) × (c ≤ east) → ⊥)
@@ -90,7 +90,7 @@ edge_spared old marks columns rows e south north west east lat lng spared r c fr
     let s = spared r c free in
     (s.0, uncovered columns rows e south north west east r c lat lng (λ w. s.1 (w.0, let top = w.1 in omega arith, w.2, w.3)))
 
--- an edge that covers one cell, which is marked
+-- an edge within one cell, which is marked
 one_spared : (old : List Bool) (row column : ℕ) → place_of row column < length old
     → AreSpared old (set old (place_of row column) true) row (row + 1) column column
 one_spared old row column within r c free =

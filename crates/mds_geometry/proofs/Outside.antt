@@ -16,7 +16,7 @@ use Rattle.mds_geometry.proofs.Seen.{turned, turned_more, is_odd-add}
 use Rattle.mds_geometry.proofs.Reaching.{idle_beside}
 use Rattle.mds_geometry.proofs.Signs.{above, crossed_west, crossed_east}
 
--- ---- a ring that is closed goes as often up as down
+-- ---- a closed ring rises as often as it falls
 
 unfoldable pub last : Position → List Position → Position
 last x [] = x
@@ -49,7 +49,8 @@ pub flip : (c : Bool) → cond c (not false) false ≡ c
 flip false = refl
 flip true = refl
 
--- each edge of this ring changes sides where it is crossed
+-- the ring lies east of the position, so each edge is crossed where its ends are on different sides
+-- of the ray
 abbrev IsWestOf : Position → List Position → Type 0
 IsWestOf at ring = All (λ p. at.lng <ℤ p.lng) ring
 
@@ -68,7 +69,7 @@ crossings_west at x (y ∷ rest) west =
     ∙ ap (turned (turned (above at x) (above at y))) (crossings_west at y rest tail)
     ∙ turned-path (above at x) (above at y) (above at (last y rest))
 
--- ---- a ring of which no edge is touched or crossed
+-- ---- a ring without an edge that is touched or crossed
 
 touches_none : (P : Position → Type 0) (at : Position) → ((x y : Position) → P x → P y → is_on x y at ≡ false)
     → (ring : List Position) → All P ring → touches (edges_of_ring ring) at ≡ false
@@ -102,7 +103,7 @@ neither_on true b = refl
 pub off_between : (from to at : Position) → is_between from.lng to.lng at.lng ≡ false → is_on from to at ≡ false
 off_between from to at h = rw h (neither_on (is_between from.lat to.lat at.lat) _)
 
--- a position isn't on an edge of a ring, and an even number of its edges is crossed
+-- a position is on no edge of a ring, and its ray crosses an even number of them
 pub record IsBarren (at : Position) (ring : List Position) : Type 0 where
   pub off : touches (edges_of_ring ring) at ≡ false
   pub even : is_odd (crossings (edges_of_ring ring) at) ≡ false

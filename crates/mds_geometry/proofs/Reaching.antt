@@ -13,7 +13,7 @@ use Rattle.mds_geometry.specs.Inside.{is_between, rises_past}
 use Rattle.mds_geometry.specs.Strips.{row_of, at_most, strip_of, lies_between, reaches}
 use Rattle.mds_geometry.proofs.Idle.{IsIdle}
 
--- ---- a latitude further north isn't in a strip further south
+-- ---- a latitude further north is in no strip further south
 
 row_rises : (a b : ℤ) → a ≤ℤ b → row_of a ≤ row_of b
 row_rises a b le = grind (arith, ints)

@@ -7,7 +7,7 @@ use mathlib.Core.Bool.{beq}
 use Rattle.mds_geometry.specs.declared.position.Position.{Position}
 use Rattle.mds_geometry.specs.Inside.{edges, edges_of_ring, is_on, is_crossed, touches, crossings, is_odd}
 
--- one more turns the parity
+-- one more crossing changes the parity
 pub is_odd-more : (n : ℕ) → is_odd (1 + n) ≡ not (is_odd n)
 is_odd-more n = grind arith
 
@@ -15,7 +15,7 @@ not-not : (b : Bool) → not (not b) ≡ b
 not-not false = refl
 not-not true = refl
 
--- a parity, turned where `odd` says so
+-- a parity, changed where `odd` says so
 abbrev pub turned : Bool → Bool → Bool
 turned odd rest = cond odd (not rest) rest
 
@@ -34,7 +34,8 @@ zip_empty [] ends done = refl
 zip_empty (x ∷ xs) [] done = refl
 zip_empty (x ∷ xs) (y ∷ ys) done = absurd (elim done [ inl e ↦ omega arith | inr e ↦ omega arith ])
 
--- a ring's edges with those left, which are the pairs of two lists, and the parity so far
+-- a ring's edges against those that are left, which are the pairs of two lists, and the parity so
+-- far
 pub record IsSeen (ring : List Position) (at : Position) (starts ends : List Position) (odd : Bool) : Type 0 where
   pub touched : touches (zip starts ends) at ≡ touches (edges_of_ring ring) at
   pub parity : turned odd (is_odd (crossings (zip starts ends) at)) ≡ is_odd (crossings (edges_of_ring ring) at)
@@ -74,7 +75,7 @@ seen_all ring at starts ends odd seen done =
     let touched : false ≡ touches (zip starts ends) at = rw none refl in
     (sym seen.touched ∙ sym touched, parity ∙ seen.parity)
 
--- a polygon's edges with those of the rings left, and the parity so far
+-- a polygon's edges against those of the rings that are left, and the parity so far
 pub record IsSeenTo (rings : List (List Position)) (at : Position) (i : ℕ) (odd : Bool) : Type 0 where
   pub touched : touches (edges (drop i rings)) at ≡ touches (edges rings) at
   pub parity : turned odd (is_odd (crossings (edges (drop i rings)) at)) ≡ is_odd (crossings (edges rings) at)

@@ -1,4 +1,4 @@
--- How many strips edges reach, by how far they reach.
+-- The number of strips that edges reach, by how far they extend.
 use Rattle.std.proofs.Common.{arith, inl, inr, refl, ◌≡◌, ℕ, ◌+◌, ◌-◌, ◌*◌, ◌/◌, ◌^◌, ◌<◌, ◌≤◌, List, [], ◌∷◌, length}
 use Rattle.std.specs.Int.{abs_diff}
 use Rattle.std.specs.List.{sum_by}
@@ -11,14 +11,14 @@ use Rattle.mds_geometry.specs.Strips.{at_most, reach, row_of, span}
 use Rattle.mds_geometry.specs.declared.scale.Scale.{Scale}
 use Rattle.mds_geometry.specs.declared.strip.Edge.{Edge}
 
--- the nearest strip is no further away
+-- moving to the nearest strip makes no distance greater
 clamped : (last f x y n : ℕ) → abs_diff x y ≤ n → abs_diff (at_most last (x - f)) (at_most last (y - f)) ≤ n
 clamped last f x y n near = grind (arith, nat_tests)
 
 rises : (d a b : ℕ) → 0 < d → a ≤ b → a / d ≤ b / d
 rises d a b some le = le-div (a / d) b d some (omega (arith, div-mul-le_self a d))
 
--- two rows are so many heights of a strip apart, or one more
+-- rows in strips `k + 1` apart are at least `k` heights of a strip apart
 heights : (d a b k : ℕ) → 0 < d → a / d ≡ b / d + 1 + k → k ≤ (a - b) / d
 heights d a b k some apart =
     let low = div-mul-le_self a d in
@@ -48,7 +48,7 @@ near d a b some =
           rw same (omega arith)
     ]
 
--- the heights of two edges
+-- the heights of two edges, added
 together : (d a b : ℕ) → 0 < d → a / d + b / d ≤ (a + b) / d
 together d a b some =
     le-div (a / d + b / d) (a + b) d some (omega (arith, div-mul-le_self a d, div-mul-le_self b d))
@@ -59,7 +59,7 @@ span_of scale e =
     let c = clamped scale.last scale.first (row_of e.from.lat / 2 ^ scale.shift) (row_of e.to.lat / 2 ^ scale.shift) _ n in
     omega (arith, c)
 
--- an edge has at most two places more than it reaches heights of a strip
+-- an edge has at most two entries more than the heights of a strip that it extends over
 pub spans : (scale : Scale) (es : List Edge) → sum_by (span scale) es ≤ sum_by reach es / 2 ^ scale.shift + 2 * length es
 spans scale [] = omega arith
 spans scale (e ∷ es) =

@@ -29,7 +29,7 @@ first_edge k (x ∷ []) i within = absurd (omega arith)
 first_edge k (x ∷ y ∷ ring) zero within = refl
 first_edge k (x ∷ y ∷ ring) (suc i) within = first_edge k (y ∷ ring) i (omega arith)
 
--- where few positions are left there is no edge
+-- no edge starts at the last position
 pub no_edge : (k : ℕ) (ring : List Position) (i : ℕ) → length ring ≤ i + 1 → map (edge_of k) (edges_of_ring (drop i ring)) ≡ []
 no_edge k [] zero few = refl
 no_edge k [] (suc i) few = refl
@@ -37,7 +37,8 @@ no_edge k (x ∷ []) zero few = refl
 no_edge k (x ∷ y ∷ ring) zero few = absurd (omega arith)
 no_edge k (x ∷ ring) (suc i) few = no_edge k ring i (omega arith)
 
--- the edges of the starts of a ring up to a place, with those from there on, are those of the old starts and all of the ring
+-- the edges of a ring's starts up to an index, with the rest of the ring's edges, are those of the old starts and of
+-- the whole ring
 abbrev pub AreStartedTo : List (List (List Position)) → ℕ → ℕ → List Start → List Start → ℕ → Type 0
 AreStartedTo polygons k r old all i =
     edges_at polygons all ++ map (edge_of k) (edges_of_ring (drop i (ring_at polygons k r)))
@@ -62,12 +63,12 @@ pub started_all : (polygons : List (List (List Position))) (k r : ℕ) (old all 
 started_all polygons k r old all i few before =
     sym (append-nil (edges_at polygons all)) ∙ ap (λ es. edges_at polygons all ++ es) (sym (no_edge k (ring_at polygons k r) i few)) ∙ before
 
--- ---- an edge that is put into the strips that it reaches
+-- ---- an edge that is appended to the strips that it reaches
 
 filter_one : (p : Edge → Bool) (e : Edge) → filter p (e ∷ []) ≡ cond (p e) (e ∷ []) []
 filter_one p e = elim (cases_Bool (p e)) [ inl kept ↦ rw kept refl | inr dropped ↦ rw dropped refl ]
 
--- a start stands for its edge where a strip has it, and for none where not
+-- a start gives its edge where a strip has it, and none where not
 kept_edge : (polygons : List (List (List Position))) (start : Start) (e : Edge) (b : Bool) → edge_in polygons start ≡ Some e
     → edges_at polygons (cond b (start ∷ []) []) ≡ cond b (e ∷ []) []
 kept_edge polygons start e false is = refl
@@ -99,7 +100,7 @@ filed_more polygons scale starts i start edge old new within here is whole put f
           ∙ ap (filter (reaches scale s)) (sym more);
     }
 
--- the same of a vector of which a slice was changed
+-- the same for a vector of which a slice was changed
 pub filed_back : (polygons : List (List (List Position))) (scale : Scale) (starts : List Start) (i : ℕ) (start : Start) (edge : Option Edge) (items old new : List (List Start)) (n : ℕ)
     → i < length starts → start ≡ get_or starts i start → edge ≡ edge_in polygons start → old ≡ items → length old ≡ n → length new ≡ length old
     → ((s : ℕ) → s < length old → get_or new s [] ≡ get_or old s [] ++ cond (option_map_or (reaches scale s) edge false) (start ∷ []) [])

@@ -14,18 +14,18 @@ use Rattle.mds_geometry.specs.Ring.{IsClosed}
 use Rattle.mds_geometry.specs.Strips.{edges_from, strip_of}
 use Rattle.mds_geometry.proofs.Cells.{run_alike}
 
--- a cell tells nothing, or what is held at a position of the row from which no cell up to a column is marked
+-- a cell says nothing, or what holds at a position of the row from which no cell up to a column is marked
 abbrev pub IsRun : Scale → Scale → List (List (List Position)) → List Bool → ℕ → ℕ → Cell → Type 0
 IsRun columns rows polygons marks row column cell =
     (cell ≡ Mixed) ⊎ ((at : Position) × (strip_of rows at.lat ≡ row) × (strip_of columns at.lng < column)
     × ((n : ℕ) → strip_of columns at.lng ≤ n → n < column → get_or marks n false ≡ false) × Tells cell (area_holds polygons at))
 
--- a cell tells nothing, or what is held at a position of the cell
+-- a cell says nothing, or what holds at a position in the cell
 abbrev pub IsCorner : Scale → Scale → List (List (List Position)) → ℕ → ℕ → Cell → Type 0
 IsCorner columns rows polygons row column cell =
     (cell ≡ Mixed) ⊎ ((at : Position) × (strip_of rows at.lat ≡ row) × (strip_of columns at.lng ≡ column) × Tells cell (area_holds polygons at))
 
--- the cells of a row up to a column, behind others
+-- the cells of a row up to a column, after others
 pub record AreRun (columns rows : Scale) (polygons : List (List (List Position))) (marks : List Bool) (row column : ℕ) (old cells : List Cell) (cell : Cell) : Type 0 where
   pub count : length cells ≡ length old + column
   pub kept : (k : ℕ) → k < length old → get_or cells k Mixed ≡ get_or old k Mixed
@@ -70,7 +70,7 @@ begins columns rows polygons marks row column cell free corner =
 
 -- ---- one more cell
 
--- what a run tells of a position of its last column
+-- what a run of cells says of a position of its last column
 told_of_run : (columns rows : Scale) (polygons : List (List (List Position))) (marks : List Bool) (row column : ℕ) (cell : Cell) (at : Position)
     → All (All IsClosed) polygons
     → ((n : ℕ) → n < column + 1 → get_or marks n false ≡ false → list_any (covers columns rows row n) (edges_from 0 polygons) ≡ false)

@@ -7,7 +7,7 @@ use Rattle.mds_geometry.specs.declared.position.Position.{Position}
 use Rattle.mds_geometry.specs.declared.bounds.Bounds.{Bounds}
 use Rattle.mds_geometry.specs.Bounds.{is_within, AreWider, IsBounded}
 
--- what held of the first elements, weakened, and the next one
+-- what was proved of the first elements, weakened, and of the next one
 pub all_more : {X : Type 0} (P Q : X → Type 0) (xs : List X) (i : ℕ) (x : X)
     → ((y : X) → P y → Q y) → i < length xs → x ≡ get_or xs i x → All P (take i xs) → Q x → All Q (take (i + 1) xs)
 all_more P Q xs i x weaker lt is before here = All-more Q xs i x lt (All-weaker P Q weaker (take i xs) before) (subst Q is here)

@@ -1,4 +1,4 @@
--- What an area of several polygons holds (RFC 7946, section 3.1.7).
+-- Which positions an area of several polygons holds (RFC 7946, section 3.1.7).
 use Rattle.std.specs.Prelude.{Bool, List}
 use Rattle.std.specs.List.{list_any}
 use Rattle.mds_geometry.specs.Inside.{holds}

@@ -1,4 +1,4 @@
--- A coordinate of a document: degrees, kept in units of 10^-7 degree (RFC 7946, section 3.1.1).
+-- A coordinate of a document: degrees, stored in units of 10^-7 degree (RFC 7946, section 3.1.1).
 use Rattle.std.specs.Prelude.{ℕ, ℤ, pos, neg_ℤ, ◌*◌, ◌*ℤ◌, ◌&&◌, int_le, if◌then◌else◌, Result, Ok, Err}
 use Rattle.mds_text.specs.Tree.{Json, int, text}
 use Rattle.mds_text.specs.Fault.{Fault, bad_field, out_of_range, ◌>>=◌}
@@ -9,14 +9,14 @@ use Rattle.mds_text.specs.declared.field.Field.{Field}
 abbrev pub units_of_degree : ℕ
 units_of_degree = 10000000
 
--- the most degrees of a longitude and of a latitude
+-- the greatest longitude and the greatest latitude, in degrees
 abbrev pub most_longitude : ℕ
 most_longitude = 180
 
 abbrev pub most_latitude : ℕ
 most_latitude = 90
 
--- within so many degrees of zero, in either direction
+-- at most so many degrees from zero, in either direction
 abbrev pub within : ℕ → ℤ → Result ℤ Fault
 within most units =
     if int_le (neg_ℤ (pos (most * units_of_degree))) units && int_le units (pos (most * units_of_degree)) then Ok units else Err out_of_range

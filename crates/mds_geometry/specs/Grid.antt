@@ -1,4 +1,4 @@
--- A grid of cells over an area, and what each cell tells of the positions in it.
+-- A grid of cells over an area, and what each cell says of the positions in it.
 use Rattle.std.specs.Prelude.{ℕ, ◌+◌, ◌*◌, ◌≡◌, Bool, true, false, ◌&&◌, get_or, List}
 use Rattle.std.specs.List.{All, list_any}
 use Rattle.mds_geometry.specs.Area.{area_holds}
@@ -10,11 +10,11 @@ use Rattle.mds_geometry.specs.declared.position.Position.{Position}
 use Rattle.mds_geometry.specs.declared.scale.Scale.{Scale}
 use Rattle.mds_geometry.specs.declared.strip.Edge.{Edge}
 
--- each ring of some polygons is closed
+-- each ring of these polygons is closed
 abbrev pub AreClosed : List (List (List Position)) → Type 0
 AreClosed polygons = All (All IsClosed) polygons
 
--- the place of a cell: row after row from the south, each of 128 columns from the west
+-- the index of a cell: row after row from the south, each of 128 columns from the west
 abbrev pub place_of : ℕ → ℕ → ℕ
 place_of row column = row * 128 + column
 
@@ -23,18 +23,18 @@ abbrev pub covers : Scale → Scale → ℕ → ℕ → Edge → Bool
 covers columns rows row column e =
     reaches rows row e && lies_between (strip_of columns e.from.lng) (strip_of columns e.to.lng) column
 
--- a cell that isn't marked is covered by no edge
+-- no edge covers a cell that isn't marked
 abbrev pub AreMarked : Scale → Scale → List Edge → List Bool → Type 0
 AreMarked columns rows edges marks =
     (row column : ℕ) → get_or marks (place_of row column) false ≡ false → list_any (covers columns rows row column) edges ≡ false
 
--- what a cell tells of a position in it: nothing, or whether it is held
+-- what a cell says of a position in it: nothing, or whether it is held
 abbrev pub Tells : Cell → Bool → Type 0
 Tells Mixed held = Unit {0}
 Tells Inside held = held ≡ true
 Tells Outside held = held ≡ false
 
--- each cell tells what the polygons hold
+-- each cell is right about what the polygons hold
 abbrev pub AreTold : Scale → Scale → List (List (List Position)) → List Cell → Type 0
 AreTold columns rows polygons cells =
     (at : Position) → Tells (get_or cells (place_of (strip_of rows at.lat) (strip_of columns at.lng)) Mixed) (area_holds polygons at)

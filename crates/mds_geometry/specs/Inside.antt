@@ -11,17 +11,17 @@ edges_of_ring ring = zip ring (drop 1 ring)
 abbrev pub edges : List (List Position) → List (Position × Position)
 edges rings = flat_map edges_of_ring rings
 
--- the cross product of the ways from a position to the two ends of an edge: above zero where the
--- position lies to the left of the edge, below zero to the right, zero on the edge's line
+-- the cross product of the vectors from a position to the two ends of an edge: positive where the position lies to the
+-- left of the edge, negative to the right, zero on the edge's line
 abbrev pub turn : Position → Position → Position → ℤ
 turn from to at =
     ((from.lng -ℤ at.lng) *ℤ (to.lat -ℤ at.lat)) -ℤ ((to.lng -ℤ at.lng) *ℤ (from.lat -ℤ at.lat))
 
--- a number lies between two others, these included
+-- a number lies between two others, both included
 abbrev pub is_between : ℤ → ℤ → ℤ → Bool
 is_between a b x = (int_le a x && int_le x b) || (int_le b x && int_le x a)
 
--- a position is on an edge: in its box, borders included, and on its line
+-- a position is on an edge: within its bounding box, borders included, and on its line
 abbrev pub is_on : Position → Position → Position → Bool
 is_on from to at =
     is_between from.lat to.lat at.lat && is_between from.lng to.lng at.lng && int_eq (turn from to at) (pos 0)
@@ -37,15 +37,15 @@ abbrev pub is_crossed : Position → Position → Position → Bool
 is_crossed from to at =
     (rises_past from to at && int_lt (pos 0) (turn from to at)) || (rises_past to from at && int_lt (turn from to at) (pos 0))
 
--- a position is on one of some edges
+-- a position is on one of these edges
 abbrev pub touches : List (Position × Position) → Position → Bool
 touches edges at = list_any (λ e. is_on e.0 e.1 at) edges
 
--- how many of some edges the eastward ray from a position crosses
+-- how many of these edges the eastward ray from a position crosses
 abbrev pub crossings : List (Position × Position) → Position → ℕ
 crossings edges at = count_by (λ e. is_crossed e.0 e.1 at) edges
 
--- a number isn't a multiple of two
+-- a number is odd
 abbrev pub is_odd : ℕ → Bool
 is_odd n = n % 2 == 1
 

@@ -4,8 +4,8 @@ use Rattle.mds_geometry.specs.declared.position.Position.{Position}
 use Rattle.mds_geometry.specs.Inside.{holds}
 use Rattle.mds_geometry.specs.Ring.{IsRing}
 
--- a polygon holds the same positions with any one of its rings walked the other way round
--- (RFC 7946, section 3.1.6: parsers shouldn't reject a ring for its winding)
+-- a polygon holds the same positions with any one of its rings reversed (RFC 7946, section 3.1.6:
+-- parsers shouldn't reject a ring for its winding)
 abbrev pub WindingIsFree : Type 0
 WindingIsFree =
     (before after : List (List Position)) (ring : List Position) (at : Position)

@@ -1,4 +1,4 @@
-//! Areas of several polygons.
+//! Areas of several polygons, indexed for point-in-polygon tests.
 ghost use Rattle.std.specs.Prelude.{◌≡◌, IfOk};
 ghost use Rattle.mds_geometry.specs.Area.{area_holds};
 
@@ -14,18 +14,18 @@ use crate::striped::Striped;
 use std::alloc::{AllocError, Global};
 use std::marker::Model;
 
-/// Whether one of the polygons of an area holds the position (RFC 7946, section 3.1.7). No polygon
-/// holds nothing.
+/// Whether one of the polygons of an area holds the position (RFC 7946, section 3.1.7). An area
+/// without polygons holds nothing.
 pub fn area_holds(polygons: &[Polygon], position: Position) -> bool
     ensures { result ≡ area_holds polygons.now position }
 {
     polygons.iter().any(|polygon| polygon.holds(position))
 }
 
-/// The area of several polygons (RFC 7946, section 3.1.7), with a grid of cells that tell of most
-/// positions whether they are held, and with the edges by strips of latitude for the others: so a
-/// question looks at few edges however many there are. Contracts see the list of the polygons, each the
-/// list of its rings.
+/// The area of several polygons (RFC 7946, section 3.1.7), with an index: a grid of cells that
+/// decides most positions, and the edges by strips of latitude for the others. So a test looks at
+/// few edges, however many there are. Contracts see the list of the polygons, each the list of its
+/// rings.
 #[derive(Drop)]
 pub struct Area {
     striped: Striped,
@@ -45,12 +45,12 @@ impl Model for Area {
 }
 
 impl Area {
-    /// The area of these polygons. An edge has at most four places in the strips, on the average. There
+    /// Indexes these polygons. An edge has at most four entries in the strips, on average. There
     /// are at most sixteen cells for an edge, or one row of 128.
     ///
     /// # Errors
     ///
-    /// Memory ran out.
+    /// Out of memory.
     pub fn new(alloc: Global, polygons: Vec<Polygon>) -> Result<Area, AllocError>
         ensures { IfOk result (λ area. area ≡ polygons.items) }
     {
@@ -70,7 +70,7 @@ impl Area {
         self.striped.polygons()
     }
 
-    /// Whether one of the polygons holds the position. No polygon holds nothing.
+    /// Whether one of the polygons holds the position. An area without polygons holds nothing.
     pub fn holds(&self, position: Position) -> bool
         ensures { result ≡ area_holds self.now position }
     {

@@ -1,10 +1,10 @@
-//! Bands of longitude or latitude.
+//! Intervals of longitude or latitude.
 ghost use Rattle.std.specs.Prelude.{◌≡◌, true};
 ghost use Rattle.mds_geometry.specs.Bounds.{lies_in, IsWider};
 
 use mds_text::Units7;
 
-/// A least and a greatest coordinate, in units of 10^-7 degree.
+/// An interval from a least to a greatest coordinate, in units of 10^-7 degree.
 #[derive(Clone, Copy)]
 pub(crate) struct Band {
     /// The least coordinate.
@@ -14,7 +14,7 @@ pub(crate) struct Band {
 }
 
 impl Band {
-    /// A band that holds nothing.
+    /// The empty band.
     pub(crate) fn none() -> Band {
         Band {
             least: i64::MAX,
@@ -22,7 +22,7 @@ impl Band {
         }
     }
 
-    /// Whether a coordinate lies in the band, its borders included.
+    /// Whether a coordinate lies in the band, its ends included.
     pub(crate) fn holds(&self, x: Units7) -> bool
         ensures { result ≡ lies_in self.now x }
     {
@@ -30,7 +30,7 @@ impl Band {
         self.least <= x && x <= self.greatest
     }
 
-    /// Widens the band to hold a coordinate.
+    /// Widens the band so that it holds a coordinate.
     #[inline(always)]
     pub(crate) fn widen(&mut self, x: Units7)
         ensures wider { IsWider self.old self.new }

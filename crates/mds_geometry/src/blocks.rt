@@ -1,4 +1,4 @@
-//! The edges of a ring by blocks of neighbouring edges.
+//! A ring's edges, in blocks of neighbouring edges that a test skips by their latitudes.
 ghost use Rattle.std.specs.Prelude.{◌≡◌, ◌≤◌, suc, length, take, drop, IsNone, IfSome, IsTrue, ◌↔◌};
 ghost use Rattle.mds_geometry.specs.Bounds.{AreIn, AreBanded, edges_of_a_block};
 ghost use Rattle.mds_geometry.specs.Inside.{edges_of_ring, touches, crossings, is_odd};
@@ -7,17 +7,17 @@ use crate::band::Band;
 use crate::position::Position;
 use crate::sight::sight;
 
-/// How many blocks a ring has at most.
+/// The most blocks of a ring.
 pub(crate) const BLOCKS: usize = 16;
 
-/// How many edges a block has: as many as give no more blocks than the most.
+/// The number of edges of a block: the smallest that makes at most `BLOCKS` blocks.
 pub(crate) fn block_size(positions: &[Position]) -> usize
     ensures { result ≡ edges_of_a_block positions.now }
 {
     positions.len().saturating_sub(1).div_ceil(BLOCKS)
 }
 
-/// The positions that the edges of the first block join.
+/// The positions of the first block: the ends of its edges.
 fn first_block(positions: &[Position], size: usize) -> &[Position]
     ensures { result.now ≡ take (suc size) positions.now }
 {
@@ -39,7 +39,7 @@ fn other_blocks(positions: &[Position], size: usize) -> &[Position]
     }
 }
 
-/// The band of the latitudes of some positions.
+/// The band of the latitudes of these positions.
 fn band_of(positions: &[Position]) -> Band
     ensures { AreIn result positions.now }
 {
@@ -50,7 +50,7 @@ fn band_of(positions: &[Position]) -> Band
     band
 }
 
-/// The bands of the blocks of this size. A block that holds no edge has a band that is of no use.
+/// The bands of the blocks of this size. The band of a block without edges doesn't matter.
 pub(crate) fn bands_of(positions: &[Position], size: usize) -> [Band; BLOCKS]
     ensures { AreBanded size result positions.now }
 {

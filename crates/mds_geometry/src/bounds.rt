@@ -1,4 +1,4 @@
-//! The bounds of an area (a bounding box: RFC 7946, section 5).
+//! The bounding box of an area (RFC 7946, section 5).
 ghost use Rattle.std.specs.Prelude.{◌≡◌, true};
 ghost use Rattle.std.specs.List.{All};
 ghost use Rattle.mds_geometry.specs.Bounds.{is_within, AreWider, IsBounded, AreBounded};
@@ -8,7 +8,7 @@ use crate::polygon::Polygon;
 use crate::position::Position;
 use crate::ring::Ring;
 
-/// Bounds of longitude and latitude.
+/// A bounding box: a band of longitude and one of latitude.
 #[derive(Clone, Copy)]
 pub(crate) struct Bounds {
     /// The longitudes.
@@ -18,7 +18,7 @@ pub(crate) struct Bounds {
 }
 
 impl Bounds {
-    /// Bounds that hold nothing.
+    /// The empty bounding box.
     fn none() -> Bounds {
         Bounds {
             lng: Band::none(),
@@ -26,14 +26,14 @@ impl Bounds {
         }
     }
 
-    /// Whether a position lies within the bounds, these included.
+    /// Whether a position lies within the bounds, their borders included.
     pub(crate) fn holds(&self, at: &Position) -> bool
         ensures { result ≡ is_within self.now at.now }
     {
         self.lng.holds(at.lng) && self.lat.holds(at.lat)
     }
 
-    /// Widens the bounds to hold a position.
+    /// Widens the bounds so that they hold a position.
     #[inline(always)]
     fn widen(&mut self, at: &Position)
         ensures wider { AreWider self.old self.new }
@@ -43,7 +43,7 @@ impl Bounds {
         self.lat.widen(at.lat);
     }
 
-    /// Widens the bounds to hold a ring.
+    /// Widens the bounds so that they hold a ring.
     fn widen_to_ring(&mut self, ring: &Ring)
         ensures wider { AreWider self.old self.new }
         ensures held { IsBounded self.new ring.now }
@@ -53,7 +53,7 @@ impl Bounds {
         }
     }
 
-    /// Widens the bounds to hold a polygon.
+    /// Widens the bounds so that they hold a polygon.
     fn widen_to_polygon(&mut self, polygon: &Polygon)
         ensures wider { AreWider self.old self.new }
         ensures held { All (IsBounded self.new) polygon.now }
@@ -64,7 +64,7 @@ impl Bounds {
     }
 }
 
-/// The narrowest bounds that hold all positions of the polygons.
+/// The narrowest bounds of all positions of the polygons.
 pub(crate) fn bounds_of(polygons: &[Polygon]) -> Bounds
     ensures { AreBounded result polygons.now }
 {

@@ -1,9 +1,9 @@
-/// What a cell of a grid tells of the positions in it.
+/// What a cell of a grid says of the positions in it.
 #[derive(Clone, Copy)]
 pub(crate) enum Cell {
-    /// Nothing: an edge may run through the cell.
+    /// Nothing: an edge may cross the cell.
     Mixed,
-    /// Each of them is held.
+    /// All of them are held.
     Inside,
     /// None of them is held.
     Outside,

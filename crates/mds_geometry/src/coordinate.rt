@@ -1,4 +1,4 @@
-//! Coordinates of a document.
+//! Reads the coordinates of a document.
 ghost use Rattle.std.specs.Prelude.{◌≡◌, ◌≤◌, ◌*ℤ◌, pos};
 ghost use Rattle.mds_geometry.specs.Coordinate.{coordinate_of, most_longitude, units_of_degree, within};
 ghost use Rattle.mds_text.specs.Fault.{Gives, IsCaused, text_cause};
@@ -10,22 +10,24 @@ use crate::decimal::units_of_text;
 use mds_reading::Node;
 use mds_text::{Field, TextFault, Tree, Units7};
 
-/// The most degrees of a longitude (RFC 7946, section 4).
+/// The greatest longitude in degrees (RFC 7946, section 4).
 pub const MOST_LONGITUDE: u8 = 180;
 
-/// The most degrees of a latitude (RFC 7946, section 4).
+/// The greatest latitude in degrees (RFC 7946, section 4).
 pub const MOST_LATITUDE: u8 = 90;
 
 /// Units of 10^-7 degree in a degree.
 const DEGREE: i64 = 10_000_000;
 
-/// A coordinate at most `most` degrees from zero (RFC 7946, section 3.1.1), rounded to units of 10^-7
-/// degree: a plain whole number of degrees, or the text of a number (RFC 8259, section 6).
+/// A coordinate at most `most` degrees from zero (RFC 7946, section 3.1.1), rounded to units of
+/// 10^-7 degree: from a plain whole number of degrees, or from the text of a number (RFC 8259,
+/// section 6).
 ///
 /// # Errors
 ///
-/// `BadField` of the field for another kind of value, `BadNumber` for a text that is no number of at
-/// most 64 bytes with an exponent of at most three digits, and `OutOfRange` beyond `most` degrees.
+/// `BadField` of the field for another kind of value, `BadNumber` for a text that is no number of
+/// at most 64 bytes with an exponent of at most three digits, and `OutOfRange` beyond `most`
+/// degrees.
 pub fn coordinate_of(value: &Tree, field: Field, most: u8) -> Result<Units7, TextFault>
     requires { most ≤ most_longitude }
     ensures value { Gives text_cause (λ u. u) result (coordinate_of most field (view value.now)) }
@@ -38,7 +40,8 @@ pub fn coordinate_of(value: &Tree, field: Field, most: u8) -> Result<Units7, Tex
     }
 }
 
-/// A coordinate at most `most` degrees from zero, as `coordinate_of` reads it, of a tree that lends.
+/// A coordinate at most `most` degrees from zero, as `coordinate_of` reads it, from a tree that
+/// borrows.
 ///
 /// # Errors
 ///
@@ -55,8 +58,8 @@ pub fn coordinate_of_node(value: &Node<'_>, field: Field, most: u8) -> Result<Un
     }
 }
 
-/// The coordinate at most `most` degrees from zero that the text of a number (RFC 8259, section 6)
-/// gives in degrees, rounded to units of 10^-7 degree.
+/// The coordinate that the text of a number (RFC 8259, section 6) gives in degrees, at most `most`
+/// degrees from zero, rounded to units of 10^-7 degree.
 ///
 /// # Errors
 ///
@@ -71,7 +74,7 @@ pub fn coordinate_of_text(number: &str, most: u8) -> Result<Units7, TextFault>
     within(units_of_text(number)?, most)
 }
 
-/// The coordinate of a whole number of degrees.
+/// The coordinate of a whole number of degrees; `OutOfRange` beyond `most` degrees.
 fn whole_degrees(degrees: i64, most: u8) -> Result<Units7, TextFault>
     requires { most ≤ most_longitude }
     ensures value { Gives text_cause (λ u. u) result (within most (degrees *ℤ pos units_of_degree)) }
@@ -84,7 +87,7 @@ fn whole_degrees(degrees: i64, most: u8) -> Result<Units7, TextFault>
     Units7::new(degrees * DEGREE).ok_or(TextFault::OutOfRange)
 }
 
-/// A coordinate that is at most so many degrees from zero.
+/// The coordinate itself; `OutOfRange` beyond `most` degrees.
 #[inline(always)]
 fn within(units: Units7, most: u8) -> Result<Units7, TextFault>
     ensures value { Gives text_cause (λ u. u) result (within most units) }

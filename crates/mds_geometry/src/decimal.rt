@@ -1,4 +1,4 @@
-//! Numbers of degrees in plain decimal notation.
+//! A fast parser of degrees in decimal notation.
 ghost use Rattle.std.specs.Prelude.{◌≡◌, ℕ, List, nat_le, ◌+◌, ◌*◌, ◌-◌, ◌^◌, ◌<◌, ◌≤◌, [], drop, length, option_map, true, None, Ok, Some, if◌then◌else◌, IfSome};
 ghost use Rattle.std.specs.Char.{is_ascii_digit};
 ghost use Rattle.std.specs.List.{prefix_len};
@@ -15,45 +15,45 @@ use mds_text::{NumberFault, Units7, units_of};
 /// Units of 10^-7 degree in a degree.
 const DEGREE: u64 = 10_000_000;
 
-/// The units of 180 degrees.
+/// 180 degrees in units of 10^-7 degree.
 const MOST_UNITS: u64 = 180 * DEGREE;
 
 /// The most bytes of a number's text.
 const MOST_BYTES: usize = 64;
 
-/// The most digits that stand one behind another in a number that is read in one pass.
+/// The most digits in a row of a number that is read in one pass.
 const MOST_DIGITS: usize = 9;
 
 /// Eight bytes of the digit 0.
 const EIGHT_ZEROS: u64 = 0x3030_3030_3030_3030;
 
-/// What makes a zero of a point in the lowest byte.
+/// What is added to a point in the lowest byte to make it a zero.
 const POINT_TO_ZERO: u64 = 2;
 
 /// The high bit of each byte.
 const HIGH_BITS: u64 = 0x8080_8080_8080_8080;
 
-/// The other bits of each byte.
+/// The other seven bits of each byte.
 const LOW_BITS: u64 = 0x7f7f_7f7f_7f7f_7f7f;
 
-/// What sets the high bit of each byte's low bits where these are 10 or more.
+/// Added to the low bits of each byte, it sets the high bit where they are 10 or more.
 const UP_FROM_TEN: u64 = 0x7676_7676_7676_7676;
 
-/// The bytes of a word that hold the first and the third pair of digits.
+/// The bytes of a word with the first and the third pair of digits.
 const TWO_LANES: u64 = 0x0000_00ff_0000_00ff;
 
-/// What those pairs are worth, in the upper half of the product.
+/// The weights of those pairs, for the upper half of the product.
 const FIRST_PLACES: u64 = 100 + (1_000_000 << 32);
 
-/// What the second and the fourth pair are worth, likewise.
+/// The weights of the second and the fourth pair, likewise.
 const SECOND_PLACES: u64 = 1 + (10_000 << 32);
 
-/// The coordinate that a number's text gives, as `mds_text::units_of` reads it. Takes no memory.
+/// The coordinate that a number's text gives, as `mds_text::units_of` reads it. Allocates nothing.
 ///
 /// # Errors
 ///
-/// `BadNumber` for a text that is no number, has more than 64 bytes or an exponent of more than three
-/// digits; else `OutOfRange` beyond 180 degrees.
+/// `BadNumber` for a text that is no number, has more than 64 bytes or an exponent of more than
+/// three digits; else `OutOfRange` beyond 180 degrees.
 #[inline(always)]
 pub(crate) fn units_of_text(text: &str) -> Result<Units7, NumberFault>
     ensures { Gives number_cause (λ u. u) result (units_of text.now) }
@@ -64,7 +64,7 @@ pub(crate) fn units_of_text(text: &str) -> Result<Units7, NumberFault>
     }
 }
 
-/// The coordinate that a number's text gives, whatever its notation.
+/// The slow path: the coordinate of a number's text in any notation.
 ///
 /// # Errors
 ///
@@ -77,8 +77,8 @@ fn other_units(text: &str) -> Result<Units7, NumberFault>
     units_of(text)
 }
 
-/// The coordinate of a text with digits, a point and one to seven digits, perhaps behind a minus.
-/// Of other texts, and beyond 180 degrees, nothing is said.
+/// The coordinate of an optional minus, digits, a point and one to seven digits. `None` says
+/// nothing of a text: it may be another notation, or beyond 180 degrees.
 #[inline(always)]
 fn decimal_units(text: &[u8]) -> Option<Units7>
     ensures { IfSome result (λ u. units_of text.now ≡ Ok u) }
@@ -89,7 +89,7 @@ fn decimal_units(text: &[u8]) -> Option<Units7>
     }
 }
 
-/// The same of a text with one to three whole digits and seven decimals, as fine as a unit. It has no loop.
+/// The same for one to three whole digits and exactly seven decimals. It has no loop.
 #[inline(always)]
 fn usual_units(text: &[u8]) -> Option<Units7>
     ensures { IfSome result (λ u. units_of text.now ≡ Ok u) }
@@ -101,7 +101,7 @@ fn usual_units(text: &[u8]) -> Option<Units7>
     signed(negative, degrees * DEGREE + decimals)
 }
 
-/// The same of a text with up to nine whole digits and one to seven decimals.
+/// The same for up to nine whole digits and one to seven decimals.
 #[inline(never)]
 fn plain_units(text: &[u8]) -> Option<Units7>
     ensures { IfSome result (λ u. units_of text.now ≡ Ok u) }
@@ -127,7 +127,7 @@ fn sign_of(text: &[u8]) -> (bool, &[u8])
     }
 }
 
-/// The whole degrees that a number begins with, and what stands behind its point.
+/// The whole degrees at the beginning of a number, and what follows its point.
 #[inline(always)]
 fn degrees_of(number: &[u8]) -> Option<(u64, &[u8])>
     ensures whole { IfSome result (λ r. is_whole (digits number.now) ≡ true) }
@@ -144,7 +144,7 @@ fn degrees_of(number: &[u8]) -> Option<(u64, &[u8])>
     Some((degrees, fraction))
 }
 
-/// The units of one to seven decimals.
+/// One to seven decimals, in units of 10^-7 degree.
 #[inline(always)]
 fn decimals_of(fraction: &[u8]) -> Option<u64>
     ensures some { IfSome result (λ n. 1 ≤ length (digits fraction.now)) }
@@ -160,7 +160,7 @@ fn decimals_of(fraction: &[u8]) -> Option<u64>
     Some(decimals * place_units(count)?)
 }
 
-/// The units of the last of so many decimals.
+/// The units of the last one of this many decimals.
 fn place_units(count: usize) -> Option<u64>
     ensures value { IfSome result (λ n. n ≡ 10 ^ (7 - count)) }
     ensures some { IfSome result (λ n. 1 ≤ count) }
@@ -179,8 +179,8 @@ fn place_units(count: usize) -> Option<u64>
     }
 }
 
-/// The number that the digits in front of a text write, and how many they are; `None` where they are
-/// very many.
+/// The number of the digits that a text begins with, and how many they are; `None` where there are
+/// more than `MOST_DIGITS`.
 #[inline(always)]
 fn front_digits(text: &[u8]) -> Option<(u64, usize)>
     ensures value { IfSome result (λ r. r.0 ≡ digits_value 10 (digits text.now)) }
@@ -201,7 +201,8 @@ fn front_digits(text: &[u8]) -> Option<(u64, usize)>
     Some((value, text.len()))
 }
 
-/// The number that one to three digits write, the first of several being no zero; `None` of any other text.
+/// The number of one to three digits, without a leading zero unless it stands alone; `None` for any
+/// other text.
 #[inline(always)]
 fn few_digits(text: &[u8]) -> Option<u64>
     ensures whole { IfSome result (λ n. is_whole text.now ≡ true) }
@@ -240,7 +241,7 @@ fn few_digits(text: &[u8]) -> Option<u64>
     }
 }
 
-/// The value of a digit; more than 9 of another byte.
+/// The value of a digit; more than 9 for any other byte.
 #[inline(always)]
 fn digit_value_of(byte: u8) -> u64
     ensures { result ≤ 9 → byte ≡ 48 + result }
@@ -248,7 +249,7 @@ fn digit_value_of(byte: u8) -> u64
     u64::from(byte).wrapping_sub(u64::from(b'0'))
 }
 
-/// The number that seven digits write behind a point; `None` of any other text.
+/// The number of seven digits after a point; `None` for any other text.
 #[inline(always)]
 fn seven_decimals(fraction: &[u8; 8]) -> Option<u64>
     ensures point { IfSome result (λ n. begins_with 46 fraction.now ≡ true) }
@@ -263,7 +264,8 @@ fn seven_decimals(fraction: &[u8; 8]) -> Option<u64>
     eight_digits(u64::from_le_bytes(*fraction) + POINT_TO_ZERO)
 }
 
-/// The number that eight digits write, the first of them in the lowest byte; `None` where a byte is no digit.
+/// The number of eight digits, the first of them in the lowest byte; `None` where a byte is no
+/// digit.
 #[inline(always)]
 fn eight_digits(word: u64) -> Option<u64>
     ensures digits { (xs : List ℕ) → IsEightBytes xs → word ≡ number_l 256 xs → IfSome result (λ n. prefix_len is_ascii_digit xs ≡ 8) }
@@ -276,7 +278,8 @@ fn eight_digits(word: u64) -> Option<u64>
     Some(value_of_eight(lanes))
 }
 
-/// The high bit of each byte that is 10 or more. No sum carries into the next byte.
+/// Sets the high bit of each byte that is 10 or more, and no other bit. No sum carries into the
+/// next byte.
 #[inline(always)]
 fn flags_from_ten(word: u64) -> u64
     ensures { (byte : ℕ → ℕ) → ((k : ℕ) → byte k < 256) → word ≡ digits_from byte 0 8 → result ≡ flag_word (λ k. nat_le 10 (byte k)) }
@@ -284,8 +287,8 @@ fn flags_from_ten(word: u64) -> u64
     (((word & LOW_BITS) + UP_FROM_TEN) | word) & HIGH_BITS
 }
 
-/// The number that eight digits write, each in a byte as its value and the first of them in the lowest:
-/// two neighbours are joined at a time, then all four pairs.
+/// The number of eight digit values, one in each byte and the first in the lowest: neighbours are
+/// joined into pairs, then all four pairs into one number.
 #[inline(always)]
 fn value_of_eight(word: u64) -> u64
     ensures { (ds : List ℕ) → IsEightDigits ds → word ≡ number_l 256 ds → result ≡ number_from_digits 10 ds }
@@ -296,7 +299,7 @@ fn value_of_eight(word: u64) -> u64
     first.wrapping_add(second) >> 32
 }
 
-/// What stands behind this byte, where the text begins with it.
+/// What follows this byte, where the text begins with it.
 #[inline(always)]
 fn cut(text: &[u8], byte: u8) -> Option<&[u8]>
     ensures { option_map (λ rest. rest.now) result ≡ (if begins_with byte text.now then Some (drop 1 text.now) else None) }
@@ -307,7 +310,7 @@ fn cut(text: &[u8], byte: u8) -> Option<&[u8]>
     }
 }
 
-/// A size of at most 180 degrees, with its sign.
+/// A size with its sign; `None` beyond 180 degrees.
 #[inline(always)]
 fn signed(negative: bool, size: u64) -> Option<Units7>
     ensures { IfSome result (λ u. in_range negative size ≡ Ok u) }

@@ -1,4 +1,4 @@
-//! One edge of a ring and one position.
+//! One edge of a ring against one position.
 ghost use Rattle.std.specs.Prelude.{◌≡◌, ◌≤◌, ◌-ℤ◌, ◌*ℤ◌, unsigned_abs};
 ghost use Rattle.mds_geometry.specs.Inside as inside;
 
@@ -13,7 +13,7 @@ fn difference(a: Units7, b: Units7) -> i64
     a.get() - b.get()
 }
 
-/// `a * b`, which needs more than 64 bits.
+/// `a * b`, which may need more than 64 bits.
 fn product(a: i64, b: i64) -> i128
     requires first { unsigned_abs a ≤ 3600000000 }
     requires second { unsigned_abs b ≤ 3600000000 }
@@ -23,7 +23,7 @@ fn product(a: i64, b: i64) -> i128
     i128::from(a) * i128::from(b)
 }
 
-/// The cross product of the ways from `at` to `from` and to `to`.
+/// The cross product of the vectors from `at` to `from` and from `at` to `to`.
 fn turn(from: &Position, to: &Position, at: &Position) -> i128
     ensures { result ≡ inside.turn from.now to.now at.now }
 {
@@ -32,7 +32,7 @@ fn turn(from: &Position, to: &Position, at: &Position) -> i128
     left - right
 }
 
-/// Whether `x` lies between `a` and `b`, these included.
+/// Whether `x` lies between `a` and `b`, both included.
 fn is_between(a: Units7, b: Units7, x: Units7) -> bool
     ensures { result ≡ inside.is_between a b x }
 {
@@ -40,14 +40,14 @@ fn is_between(a: Units7, b: Units7, x: Units7) -> bool
     (a <= x && x <= b) || (b <= x && x <= a)
 }
 
-/// Whether the edge rises past the latitude of `at`: its end is above it, its start isn't.
+/// Whether the edge rises past the latitude of `at`: its end is above, its start isn't.
 fn rises_past(from: &Position, to: &Position, at: &Position) -> bool
     ensures { result ≡ inside.rises_past from.now to.now at.now }
 {
     from.lat.get() <= at.lat.get() && at.lat.get() < to.lat.get()
 }
 
-/// Whether `at` is on the edge, its ends included.
+/// Whether `at` is on the edge, the ends of the edge included.
 pub(crate) fn is_on(from: &Position, to: &Position, at: &Position) -> bool
     ensures { result ≡ inside.is_on from.now to.now at.now }
 {

@@ -1,4 +1,4 @@
-//! From where to where the edges of an area reach.
+//! How far the edges of an area extend, for the size of its strips and cells.
 ghost use Rattle.std.specs.Prelude.{◌≡◌, ◌≤◌, ◌<◌, ◌+◌, ◌*◌, ◌/◌, ◌^◌, IsTrue};
 ghost use Rattle.std.specs.Int.{abs_diff};
 ghost use Rattle.mds_geometry.specs.Strips.{AreMeasured};
@@ -10,33 +10,33 @@ use crate::strip::Edge;
 use crate::strips::row_of;
 use mds_text::Units7;
 
-/// How many heights of a strip an edge reaches at most, on the average of all edges.
+/// The most heights of a strip that an edge extends over, on average over all edges.
 const MOST_HEIGHTS: u64 = 2;
 
-/// More edges than are measured.
+/// From this many edges on nothing is measured.
 const TOO_MANY: usize = 1 << 32;
 
-/// The least and the greatest row or column of some edges, and how far the edges reach.
+/// The extent of some edges in one direction.
 #[derive(Clone, Copy)]
 pub(crate) struct Extent {
     /// The least row or column.
     pub(crate) least: u32,
     /// The greatest row or column.
     pub(crate) greatest: u32,
-    /// How far the edges reach, all together. `u64::MAX` says nothing.
+    /// The extents of all edges, added up. `u64::MAX` says nothing.
     pub(crate) reach: u64,
 }
 
 /// The extents of edges from south to north and from west to east.
 #[derive(Clone, Copy)]
 pub(crate) struct Extents {
-    /// The rows of their latitudes.
+    /// The rows of the edges' latitudes.
     pub(crate) rows: Extent,
-    /// The columns of their longitudes.
+    /// The columns of the edges' longitudes.
     pub(crate) columns: Extent,
 }
 
-/// How far an edge reaches from one latitude or longitude to another.
+/// The distance between two latitudes or two longitudes, in units of 10^-7 degree.
 #[inline(always)]
 fn apart(from: Units7, to: Units7) -> u64
     ensures value { result ≡ abs_diff (strips.row_of from) (strips.row_of to) }
@@ -45,7 +45,7 @@ fn apart(from: Units7, to: Units7) -> u64
     u64::from(row_of(from).abs_diff(row_of(to)))
 }
 
-/// How far edges reach in rows and in columns, all together.
+/// The extents of all edges in rows and in columns, each added up.
 fn reach_of(edges: &[Edge]) -> (u64, u64)
     ensures { AreMeasured edges.now result.0 }
 {
@@ -61,7 +61,7 @@ fn reach_of(edges: &[Edge]) -> (u64, u64)
     (rows, columns)
 }
 
-/// The row or column of so many units.
+/// The row or column of a coordinate in units; 0 beyond 180 degrees.
 fn row_at(units: i64) -> u32 {
     match Units7::new(units) {
         Some(units) => row_of(units),
@@ -70,7 +70,7 @@ fn row_at(units: i64) -> u32 {
 }
 
 impl Extent {
-    /// The extent of edges within a band, which reach so far, all together.
+    /// The extent of edges within a band, with the sum of their extents.
     fn new(band: &Band, reach: u64) -> Extent
         ensures { result.reach ≡ reach }
     {
@@ -81,7 +81,7 @@ impl Extent {
         }
     }
 
-    /// How many strips of this height an edge of so many reaches, on the average.
+    /// How many strips of 2^`shift` rows an edge reaches, on average over this many edges.
     pub(crate) fn strips(&self, shift: u32, edges: usize) -> u64
         requires { shift ≤ 31 }
     {
@@ -91,7 +91,7 @@ impl Extent {
             .saturating_add(1)
     }
 
-    /// Whether so many edges reach at most two heights of a strip, on the average.
+    /// Whether this many edges extend over at most two heights of a strip each, on average.
     pub(crate) fn is_spare(&self, shift: u32, edges: usize) -> bool
         requires { shift ≤ 31 }
         ensures known { IsTrue result → self.now.reach < 18446744073709551615 }
@@ -102,7 +102,7 @@ impl Extent {
 }
 
 impl Extents {
-    /// The extents of these edges, which lie within these bounds.
+    /// Measures these edges, which lie within these bounds.
     pub(crate) fn of(edges: &[Edge], bounds: &Bounds) -> Extents
         ensures { AreMeasured edges.now result.rows.reach }
     {

@@ -1,4 +1,4 @@
-//! How high the strips of an area are, and how large the cells of its grid.
+//! Chooses the height of an area's strips and the size of its grid's cells.
 ghost use Rattle.std.specs.Prelude.{◌≡◌, ◌≤◌, ◌*◌, ◌<◌, length};
 ghost use Rattle.std.specs.List.{sum_by};
 ghost use Rattle.mds_geometry.specs.Strips.{AreMeasured, span};
@@ -8,17 +8,17 @@ use crate::marks::COLUMNS;
 use crate::scale::Scale;
 use crate::strip::Edge;
 
-/// How many edges there are for each strip, at least.
+/// There is at most one strip for this many edges.
 const EDGES_OF_A_STRIP: usize = 16;
 
-/// The most cells that an edge covers, on the average of all edges.
+/// The most cells that an edge covers, on average over all edges.
 const MOST_COVERED: u64 = 8;
 
-/// How many edges there are for each row of a grid, at least.
+/// There is at most one row of a grid for this many edges.
 const EDGES_OF_A_ROW: usize = 8;
 
 impl Scale {
-    /// One strip of all latitudes.
+    /// One strip for all latitudes.
     fn one_strip() -> Scale
         ensures { result.last ≡ 0 }
     {
@@ -29,7 +29,7 @@ impl Scale {
         }
     }
 
-    /// The strips of this height from one row to another.
+    /// The strips of 2^`shift` rows from one row to another.
     fn between(south: u32, north: u32, shift: u32) -> Scale
         requires { shift ≤ 31 }
         ensures { result.shift ≡ shift }
@@ -40,9 +40,9 @@ impl Scale {
     }
 }
 
-/// The lowest strips of which there is one for sixteen edges, and in which an edge has at most four places
-/// on the average; one strip where there are none. An edge has at most two places more than it reaches
-/// heights of a strip.
+/// The lowest strips of which there is at most one for sixteen edges, and in which an edge has at
+/// most four entries on average; one strip where no height does. An edge has at most two entries
+/// more than the heights of a strip that it extends over.
 pub(crate) fn scale_of(extents: &Extents, edges: &[Edge]) -> Scale
     requires { AreMeasured edges.now extents.now.rows.reach }
     ensures { sum_by (span result) edges.now ≤ 4 * length edges.now }
@@ -59,9 +59,9 @@ pub(crate) fn scale_of(extents: &Extents, edges: &[Edge]) -> Scale
     Scale::one_strip()
 }
 
-/// The columns and the rows of the smallest cells, as high as wide, of which an edge of the average height and
-/// width covers at most eight, in at most 128 columns and rows, one row for eight edges; one cell where there
-/// are none.
+/// The columns and the rows of the smallest square cells of which an edge of average height and
+/// width covers at most eight, in at most 128 columns and 128 rows, and at most one row for eight
+/// edges; one cell where no size does.
 pub(crate) fn grid_of(extents: &Extents, edges: usize) -> (Scale, Scale)
     ensures narrow { result.0.last < 128 }
     ensures few { 8 * result.1.last ≤ edges }

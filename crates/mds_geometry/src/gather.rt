@@ -1,4 +1,4 @@
-//! The edges of several polygons in one list.
+//! Collects the edges of several polygons.
 ghost use Rattle.std.specs.Prelude.{◌≡◌, ◌≤◌, ◌++◌, length, map, OnOk, IfOk};
 ghost use Rattle.mds_geometry.specs.Inside.{edges_of_ring, edges};
 ghost use Rattle.mds_geometry.specs.Strips.{edge_of, edges_from};
@@ -8,7 +8,7 @@ use crate::position::Position;
 use crate::strip::Edge;
 use std::alloc::{AllocError, Global};
 
-/// Puts the edges of a ring after others, as edges of the polygon at this place.
+/// Appends the edges of a ring, as edges of the polygon at this index.
 fn gather_ring(all: &mut Vec<Edge>, polygon: usize, ring: &[Position]) -> Result<(), AllocError>
     requires { 1 ≤ length ring.now }
     ensures { OnOk result (all.new.items ≡ all.old.items ++ map (edge_of polygon) (edges_of_ring ring.now)) }
@@ -23,7 +23,7 @@ fn gather_ring(all: &mut Vec<Edge>, polygon: usize, ring: &[Position]) -> Result
     Ok(())
 }
 
-/// Puts the edges of a polygon, which has this place, after others.
+/// Appends the edges of a polygon, which has this index.
 fn gather_polygon(all: &mut Vec<Edge>, place: usize, polygon: &Polygon) -> Result<(), AllocError>
     ensures { OnOk result (all.new.items ≡ all.old.items ++ map (edge_of place) (edges polygon.now)) }
 {
@@ -33,7 +33,7 @@ fn gather_polygon(all: &mut Vec<Edge>, place: usize, polygon: &Polygon) -> Resul
     Ok(())
 }
 
-/// How many positions the polygons have: more than edges.
+/// The number of positions of the polygons, which is at least that of their edges.
 fn count_of(polygons: &[Polygon]) -> usize {
     let mut count: usize = 0;
     for polygon in polygons {
@@ -48,7 +48,7 @@ fn count_of(polygons: &[Polygon]) -> usize {
 ///
 /// # Errors
 ///
-/// Memory ran out.
+/// Out of memory.
 pub(crate) fn gather(alloc: Global, polygons: &[Polygon]) -> Result<Vec<Edge>, AllocError>
     ensures { IfOk result (λ all. all.items ≡ edges_from 0 polygons.now) }
 {

@@ -1,4 +1,4 @@
-//! A grid of cells over an area, which tells of most positions whether they are held.
+//! A grid of cells over an area, which decides for most positions whether they are held.
 ghost use Rattle.std.specs.Prelude.{◌≡◌, ◌⊎◌, ◌+◌, ◌*◌, ◌<◌, ◌≤◌, ℕ, false, get_or, length, IfOk, OnOk};
 ghost use Rattle.std.specs.List.{list_any};
 ghost use Rattle.mds_geometry.specs.Area.{area_holds};
@@ -17,7 +17,7 @@ use crate::strip::Edge;
 use crate::striped::Striped;
 use std::alloc::{AllocError, Global};
 
-/// The columns and the rows of a grid, and what each of its cells tells.
+/// The columns and rows of a grid, and its cells.
 #[derive(Drop)]
 pub(crate) struct Grid {
     /// The columns, from west to east.
@@ -33,7 +33,7 @@ impl Grid {
     ///
     /// # Errors
     ///
-    /// Memory ran out.
+    /// Out of memory.
     pub(crate) fn new(
         alloc: Global,
         striped: &Striped,
@@ -67,7 +67,8 @@ impl Grid {
     }
 }
 
-/// A position of a cell, and whether it is held; nothing where none is found.
+/// What a cell that no edge covers says, by a test of its south-western corner; `Mixed` where no
+/// such position is found in the cell.
 fn told_by_corner(
     striped: &Striped,
     columns: &Scale,
@@ -90,8 +91,8 @@ fn told_by_corner(
     }
 }
 
-/// Puts the cells of a row after those of the rows before it. One that isn't marked tells what the cell
-/// before it tells, if that isn't marked either.
+/// Appends the cells of a row. A cell that isn't marked says what the one before it says, where
+/// that one isn't marked either.
 fn push_row(
     cells: &mut Vec<Cell>,
     striped: &Striped,
@@ -119,11 +120,11 @@ fn push_row(
     Ok(())
 }
 
-/// The cells of a grid, by those that are marked.
+/// The cells of a grid, by which of them are marked.
 ///
 /// # Errors
 ///
-/// Memory ran out.
+/// Out of memory.
 fn cells_of(
     alloc: Global,
     striped: &Striped,

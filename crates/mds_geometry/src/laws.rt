@@ -1,8 +1,8 @@
-//! Laws of what a polygon holds, over all lists of rings. Each function's contract is the law; the
-//! functions themselves do nothing.
+//! Laws of which positions a polygon holds, for all lists of rings. Each function's contract is the
+//! law; the functions themselves do nothing.
 ghost use Rattle.mds_geometry.specs.Laws.{WindingIsFree, HoldsVertices};
 
-/// Reversing a ring changes nothing about what a polygon holds.
+/// Reversing a ring doesn't change which positions a polygon holds.
 pub fn winding_is_free()
     ensures { WindingIsFree }
 {}

@@ -1,4 +1,5 @@
-//! Positions, linear rings and polygons of RFC 7946, and which positions a polygon holds.
+//! Positions, linear rings and polygons of RFC 7946, the grid and strips of an area, and which
+//! positions a polygon holds.
 #![tactic(auto)]
 
 mod area;

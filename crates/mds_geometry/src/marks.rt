@@ -1,4 +1,4 @@
-//! The cells of a grid that edges cover.
+//! Marks the cells of a grid that edges cover.
 ghost use Rattle.std.specs.Prelude.{◌≡◌, ◌+◌, ◌*◌, ◌<◌, ◌≤◌, ℕ, false, get_or, length, nat_le, ◌&&◌, IfOk};
 ghost use Rattle.mds_geometry.specs.Grid as grid;
 ghost use Rattle.mds_geometry.specs.Strips.{lies_between};
@@ -7,10 +7,10 @@ use crate::scale::Scale;
 use crate::strip::Edge;
 use std::alloc::{AllocError, Global};
 
-/// The columns of a grid, of which some may be east of all positions.
+/// The number of columns of a grid; the easternmost may lie beyond all positions.
 pub(crate) const COLUMNS: usize = 128;
 
-/// The lesser of two numbers, and the greater.
+/// Two numbers, the lesser one first.
 fn ordered(a: usize, b: usize) -> (usize, usize)
     ensures between { (n : ℕ) → lies_between a b n ≡ (nat_le result.0 n && nat_le n result.1) }
     ensures least { result.0 ≤ result.1 }
@@ -19,7 +19,7 @@ fn ordered(a: usize, b: usize) -> (usize, usize)
     if a <= b { (a, b) } else { (b, a) }
 }
 
-/// Marks the cells from one place to another, both included.
+/// Marks the cells from one index to another, both included.
 fn mark_span(marks: &mut [bool], first: usize, last: usize)
     requires { last < length marks.old }
     ensures { (k : ℕ) → get_or marks.new k false ≡ false
@@ -30,7 +30,7 @@ fn mark_span(marks: &mut [bool], first: usize, last: usize)
     }
 }
 
-/// Marks the cells of some rows and columns, the first and the last of each included.
+/// Marks the cells of a box of rows and columns, the first and last of each included.
 fn mark_box(marks: &mut [bool], south: usize, north: usize, west: usize, east: usize)
     requires ordered { south ≤ north }
     requires rows { north < 4294967296 }
@@ -45,7 +45,7 @@ fn mark_box(marks: &mut [bool], south: usize, north: usize, west: usize, east: u
     }
 }
 
-/// Marks the cells that an edge covers.
+/// Marks the cells that an edge covers: those of the box around it.
 #[inline(never)]
 fn mark_across(marks: &mut [bool], columns: &Scale, rows: &Scale, edge: &Edge)
     requires whole { length marks.old ≡ (rows.now.last + 1) * 128 }
@@ -61,7 +61,7 @@ fn mark_across(marks: &mut [bool], columns: &Scale, rows: &Scale, edge: &Edge)
     mark_box(marks, south, north, west, east);
 }
 
-/// Marks the cells that an edge covers: mostly one.
+/// Marks the cells that an edge covers, with a short path for an edge within one cell.
 #[inline(always)]
 fn mark_edge(marks: &mut [bool], columns: &Scale, rows: &Scale, edge: &Edge)
     requires whole { length marks.old ≡ (rows.now.last + 1) * 128 }
@@ -78,22 +78,22 @@ fn mark_edge(marks: &mut [bool], columns: &Scale, rows: &Scale, edge: &Edge)
     mark_across(marks, columns, rows, edge);
 }
 
-/// So many cells that aren't marked.
+/// This many cells, none of them marked.
 ///
 /// # Errors
 ///
-/// Memory ran out.
+/// Out of memory.
 fn no_marks(alloc: Global, count: usize) -> Result<Vec<bool>, AllocError>
     ensures { IfOk result (λ marks. length marks.items ≡ count) }
 {
     vec![in alloc; false; count]
 }
 
-/// For each cell whether it is marked. An edge's cells are.
+/// For each cell whether it is marked. Each cell that an edge covers is.
 ///
 /// # Errors
 ///
-/// Memory ran out.
+/// Out of memory.
 pub(crate) fn marks_of(
     alloc: Global,
     columns: &Scale,

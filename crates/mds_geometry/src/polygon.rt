@@ -5,8 +5,8 @@ use crate::position::Position;
 use crate::ring::Ring;
 use std::marker::Model;
 
-/// A list of linear rings, of which the first is the exterior and the others are holes (RFC 7946,
-/// section 3.1.6). Contracts see the list of the rings' lists of positions.
+/// A polygon: a list of linear rings, of which the first is the exterior and the others are holes
+/// (RFC 7946, section 3.1.6). Contracts see the list of the rings' lists of positions.
 #[derive(Drop)]
 pub struct Polygon {
     rings: Vec<Ring>,
@@ -22,7 +22,7 @@ impl Model for Polygon {
 }
 
 impl Polygon {
-    /// The polygon of these rings. Takes no memory.
+    /// The polygon of these rings. Allocates nothing.
     pub fn new(rings: Vec<Ring>) -> Polygon
         ensures { result ≡ rings.items }
     {
@@ -36,8 +36,8 @@ impl Polygon {
         self.rings.as_slice()
     }
 
-    /// Whether the polygon holds a position: one on an edge of any of its rings, ends included, and
-    /// one whose ray to the east crosses an odd number of its edges. A polygon with no ring holds
+    /// Whether the polygon holds a position: one on an edge of any of its rings, ends included, or
+    /// one whose ray to the east crosses an odd number of its edges. A polygon without rings holds
     /// nothing.
     #[tactic(auto, unfolding(crate::specs::Inside::holds))]
     pub fn holds(&self, at: Position) -> bool

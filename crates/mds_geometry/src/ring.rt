@@ -7,18 +7,18 @@ use crate::blocks::{BLOCKS, bands_of, block_size, sight_by_blocks};
 use crate::position::Position;
 use std::marker::Model;
 
-/// Why a list of positions is no linear ring.
+/// Why a list of positions is not a linear ring.
 #[derive(Clone, Copy, PartialEq, Eq, Debug)]
 pub enum RingFault {
     /// It has fewer than four positions.
     Short,
-    /// Its last position isn't its first.
+    /// Its last position differs from its first.
     Open,
 }
 
-/// A linear ring: four or more positions of which the last is the first (RFC 7946, section 3.1.6).
-/// Its winding is free. It keeps the band of latitudes of each block of neighbouring edges. Contracts
-/// see the list of its positions.
+/// A linear ring: four or more positions of which the last is the first (RFC 7946, section 3.1.6),
+/// in either winding order. It stores the band of latitudes of each block of neighbouring edges.
+/// Contracts see the list of its positions.
 #[derive(Drop)]
 pub struct Ring {
     positions: Vec<Position>,
@@ -39,11 +39,11 @@ impl Model for Ring {
 }
 
 impl Ring {
-    /// The ring of these positions. Takes no memory.
+    /// The ring of these positions. Allocates nothing.
     ///
     /// # Errors
     ///
-    /// `Short` below four positions; else `Open` where the first and the last differ.
+    /// `Short` for fewer than four positions; else `Open` where the first and the last differ.
     pub fn new(positions: Vec<Position>) -> Result<Ring, RingFault>
         ensures short { (result ≡ Err RingFault.Short) ↔ (length positions.items < 4) }
         ensures open { (result ≡ Err RingFault.Open) ↔ ((4 ≤ length positions.items) × ¬ IsClosed positions.items) }

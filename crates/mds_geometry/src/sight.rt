@@ -1,4 +1,4 @@
-//! The edges of a ring and one position.
+//! The ray test: the edges of a ring against one position.
 ghost use Rattle.std.specs.Prelude.{◌≡◌, ◌≤◌, length, IsNone, IfSome, IsTrue, ◌↔◌};
 ghost use Rattle.mds_geometry.specs.Inside.{edges_of_ring, touches, crossings, is_odd};
 

@@ -1,4 +1,4 @@
-//! Where the edges of an area start.
+//! Where the edges of an area start: a short form of its edges.
 ghost use Rattle.std.specs.Prelude.{◌≡◌, ◌++◌, [], get_or, map, OnOk, IfOk};
 ghost use Rattle.mds_geometry.specs.Inside.{edges_of_ring, edges};
 ghost use Rattle.mds_geometry.specs.Strips.{edge_at, edge_in, edge_of, edges_at, edges_from, ring_at};
@@ -9,14 +9,14 @@ use crate::ring::Ring;
 use crate::strip::Edge;
 use std::alloc::{AllocError, Global};
 
-/// Where an edge of an area starts: it ends at the next position of its ring.
+/// The start of an edge of an area, by indices; the edge ends at the next position of the ring.
 #[derive(Clone, Copy)]
 pub(crate) struct Start {
-    /// The polygon's place among the others.
+    /// The index of the polygon.
     pub(crate) polygon: u32,
-    /// The ring's place in the polygon.
+    /// The index of the ring in the polygon.
     pub(crate) ring: u32,
-    /// The position's place in the ring.
+    /// The index of the position in the ring.
     pub(crate) position: u32,
 }
 
@@ -30,7 +30,7 @@ impl Start {
         }
     }
 
-    /// The edge that starts there, of a ring that has these positions.
+    /// The edge that starts here, in a ring of these positions; `None` where no position follows.
     #[inline(always)]
     pub(crate) fn edge(&self, ring: &[Position]) -> Option<Edge>
         ensures { result ≡ edge_at ring.now self.now }
@@ -47,7 +47,7 @@ impl Start {
         }
     }
 
-    /// The edge of these polygons that starts there.
+    /// The edge of these polygons that starts here.
     #[inline(always)]
     pub(crate) fn edge_in(&self, polygons: &[Polygon]) -> Option<Edge>
         ensures { result ≡ edge_in polygons.now self.now }
@@ -56,7 +56,8 @@ impl Start {
     }
 }
 
-/// The positions of the ring at this place of the polygon at this place; none where there is none.
+/// The positions of a ring, by the index of its polygon and its own; none where there is no such
+/// ring.
 pub(crate) fn positions_at(polygons: &[Polygon], polygon: u32, ring: u32) -> &[Position]
     ensures { result.now ≡ ring_at polygons.now polygon ring }
 {
@@ -67,7 +68,7 @@ pub(crate) fn positions_at(polygons: &[Polygon], polygon: u32, ring: u32) -> &[P
     }
 }
 
-/// The positions of the ring at this place; none where there is none.
+/// The positions of the ring at this index; none where there is no such ring.
 fn positions_in(rings: &[Ring], ring: u32) -> &[Position]
     ensures { result.now ≡ get_or rings.now ring [] }
 {
@@ -78,11 +79,11 @@ fn positions_in(rings: &[Ring], ring: u32) -> &[Position]
     }
 }
 
-/// A place in a list, as it is kept.
+/// An index in 32 bits, as it is stored.
 ///
 /// # Errors
 ///
-/// It isn't less than 2^32, for which there is no memory.
+/// Out of memory, for an index of 2^32 or more.
 fn kept(place: usize) -> Result<u32, AllocError>
     ensures { IfOk result (λ p. p ≡ place) }
 {
@@ -92,7 +93,7 @@ fn kept(place: usize) -> Result<u32, AllocError>
     }
 }
 
-/// Puts where the edges of a ring start after others.
+/// Appends the starts of a ring's edges.
 fn push_ring(
     all: &mut Vec<Start>,
     polygons: &[Polygon],
@@ -114,7 +115,7 @@ fn push_ring(
     Ok(())
 }
 
-/// Puts where the edges of the polygon at this place start after others.
+/// Appends the starts of the edges of the polygon at this index.
 fn push_polygon(
     all: &mut Vec<Start>,
     polygons: &[Polygon],
@@ -132,11 +133,11 @@ fn push_polygon(
     Ok(())
 }
 
-/// Where the edges of the polygons start, in their order. There are so many at most.
+/// The starts of all edges of the polygons, in their order, with room for `most` of them.
 ///
 /// # Errors
 ///
-/// Memory ran out, or there are 2^32 polygons, rings of a polygon, or positions of a ring.
+/// Out of memory, or 2^32 or more polygons, rings of a polygon, or positions of a ring.
 pub(crate) fn starts_of(
     alloc: Global,
     polygons: &[Polygon],

@@ -1,4 +1,4 @@
-//! The edges that one strip of latitude meets.
+//! The edges that reach one strip of latitude.
 ghost use Rattle.std.specs.Prelude.{◌≡◌, [], ◌∷◌, ◌++◌, false, IfOk, OnOk};
 ghost use Rattle.mds_geometry.specs.Strips.{any_holds, edges_at, ring_at};
 
@@ -9,19 +9,19 @@ use crate::start::{Start, positions_at};
 use std::alloc::{AllocError, Global};
 use std::marker::Model;
 
-/// An edge of a polygon that is one of several.
+/// An edge of one of several polygons.
 #[derive(Clone, Copy)]
 pub(crate) struct Edge {
     /// The position where it starts.
     pub(crate) from: Position,
     /// The position where it ends.
     pub(crate) to: Position,
-    /// The polygon's place among the others.
+    /// The index of its polygon.
     pub(crate) polygon: usize,
 }
 
-/// The edges that a strip meets, those of one polygon beside each other. Contracts see the list of where
-/// they start.
+/// The edges that reach a strip, those of one polygon next to each other. Contracts see the list of
+/// their starts.
 #[derive(Drop)]
 pub(crate) struct Strip {
     starts: Vec<Start>,
@@ -37,11 +37,11 @@ impl Model for Strip {
 }
 
 impl Strip {
-    /// A strip that meets no edge, with room for some.
+    /// A strip without edges, with room for some.
     ///
     /// # Errors
     ///
-    /// Memory ran out.
+    /// Out of memory.
     pub(crate) fn with_room(alloc: Global, room: usize) -> Result<Strip, AllocError>
         ensures { IfOk result (λ strip. strip ≡ []) }
     {
@@ -50,11 +50,11 @@ impl Strip {
         })
     }
 
-    /// Puts an edge after the others.
+    /// Appends an edge by its start.
     ///
     /// # Errors
     ///
-    /// Memory ran out.
+    /// Out of memory.
     #[inline(always)]
     pub(crate) fn push(&mut self, start: Start) -> Result<(), AllocError>
         ensures { OnOk result (self.new ≡ self.old ++ start ∷ []) }
@@ -64,7 +64,7 @@ impl Strip {
         Ok(())
     }
 
-    /// Whether one of the polygons, of which the strip has all edges that matter, holds a position.
+    /// Whether one of the polygons holds a position, by the edges of the strip alone.
     pub(crate) fn holds(&self, polygons: &[Polygon], at: &Position) -> bool
         ensures { result ≡ any_holds at.now 0 false (edges_at polygons.now self.now) }
     {
@@ -72,7 +72,7 @@ impl Strip {
     }
 }
 
-/// The positions of the ring of `start`, where these are those of the ring of `before`.
+/// The positions of the ring of `start`, where `positions` are those of the ring of `before`.
 #[inline(always)]
 fn positions_of<'a>(
     polygons: &'a [Polygon],
@@ -90,7 +90,7 @@ fn positions_of<'a>(
     }
 }
 
-/// Whether a polygon among those of these edges holds a position.
+/// Whether one of the polygons of these edges holds a position, by these edges alone.
 fn any_polygon_holds(polygons: &[Polygon], starts: &[Start], at: &Position) -> bool
     ensures { result ≡ any_holds at.now 0 false (edges_at polygons.now starts.now) }
 {

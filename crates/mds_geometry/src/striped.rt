@@ -1,4 +1,4 @@
-//! Polygons with their edges by strips of latitude.
+//! Polygons with their edges sorted into strips of latitude.
 ghost use Rattle.std.specs.Prelude.{◌≡◌, false, IfOk, IsTrue};
 ghost use Rattle.mds_geometry.specs.Area.{area_holds};
 ghost use Rattle.mds_geometry.specs.Bounds.{AreBounded};
@@ -17,8 +17,8 @@ use crate::strips::strips_of;
 use std::alloc::{AllocError, Global};
 use std::marker::Model;
 
-/// Several polygons with their bounds, and with where their edges start by strips of latitude. Contracts see the
-/// list of the polygons, each the list of its rings.
+/// Several polygons with their bounds, and with their edges by strips of latitude. Contracts see
+/// the list of the polygons, each the list of its rings.
 #[derive(Drop)]
 pub(crate) struct Striped {
     polygons: Vec<Polygon>,
@@ -40,12 +40,12 @@ impl Model for Striped {
 }
 
 impl Striped {
-    /// The polygons, of which these are the bounds, the edges, their starts and their extents. An edge has at most four
-    /// places in the strips, on the average.
+    /// Sorts the edges of these polygons into strips, by their bounds, edges, starts and extents.
+    /// An edge has at most four entries in the strips, on average.
     ///
     /// # Errors
     ///
-    /// Memory ran out.
+    /// Out of memory.
     pub(crate) fn new(
         alloc: Global,
         polygons: Vec<Polygon>,
@@ -78,7 +78,7 @@ impl Striped {
         self.polygons.as_slice()
     }
 
-    /// Whether the position lies outside the bounds of the polygons, which hold nothing there.
+    /// Whether the position lies outside the bounds of the polygons, where they hold nothing.
     pub(crate) fn excludes(&self, position: &Position) -> bool
         ensures { IsTrue result → area_holds self.now position.now ≡ false }
     {

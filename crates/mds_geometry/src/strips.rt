@@ -1,4 +1,4 @@
-//! Strips of latitude, and the edges that they meet.
+//! Strips of latitude, and which edges reach them.
 ghost use Rattle.std.specs.Prelude.{◌≡◌, ◌+◌, ◌++◌, ◌<◌, ◌≤◌, ℕ, length, get_or, OnOk, IfOk, [], ◌∷◌, if◌then◌else◌, nat_le, ◌&&◌, false};
 ghost use Rattle.std.specs.Option.{option_map_or};
 ghost use Rattle.mds_geometry.specs.Strips as strips;
@@ -10,10 +10,11 @@ use crate::strip::{Edge, Strip};
 use mds_text::Units7;
 use std::alloc::{AllocError, Global};
 
-/// The units between the least latitude that there is and the equator.
+/// The units of 10^-7 degree from the least coordinate, -180 degrees, to zero.
 const SOUTH: i64 = 1_800_000_000;
 
-/// The units from the least latitude that there is.
+/// The row of a latitude, or the column of a longitude: its units of 10^-7 degree from the least
+/// coordinate, -180 degrees.
 #[inline(always)]
 pub(crate) fn row_of(lat: Units7) -> u32
     ensures { result ≡ strips.row_of lat }
@@ -22,7 +23,7 @@ pub(crate) fn row_of(lat: Units7) -> u32
 }
 
 impl Scale {
-    /// The strip of a latitude. A latitude beyond the strips is taken as one of the nearest strip.
+    /// The strip of a latitude; the nearest strip where the latitude lies beyond them all.
     #[inline(always)]
     pub(crate) fn strip_of(&self, lat: Units7) -> usize
         ensures value { result ≡ strips.strip_of self.now lat }
@@ -36,7 +37,7 @@ impl Scale {
         }
     }
 
-    /// The least coordinate of a strip, where there is one.
+    /// The least coordinate of a strip, where it is a coordinate.
     pub(crate) fn start_of(&self, strip: usize) -> Option<Units7> {
         let strip = u32::try_from(strip).ok()?;
         let row = (u64::from(self.first) + u64::from(strip)) << self.shift;
@@ -45,11 +46,11 @@ impl Scale {
     }
 }
 
-/// Puts where an edge starts into each strip from one to another, both included, after the edges there.
+/// Appends an edge's start to each strip from one to another, both included.
 ///
 /// # Errors
 ///
-/// Memory ran out.
+/// Out of memory.
 fn file_between(
     all: &mut [Strip],
     south: usize,
@@ -68,11 +69,11 @@ fn file_between(
     Ok(())
 }
 
-/// Puts where an edge starts into each strip that it reaches, after the edges there.
+/// Appends an edge's start to each strip that the edge reaches.
 ///
 /// # Errors
 ///
-/// Memory ran out.
+/// Out of memory.
 #[inline(always)]
 fn file_edge(all: &mut [Strip], scale: &Scale, edge: &Edge, start: Start) -> Result<(), AllocError>
     requires { length all.old ≡ scale.now.last + 1 }
@@ -88,7 +89,7 @@ fn file_edge(all: &mut [Strip], scale: &Scale, edge: &Edge, start: Start) -> Res
     file_between(all, from.min(to), from.max(to), start)
 }
 
-/// Counts an edge more in each strip from one to another, both included.
+/// Counts one more edge in each strip from one to another, both included.
 fn count_between(counts: &mut [usize], south: usize, north: usize)
     requires { north < length counts.old }
 {
@@ -101,7 +102,7 @@ fn count_between(counts: &mut [usize], south: usize, north: usize)
 ///
 /// # Errors
 ///
-/// Memory ran out.
+/// Out of memory.
 fn count_edges(alloc: Global, scale: &Scale, edges: &[Edge]) -> Result<Vec<usize>, AllocError>
     ensures { IfOk result (λ counts. length counts.items ≡ scale.now.last + 1) }
 {
@@ -114,11 +115,11 @@ fn count_edges(alloc: Global, scale: &Scale, edges: &[Edge]) -> Result<Vec<usize
     Ok(counts)
 }
 
-/// Strips that meet no edge, each with room for so many.
+/// Strips without edges, each with room for the given number.
 ///
 /// # Errors
 ///
-/// Memory ran out.
+/// Out of memory.
 fn empty_strips(alloc: Global, rooms: &[usize]) -> Result<Vec<Strip>, AllocError>
     ensures count { IfOk result (λ all. length all.items ≡ length rooms.now) }
     ensures empty { IfOk result (λ all. (s : ℕ) → get_or all.items s [] ≡ []) }
@@ -130,12 +131,12 @@ fn empty_strips(alloc: Global, rooms: &[usize]) -> Result<Vec<Strip>, AllocError
     Ok(all)
 }
 
-/// Puts where an edge starts into each strip that it reaches, after the edges there; nothing where no edge
-/// starts.
+/// Appends an edge's start to each strip that the edge reaches; does nothing where no edge starts
+/// there.
 ///
 /// # Errors
 ///
-/// Memory ran out.
+/// Out of memory.
 #[inline(always)]
 fn file_start(
     all: &mut [Strip],
@@ -153,12 +154,12 @@ fn file_start(
     }
 }
 
-/// The strips of this scale, each with where those of these edges start that reach it. The edges are those
-/// of the polygons that start there.
+/// The strips of this scale, each with the starts of the edges that reach it. `edges` are the edges
+/// of the polygons that start at `starts`.
 ///
 /// # Errors
 ///
-/// Memory ran out.
+/// Out of memory.
 pub(crate) fn strips_of(
     alloc: Global,
     scale: &Scale,

@@ -1,4 +1,4 @@
--- An operator's place lies in the configuration.
+-- The index of an operator lies in the configuration.
 use Rattle.std.proofs.Common.{◌≡◌, ℕ, ◌<◌, Bool, true, false, List, [], length, Option, Some, None, Ok, position, refl, subst}
 use Rattle.std.specs.Prelude.{cond, bytes_eq}
 use Rattle.std.proofs.lemmas.List.Quantifiers.{position-Some}
@@ -22,7 +22,7 @@ at configuration token false = found_within configuration.operators token (posit
 pub is_within : (configuration : Configuration) (token : List ℕ) → IsWithin (length configuration.operators) (actor_of configuration token)
 is_within configuration token = at configuration token (bytes_eq configuration.author token)
 
--- an operator that calls has its place there
+-- an operator that calls has its index there
 pub caller_within : (configuration : Configuration) (request : Request) (place : ℕ) (own : OperatorCall) → call_of configuration request ≡ Ok (call.Operator place own) → place < length configuration.operators
 caller_within configuration request place own resolved =
     subst (IsWithin (length configuration.operators)) (call_of-caller configuration request (call.Operator place own) resolved) (is_within configuration request.token)

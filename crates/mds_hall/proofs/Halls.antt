@@ -1,4 +1,5 @@
--- A hall may be shared by threads: its configuration and its routes are shared, and each desk, the author's room and the latest note is behind a lock.
+-- A hall may be shared by threads: its configuration and its routes are shared, and each desk, the author's room and
+-- the latest note are behind locks.
 use denote.RattleType.{RattleType}
 use denote.Param.Send.{IsSend, IsSync, sendable}
 use denote.Param.SendFields.{declared_send, declared_sync}

@@ -1,4 +1,4 @@
--- What a request that is heard is answered.
+-- How a request with a whole body is answered.
 use Rattle.std.proofs.Common.{◌≡◌, ℕ, ◌≤◌, cond, List, length, MatchOption, Result, Ok, Err, refl, sym, ap, subst, ◌∙◌}
 use Rattle.std.proofs.lemmas.Bool.{le-ltb}
 use Rattle.http.specs.declared.response.Response.{Response}
@@ -23,7 +23,8 @@ use Rattle.mds_hall.specs.Response.{Says}
 use Rattle.mds_hall.specs.Turn.{DeskReplies, RoomReplies, SaysOne}
 use Rattle.mds_hall.proofs.Refusing.{desk_refused, room_refused}
 
--- what who asks is answered: by a turn, or, where it is nobody, that the access token is
+-- how the client is answered: by a turn, or, where it is anonymous, that the access token is
+-- unknown
 abbrev IsGiven : Configuration → Request → Reply → Actor → Type 0
 IsGiven configuration request reply Nobody = reply ≡ refused code.Token
 IsGiven configuration request reply actor = TurnGives configuration actor request reply
@@ -39,7 +40,7 @@ module _ (configuration : Configuration) (request : Request) (reply : Reply) (re
   answered actor asks given =
       subst (λ who. MatchOption (unknown who) (SaysOne (TurnGives configuration who request) response) (λ code. Says response (refused code))) (sym asks) (said actor given)
 
-  -- nobody's request is refused for its access token
+  -- an anonymous request is refused for its access token
   nobody : (refusal : Code) → length request.body ≤ MOST_BODY → actor_of configuration request.token ≡ Nobody → call_of configuration request ≡ Err refusal → refusal ≡ code.Token
   nobody refusal within asks resolved =
       let told : ◌≡◌ {A = Result Call Code} (Err refusal) (Err code.Token) =

@@ -1,4 +1,4 @@
--- Desks and their locks, each at its place.
+-- Desks and their locks, each at its index.
 use Rattle.std.proofs.Common.{◌≡◌, ℕ, ◌+◌, ◌<◌, List, [], ◌∷◌, ◌++◌, length, map, get_or, refl, sym, ap, subst, ◌∙◌, arith, length-append}
 use Rattle.std.specs.List.{range_with_len}
 use Rattle.std.proofs.Math.ListN.{get_or-map}
@@ -10,11 +10,11 @@ use Rattle.mds_request.specs.Configuration.{Configuration}
 use Rattle.mds_desk.specs.Desk.{DeskState, new_desk, new_desks}
 use Rattle.mds_hall.specs.Turn.{AreDesksOf, IsDeskAt}
 
--- there are as many locks as places
+-- there are as many locks as indices
 pub as_many : {L : Type 0} (place : L → ℕ) (locks : List L) (n : ℕ) → map place locks ≡ range_with_len 0 n → length locks ≡ n
 as_many place locks n in_order = sym (length-map locks place) ∙ ap length in_order ∙ length-range_with_len 0 n
 
--- the lock at a place is of this place
+-- the lock at an index is that of this index
 pub in_place : {L : Type 0} (place : L → ℕ) (locks : List L) (n k : ℕ) (d : L) → map place locks ≡ range_with_len 0 n → k < n → place (get_or locks k d) ≡ k
 in_place place locks n k d in_order within =
     let here : get_or (range_with_len 0 n) k (place d) ≡ k = omega (arith, get_or-range_with_len 0 n k (place d) within) in
@@ -35,7 +35,7 @@ new_are_its configuration desks made =
           record { configured = ap (λ s. s.configuration) here; placed = ap (λ s. s.place) here };
     }
 
--- of the desks of a configuration, the one behind so many is of the place with that number
+-- of the desks of a configuration, the one after so many has that number as its index
 pub at_its_place : {D : Type 0} (state : D → DeskState) (configuration : Configuration) (desks before : List D) (d : D) (after : List D)
     → AreDesksOf configuration (map state desks) → before ++ d ∷ after ≡ desks → (n : ℕ) → n ≡ length before → IsDeskAt configuration n (state d)
 at_its_place state configuration desks before d after are all n is =
@@ -55,7 +55,7 @@ one_each state configuration desks are = sym (length-map desks state) ∙ are.lo
 range_more : (n : ℕ) → range_with_len 0 (n + 1) ≡ range_with_len 0 n ++ n ∷ []
 range_more n = sym (map-id (range_with_len 0 (n + 1))) ∙ map-range_with_len_more (λ k. k) 0 n n (omega arith) ∙ ap (λ xs. xs ++ n ∷ []) (map-id (range_with_len 0 n))
 
--- one more lock, at the next place
+-- one more lock, at the next index
 pub one_more : {L : Type 0} (place : L → ℕ) (locks all : List L) (next : L) (n m : ℕ)
     → all ≡ locks ++ next ∷ [] → place next ≡ n → m ≡ n + 1 → map place locks ≡ range_with_len 0 n → map place all ≡ range_with_len 0 m
 one_more place locks all next n m more is long so_far =

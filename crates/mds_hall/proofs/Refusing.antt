@@ -1,4 +1,5 @@
--- What the table of calls refuses is refused by one turn of who asks, of a new desk or a new room.
+-- What the table of calls refuses is refused by one turn of the client, of a new desk or a new
+-- room.
 use Rattle.std.proofs.Common.{◌≡◌, ℕ, None, Err, refl, ap}
 use Rattle.mds_request.specs.Call.{call_of}
 use Rattle.mds_request.specs.Configuration.{Configuration, actor_of}
@@ -16,13 +17,13 @@ use Rattle.mds_desk.proofs.Turning.{refused_turn}
 use Rattle.mds_hall.specs.Respond.{TurnGives}
 use Rattle.mds_hall.specs.Turn.{DeskReplies, RoomReplies}
 
--- it is the author or an operator
+-- the client is the author or an operator
 abbrev pub IsSomebody : Actor → Type 0
 IsSomebody Nobody = ⊥
 IsSomebody actor = Unit {0}
 
 module _ (configuration : Configuration) (request : Request) (code : Code) (resolved : call_of configuration request ≡ Err code) (reply : Reply) (is : reply ≡ refused code) where
-  -- an operator's request, at a new desk of its place
+  -- an operator's request, at a new desk of its index
   pub desk_refused : (place : ℕ) → actor_of configuration request.token ≡ Operator place → DeskReplies configuration place request reply
   desk_refused place asks =
       let desk = new_desk configuration place in

@@ -1,4 +1,4 @@
--- What a head is resolved to is what its request calls for, and says who asks.
+-- What a head is resolved to is what its request calls for, and names its client.
 use Rattle.std.proofs.Common.{◌≡◌, ℕ, ◌≤◌, Bool, true, false, cond, List, [], ◌∷◌, length, refl, ap, Option, Some, None, Result, Ok, Err}
 use Rattle.std.proofs.lemmas.Bool.{le-ltb}
 use Rattle.http.specs.declared.request.Parts.{Parts}
@@ -24,18 +24,18 @@ pub call_with_body : (configuration : Configuration) (parts : Parts) (body : Lis
 call_with_body configuration parts body at within =
     ap (λ big. cond big (Err TooLarge) (call_in configuration parts)) (le-ltb _ _ within)
 
--- so does one that is heard
+-- so does a request whose body has arrived
 pub heard_call : (configuration : Configuration) (heard : Heard) → call_of configuration (request_heard heard) ≡ call_in configuration heard.parts.now
 heard_call configuration heard =
     call_with_body configuration heard.parts.now heard.body.now heard.at heard.within
 
--- a call is by the one whose access token the head carries
+-- a call is by the client whose access token the head carries
 pub caller_in : (configuration : Configuration) (parts : Parts) (call : Call) → call_in configuration parts ≡ Ok call
     → actor_of configuration (token_of parts.headers) ≡ caller call
 caller_in configuration parts call is =
     call_of-caller configuration (request_in parts [] 0) call is
 
--- no row refuses an access token
+-- no row of the table refuses an access token
 by_row : (make : Option (List ℕ → Call)) (id : Option (List ℕ)) → call_with make id ≡ Err Token → ⊥
 by_row None id is = cc
 by_row (Some f) None is = cc
@@ -60,7 +60,7 @@ at_token (Operator place) verb segments is =
     absurd (among (Operator place) verb segments NoRoute (rows_at segments) (λ same. cc) is)
 at_token Nobody verb segments is = refl
 
--- an access token is refused where it is nobody's
+-- an access token is refused where no client has it
 pub nobody_in : (configuration : Configuration) (parts : Parts) → call_in configuration parts ≡ Err Token
     → actor_of configuration (token_of parts.headers) ≡ Nobody
 nobody_in configuration parts is =

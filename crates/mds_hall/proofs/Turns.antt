@@ -1,4 +1,4 @@
--- What a turn at a desk says.
+-- The result of a turn at a desk.
 use Rattle.std.proofs.Common.{ℕ, List, Option, Some, None, Result, Ok, Err, IfOk, ap, ◌∙◌}
 use Rattle.mds_catalog.specs.Publication.{Publication}
 use Rattle.mds_request.specs.Configuration.{Configuration}
@@ -8,7 +8,7 @@ use Rattle.mds_desk.specs.Desk.{DeskState, IsSameDesk}
 use Rattle.mds_hall.specs.Told.{DeskTells, Looks}
 use Rattle.mds_hall.specs.Turn.{DeskReplies, DeskRuns, IsDeskAt, IsTold, TakesToldRun, TakesToldTurn}
 
--- what a desk is told leaves it the same desk
+-- a desk that learns a note stays the same desk
 pub same_told : (d : DeskState) (note : Option (List Publication)) (told : DeskState) → IsTold d note told → IsSameDesk d told
 same_told d None told is = record { configuration = ap (λ s. s.configuration) is; place = ap (λ s. s.place) is }
 same_told d (Some list) told learns = learns.same
@@ -18,7 +18,7 @@ pub of_ok : {R E : Type 0} {P Q : R → Type 0} (result : Result R E) → ((r : 
 of_ok (Ok r) imply p = imply r p
 of_ok (Err e) imply p = tt
 
--- a turn of the desk of the operator at this place gives its reply
+-- a turn of the desk of the operator at this index gives its reply
 pub desk_replies : (configuration : Configuration) (place : ℕ) (d : DeskState) (note : Option (List Publication)) (request : Request)
     (reply : Reply) (next : DeskState) → IsDeskAt configuration place d → TakesToldTurn d note request reply next → DeskReplies configuration place request reply
 desk_replies configuration place d note request reply next its takes =
@@ -30,7 +30,7 @@ desk_replies configuration place d note request reply next its takes =
       turn = takes.turn;
     }
 
--- a run of turns of the desk of the operator at this place gives its replies
+-- a run of turns of the desk of the operator at this index gives its replies
 pub desk_runs : {E : Type 0} {V : Type 0} (items : V → List Reply) (configuration : Configuration) (place : ℕ) (d : DeskState) (note : Option (List Publication))
     (requests : List Request) (result : Result V E) (next : DeskState) → IsDeskAt configuration place d
     → IfOk result (λ replies. TakesToldRun d note requests (items replies) next) → IfOk result (λ replies. DeskRuns configuration place requests (items replies))
@@ -44,7 +44,7 @@ desk_runs items configuration place d note requests result next its takes =
       run = run.run;
     }) takes
 
--- what is told at the front of a look of the desk of the operator at this place
+-- the answer to a query at the front of a look of the desk of the operator at this index
 pub desk_tells : {T E : Type 0} (configuration : Configuration) (place : ℕ) (d : DeskState) (note : Option (List Publication)) (next : DeskState)
     (tells : List Publication → T → Type 0) (result : Result T E) → IsDeskAt configuration place d → Looks d note next
     → IfOk result (tells next.known) → IfOk result (DeskTells configuration place tells)

@@ -1,4 +1,4 @@
--- What is refused before a desk or the author's room is asked.
+-- Refusals before a desk or the author's room is asked.
 use Rattle.std.specs.Prelude.{ℕ, length, nat_lt, if◌then◌else◌, Option, Some, None}
 use Rattle.http.specs.declared.request.Parts.{Parts}
 use Rattle.mds_limits.specs.declared.arrival.Arrived.{Arrived}
@@ -27,6 +27,6 @@ abbrev pub or_else : Option Code → Option Code → Option Code
 or_else (Some code) next = Some code
 or_else None next = next
 
--- then one whose access token is nobody's
+-- then an anonymous one
 abbrev pub early : Configuration → Parts → Arrived → Option ℕ → Option Code
 early configuration parts arrived at = or_else (unheard arrived at) (unknown (actor_of configuration (token_of parts.headers)))

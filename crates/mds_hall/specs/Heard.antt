@@ -12,7 +12,7 @@ use Rattle.mds_hall.specs.declared.heard.Heard.{Heard}
 abbrev pub request_heard : Heard → Request
 request_heard heard = request_in heard.parts.now heard.body.now heard.at
 
--- nothing of what arrived is refused, and this is the request of it
+-- nothing of what arrived is refused, and this is its request
 pub record IsHeard (parts : Parts) (arrived : Arrived) (at : Option ℕ) (request : Request) : Type 0 where
   pub allowed : unheard arrived at ≡ None
   pub is_it : IfSome at (λ moment. request ≡ request_in parts (body_in arrived) moment)

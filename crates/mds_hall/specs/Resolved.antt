@@ -11,12 +11,12 @@ use Rattle.mds_request.specs.declared.call.Call.{Call}
 use Rattle.mds_request.specs.declared.code.Code.{Code}
 use Rattle.mds_hall.specs.Asked.{target_of, token_of}
 
--- what a head calls for, or the first refusal, whatever body within its limit comes behind it
+-- what a head calls for, or the first refusal, whatever body within its limit follows it
 abbrev pub call_in : Configuration → Parts → Result Call Code
 call_in configuration parts =
     called_at (actor_of configuration (token_of parts.headers)) (verb_of parts.method) (segments_of (target_of parts.uri))
 
--- what an answer to it takes of the queue of who asks, where the body has so many bytes; a refusal takes nothing
+-- what the answer to it takes of its client's queue, where the body has so many bytes; a refusal takes nothing
 abbrev pub cost_in : Result Call Code → ℕ → Cost
 cost_in (Ok call) length = cost_of call length
 cost_in (Err code) length = Free

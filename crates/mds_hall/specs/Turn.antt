@@ -10,13 +10,13 @@ use Rattle.mds_desk.specs.Desk.{DeskState, Learns, TakesRun, TakesTurn}
 use Rattle.mds_desk.specs.Room.{RoomState, TakesRoomTurn}
 use Rattle.mds_hall.specs.Response.{Says}
 
--- The desk is told of a list of publications, if there is one.
+-- The desk learns a list of publications, if there is one.
 abbrev pub IsTold : DeskState → Option (List Publication) → DeskState → Type 0
 IsTold d None next = next ≡ d
 IsTold d (Some list) next = Learns d list next
 
--- The desk is told of a note, if there is one, and then answers the request. The response, where there is memory for it, says
--- the reply.
+-- The desk learns a note, if there is one, and then answers the request. The response, where there is memory for it, is
+-- that of the reply.
 pub record Answers {E : Type 0} (d : DeskState) (note : Option (List Publication)) (request : Request) (result : Result (Response (Full (List ℕ))) E) (next : DeskState) : Type 0 where
   pub told : DeskState
   pub reply : Reply
@@ -36,7 +36,7 @@ pub record TakesToldRun (d : DeskState) (note : Option (List Publication)) (requ
   pub learns : IsTold d note told
   pub run : TakesRun told requests replies next
 
--- it is the desk of the operator at this place of this configuration
+-- it is the desk of the operator at this index of this configuration
 pub record IsDeskAt (configuration : Configuration) (place : ℕ) (d : DeskState) : Type 0 where
   pub configured : d.configuration ≡ configuration
   pub placed : d.place ≡ place
@@ -46,15 +46,15 @@ pub record AreDesksOf (configuration : Configuration) (desks : List DeskState) :
   pub long : length desks ≡ length configuration.operators
   pub each : (place : ℕ) (d : DeskState) → slice_get desks place ≡ Some d → IsDeskAt configuration place d
 
--- One turn of the desk of the operator at this place of this configuration, on this request, gives the reply.
+-- One turn of the desk of the operator at this index of this configuration, on this request, gives the reply.
 pub record DeskReplies (configuration : Configuration) (place : ℕ) (request : Request) (reply : Reply) : Type 0 where
   pub before : DeskState
   pub after : DeskState
   pub is_its : IsDeskAt configuration place before
   pub turn : TakesTurn before request reply after
 
--- A turn for each of these requests, in their order and with nothing between, of the desk of the operator at this place of
--- this configuration gives the replies.
+-- A turn for each of these requests, in their order and with nothing between, of the desk of the operator at this index
+-- of this configuration gives the replies.
 pub record DeskRuns (configuration : Configuration) (place : ℕ) (requests : List Request) (replies : List Reply) : Type 0 where
   pub before : DeskState
   pub after : DeskState
@@ -69,6 +69,6 @@ pub record RoomReplies (configuration : Configuration) (request : Request) (repl
   pub is_its : before.configuration ≡ configuration
   pub turn : TakesRoomTurn before request reply note after
 
--- the response says a reply of this kind
+-- the response is that of a reply of this kind
 abbrev pub SaysOne : (Reply → Type 0) → Response (Full (List ℕ)) → Type 0
 SaysOne Kind response = (reply : Reply) × Kind reply × Says response reply

@@ -1,4 +1,4 @@
-//! What an HTTP request is answered.
+//! Answers an HTTP request.
 ghost use Rattle.std.specs.Prelude.{◌≡◌, IfOk};
 ghost use Rattle.mds_request.specs.Call.{call_of};
 ghost use Rattle.mds_request.specs.Configuration.{configuration};
@@ -22,8 +22,8 @@ use mds_verdict::Evaluator;
 use std::alloc::{AllocError, Global};
 use std::sync::Wait;
 
-/// By what requests are answered: what locks are waited by, where answers are made, the hall that is asked,
-/// and what judges vehicles.
+/// What requests are answered with: what waits for locks, the allocator, the hall, and the
+/// evaluator of vehicles.
 #[derive(Drop)]
 pub struct HallContext<'a, K: Named, R, E> {
     pub rt: &'a R,
@@ -32,8 +32,8 @@ pub struct HallContext<'a, K: Named, R, E> {
     pub evaluator: &'a E,
 }
 
-/// Answers an HTTP request whose body has arrived, at this moment of the machine's clock. What the table of
-/// calls refuses is answered without a lock. Vehicles are judged by the evaluator.
+/// Answers an HTTP request whose body has arrived, at this moment of the machine's clock. What the
+/// table of calls refuses is answered without a lock. The evaluator judges vehicles.
 ///
 /// # Errors
 ///
@@ -62,7 +62,7 @@ pub fn respond<K: Named, R: Wait, E: Evaluator<Catalogue>>(
     )
 }
 
-/// The same, and tells a gate of the look of an operator's request.
+/// The same, with a gate that is called between the look of an operator's request and its answer.
 ///
 /// # Errors
 ///
@@ -93,8 +93,9 @@ pub fn respond_with<K: Named, R: Wait, G: Gate, E: Evaluator<Catalogue>>(
     carry_out(&context, hall.call_at(parts), heard, gate)
 }
 
-/// Carries out the call that a request is, by one turn of the author's room or of the operator's desk, or
-/// says its refusal, which takes no lock. A gate is told of the look of an operator's request.
+/// Carries out the call of a request, by one turn of the author's room or of the operator's desk,
+/// or answers its refusal, which takes no lock. The gate is called between the look of an
+/// operator's request and its answer.
 ///
 /// # Errors
 ///

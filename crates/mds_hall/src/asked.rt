@@ -1,4 +1,4 @@
-//! The request that the head and the body of an HTTP request are.
+//! The request of an HTTP request's head and body.
 ghost use Rattle.std.specs.Prelude.{◌≡◌, []};
 ghost use Rattle.mds_request.specs.Request.{request_of};
 ghost use Rattle.mds_hall.specs.Asked.{token_in, token_of, target_of, request_in};
@@ -9,11 +9,11 @@ use http::{HeaderMap, Uri};
 use mds_request::{Request, Verb};
 use mds_text::Moment;
 
-/// How many bytes `Bearer` and one space are.
+/// The length of `Bearer` and one space.
 const SCHEME: usize = 7;
 
-/// The access token that credentials carry by the scheme `Bearer`. Others carry the empty one, which is
-/// nobody's.
+/// The access token of credentials of the scheme `Bearer`. Others carry the empty one, which no
+/// client has.
 fn bearer(credentials: &[u8]) -> &[u8]
     ensures { result.now ≡ token_in credentials.now }
 {
@@ -23,9 +23,9 @@ fn bearer(credentials: &[u8]) -> &[u8]
     }
 }
 
-/// The access token that a head carries: that of its only `authorization` field. A head without such a
-/// field, with several, or with credentials of another scheme than `Bearer` carries the empty one, which is
-/// nobody's.
+/// The access token that a head carries: that of its only `authorization` field. A head without
+/// such a field, with several, or with credentials of another scheme than `Bearer` carries the
+/// empty one, which no client has.
 pub fn token(headers: &HeaderMap) -> &[u8]
     ensures { result.now ≡ token_of headers.now }
 {
@@ -59,8 +59,8 @@ pub(crate) fn request<'a>(parts: &'a Parts, body: &'a [u8], at: Moment) -> Reque
     }
 }
 
-/// The request of this head with no body. What a head calls for depends neither on a body within its limit
-/// nor on a moment.
+/// The request of this head with no body. What a head calls for depends neither on a body within
+/// its limit nor on a moment.
 pub(crate) fn head_request(parts: &Parts) -> Request<'_>
     ensures { request_of result ≡ request_in parts.now [] 0 }
 {

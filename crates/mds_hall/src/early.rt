@@ -1,4 +1,4 @@
-//! What is refused before a desk or the author's room is asked.
+//! Refusals before a desk or the author's room is asked.
 ghost use Rattle.std.specs.Prelude.{◌≡◌, IfOk, Some, MatchResult};
 ghost use Rattle.mds_hall.specs.Early.{unheard};
 ghost use Rattle.mds_hall.specs.Heard.{request_heard, IsHeard};
@@ -13,7 +13,8 @@ use mds_text::Moment;
 ///
 /// # Errors
 ///
-/// There is no moment (`Clock`), or there is no body within its limit (`BadBody`, `TooLarge` or `NoMemory`).
+/// There is no moment (`Clock`), or there is no body within its limit (`BadBody`, `TooLarge` or
+/// `NoMemory`).
 pub fn hear<'a>(
     parts: &'a Parts,
     arrived: &'a Arrived,

@@ -1,4 +1,4 @@
-//! The author's room and the desks of a server, each behind a lock of its own.
+//! The server's state: the author's room and the desks, each behind a lock of its own.
 ghost use Rattle.std.specs.Prelude.{◌≡◌, ◌<◌, IfOk, IfSome, Ok, Some, length, map};
 ghost use Rattle.std.specs.Sync.Mutex.{mutex_guard_value};
 ghost use Rattle.std.specs.List.{range_with_len};
@@ -28,9 +28,10 @@ use std::alloc::{AllocError, Global};
 use std::sync::atomic::AtomicU64;
 use std::sync::{Arc, Mutex, MutexGuard, Wait};
 
-/// The author's room and a desk for each operator, each behind a lock of its own, and the latest note of
-/// what is published, behind a third. An operator's request takes its desk's lock, then the note's for as
-/// long as the note is copied; the author's takes the room's, and within it the note's. End it by `finish`.
+/// The author's room and a desk for each operator, each behind a lock of its own, and the latest
+/// note of what is published, behind a third. An operator's request takes its desk's lock, then the
+/// note's while the note is copied; the author's takes the room's, and within it the note's. It has
+/// to be ended by `finish`.
 #[derive(Drop)]
 pub struct Hall<K: Named> {
     config: Arc<Config>,
@@ -42,11 +43,11 @@ pub struct Hall<K: Named> {
     ghost in_order: { map (λ desk. desk.place) desks.items ≡ range_with_len 0 (length (configuration config.value).operators) },
 }
 
-/// Each desk behind a lock, in the configuration's order.
+/// Puts each desk behind a lock, in the configuration's order.
 ///
 /// # Errors
 ///
-/// Memory ran out.
+/// Out of memory.
 fn locked<K: Named>(alloc: Global, desks: Vec<Desk<K>>) -> Result<Vec<DeskLock<K>>, AllocError>
     requires { AreDesksOf K.configuration (map state_of desks.items) }
     ensures { IfOk result (λ locked. map (λ desk. desk.place) locked.items ≡ range_with_len 0 (length K.configuration.operators)) }
@@ -59,7 +60,7 @@ fn locked<K: Named>(alloc: Global, desks: Vec<Desk<K>>) -> Result<Vec<DeskLock<K
     Ok(locked)
 }
 
-/// A note of the same list as the latest, if there is one.
+/// A copy of the latest note, if there is one.
 fn copied<K: Named>(latest: &Option<Note<K>>) -> Option<Note<K>>
     ensures { result ≡ latest.now }
 {
@@ -69,7 +70,7 @@ fn copied<K: Named>(latest: &Option<Note<K>>) -> Option<Note<K>>
     }
 }
 
-/// Keeps a note as the latest.
+/// Sets the latest note.
 fn keep<K: Named>(latest: &mut Option<Note<K>>, note: Note<K>)
     ensures { latest.new ≡ Some note }
 {
@@ -77,11 +78,11 @@ fn keep<K: Named>(latest: &mut Option<Note<K>>, note: Note<K>)
 }
 
 impl<K: Named> Hall<K> {
-    /// Opens what was prepared, for a configuration.
+    /// Opens a `Blank` for a configuration.
     ///
     /// # Errors
     ///
-    /// `NoMemory` where memory ran out, `NoPlace` where no reader's place was to be had.
+    /// `NoMemory` where memory ran out, `NoPlace` where there was no place for a reader.
     pub fn new<R: Wait>(
         rt: &R,
         alloc: Global,
@@ -96,7 +97,7 @@ impl<K: Named> Hall<K> {
         Hall::of(rt, alloc, room, desks)
     }
 
-    /// A hall over this room and these desks, which may have answered requests: all of one opening.
+    /// A hall over this room and these desks, all of one opening. They may have answered requests.
     ///
     /// # Errors
     ///
@@ -126,7 +127,7 @@ impl<K: Named> Hall<K> {
         }
     }
 
-    /// Who asks by a head: whose access token it carries.
+    /// The client of a head: the one whose access token it carries.
     pub fn actor_at(&self, parts: &Parts) -> Actor
         ensures value { result ≡ actor_of (configuration self.now.config.value) (token_of parts.now.headers) }
         ensures within { IsWithin (length (configuration self.now.config.value).operators) result }
@@ -134,7 +135,8 @@ impl<K: Named> Hall<K> {
         self.config.actor(token(&parts.headers))
     }
 
-    /// What a head calls for, by who asks, whatever body within its limit comes behind it. Takes no lock.
+    /// What a head calls for, by its client, whatever body within its limit follows it. Takes no
+    /// lock.
     ///
     /// # Errors
     ///
@@ -145,8 +147,8 @@ impl<K: Named> Hall<K> {
         read_call(&self.routes, &self.config, &head_request(parts))
     }
 
-    /// Who asks by a head that calls for this. The access token is looked up again only for a refusal that
-    /// says nothing of it.
+    /// The client of a head that calls for this. The access token is looked up again only for a
+    /// refusal other than `Token`.
     pub fn caller(&self, parts: &Parts, call: &Result<Call, Code>) -> Actor
         requires { call.now ≡ call_in K.configuration parts.now }
         ensures { result ≡ actor_of K.configuration (token_of parts.now.headers) }
@@ -163,7 +165,8 @@ impl<K: Named> Hall<K> {
         }
     }
 
-    /// Resolves a head: who asks, and what for. All that is done behind it goes by this. Takes no lock.
+    /// Resolves a head: which client asks, and for what. The request is handled by this from then
+    /// on. Takes no lock.
     pub fn resolve(&self, parts: Parts) -> ResolvedCall<K>
         ensures { result.parts ≡ parts }
     {
@@ -172,7 +175,7 @@ impl<K: Named> Hall<K> {
         ResolvedCall::new(parts, actor, call)
     }
 
-    /// The lock of the desk of the operator at this place of the configuration.
+    /// The lock of the desk of the operator at this index of the configuration.
     pub(crate) fn desk(&self, place: usize) -> &DeskLock<K>
         requires { place < length (configuration self.now.config.value).operators }
         ensures { result.now.place ≡ place }
@@ -180,7 +183,7 @@ impl<K: Named> Hall<K> {
         &self.desks[place]
     }
 
-    /// The desk of the operator at this place, once its lock is had.
+    /// The desk of the operator at this index, once its lock is taken.
     pub fn desk_at<R: Wait>(&self, rt: &R, place: usize) -> Option<MutexGuard<'_, HallDesk<K>>>
         requires { place < length (configuration self.now.config.value).operators }
         ensures { IfSome result (λ guard. (mutex_guard_value guard).place ≡ place) }
@@ -188,20 +191,21 @@ impl<K: Named> Hall<K> {
         self.desk(place).taken(rt)
     }
 
-    /// From now on this number tells how many vehicles the operator at this place has: it is set at once, and then behind each
-    /// turn of its desk, so that it is read without a lock. Nothing is told of a place that no operator has.
+    /// From now on this number is that of the vehicles of the operator at this index: it is set at
+    /// once, and after each turn of its desk, so that it is read without a lock. At an index that
+    /// no operator has it isn't set.
     pub fn count_at<R: Wait>(&self, rt: &R, place: usize, vehicles: Arc<AtomicU64>) {
         if let Some(desk) = self.desks.get(place) {
             desk.count_at(rt, vehicles);
         }
     }
 
-    /// The author's room, once its lock is had.
+    /// The author's room, once its lock is taken.
     pub fn room<R: Wait>(&self, rt: &R) -> MutexGuard<'_, HallRoom<K>> {
         self.room.lock(rt)
     }
 
-    /// Keeps a note as the latest: under the room's lock, so that a later one isn't lost.
+    /// Sets the latest note: under the room's lock, so that a later one isn't lost.
     pub fn keep_note<R: Wait>(&self, rt: &R, note: Note<K>) {
         keep(&mut *self.latest.lock(rt), note);
     }
@@ -212,7 +216,7 @@ impl<K: Named> Hall<K> {
         copied(&*latest)
     }
 
-    /// Carries out a call of the author, the one that the request is, by one turn of the author's room. A
+    /// Carries out a call of the author, that of the request, by one turn of the author's room. A
     /// publication's note is the latest before the next request of the author is answered.
     pub(crate) fn answer_author<R: Wait>(
         &self,
@@ -231,11 +235,11 @@ impl<K: Named> Hall<K> {
         reply
     }
 
-    /// A share of the configuration, one of which the room and each desk has too.
+    /// A reference to the configuration. The room and each desk have one too.
     ///
     /// # Errors
     ///
-    /// No further share could be made.
+    /// There are too many references.
     pub fn configuration(&self) -> Result<Arc<Config>, AllocError>
         ensures { IfOk result (λ c. configuration c.value ≡ configuration self.now.config.value) }
     {

@@ -8,14 +8,14 @@ use http::request::Parts;
 use mds_request::Request;
 use mds_text::Moment;
 
-/// A request whose body has arrived, at its moment. Its head and its body, which is within its limit, are
-/// lent. `hear` alone makes one. It can't be copied, and the turn that answers it takes it, so that none
-/// takes two.
+/// A request whose body has arrived, at its moment. Its head and its body, which is within its
+/// limit, are borrowed. `hear` alone makes one. It can't be copied, and the turn that answers it
+/// consumes it, so that no request takes two turns.
 #[derive(Drop)]
 pub struct Heard<'a> {
     parts: &'a Parts,
     body: &'a [u8],
-    /// In milliseconds of the Unix epoch.
+    /// In milliseconds since the Unix epoch.
     at: u64,
     ghost within: { length body.now ≤ MOST_BODY },
     ghost in_range: { at ≤ last_moment },
@@ -47,7 +47,7 @@ impl<'a> Heard<'a> {
         Moment::new(self.at as i64).unwrap()
     }
 
-    /// The request, to be read.
+    /// The request in the form that calls are read from.
     pub fn request(&self) -> Request<'_>
         ensures { request_of result ≡ request_heard self.now }
     {

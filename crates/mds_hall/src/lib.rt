@@ -1,5 +1,5 @@
-//! HTTP requests at running desks: what request the parts of one are, and what each is answered, while
-//! others are.
+//! The server's state behind locks, the author's room and the desks: a head is resolved to its
+//! client and call, and an HTTP request answered.
 #![tactic(auto)]
 
 mod answering;

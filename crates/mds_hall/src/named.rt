@@ -1,11 +1,11 @@
-//! Which opening a hall is of, and which configuration it serves.
+//! Names the opening and the configuration of a hall, in the proofs.
 
 use mds_snapshot::Naming;
 use std::marker::Brand;
 
-/// Which opening a hall is of, and which configuration it serves: all that lies behind its locks is of this
-/// one. A program hands what it opens to a function that is generic over it, which it calls with `Brand`; the
-/// proof of that call picks the `Blank`'s book and the configuration.
+/// Names the opening and the configuration of a hall: all that lies behind its locks belongs to
+/// them. A program passes what it opens to a function that is generic over this, and calls it with
+/// `Brand`; the proof of that call picks the `Blank`'s book and the configuration.
 pub trait Named: Naming {
     ghost use Rattle.mds_request.specs.Configuration.{Configuration};
 

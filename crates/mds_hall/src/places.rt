@@ -1,4 +1,4 @@
-//! What lies behind the locks of a hall: of one opening and one configuration, which K names.
+//! What lies behind the locks of a hall: of one opening and one configuration, which `K` names.
 ghost use Rattle.std.specs.Prelude.{◌≡◌, ◌⊎◌, IfErr, IfOk, IfSome, IsSome, Ok, OnErr, map, option_copied};
 ghost use Rattle.std.specs.Mem.{manually_drop_value};
 ghost use Rattle.std.specs.Sync.Mutex.{mutex_guard_value};
@@ -28,21 +28,22 @@ use std::sync::atomic::{AtomicU64, Ordering};
 use std::sync::{Arc, Mutex, MutexGuard, Wait};
 use std::thread::yield_now;
 
-/// How often the lock of a desk is tried, and another thread let run, before a thread sleeps for it.
+/// How often the lock of a desk is tried, and other threads may run in between, before a thread
+/// sleeps for it.
 const TRIES: usize = 32;
 
-/// The desk of the operator at this place of the configuration that K names.
+/// The desk of the operator at this index of the configuration that `K` names.
 #[derive(Drop)]
 pub struct HallDesk<K: Named> {
     place: usize,
     desk: Desk<K>,
-    /// Where it is told how many vehicles there are, for who counts them.
+    /// The number of vehicles, shared with its reader.
     vehicles: Option<Arc<AtomicU64>>,
     ghost configured: { (state_of desk).configuration ≡ K.configuration },
     ghost placed: { (state_of desk).place ≡ place },
 }
 
-/// Tells how many vehicles a desk's operator has, where they are counted.
+/// Stores the number of vehicles of a desk's operator, where it is wanted.
 fn tell_count<K: Named>(desk: &Desk<K>, vehicles: &Option<Arc<AtomicU64>>) {
     if let Some(vehicles) = vehicles {
         vehicles.store(desk.vehicles() as u64, Ordering::SeqCst);
@@ -50,7 +51,7 @@ fn tell_count<K: Named>(desk: &Desk<K>, vehicles: &Option<Arc<AtomicU64>>) {
 }
 
 impl<K: Named> HallDesk<K> {
-    /// From now on this number tells how many vehicles there are: it is set here, and behind each turn.
+    /// From now on this number is that of the vehicles: it is set here, and after each turn.
     pub(crate) fn count_at(&mut self, vehicles: Arc<AtomicU64>)
         ensures desk { self.new.desk ≡ self.old.desk }
         ensures place { self.new.place ≡ self.old.place }
@@ -59,12 +60,12 @@ impl<K: Named> HallDesk<K> {
         tell_count(&self.desk, &self.vehicles);
     }
 
-    /// Tells what a telling has to tell of what is published: the desk learns the note, where there is one, and looks. Its
-    /// vehicles stay.
+    /// Answers a query of what is published: the desk learns the note, where there is one, and
+    /// takes a look. Its vehicles stay.
     ///
     /// # Errors
     ///
-    /// `NoSnapshot` where nothing is shown, `NoMemory` where memory ran out.
+    /// `NoSnapshot` where there is no snapshot, `NoMemory` where memory ran out.
     pub fn told<T: Telling>(&mut self, note: Option<&Note<K>>, telling: &T) -> Result<T::Told, Code>
         ensures looks { Looks (state_of self.old.desk) (option_copied note.entry) (state_of self.new.desk) }
         ensures told { IfOk result (T.tells telling.now (state_of self.new.desk).known) }
@@ -75,8 +76,8 @@ impl<K: Named> HallDesk<K> {
         told_look(&mut self.desk, note, telling)
     }
 
-    /// Answers a request: the desk learns the note, where there is one, and takes one turn, whose reply it gives.
-    /// Vehicles are judged by the evaluator.
+    /// Answers a request: the desk learns the note, where there is one, and takes one turn, whose
+    /// reply is returned. The evaluator judges vehicles.
     pub fn answered<G: Gate, E: Evaluator<Catalogue>>(
         &mut self,
         heard: Heard<'_>,
@@ -95,8 +96,9 @@ impl<K: Named> HallDesk<K> {
         reply
     }
 
-    /// Carries out a call of this desk's operator, the one that the request is: the desk learns the note, where there is
-    /// one, and takes one turn, whose reply it gives. Vehicles are judged by the evaluator.
+    /// Carries out a call of this desk's operator, that of the request: the desk learns the note,
+    /// where there is one, and takes one turn, whose reply is returned. The evaluator judges
+    /// vehicles.
     pub fn carry_out<G: Gate, E: Evaluator<Catalogue>>(
         &mut self,
         heard: Heard<'_>,
@@ -117,12 +119,14 @@ impl<K: Named> HallDesk<K> {
         reply
     }
 
-    /// Answers many requests: the desk learns the note, where there is one, and takes a turn for each, in their order.
-    /// Gives their replies in that order. Vehicles are judged by the evaluator.
+    /// Answers many requests: the desk learns the note, where there is one, and takes a turn for
+    /// each, in their order. Their replies are returned in that order. The evaluator judges
+    /// vehicles.
     ///
     /// # Errors
     ///
-    /// There was no memory for the list of replies: no request was answered, and no vehicle has changed.
+    /// There was no memory for the list of replies: no request was answered, and no vehicle has
+    /// changed.
     pub fn answered_all<G: Gate, E: Evaluator<Catalogue>>(
         &mut self,
         requests: &[Request<'_>],
@@ -151,7 +155,7 @@ pub(crate) struct DeskLock<K: Named> {
 }
 
 impl<K: Named> DeskLock<K> {
-    /// Puts the desk of the operator at this place behind a lock.
+    /// Puts the desk of the operator at this index behind a lock.
     pub(crate) fn new(place: usize, desk: Desk<K>) -> DeskLock<K>
         requires { IsDeskAt K.configuration place (state_of desk) }
         ensures { result.place ≡ place }
@@ -166,13 +170,13 @@ impl<K: Named> DeskLock<K> {
         }
     }
 
-    /// From now on this number tells how many vehicles the desk's operator has.
+    /// From now on this number is that of the vehicles of the desk's operator.
     pub(crate) fn count_at<R: Wait>(&self, rt: &R, vehicles: Arc<AtomicU64>) {
         self.locked(rt).count_at(vehicles);
     }
 
-    /// What is behind the lock. Most answers take less time than it takes to put a thread to sleep and to
-    /// wake it, so a thread sleeps only where the desk stays taken.
+    /// Takes the lock. Most answers take less time than it takes to put a thread to sleep and to
+    /// wake it, so a thread sleeps only where the desk stays locked.
     fn locked<R: Wait>(&self, rt: &R) -> MutexGuard<'_, HallDesk<K>> {
         for _ in 0..TRIES {
             if let Some(desk) = self.desk.try_lock() {
@@ -183,8 +187,8 @@ impl<K: Named> DeskLock<K> {
         self.desk.lock(rt)
     }
 
-    /// The desk of this lock's place. What is known of it behind the lock is its configuration, so its place
-    /// is compared; there is never another.
+    /// The desk of this lock's index. All that is known of the desk behind the lock is its
+    /// configuration, so the index is compared; it is never another.
     pub(crate) fn taken<R: Wait>(&self, rt: &R) -> Option<MutexGuard<'_, HallDesk<K>>>
         ensures { IfSome result (λ guard. (mutex_guard_value guard).place ≡ self.now.place) }
     {
@@ -197,7 +201,7 @@ impl<K: Named> DeskLock<K> {
     }
 }
 
-/// The author's room of the configuration that K names.
+/// The author's room of the configuration that `K` names.
 #[derive(Drop)]
 pub struct HallRoom<K: Named> {
     room: ManuallyDrop<AuthorRoom<K>>,
@@ -205,7 +209,7 @@ pub struct HallRoom<K: Named> {
 }
 
 impl<K: Named> HallRoom<K> {
-    /// The room. It has to be ended by `finish`.
+    /// Wraps a room. It has to be ended by `finish`.
     pub(crate) fn new(room: AuthorRoom<K>) -> HallRoom<K>
         requires { (room_of room).configuration ≡ K.configuration }
     {
@@ -214,8 +218,9 @@ impl<K: Named> HallRoom<K> {
         }
     }
 
-    /// Answers a request by one turn of the room. A publication gives a note, for desks to learn, and leave is asked
-    /// just before it is shown: see `mds_desk::AuthorRoom::answer_with`.
+    /// Answers a request by one turn of the room. A publication gives a note, for desks to learn,
+    /// and `leave` is asked just before the publication is visible: see
+    /// `mds_desk::AuthorRoom::answer_with`.
     pub fn answer_with<R: Wait, L: Leave>(
         &mut self,
         rt: &R,
@@ -232,7 +237,7 @@ impl<K: Named> HallRoom<K> {
         self.room.answer_with(rt, &request, leave)
     }
 
-    /// The same for a call of the author, the one that the request is.
+    /// The same for a call of the author, that of the request.
     pub fn carry_out<R: Wait, L: Leave>(
         &mut self,
         rt: &R,
@@ -251,11 +256,11 @@ impl<K: Named> HallRoom<K> {
         self.room.carry_out(rt, &request, call, leave)
     }
 
-    /// Tells what a telling has to tell of the drafts and of what is published. Nothing changes.
+    /// Answers a query of the drafts and of what is published. Nothing changes.
     ///
     /// # Errors
     ///
-    /// Memory ran out.
+    /// Out of memory.
     pub fn told<T: AuthorTelling>(&self, telling: &T) -> Result<T::Told, AllocError>
         ensures told { IfOk result (T.tells telling.now (room_of (manually_drop_value self.now.room)).drafts
             (room_of (manually_drop_value self.now.room)).publications) }

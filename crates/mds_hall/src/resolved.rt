@@ -1,4 +1,4 @@
-//! A head that is resolved: who asks, and what for.
+//! A resolved head: which client asks, and for what.
 ghost use Rattle.std.specs.Prelude.{◌≡◌, IfOk};
 ghost use Rattle.mds_request.specs.Call.{call_of};
 ghost use Rattle.mds_request.specs.Configuration.{actor_of};
@@ -24,7 +24,7 @@ use mds_verdict::Evaluator;
 use std::marker::PhantomData;
 use std::sync::Wait;
 
-/// A head that is resolved, once: who asks, and what for. `Hall::resolve` alone makes one.
+/// A head that is resolved, once: which client asks, and for what. `Hall::resolve` alone makes one.
 #[derive(Drop)]
 pub struct ResolvedCall<K: Named> {
     parts: Parts,
@@ -36,7 +36,7 @@ pub struct ResolvedCall<K: Named> {
 }
 
 impl<K: Named> ResolvedCall<K> {
-    /// A head with who asks, and what for.
+    /// A head with its client and its call, or its refusal.
     pub(crate) fn new(parts: Parts, actor: Actor, call: Result<Call, Code>) -> ResolvedCall<K>
         requires asks { actor ≡ actor_of K.configuration (token_of parts.headers) }
         requires calls { call ≡ call_in K.configuration parts }
@@ -50,7 +50,7 @@ impl<K: Named> ResolvedCall<K> {
         }
     }
 
-    /// Who asks.
+    /// The client.
     pub fn actor(&self) -> Actor
         ensures { result ≡ actor_of K.configuration (token_of self.now.parts.headers) }
     {
@@ -64,8 +64,8 @@ impl<K: Named> ResolvedCall<K> {
         &self.parts
     }
 
-    /// What the answer takes of the queue of who asks, where the body has so many bytes. A refusal takes
-    /// nothing.
+    /// What the answer takes of its client's queue, where the body has so many bytes. A refusal
+    /// takes nothing.
     pub fn cost(&self, length: usize) -> Cost
         ensures { result ≡ cost_in (call_in K.configuration self.now.parts) length }
     {
@@ -75,7 +75,7 @@ impl<K: Named> ResolvedCall<K> {
         }
     }
 
-    /// What the request of this head calls for whose body has arrived.
+    /// The call of this head's request, whose body has arrived.
     ///
     /// # Errors
     ///
@@ -87,8 +87,8 @@ impl<K: Named> ResolvedCall<K> {
         self.call
     }
 
-    /// Answers the request of this head whose body has arrived so, at this moment of the machine's clock.
-    /// What the table of calls refuses is answered without a lock.
+    /// Answers the request of this head and this body, at this moment of the machine's clock. What
+    /// the table of calls refuses is answered without a lock.
     ///
     /// # Errors
     ///

@@ -1,4 +1,4 @@
-//! The response that says an answer.
+//! The HTTP response of an answer.
 ghost use Rattle.std.specs.Prelude.{IfOk};
 ghost use Rattle.mds_hall.specs.Response.{Says};
 
@@ -11,7 +11,7 @@ use std::alloc::{AllocError, Global};
 ///
 /// # Errors
 ///
-/// Memory ran out.
+/// Out of memory.
 pub fn response(alloc: Global, answer: Answer) -> HttpResult
     ensures { IfOk result (λ response. Says response answer) }
 {

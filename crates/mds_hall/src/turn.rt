@@ -22,7 +22,7 @@ use mds_text::Moment;
 use mds_verdict::Evaluator;
 use std::alloc::{AllocError, Global};
 
-/// Tells a desk of a note, if there is one.
+/// A desk learns a note, if there is one.
 fn tell<K: Naming>(desk: &mut Desk<K>, note: Option<&Note<K>>)
     ensures { IsTold (state_of desk.old) (option_copied note.entry) (state_of desk.new) }
 {
@@ -31,12 +31,12 @@ fn tell<K: Naming>(desk: &mut Desk<K>, note: Option<&Note<K>>)
     }
 }
 
-/// Tells what a telling has to tell of what is published: the desk learns the note, where there is one, and looks. It stays
-/// the desk of the same operator, with its vehicles.
+/// Answers a query of what is published: the desk learns the note, where there is one, and takes a
+/// look. It stays the desk of the same operator, with its vehicles.
 ///
 /// # Errors
 ///
-/// `NoSnapshot` where nothing is shown, `NoMemory` where memory ran out.
+/// `NoSnapshot` where there is no snapshot, `NoMemory` where memory ran out.
 pub(crate) fn told_look<K: Naming, T: Telling>(
     desk: &mut Desk<K>,
     note: Option<&Note<K>>,
@@ -52,8 +52,8 @@ pub(crate) fn told_look<K: Naming, T: Telling>(
     told
 }
 
-/// Takes one turn of a desk, which stays the desk of the same operator: the desk learns the note, where there is
-/// one, and answers the request. Vehicles are judged by the evaluator.
+/// Takes one turn of a desk, which stays the desk of the same operator: the desk learns the note,
+/// where there is one, and answers the request. The evaluator judges vehicles.
 pub(crate) fn told_turn<K: Naming, G: Gate, E: Evaluator<Catalogue>>(
     request: &Request<'_>,
     desk: &mut Desk<K>,
@@ -69,8 +69,9 @@ pub(crate) fn told_turn<K: Naming, G: Gate, E: Evaluator<Catalogue>>(
     desk.answer(request, gate, evaluator)
 }
 
-/// Takes one turn of a desk for a call of its operator, the one that the request is: the desk learns the note, where
-/// there is one, and carries it out. It stays the desk of the same operator. Vehicles are judged by the evaluator.
+/// Takes one turn of a desk for a call of its operator, that of the request: the desk learns the
+/// note, where there is one, and carries the call out. It stays the desk of the same operator. The
+/// evaluator judges vehicles.
 pub(crate) fn told_call<K: Naming, G: Gate, E: Evaluator<Catalogue>>(
     request: &Request<'_>,
     call: &OperatorCall,
@@ -88,8 +89,8 @@ pub(crate) fn told_call<K: Naming, G: Gate, E: Evaluator<Catalogue>>(
     desk.carry_out(request, call, gate, evaluator)
 }
 
-/// Takes a turn of a desk for each request, in their order: the desk learns the note, where there is one, before. It
-/// stays the desk of the same operator. Vehicles are judged by the evaluator.
+/// Takes a turn of a desk for each request, in their order, after the desk has learnt the note,
+/// where there is one. It stays the desk of the same operator. The evaluator judges vehicles.
 ///
 /// # Errors
 ///
@@ -110,9 +111,9 @@ pub(crate) fn told_run<K: Naming, G: Gate, E: Evaluator<Catalogue>>(
     desk.run(requests, gate, evaluator)
 }
 
-/// Answers the HTTP request of this head and body at a desk: the desk learns the note, where there is one,
-/// answers the request, and the response says its reply. It waits for no lock. Vehicles are judged by the
-/// evaluator.
+/// Answers the HTTP request of this head and body at a desk: the desk learns the note, where there
+/// is one, answers the request, and the response is that of its reply. It waits for no lock. The
+/// evaluator judges vehicles.
 ///
 /// # Errors
 ///

@@ -20,7 +20,7 @@ use Rattle.mds_import.specs.declared.drafting.Why.TheVariants.{BadField, Decimal
 use Rattle.mds_import.specs.declared.drafting.Prepared.{Prepared}
 use Rattle.mds_import.specs.declared.drafting.Prepared.TheVariants as code
 
--- what stands behind `data`, or the file itself
+-- the value of the member `data`, or the file itself
 abbrev pub or_else : Option Json → Json → Json
 or_else None file = file
 or_else (Some inner) file = inner
@@ -28,17 +28,18 @@ or_else (Some inner) file = inner
 abbrev pub inner : Json → Json
 inner file = or_else (named (codes "data") file) file
 
--- the lists of an object, where it has one of them
+-- whether an object has one of the two lists
 abbrev pub has_lists : Json → Bool
 has_lists value = is_some (list_named (codes "geographies") value) || is_some (list_named (codes "policies") value)
 
--- the entries of a list, or those of an object's two lists, or the one document that the value is: at first geographies
+-- the entries of a list, or those of an object's two lists, or the one document that the value is; geographies first
 abbrev pub listed : Option (List Json) → Json → List Json × List Json
 listed (Some documents) value = (documents, [])
 listed None value =
     if has_lists value then (or_none (list_named (codes "geographies") value), or_none (list_named (codes "policies") value)) else (value ∷ [], [])
 
--- the features of GeoJSON (RFC 7946, section 3): those of a FeatureCollection, or the one that the value is; none for any other
+-- the features of GeoJSON (RFC 7946, section 3): those of a FeatureCollection, or the one Feature that the value is;
+-- none for any other
 abbrev pub is_text : List ℕ → Option (List ℕ) → Bool
 is_text name None = false
 is_text name (Some written) = bytes_eq written name
@@ -51,7 +52,7 @@ features value =
     if is_of_type (codes "FeatureCollection") value then Some (or_none (list_named (codes "features") value))
     else (if is_of_type (codes "Feature") value then Some (value ∷ []) else None)
 
--- what is read of a file: features of GeoJSON, or documents of MDS, at first geographies
+-- what is read of a file: features of GeoJSON, or documents of MDS, geographies first
 pub record Read : Type 0 where
   pub features : List Json
   pub first : List Json
@@ -69,7 +70,7 @@ abbrev pub first_of : Option (List ℕ) → Option (List ℕ) → Option (List �
 first_of None later = later
 first_of (Some name) later = Some name
 
--- the name of the innermost member in which the first number stands that isn't plain, as it was read from a file that has any
+-- the name of the innermost member with the first number that isn't plain, in a value of a file that has such numbers
 abbrev mutual
   pub decimal_at : List ℕ → Json → Option (List ℕ)
   decimal_at name null = None
@@ -88,17 +89,17 @@ abbrev mutual
   decimal_among no_members = None
   decimal_among (member name t ms) = first_of (decimal_at name t) (decimal_among ms)
 
--- a document as it is sent, or why it isn't: the member with the fault
+-- a document as it is sent, or the member at fault and why it isn't sent
 pub data Outcome : Type 0 where
   drafted : (origin : Origin) → (kind : DraftKind) → (id : List ℕ) → (predecessors : List (List ℕ)) → (body : List ℕ) → Outcome
   refused : (member : List ℕ) → (why : Why) → Outcome
 
--- a geography goes as it stands
+-- a geography is sent as it stands
 abbrev pub geography_with : Origin → Option (List ℕ) → Json → Outcome
 geography_with origin None value = refused (codes "geography_id") BadField
 geography_with origin (Some id) value = drafted origin Geography id [] (printed value)
 
--- the kinds of rules that are judged; of any other nothing is known to the server but that it stands there
+-- the types of rules that are evaluated; of any other rule the server knows no more than that it is there
 abbrev pub is_judged : Json → Bool
 is_judged rule = is_text (codes "count") (text_named (codes "rule_type") rule) || is_text (codes "time") (text_named (codes "rule_type") rule)
 
@@ -107,7 +108,7 @@ abbrev pub is_fractional : Option (List ℕ) → Bool
 is_fractional None = false
 is_fractional (Some written) = is_quoted written
 
--- the first bound of a rule that is judged with such a number
+-- the first bound of an evaluated rule that was written as such a number
 abbrev pub fraction_in : Json → Option (List ℕ)
 fraction_in rule =
     if not (is_judged rule) then None
@@ -121,11 +122,12 @@ fraction_among (rule ∷ rules) = first_of (fraction_in rule) (fraction_among ru
 abbrev pub rules_of : Json → List Json
 rules_of policy = or_none (list_named (codes "rules") policy)
 
--- the first bound of a policy's rules that can't be sent; what else isn't a plain number goes as the text of its characters
+-- the first bound of a policy's rules that can't be sent; any other number that isn't plain goes as the text of its
+-- characters
 abbrev pub fraction_of : Json → Option (List ℕ)
 fraction_of policy = fraction_among (rules_of policy)
 
--- the rules that aren't judged, each by its identifier as it stands, or the empty text
+-- the rules that aren't evaluated, each by its identifier as it stands, or by the empty text
 abbrev pub or_empty : Option (List ℕ) → List ℕ
 or_empty None = []
 or_empty (Some name) = name
@@ -136,13 +138,13 @@ unjudged_id rule = if is_judged rule then None else Some (or_empty (text_named (
 abbrev pub unjudged : Json → List (List ℕ)
 unjudged policy = filter_map unjudged_id (rules_of policy)
 
--- a policy goes as it stands, but for a bound that isn't a plain number
+-- a policy is sent as it stands, but for a bound that isn't a plain number
 abbrev pub policy_with : Origin → Option (List ℕ) → Option (List ℕ) → Json → Outcome
 policy_with origin None name value = refused (codes "policy_id") BadField
 policy_with origin (Some id) (Some name) value = refused name Decimal
 policy_with origin (Some id) None value = drafted origin Policy id (filter_map as_id (or_none (list_named (codes "prev_policies") value))) (printed value)
 
--- what a document of a file becomes that has numbers that aren't plain, or none
+-- what a document becomes, of a file with numbers that aren't plain, or without
 abbrev pub prepared : Origin → Bool → Json → Outcome
 prepared origin decimals value =
     if is_some (named (codes "geography_id") value) then geography_with origin (id_named (codes "geography_id") value) value
@@ -152,11 +154,11 @@ prepared origin decimals value =
 abbrev pub namespace : List ℕ
 namespace = 107 ∷ 167 ∷ 184 ∷ 17 ∷ 157 ∷ 173 ∷ 17 ∷ 209 ∷ 128 ∷ 180 ∷ 0 ∷ 192 ∷ 79 ∷ 212 ∷ 48 ∷ 200 ∷ []
 
--- the identifier that a name alone gives (RFC 9562, section 5.5)
+-- the identifier derived from a name alone (RFC 9562, section 5.5)
 unfoldable pub id_of_name : List ℕ → List ℕ
 id_of_name name = with_version (with_variant (take 16 (sha1 (namespace ++ name))) RFC4122) Sha1
 
--- the identifier of a feature: its property `geography_id`, or its own `id`, or the one that its name gives
+-- the identifier of a feature: its property `geography_id`, or its own `id`, or the one derived from its name
 
 abbrev pub id_or : Option (List ℕ) → List ℕ → List ℕ
 id_or None other = other
@@ -195,6 +197,6 @@ abbrev pub folder_of : DraftKind → List ℕ
 folder_of Policy = codes "/drafts/policies/"
 folder_of Geography = codes "/drafts/geographies/"
 
--- the path under which a draft is kept
+-- the target of the request that stores a draft
 abbrev pub target_of : DraftKind → List ℕ → List ℕ
 target_of kind id = folder_of kind ++ hyphenated_text lower id

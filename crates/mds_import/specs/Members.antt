@@ -1,4 +1,4 @@
--- The members of a document that comes from elsewhere.
+-- Members of an imported document.
 use Rattle.std.specs.Prelude.{ℕ, List, [], Option, Some, None, option_and_then}
 use Rattle.uuid.specs.Text.{parsed}
 use Rattle.mds_text.specs.Fields.{find_member, present}

@@ -1,4 +1,4 @@
--- In which order drafts are sent.
+-- The order in which drafts are sent.
 use Rattle.std.specs.Prelude.{◌≡◌, ℕ, List, [], ◌∷◌, Bool, true, false, not, bytes_eq, position, slice_get, Option, Some, None}
 use Rattle.std.specs.List.{list_any, remove}
 use Rattle.mds_text.specs.declared.draft_kind.DraftKind.{DraftKind}
@@ -22,11 +22,12 @@ abbrev pub or_first : Option ℕ → ℕ
 or_first None = 0
 or_first (Some place) = place
 
--- the place of the next of those that are left: the first that waits for none of them, or the first of all where each waits
+-- the index of the next of those that are left: the first that waits for none of them, or the first of all where each
+-- waits
 abbrev pub next_place : List Draft → ℕ
 next_place left = or_first (position (λ draft. not (waits left draft)) left)
 
--- the second list has those of the first, each in its turn the next of those that are left
+-- the second list has the drafts of the first, each of them the next of those that are left
 abbrev pub IsInTurn : List Draft → List Draft → Type 0
 IsInTurn left [] = left ≡ []
 IsInTurn left (draft ∷ later) = (slice_get left (next_place left) ≡ Some draft) × IsInTurn (remove left (next_place left)) later

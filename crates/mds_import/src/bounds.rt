@@ -1,4 +1,4 @@
-//! The rules of a policy that comes from elsewhere: which are judged, and whether their bounds are whole.
+//! The rules of an imported policy: which are evaluated, and whether their bounds are plain numbers.
 ghost use Rattle.std.specs.Prelude.{◌≡◌, IfOk, map, option_map};
 ghost use Rattle.std.specs.List.{filter_map};
 ghost use Rattle.mds_text.specs.View.{view};
@@ -9,7 +9,7 @@ use crate::member::{list_named, text_named};
 use mds_text::{Tree, is_quoted};
 use std::alloc::{AllocError, Global};
 
-/// Whether a rule is of a kind that is judged.
+/// Whether a rule is of a type that is evaluated.
 fn is_judged(rule: &Tree) -> bool
     ensures { result ≡ is_judged (view rule.now) }
 {
@@ -19,7 +19,7 @@ fn is_judged(rule: &Tree) -> bool
     }
 }
 
-/// Whether a bound was written as a number that isn't plain.
+/// Whether a bound was written as a number that isn't plain, as 7.5 or 1e3.
 fn is_fractional(bound: Option<&str>) -> bool
     ensures { result ≡ is_fractional (option_map (λ written. written.now) bound.entry) }
 {
@@ -29,7 +29,7 @@ fn is_fractional(bound: Option<&str>) -> bool
     }
 }
 
-/// The first bound of a rule that is judged with such a number.
+/// The first bound of an evaluated rule that was written as such a number.
 fn fraction_in(rule: &Tree) -> Option<&'static str>
     ensures { option_map (λ name. name.now) result ≡ fraction_in (view rule.now) }
 {
@@ -55,21 +55,22 @@ fn fraction_among(rules: &[Tree]) -> Option<&'static str>
     None
 }
 
-/// The rules of a policy, none where they aren't a list.
+/// The rules of a policy; none where they aren't a list.
 fn rules_of(policy: &Tree) -> &[Tree]
     ensures { map view result.now ≡ rules_of (view policy.now) }
 {
     or_none(list_named(policy, "rules"))
 }
 
-/// The first bound of a policy's rules that are judged with a number that isn't plain.
+/// The first bound, among a policy's evaluated rules, that was written as a number that isn't plain.
 pub(crate) fn fraction_of(policy: &Tree) -> Option<&'static str>
     ensures { option_map (λ name. name.now) result ≡ fraction_of (view policy.now) }
 {
     fraction_among(rules_of(policy))
 }
 
-/// The identifier of a rule that isn't judged, as it stands, or the empty text where it has none; `None` for one that is.
+/// The identifier of a rule that isn't evaluated, as it stands, or the empty text where it has none; `None` for one
+/// that is.
 fn unjudged_id(rule: &Tree) -> Option<&str>
     ensures { option_map (λ id. id.now) result ≡ unjudged_id (view rule.now) }
 {
@@ -82,8 +83,8 @@ fn unjudged_id(rule: &Tree) -> Option<&str>
     }
 }
 
-/// The rules of a policy that are kept and not judged, in their order, each by its identifier as it stands, or by the empty
-/// text where it has none.
+/// The rules of a policy that the server stores and doesn't evaluate, in their order: each by its identifier as it
+/// stands, or by the empty text where it has none.
 pub fn unjudged(alloc: Global, policy: &Tree) -> Result<Vec<&str>, AllocError>
     ensures { IfOk result (λ ids. map (λ id. id.now) ids.items ≡ unjudged (view policy.now)) }
 {

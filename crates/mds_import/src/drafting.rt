@@ -1,4 +1,4 @@
-//! The documents of a file, and what they become.
+//! The documents of a file, and the drafts or refusals that they become.
 ghost use Rattle.std.specs.Prelude.{◌≡◌, IfOk, map, option_map, if◌then◌else◌, None, codes, string_bytes};
 ghost use Rattle.std.specs.List.{filter_map};
 ghost use Rattle.mds_text.specs.Tree.{items_of, members_of};
@@ -15,9 +15,9 @@ use std::slice::from_ref;
 /// Where a document comes from.
 #[derive(Clone, Copy, Debug, PartialEq, Eq)]
 pub struct Origin {
-    /// The place of its file among the files.
+    /// The index of its file among the files.
     pub file: usize,
-    /// Its place among the documents of its file.
+    /// Its index among the documents of its file.
     pub document: usize,
 }
 
@@ -36,13 +36,13 @@ pub struct Draft {
 /// Why a document isn't sent.
 #[derive(Clone, Copy, Debug, PartialEq, Eq)]
 pub enum Why {
-    /// The member is missing, or of another kind than it has to be.
+    /// The member is missing, or isn't of the kind that it has to be.
     BadField,
     /// The member has a number that a policy may not have.
     Decimal,
 }
 
-/// A document that isn't sent.
+/// A document that isn't sent, and why.
 #[derive(Clone, Copy)]
 pub struct Refused<'t> {
     /// The innermost member with the fault.
@@ -50,14 +50,14 @@ pub struct Refused<'t> {
     pub why: Why,
 }
 
-/// What a document becomes.
+/// What a document becomes: a draft, or a refusal.
 #[derive(Drop)]
 pub enum Prepared<'t> {
     Draft(Draft),
     Refused(Refused<'t>),
 }
 
-/// What stands behind `data`, or the file itself.
+/// The value of a file's member `data`, or the file itself.
 fn inner(file: &Tree) -> &Tree
     ensures { view result.now ≡ inner (view file.now) }
 {
@@ -67,18 +67,18 @@ fn inner(file: &Tree) -> &Tree
     }
 }
 
-/// The lists of a file.
+/// The lists of documents in a file.
 #[derive(Clone, Copy)]
 pub struct Lists<'t> {
-    /// Features of GeoJSON: then there is nothing else.
+    /// Features of GeoJSON. Where a file has these, the other lists are empty.
     pub features: &'t [Tree],
-    /// Geographies, or whatever a list without a name has.
+    /// Geographies; or the entries of a list without a name, or the one document that the file is.
     pub first: &'t [Tree],
     /// Policies.
     pub second: &'t [Tree],
 }
 
-/// The entries of a list, none where there is none.
+/// The entries of a list; none where there is no list.
 pub(crate) fn or_none<'t>(entries: Option<&'t [Tree]>) -> &'t [Tree]
     ensures { map view result.now ≡ or_none (option_map (λ ts. map view ts.now) entries.entry) }
 {
@@ -98,7 +98,7 @@ fn is_of_type(value: &Tree, name: &str) -> bool
     }
 }
 
-/// The features of a value: those of a FeatureCollection, or the one that it is; `None` for any other value.
+/// The features of a value: those of a FeatureCollection, or the one Feature that it is; `None` for any other value.
 fn features(value: &Tree) -> Option<&[Tree]>
     ensures { option_map (λ ts. map view ts.now) result ≡ features (view value.now) }
 {
@@ -111,7 +111,7 @@ fn features(value: &Tree) -> Option<&[Tree]>
     }
 }
 
-/// The documents of a value that is no GeoJSON: at first geographies.
+/// The documents of a value that isn't GeoJSON, geographies first.
 fn listed(value: &Tree) -> Lists<'_>
     ensures { read_view result ≡ read_with None (listed (as_list (view value.now)) (view value.now)) }
 {
@@ -139,9 +139,8 @@ fn listed(value: &Tree) -> Lists<'_>
     }
 }
 
-/// What is read of a file: the features of GeoJSON, which may stand behind `data`, or else its documents: those of the lists
-/// `geographies` and `policies` of an object, or of what stands behind `data`; or the entries of a list; or the one document
-/// that the file is.
+/// What is read of a file, or of its member `data` where it has one: the features of GeoJSON; or else the documents of
+/// an object's lists `geographies` and `policies`; or the entries of a list; or the one document that the value is.
 pub fn documents(file: &Tree) -> Lists<'_>
     ensures { read_view result ≡ documents (view file.now) }
 {
@@ -156,8 +155,9 @@ pub fn documents(file: &Tree) -> Lists<'_>
     }
 }
 
-/// The name of the innermost member in which the first number stands that isn't plain, and that goes as a text; none, where a
-/// value has no such number. It was read from a text that has some, so that a text that reads as one is taken for one.
+/// The name of the innermost member with the first number that isn't plain, and that goes as a text; `None` where a
+/// value has no such number. The value was read from a file with such numbers, so a text that reads as one is taken for
+/// one.
 #[cycle(decimal_at)]
 pub fn decimal_at<'t>(name: &'t str, value: &'t Tree) -> Option<&'t str>
     ensures { option_map (λ n. n.now) result ≡ decimal_at name.now (view value.now) }
@@ -194,7 +194,7 @@ fn decimal_among<'t>(members: &'t [Member]) -> Option<&'t str>
     None
 }
 
-/// The identifiers among values, in their order.
+/// The identifiers among the values, in their order.
 fn ids_in(alloc: Global, values: &[Tree]) -> Result<Vec<Id>, AllocError>
     ensures { IfOk result (λ v. v.items ≡ filter_map as_id (map view values.now)) }
 {
@@ -207,7 +207,7 @@ fn ids_in(alloc: Global, values: &[Tree]) -> Result<Vec<Id>, AllocError>
     Ok(ids)
 }
 
-/// A geography as it is sent.
+/// The draft of a geography, or the refusal of a document without an identifier.
 fn geography<'t>(alloc: Global, origin: Origin, value: &'t Tree) -> Result<Prepared<'t>, AllocError>
     ensures { IfOk result (λ p. outcome p ≡ geography_with origin (id_named (codes "geography_id") (view value.now)) (view value.now)) }
 {
@@ -223,14 +223,14 @@ fn geography<'t>(alloc: Global, origin: Origin, value: &'t Tree) -> Result<Prepa
     }))
 }
 
-/// A document that isn't sent.
+/// The refusal of a document for this member.
 pub(crate) fn not_sent(member: &str, why: Why) -> Prepared<'_>
     ensures { outcome result ≡ Outcome.refused member.now why }
 {
     Prepared::Refused(Refused { member, why })
 }
 
-/// A policy as it is sent, from a file that has numbers that aren't plain, or none.
+/// The draft of a policy, or its refusal. `decimals` says whether its file has numbers that aren't plain.
 fn policy<'t>(
     alloc: Global,
     origin: Origin,
@@ -256,9 +256,9 @@ fn policy<'t>(
     }))
 }
 
-/// What a document of a file becomes that has numbers that aren't plain (`mds_reading::read_counted` counts them), or none:
-/// a draft with the document's text, or the member for which it is refused. Such a number goes as the text of its characters,
-/// but for a bound of a rule that is judged, for which a policy is refused.
+/// What a document becomes: a draft with the document's text, or a refusal with the member at fault. `decimals` says
+/// whether its file has numbers that aren't plain (`mds_reading::read_counted` counts them). Such a number goes as the
+/// text of its characters, but for a bound of an evaluated rule, for which a policy is refused.
 pub fn prepare<'t>(
     alloc: Global,
     origin: Origin,
@@ -274,7 +274,7 @@ pub fn prepare<'t>(
     }
 }
 
-/// The path under which a draft is kept.
+/// The target of the request that stores a draft.
 pub fn target_of(alloc: Global, draft: &Draft) -> Result<String, AllocError>
     ensures { IfOk result (λ target. string_bytes target ≡ target_of draft.now.kind draft.now.id) }
 {

@@ -1,4 +1,4 @@
-//! Features of GeoJSON as geographies.
+//! Features of GeoJSON as drafts of geographies.
 ghost use Rattle.std.specs.Prelude.{◌≡◌, IfOk, Some, codes, option_map, option_and_then};
 ghost use Rattle.mds_text.specs.View.{view};
 ghost use Rattle.mds_import.specs.Members.{id_named, text_named, named};
@@ -19,7 +19,7 @@ fn namespace() -> Uuid
     ])
 }
 
-/// The identifier that a name alone gives: the same name has the same one whenever it is imported.
+/// The identifier derived from a name alone: a name gives the same one whenever it is imported.
 pub fn id_of_name(name: &str) -> Option<Id>
     ensures { result ≡ Some (id_of_name name.now) }
 {
@@ -28,7 +28,7 @@ pub fn id_of_name(name: &str) -> Option<Id>
     Id::read(id.hyphenated().encode_lower(&mut buffer))
 }
 
-/// The identifier that a feature's properties have.
+/// The identifier among a feature's properties.
 fn property_id(properties: Option<&Tree>) -> Option<Id>
     ensures { result ≡ option_and_then (id_named (codes "geography_id")) (option_map (λ t. view t.now) properties.entry) }
 {
@@ -38,7 +38,7 @@ fn property_id(properties: Option<&Tree>) -> Option<Id>
     }
 }
 
-/// The name that a feature's properties have.
+/// The name among a feature's properties.
 fn property_name<'t>(properties: Option<&'t Tree>) -> Option<&'t str>
     ensures { option_map (λ name. name.now) result ≡ option_and_then (text_named (codes "name")) (option_map (λ t. view t.now) properties.entry) }
 {
@@ -48,7 +48,7 @@ fn property_name<'t>(properties: Option<&'t Tree>) -> Option<&'t str>
     }
 }
 
-/// The identifier of a feature of this name.
+/// The identifier of a feature: its own, or the one derived from this name.
 fn feature_id(feature: &Tree, name: &str) -> Option<Id>
     ensures { result ≡ Some (feature_id (view feature.now) name.now) }
 {
@@ -80,8 +80,8 @@ fn geography_text(alloc: Global, id: Id, shape: &Tree, name: &str) -> Result<Vec
 }
 
 /// What a feature of GeoJSON (RFC 7946, section 3.2) becomes: the draft of a geography with its property `name` and its
-/// shape, or the member for which it is refused. Its identifier is the property `geography_id` or the feature's own `id`,
-/// where one of these is a UUID, or else the one that its name alone gives (RFC 9562, section 5.5).
+/// shape, or a refusal with the member at fault. Its identifier is the property `geography_id` or the feature's own
+/// `id`, where one of these is a UUID, or else the one derived from its name alone (RFC 9562, section 5.5).
 pub fn prepare_feature<'t>(
     alloc: Global,
     origin: Origin,

@@ -1,4 +1,4 @@
-//! What comes from elsewhere: files of MDS 2.0 as drafts, in the order in which they are sent, and vehicles as reports.
+//! Documents of a file, or features of GeoJSON, as drafts in the order in which they are sent, or as refusals.
 #![tactic(auto)]
 
 mod bounds;

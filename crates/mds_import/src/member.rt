@@ -1,4 +1,4 @@
-//! The members of a document that comes from elsewhere.
+//! Members of an imported document.
 ghost use Rattle.std.specs.Prelude.{◌≡◌, map, option_map};
 ghost use Rattle.mds_text.specs.Fields.{find_member};
 ghost use Rattle.mds_text.specs.Tree.{members_of};
@@ -32,7 +32,7 @@ pub fn named<'t>(value: &'t Tree, name: &str) -> Option<&'t Tree>
     }
 }
 
-/// The text that a value is.
+/// The value as a text; `None` where it is none.
 pub(crate) fn as_text(value: &Tree) -> Option<&str>
     ensures { option_map (λ s. s.now) result ≡ as_text (view value.now) }
 {
@@ -42,7 +42,7 @@ pub(crate) fn as_text(value: &Tree) -> Option<&str>
     }
 }
 
-/// The identifier that a value is (RFC 9562, section 4).
+/// The value as an identifier (RFC 9562, section 4); `None` where it is none.
 pub(crate) fn as_id(value: &Tree) -> Option<Id>
     ensures { result ≡ as_id (view value.now) }
 {
@@ -52,7 +52,7 @@ pub(crate) fn as_id(value: &Tree) -> Option<Id>
     }
 }
 
-/// The entries of a list.
+/// The entries of a value that is a list.
 pub(crate) fn as_list(value: &Tree) -> Option<&[Tree]>
     ensures { option_map (λ ts. map view ts.now) result ≡ as_list (view value.now) }
 {

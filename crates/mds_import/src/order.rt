@@ -1,4 +1,4 @@
-//! In which order drafts are sent.
+//! The order in which drafts are sent.
 ghost use Rattle.std.specs.Prelude.{◌≡◌, ◌<◌, not, length, IfOk, IfSome, bytes_eq, position, slice_get, Some};
 ghost use Rattle.std.specs.List.{list_any, remove};
 ghost use Rattle.mds_import.specs.Order.{waits_by, waits_for, waits, next_place, IsInTurn};
@@ -14,7 +14,7 @@ fn is_among(id: Id, ids: &[Id]) -> bool
     ids.iter().any(|other| id == *other)
 }
 
-/// Whether a draft goes behind another: a policy behind each geography, and behind the policies that it supersedes.
+/// Whether a draft waits for another: a policy waits for each geography, and for the policies that it supersedes.
 fn waits_for(draft: &Draft, other: &Draft) -> bool
     ensures { result ≡ waits_for draft.now other.now }
 {
@@ -25,14 +25,14 @@ fn waits_for(draft: &Draft, other: &Draft) -> bool
     }
 }
 
-/// Whether a draft goes behind one of these.
+/// Whether a draft waits for one of these.
 fn waits(left: &[Draft], draft: &Draft) -> bool
     ensures { result ≡ waits left.now draft.now }
 {
     left.iter().any(|other| waits_for(draft, other))
 }
 
-/// The place of the first draft that waits for none of these.
+/// The index of the first draft that waits for none of these.
 fn first_ready(left: &[Draft]) -> Option<usize>
     ensures value { result ≡ position (λ draft. not (waits left.now draft)) left.now }
     ensures within { IfSome result (λ place. place < length left.now) }
@@ -40,7 +40,7 @@ fn first_ready(left: &[Draft]) -> Option<usize>
     left.iter().position(|draft| !waits(left, draft))
 }
 
-/// The place of the first draft that waits for none of these, or of the first where each waits.
+/// The index of the first draft that waits for none of these, or 0 where each waits.
 fn next_place(left: &[Draft]) -> usize
     requires { 0 < length left.now }
     ensures value { result ≡ next_place left.now }
@@ -52,7 +52,7 @@ fn next_place(left: &[Draft]) -> usize
     }
 }
 
-/// Takes out the next of these drafts.
+/// Removes the next draft to be sent.
 fn take_next(left: &mut Vec<Draft>) -> Draft
     requires { 0 < length left.old.items }
     ensures taken { slice_get left.old.items (next_place left.old.items) ≡ Some result }
@@ -62,7 +62,7 @@ fn take_next(left: &mut Vec<Draft>) -> Draft
     left.remove(place)
 }
 
-/// The drafts in the order in which they are sent: geographies at first, and each policy behind those that it supersedes,
+/// The drafts in the order in which they are sent: geographies first, and each policy behind those that it supersedes,
 /// unless they supersede one another.
 pub fn ordered(alloc: Global, drafts: Vec<Draft>) -> Result<Vec<Draft>, AllocError>
     ensures { IfOk result (λ v. IsInTurn drafts.items v.items) }

@@ -1,4 +1,4 @@
-//! A file's documents, as they are sent.
+//! Tests of a file's documents as they are sent.
 use crate::{Draft, Origin, Prepared, Why, documents, ordered, prepare, target_of};
 use mds_reading::read_counted;
 use mds_text::Tree;
@@ -11,7 +11,7 @@ const FILE: &[u8] =
 ["5D8E1F70-62C4-4E9B-B0A6-2F1C9E3D2202"]},{"policy_id":"5d8e1f70-62c4-4e9b-b0a6-2f1c9e3d2202"}],"geographies":
 [{"geography_id":"3b0f6c9e-1d7a-4d2b-8f35-7a9d0a4c1101","name":"Downtown"}]}}"#;
 
-/// Adds the drafts of a list.
+/// Appends the drafts of a list.
 fn gather(alloc: Global, drafts: &mut Vec<Draft>, list: &[Tree]) -> Result<(), Fail> {
     let origin = Origin {
         file: 0,

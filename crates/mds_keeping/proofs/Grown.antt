@@ -1,4 +1,4 @@
--- What thinning keeps, with one report more.
+-- What compaction keeps, with one report more.
 use Rattle.std.proofs.Common.{◌≡◌, ℕ, zero, suc, ◌<◌, ◌≤◌, Bool, true, false, cond, List, [], ◌∷◌, ◌++◌, length, map, take, get_or, Some, None, refl, sym, ap, subst, ◌∙◌, arith}
 use Rattle.std.specs.Prelude.{◌==◌, bytes_eq, reverse, slice_get, option_map}
 use Rattle.std.proofs.lemmas.List.{reverse-append, length-take-le, get_or-take}
@@ -44,7 +44,7 @@ at_end : (xs : List Report) (x : Report) → slice_get (xs ++ x ∷ []) (length 
 at_end [] x = refl
 at_end (y ∷ xs) x = at_end xs x
 
--- the report goes on with the run
+-- the report continues the run
 pub goes_on : (xs : List Report) (x : Report) (begun last : ℕ) → (t : ThinsTo xs begun last) → bytes_eq t.last_kept.state x.state ≡ true
     → reverse (xs ++ x ∷ []) ≡ x ∷ reverse xs → ThinsTo (xs ++ x ∷ []) begun (length xs)
 goes_on xs x begun last t same turned = record {
@@ -69,7 +69,7 @@ begins xs x begun last t other turned = record {
 the_same : (x y : Report) → Some x ≡ Some y → x ≡ y
 the_same x y e = cc
 
--- one report more, which goes on with the run or begins one
+-- one report more, which continues the run or begins one
 pub step : (xs : List Report) (x y : Report) (begun after place last : ℕ) (same : Bool) → ThinsTo xs begun last → length xs ≡ place
     → slice_get xs last ≡ Some y → same ≡ bytes_eq y.state x.state → after ≡ cond same begun place → ThinsTo (xs ++ x ∷ []) after place
 step xs x y begun after place last true t long is by chosen =
@@ -87,7 +87,7 @@ pub alone : {R : Type 0} (document : R → Report) (reports : List R) → (lengt
 alone document [] none = absurd cc
 alone document (r ∷ rs) none = record { first_kept = document r; last_kept = document r; at_begun = refl; at_last = refl; kept = refl }
 
--- the report at a place, among those before another
+-- the report at an index, among those before another
 pub seen_at : {R : Type 0} (document : R → Report) (reports : List R) (place last : ℕ) (r : R) → last < place → place ≤ length reports → r ≡ get_or reports last r
     → slice_get (map document (take place reports)) last ≡ Some (document r)
 seen_at document reports place last r early within is =

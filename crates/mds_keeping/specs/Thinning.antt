@@ -1,9 +1,9 @@
--- What thinning keeps of a list of reports, by places.
+-- What compaction keeps of a list of reports, by index.
 use Rattle.std.specs.Prelude.{◌≡◌, ℕ, List, [], ◌∷◌, reverse, Some, slice_get}
 use Rattle.mds_fleet.specs.Books.{Report}
 use Rattle.mds_restarts.specs.Kept.{thinned}
 
--- Of these reports, the first one first, thinning keeps those at these places. (`thinned` has the last one first.)
+-- Of these reports, earliest first, compaction keeps those at these indices. (`thinned` has the latest first.)
 pub record ThinsTo (reports : List Report) (begun last : ℕ) : Type 0 where
   pub first_kept : Report
   pub last_kept : Report

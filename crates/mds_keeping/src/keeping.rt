@@ -1,4 +1,4 @@
-//! Which requests a journal keeps.
+//! Which requests need a record in the journal.
 ghost use Rattle.std.specs.Prelude.{◌≡◌, ◌==◌, ◌&&◌};
 ghost use Rattle.mds_request.specs.Configuration.{configuration};
 ghost use Rattle.mds_request.specs.Reply.{Reply};
@@ -10,8 +10,8 @@ use mds_request::{AuthorCall, Call, Code, Config, OperatorCall, Request, Routes,
 /// The status of a success.
 const SUCCESS: u16 = 200;
 
-/// Whether a call may change something: the author's drafts and publications, an operator's reports and removals. A
-/// journal needs room for such a call before it is carried out.
+/// Whether a call may change something: the author's drafts and publications, an operator's reports and removals. Such
+/// a call needs a reservation in the journal before it is carried out.
 pub fn may_change(call: &Result<Call, Code>) -> bool
     ensures { result ≡ may_change call.now }
 {
@@ -25,14 +25,14 @@ pub fn may_change(call: &Result<Call, Code>) -> bool
     }
 }
 
-/// Whether a journal keeps a call that was answered with this status: a success that may have changed something.
+/// Whether a call that was answered with this status is persisted: a success that may have changed something.
 pub fn keeps(call: &Result<Call, Code>, status: u16) -> bool
     ensures { result ≡ (may_change call.now && (status == 200)) }
 {
     may_change(call) && status == SUCCESS
 }
 
-/// Whether a journal keeps a request that was answered with this status.
+/// Whether a request that was answered with this status is persisted.
 pub fn is_kept(routes: &Routes, config: &Config, request: &Request<'_>, status: u16) -> bool
     ensures { (reply : Reply) → reply.status ≡ status
         → result ≡ is_kept (configuration config.now) (record { request = request_of request.now; reply = reply }) }

@@ -1,4 +1,4 @@
-//! What a journal keeps, and what may be thinned out of it.
+//! Which requests need a record in the journal, and which records compaction may drop.
 #![tactic(auto)]
 
 mod keeping;

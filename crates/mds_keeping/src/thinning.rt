@@ -1,11 +1,11 @@
-//! Which reports of a device are enough for its row.
+//! Which reports of a device compaction keeps: those that are enough for its row.
 ghost use Rattle.std.specs.Prelude.{◌≡◌, [], map, MatchOption, bytes_eq};
 ghost use Rattle.mds_fleet.specs.Books.{report_document};
 ghost use Rattle.mds_keeping.specs.Thinning.{ThinsTo};
 
 use mds_fleet::Report;
 
-/// The reports of a device that a thinned journal keeps, by their places: one where the last one began its run.
+/// The reports of a device that compaction keeps, by index: a single one where the last report began its run.
 #[derive(Clone, Copy, Debug, PartialEq, Eq)]
 pub struct Kept {
     /// The report that began the run of the last one's state.
@@ -14,16 +14,16 @@ pub struct Kept {
     pub last: usize,
 }
 
-/// Whether two reports tell the same state.
+/// Whether two reports have the same state.
 fn is_same_state(report: &Report, other: &Report) -> bool
     ensures { result ≡ bytes_eq (report_document report.now).state (report_document other.now).state }
 {
     report.state() == other.state()
 }
 
-/// Which of a device's accepted reports a thinned journal keeps, where they stand in the order in which they were
-/// accepted, since the device was last removed: the last one, and the one that began the run of its state. They come to
-/// the row that all of them come to (`mds_restarts::laws::thinned_is_the_same`). `None` where there is no report.
+/// Which of a device's accepted reports compaction keeps, given in the order in which they were accepted, since the
+/// device was last removed: the last one, and the one that began the run of its state. They lead to the same row as all
+/// of them (`mds_restarts::laws::thinned_is_the_same`). `None` where there is no report.
 pub fn thinned(reports: &[Report]) -> Option<Kept>
     ensures { MatchOption result (reports.now ≡ []) (λ kept. ThinsTo (map report_document reports.now) kept.begun kept.last) }
 {

@@ -1,4 +1,4 @@
-//! Serving over a journal in memory, whose calls fail from the Nth on.
+//! Group commit over a journal in memory whose calls fail from the Nth on.
 ghost use Rattle.std.specs.Prelude.{◌≡◌, ℕ, List};
 
 use futures::executor::block_on;
@@ -15,13 +15,13 @@ use std::sync::{Arc, Wait};
 use std::test::Fail;
 use std::thread::{Threads, join};
 
-/// How many ask.
+/// How many clients there are.
 const ASKERS: usize = 6;
 
-/// Who asks, where one alone does.
+/// The client, where there is one alone.
 const AUTHOR: usize = 1;
 
-/// Why there is no place for a text of an asker. A place is given back.
+/// Why no reservation is made for a payload of a client. One that is made is released.
 fn refused<K: Naming, L: Log, R: Wait>(
     rt: &R,
     keeper: &Keeper<K, L, Counted>,
@@ -41,7 +41,7 @@ fn text(rt: &impl AllocGlobal, text: &[u8]) -> Result<Vec<u8>, AllocError> {
     Vec::from_slice(rt.alloc(), text)
 }
 
-/// Appends a text, and gives a reply that shows it once it is synced; then publishes.
+/// Appends a payload, and waits until it is synced for the response that shows it.
 fn replied<K: Naming, L: Log, R: Wait + RandomSource + AllocGlobal>(
     rt: &R,
     keeper: &Arc<Keeper<K, L, Counted>>,
@@ -58,7 +58,8 @@ fn replied<K: Naming, L: Log, R: Wait + RandomSource + AllocGlobal>(
     Ok(block_on(rt, reply)?)
 }
 
-/// Publishes a text: how many texts are durable then.
+/// Appends a payload as a publication is, and waits until it is synced: how many payloads are synced then, or `None`
+/// where that failed.
 fn published<K: Naming, L: Log, R: Wait + AllocGlobal>(
     rt: &R,
     keeper: &Keeper<K, L, Counted>,
@@ -75,12 +76,12 @@ fn published<K: Naming, L: Log, R: Wait + AllocGlobal>(
     }
 }
 
-/// What a client was told.
+/// What a client was answered.
 #[derive(Drop)]
 struct Told {
     reply: Result<u32, NotTold>,
     published: Option<u64>,
-    /// Whether its whole share is free then.
+    /// Whether its whole share of the log is free then.
     is_free: bool,
 }
 
@@ -102,7 +103,7 @@ fn asked<K: Naming, L: Log, R: Wait + RandomSource + AllocGlobal>(
     })
 }
 
-/// Serves one client, and gives what the flusher ended with and what the client was told.
+/// Serves one client, and returns how the flusher ended and what the client was answered.
 fn served<K, L, R>(rt: &R, opened: Opened<L>, log: L) -> Result<(Result<L, FlushFault>, Told), Fail>
 where
     K: Naming + Send + Sync,
@@ -135,7 +136,7 @@ where
     Ok((log, told?))
 }
 
-/// An empty medium, of which so many calls are answered. Two are for opening a journal, and one for beginning to serve.
+/// Empty storage, on which so many calls succeed. Two are for opening a journal, and one for beginning to serve.
 fn medium(alloc: Global, calls_left: u32) -> Memory {
     Memory {
         bytes: Vec::new(alloc),
@@ -144,7 +145,7 @@ fn medium(alloc: Global, calls_left: u32) -> Memory {
     }
 }
 
-/// Serves one client over a journal of which so many calls are answered.
+/// Serves one client over a journal on whose storage so many calls succeed.
 fn journal_served<R: Wait + Threads + RandomSource + AllocGlobal + Sync>(
     rt: &R,
     calls_left: u32,
@@ -200,7 +201,7 @@ fn journal_bounded<R: Wait + Abort + AllocGlobal>(rt: &R) -> Result<(), Fail> {
     bounded::<Brand, Journal<Memory>, R>(rt, opened, log)
 }
 
-/// There is room for one record of three bytes, which takes 59.
+/// Tries reservations where there is room for one record of three bytes, which takes 59.
 fn bounded<K: Naming, L: Log, R: Wait + Abort + AllocGlobal>(
     rt: &R,
     opened: Opened<L>,
@@ -249,7 +250,7 @@ fn journal_settled<R: Wait + Abort + AllocGlobal>(rt: &R) -> Result<(), Fail> {
     settled::<Brand, Journal<Memory>, R>(rt, opened, log)
 }
 
-/// So many texts of three bytes.
+/// So many payloads of three bytes.
 fn texts(rt: &impl AllocGlobal, count: usize) -> Result<Vec<Vec<u8>>, Fail> {
     let mut texts = Vec::new(rt.alloc());
     for _ in 0..count {
@@ -258,7 +259,7 @@ fn texts(rt: &impl AllocGlobal, count: usize) -> Result<Vec<Vec<u8>>, Fail> {
     Ok(texts)
 }
 
-/// There is room for two records of three bytes, which take 118.
+/// Tries reservations of several records where there is room for two of three bytes, which take 118.
 fn settled<K: Naming, L: Log, R: Wait + Abort + AllocGlobal>(
     rt: &R,
     opened: Opened<L>,
@@ -292,7 +293,7 @@ fn settled<K: Naming, L: Log, R: Wait + Abort + AllocGlobal>(
     Ok(())
 }
 
-/// Why there are no places for texts of an asker. Places are given back.
+/// Why no reservations are made for payloads of a client. Those that are made are released.
 fn refused_together<K: Naming, L: Log, R: Wait>(
     rt: &R,
     keeper: &Keeper<K, L, Counted>,
@@ -323,7 +324,7 @@ fn journal_shared<R: Wait + Abort + AllocGlobal>(rt: &R) -> Result<(), Fail> {
     shared::<Brand, Journal<Memory>, R>(rt, opened, log)
 }
 
-/// Has so many texts of an asker wait, or says why they don't.
+/// Appends so many payloads of a client, which wait for the flusher, or returns why they aren't reserved.
 fn awaited<K: Naming, L: Log, R: Wait + AllocGlobal>(
     rt: &R,
     keeper: &Keeper<K, L, Counted>,
@@ -341,7 +342,7 @@ fn awaited<K: Naming, L: Log, R: Wait + AllocGlobal>(
     }
 }
 
-/// Three use up their shares, and a fourth all but a place for each of two others.
+/// Three clients use up their shares, and a fourth all but a reservation for each of two others.
 fn shared<K: Naming, L: Log, R: Wait + Abort + AllocGlobal>(
     rt: &R,
     opened: Opened<L>,
@@ -369,7 +370,7 @@ fn shared<K: Naming, L: Log, R: Wait + Abort + AllocGlobal>(
     }
     assert!(rt; awaited(rt, &keeper, &nothing, 4, 4_095)? == Some(ReserveFault::Crowded));
     assert!(rt; awaited(rt, &keeper, &nothing, 4, 4_094)? == None);
-    // A place that is given back is held again.
+    // A reservation that was released can be made again.
     assert!(rt; refused(rt, &keeper, 5, text(rt, b"one")?) == None);
     assert!(rt; awaited(rt, &keeper, &nothing, 5, 1)? == None);
     assert!(rt; refused(rt, &keeper, 5, text(rt, b"one")?) == Some(ReserveFault::Crowded));

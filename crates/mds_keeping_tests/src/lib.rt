@@ -1,5 +1,5 @@
-//! Tests of group commit, and of a log whose file is exchanged. They use public items alone, and stand here so that their proof
-//! doesn't prove those crates again.
+//! Tests of group commit over a log whose calls fail, and of a log whose file is replaced. They use public items
+//! alone, and are a crate of their own, so that proving them doesn't prove the tested crates again.
 #![tactic(auto)]
 
 #[cfg(test)]

@@ -1,4 +1,4 @@
-//! Exchanging a log's file for a shorter one, over journals in memory whose calls fail from the Nth on.
+//! Replacing a log's file by a compacted one, over journals in memory whose calls fail from the Nth on.
 ghost use Rattle.std.specs.Prelude.{ℕ, List, IfSome};
 
 use mds_records::{AppendFault, Journal, Log, Memory, NotSynced, ReadFault, Seal, Sealed};
@@ -6,10 +6,10 @@ use mds_rolling::{Beside, Finding, NotReplaced, Pace, Rolling, Shorter, is_littl
 use std::alloc::{AllocError, Global};
 use std::cell::{Cell, RefCell};
 
-/// As many calls as any test makes.
+/// As many calls as any test makes at the most.
 const MANY: u32 = 1_000;
 
-/// Any list leads to where any other does.
+/// Takes any list to have the effect of any other.
 struct Anything;
 
 impl Finding for Anything {
@@ -18,23 +18,23 @@ impl Finding for Anything {
     ghost same = { λ _ _. ⊤ };
 }
 
-/// What a test hands to who stands beside a log, and what is told of it.
+/// What a test passes to the compaction side of a log, and what that side is notified of.
 #[derive(Drop)]
 struct Board<L: Sealed> {
     ready: RefCell<Option<Shorter<L, Anything>>>,
-    /// Whether what is appended behind the next seal is kept.
+    /// Whether copies are kept of what is appended after the next log end.
     is_kept: Cell<bool>,
-    /// Whether no log can be put into the place.
+    /// Whether no compacted log can take the log's place.
     is_failing: Cell<bool>,
-    /// The seal of the log that was put into the place last.
+    /// The end of the compacted log that took the place last.
     replaced: Cell<Option<Seal>>,
-    /// How the last exchange ended, and with how many bytes.
+    /// Whether the last compacted log took the place, and how many bytes the log has then.
     ended: Cell<Option<(bool, u64)>>,
-    /// Up to where the log was synced last.
+    /// The log end up to which the log was synced last.
     synced: Cell<Option<Seal>>,
 }
 
-/// What stands beside a log: a board.
+/// The compaction side of a log, which a test steers and observes.
 #[derive(Drop)]
 struct OnBoard<'a, L: Sealed>(&'a Board<L>);
 
@@ -83,7 +83,7 @@ fn texts(alloc: Global, text: &[u8]) -> Result<Vec<Vec<u8>>, AllocError> {
     Ok(texts)
 }
 
-/// A log with one text more, synced.
+/// Appends a payload to a log, and syncs it.
 fn appended<L: Sealed>(alloc: Global, log: L, text: &[u8]) -> Option<L>
     requires { (list : List (List ℕ)) × L.may_be log list }
     ensures { IfSome result (λ log. (list : List (List ℕ)) × L.may_be log list) }
@@ -102,7 +102,7 @@ fn appended<L: Sealed>(alloc: Global, log: L, text: &[u8]) -> Option<L>
     Some(log)
 }
 
-/// A log as a shorter one of what another has.
+/// A log as the compacted one of what another holds.
 fn shorter<L: Sealed>(log: L, other: &L) -> Shorter<L, Anything>
     requires one { (list : List (List ℕ)) × L.may_be log list }
     requires other { (list : List (List ℕ)) × L.may_be other.now list }
@@ -118,14 +118,14 @@ fn memory(alloc: Global, calls_left: u32) -> Memory {
     }
 }
 
-/// A log of "one", "two", and a shorter one of both, of "both", which answers so many calls behind what it has.
+/// A compacted log, of "both", for a log of "one" and "two". So many calls succeed on its storage after that.
 fn offered(alloc: Global, calls: u32) -> Option<Shorter<Journal<Memory>, Anything>> {
     let Ok(long) = Journal::open(alloc, memory(alloc, MANY)) else {
         return None;
     };
     let long = appended(alloc, long, b"one")?;
     let long = appended(alloc, long, b"two")?;
-    // It is read, synced, and appended to and synced once.
+    // The storage is read and synced, and then appended to and synced once.
     let Ok(short) = Journal::open(alloc, memory(alloc, calls.saturating_add(4))) else {
         return None;
     };
@@ -133,7 +133,7 @@ fn offered(alloc: Global, calls: u32) -> Option<Shorter<Journal<Memory>, Anythin
     Some(shorter(short, &long))
 }
 
-/// The seal of a log of these two texts.
+/// The log end of a log of these two payloads.
 fn seal_of(alloc: Global, first: &[u8], second: &[u8]) -> Option<Seal> {
     let Ok(log) = Journal::open(alloc, memory(alloc, MANY)) else {
         return None;
@@ -143,7 +143,7 @@ fn seal_of(alloc: Global, first: &[u8], second: &[u8]) -> Option<Seal> {
     Some(log.seal())
 }
 
-/// Appends a text, and syncs it.
+/// Appends a payload and syncs it: how many payloads the log has then.
 fn written(
     alloc: Global,
     log: &mut Rolled<'_>,
@@ -157,7 +157,7 @@ fn written(
     }
 }
 
-/// A log of "one" and "two", synced, which answers so many calls behind that.
+/// A log of "one" and "two", synced. So many calls succeed on its storage after that.
 fn rolling(alloc: Global, board: &Board<Journal<Memory>>, calls: u32) -> Option<Rolled<'_>> {
     let Ok(log) = Journal::open(alloc, memory(alloc, calls.saturating_add(6))) else {
         return None;
@@ -168,7 +168,7 @@ fn rolling(alloc: Global, board: &Board<Journal<Memory>>, calls: u32) -> Option<
     Some(log)
 }
 
-/// Hands a shorter log to who stands beside.
+/// Offers a compacted log to the compaction side, and returns whether there was one.
 fn offer(
     board: &Board<Journal<Memory>>,
     shorter: Option<Shorter<Journal<Memory>, Anything>>,
@@ -176,7 +176,7 @@ fn offer(
     shorter.is_some() && board.ready.try_replace(shorter).is_ok()
 }
 
-/// How many texts a log tells; none, it tells none.
+/// How many payloads are read from a log.
 fn told(log: &mut Rolled<'_>) -> Result<usize, ReadFault> {
     Ok(log.read_from(0)?.len())
 }
@@ -196,7 +196,7 @@ fn files_are_exchanged(rt: HostRuntime) {
     assert!(rt; board.synced.get() == Some(seal));
     assert!(rt; written(alloc, &mut log, 2, b"four") == Err(AppendFault::Conflict));
     assert!(rt; written(alloc, &mut log, 3, b"four") == Ok(4));
-    // What it has isn't all that was appended.
+    // Its file doesn't hold all that was appended.
     assert!(rt; told(&mut log) == Err(ReadFault::NoAnswer));
 }
 
@@ -211,7 +211,7 @@ fn what_is_lacking_is_not_exchanged(rt: HostRuntime) {
     assert!(rt; board.replaced.get().is_none() && told(&mut log) == Ok(3));
     let bytes = board.synced.get().expect(&rt, "a seal").position;
     assert!(rt; board.ended.get() == Some((false, bytes)));
-    // What is kept from here on is behind another seal.
+    // The copies kept from here on come after another log end.
     board.is_kept.set(true);
     assert!(rt; written(alloc, &mut log, 3, b"four") == Ok(4));
     assert!(rt; offer(&board, offered(alloc, MANY)));
@@ -226,7 +226,7 @@ fn too_much_is_not_kept(rt: HostRuntime) {
     let mut log = rolling(alloc, &board, MANY).expect(&rt, "a log");
     board.is_kept.set(false);
     let large = vec![in alloc; 120u8; 1_048_576].expect(&rt, "memory");
-    // They are as many bytes as are kept at the most.
+    // They are as many bytes as copies may have at the most.
     for count in 2..10u64 {
         assert!(rt; written(alloc, &mut log, count, &large) == Ok(count.saturating_add(1)));
     }
@@ -239,7 +239,7 @@ fn too_much_is_not_kept(rt: HostRuntime) {
 #[test]
 fn shorter_logs_that_fail_are_not_taken(rt: HostRuntime) {
     let alloc = rt.alloc();
-    // Its append fails, or its sync.
+    // The compacted log's append fails, or its sync.
     for calls in 0..2 {
         let board = quiet();
         let mut log = rolling(alloc, &board, MANY).expect(&rt, "a log");
@@ -267,7 +267,7 @@ fn places_that_fail_end_it(rt: HostRuntime) {
 #[test]
 fn logs_that_fail_end_it(rt: HostRuntime) {
     let alloc = rt.alloc();
-    // An append fails, or a sync.
+    // The log's append fails, or its sync.
     for calls in 0..2 {
         let board = quiet();
         let mut log = rolling(alloc, &board, calls).expect(&rt, "a log");

@@ -1,4 +1,4 @@
--- A vehicle of columns, and its row.
+-- A vehicle in columns, and its row.
 use Rattle.std.proofs.Common.{◌≡◌, ℕ, ◌<◌, List, [], ◌∷◌, length, get_or, refl, sym, ap, ◌∙◌, arith}
 use Rattle.std.proofs.lemmas.List.{get_or-map}
 use Rattle.mds_geometry.specs.declared.position.Position.{Position}
@@ -10,7 +10,7 @@ use Rattle.mds_match.specs.Row.{Row}
 use Rattle.mds_verdict.specs.Verdict.{adds}
 use Rattle.mds_kept.specs.Columns.{AreOf, adds_since}
 
--- whether a row adds to a measure depends on the beginning of its state alone
+-- whether a row counts towards a measure depends on the beginning of its state alone
 pub adds_by_since : (kind : Kind) (bounds : Bounds) (t since : ℕ) (row : Row) → row.since ≡ since → adds_since kind bounds t since ≡ adds kind bounds t row
 adds_by_since Count bounds t since row is = refl
 adds_by_since (Time unit) bounds t since row is = ap (adds_since (Time unit) bounds t) (sym is)

@@ -1,4 +1,5 @@
--- What keeps columns right: a note, a column more, a column that is begun or read anew.
+-- What keeps the index right: a note of a change, one more column, a column that is begun or
+-- computed again.
 use Rattle.std.proofs.Common.{◌≡◌, ℕ, ◌<◌, ◌≤◌, Bool, true, List, [], ◌∷◌, ◌++◌, length, map, get_or, drop, pos, Option, Some, None, Result, Ok, Err, sym, ap, subst, ◌∙◌, arith}
 use Rattle.std.specs.declared.alloc.Global.{Global}
 use Rattle.std.specs.declared.boxed.Box.{Box}
@@ -23,7 +24,7 @@ use Rattle.mds_kept.specs.Kept.{AreKept, AreOwn, AreRead, Fits, Grows, IsChanged
 use Rattle.mds_kept.specs.declared.kept.Column.{Column}
 use Rattle.mds_kept.specs.declared.kept.Kept.{Kept}
 
--- words of one kind are of another, where each row's are
+-- cached words of one kind are cached words of another, where the words of each row are
 pub kept_as : (Is As : Row → ℕ → Type 0) (vehicles : Vehicles) (devices : List (List ℕ)) (words : List ℕ) (changed : List (List ℕ)) → ((row : Row) (word : ℕ) → Is row word → As row word)
     → AreKept Is vehicles devices words changed → AreKept As vehicles devices words changed
 kept_as Is As vehicles devices words changed weaker kept k v less found out = weaker (row_of v.value) (get_or words k 0) (kept k v less found out)
@@ -31,7 +32,7 @@ kept_as Is As vehicles devices words changed weaker kept k v less found out = we
 pub read_as : (Is As : Row → ℕ → Type 0) (rows : List Row) (words : List ℕ) → ((row : Row) (word : ℕ) → Is row word → As row word) → AreRead Is rows words → AreRead As rows words
 read_as Is As rows words weaker are = record { long = are.long; each = λ k row less. weaker (get_or rows k row) (get_or words k 0) (are.each k row less) }
 
--- no word is kept wrongly where there is none
+-- where there are no words, none is wrong
 pub none_kept : (Is : Row → ℕ → Type 0) (vehicles : Vehicles) (devices : List (List ℕ)) (changed : List (List ℕ)) → AreKept Is vehicles devices [] changed
 none_kept Is vehicles devices changed k v less found out = absurd (omega (arith, less))
 
@@ -51,7 +52,7 @@ module _ (device : List ℕ) (before after : Vehicles) (changes : IsChanged devi
     masks = noted (IsMaskOf published column.policy) column.masks.items column.seen is.seen is.masks;
   }) columns are
 
--- masks by a policy's rules are those of the published policy, and the other way round
+-- bitmaps of a policy's rules are those of the published policy, and the other way round
 module _ (published : Published) (policy : Policy) (polygons : List ℕ → List (List (List Position))) (is : IsPublished published policy polygons) (id : List ℕ) (id_is : id ≡ policy.id) where
   pub lasts : published.lasting id ≡ true
   lasts = ap published.lasting id_is ∙ is.0
@@ -75,7 +76,7 @@ module _ (masked : MaskedPolicy) (policy : Policy) (polygons : List ℕ → List
   pub few_rules : length policy.rules ≤ 64 → length masked.rules.items ≤ 64
   few_rules few = omega (arith, few, ap length (is some_row), length-map masked.rules.items (masked_matches some_row), length-map policy.rules (matches polygons some_row))
 
--- rows of vehicles that stand each under its own device id
+-- the rows of vehicles that are each stored under their own device id
 module _ (vehicles : Vehicles) (ordered : IsOrdered device_cmp vehicles) (own : AreOwn vehicles) where
   own_at : (device : List ℕ) (v : Box Vehicle Global) → get device_cmp vehicles device ≡ Some v → v.value.device ≡ device
   own_at device v found = subst (λ o. IfSome o (λ (b : Box Vehicle Global). b.value.device ≡ device)) found (own device)
@@ -106,14 +107,14 @@ module _ (vehicles : Vehicles) (ordered : IsOrdered device_cmp vehicles) (own : 
     each = are.each;
   }
 
--- what is kept of the asked policy's column
+-- the cached column of the policy that is asked about
 pub asked_column : (published : Published) (policy : Policy) (polygons : List ℕ → List (List (List Position))) → IsPublished published policy polygons → (vehicles : Vehicles) (devices changed : List (List ℕ)) (column : Column) → column.policy ≡ policy.id
     → IsColumn published vehicles devices changed column → AreKept (λ row word. IsMask policy polygons row word) vehicles devices column.masks.items (drop column.seen changed)
 asked_column published policy polygons is vehicles devices changed column id_is kept =
     kept_as (IsMaskOf published column.policy) (λ row word. IsMask policy polygons row word) vehicles devices column.masks.items (drop column.seen changed)
     (as_asked published policy polygons is column.policy id_is) kept.masks
 
--- a column of the asked policy that was read anew
+-- a column of that policy, computed again
 pub fresh_column : (published : Published) (policy : Policy) (polygons : List ℕ → List (List (List Position))) → IsPublished published policy polygons → (vehicles : Vehicles) → IsOrdered device_cmp vehicles → (devices changed : List (List ℕ)) → devices ≡ keys vehicles
     → (column : Column) → column.policy ≡ policy.id → column.seen ≡ length changed → AreRead (λ row word. IsMask policy polygons row word) (rows_in vehicles) column.masks.items → IsColumn published vehicles devices changed column
 fresh_column published policy polygons is vehicles ordered devices changed listed column id_is seen are = record {
@@ -123,7 +124,7 @@ fresh_column published policy polygons is vehicles ordered devices changed liste
       (read_as (λ row word. IsMask policy polygons row word) (IsMaskOf published column.policy) (rows_in vehicles) column.masks.items (as_published published policy polygons is column.policy id_is) are) (drop column.seen changed);
 }
 
--- what follows from what holds of a value, if there is one
+-- a weaker property of an optional value
 pub if_some_as : {A : Type 0} (o : Option A) (P Q : A → Type 0) → ((x : A) → P x → Q x) → IfSome o P → IfSome o Q
 if_some_as None P Q weaker holds = holds
 if_some_as (Some x) P Q weaker holds = weaker x holds
@@ -132,7 +133,7 @@ pub if_ok_as : {A E : Type 0} (r : Result A E) (P Q : A → Type 0) → ((x : A)
 if_ok_as (Ok x) P Q weaker holds = weaker x holds
 if_ok_as (Err e) P Q weaker holds = tt
 
--- what is kept stays right as more is published
+-- the index stays right as more is published
 pub grown : (published more : Published) (vehicles : Vehicles) (kept : Kept) → Grows published more → Fits published vehicles kept → Fits more vehicles kept
 grown published more vehicles kept grows fits =
     if_some_as kept.listed (IsListed published vehicles) (IsListed more vehicles) (λ listed is. record {

@@ -1,4 +1,5 @@
--- What keeps words right where a device comes or goes: places of devices and of words move alike.
+-- What keeps the words right where a device comes or goes: the indices of devices and of words move
+-- alike.
 use Rattle.std.proofs.Common.{◌≡◌, ◌⊎◌, ℕ, zero, suc, ◌+◌, ◌<◌, ◌≤◌, true, false, cond, nat_lt, Some, None, List, [], ◌∷◌, ◌++◌, ◌-◌, length, get_or, drop, refl, sym, ap, subst, ◌∙◌, inl, inr, arith}
 use Rattle.std.specs.declared.cmp.Ordering.{Ordering}
 use Rattle.std.specs.declared.cmp.Ordering.TheVariants.{Less, Equal, Greater}
@@ -21,7 +22,7 @@ use Rattle.mds_kept.specs.Kept.{AreEdited, AreKept, HasArrived, HasDeparted, IsC
 use Rattle.mds_kept.specs.declared.kept.Column.{Column}
 use Rattle.mds_kept.specs.declared.kept.Listed.{Listed}
 
--- ---- the place that a search finds in ascending keys
+-- ---- the index that a search finds in ascending keys
 
 turned : (r : Ordering) (s : Ordering) → s ≡ ordering_reverse r → r ≡ Less → s ≡ Greater
 turned r s e less = e ∙ ap ordering_reverse less
@@ -31,7 +32,7 @@ module _ {K : Type 0} {R : K → K → Ordering} (o : IsTotalOrder R) where
   rising ks k sorted = searchable_from_sorted o (λ y. y) ks k (λ j d from within.
       ap is_lt (o.antisymm (get_or ks (j + 1) d) (get_or ks j d) ∙ ap ordering_reverse (Less-from_sorted R ks j (j + 1) d sorted (omega arith) within)))
 
-  -- a key that a search doesn't find goes where its order has it
+  -- a key that a search doesn't find is inserted at its index in the order
   pub inserted : (ks : List K) (k : K) (place : ℕ) → place ≤ length ks → IsPartitionPoint (λ y. R y k ≡ Less) (λ y. R y k ≡ Greater) ks place → insert ks place k ≡ insert_key R ks k
   inserted [] k zero within parted = refl
   inserted [] k (suc place) within parted = absurd (omega arith)
@@ -59,7 +60,7 @@ module _ {K : Type 0} {R : K → K → Ordering} (o : IsTotalOrder R) where
 
 -- ---- the words
 
--- words with a place more, where they reach so far
+-- words with one more inserted, where they reach so far
 module _ (place : ℕ) (words : List ℕ) where
   pub with_reached : place ≤ length words → with_place place words ≡ insert words place 0
   with_reached reach = ap (λ b. cond b words (insert words place 0)) (not_less reach)
@@ -155,14 +156,14 @@ module _ (device : List ℕ) (before after : Vehicles) (gone : get device_cmp af
 
 -- ---- the columns
 
--- what is made of each column of a list
+-- what is done to each column of a list
 pub edited : (P Q : Column → Type 0) (edit : List ℕ → List ℕ) (columns others : List Column) → AreEdited edit columns others
     → ((column other : Column) → other.policy ≡ column.policy → other.seen ≡ column.seen → other.masks.items ≡ edit column.masks.items → P column → Q other) → All P columns → All Q others
 edited P Q edit columns others are step all k d within =
     let inside : k < length columns = omega (arith, within, are.long) in
     step (get_or columns k d) (get_or others k d) (are.policies k d inside) (are.seen k d inside) (are.masks k d inside) (all k d inside)
 
--- the device that came is in its place, and logged
+-- the device that came is at its index, and logged
 pub listed_more : (device : List ℕ) (before after : Vehicles) → IsOrdered device_cmp before → HasArrived device before after → (published : Published) (listed more : Listed) (place : ℕ) → place ≤ length listed.devices.items
     → (IsNonDecreasingBy (λ (y : List ℕ). ordering_index (device_cmp y device)) listed.devices.items → IsPartitionPoint (λ y. device_cmp y device ≡ Less) (λ y. device_cmp y device ≡ Greater) listed.devices.items place)
     → more.devices.items ≡ insert listed.devices.items place device → more.sinces.items ≡ with_place place listed.sinces.items → more.seen ≡ listed.seen → AreEdited (with_place place) listed.columns.items more.columns.items
@@ -187,7 +188,7 @@ listed_more device before after ordered arrives published listed more place with
     sorted : IsStrictlySortedBy device_cmp devices
     sorted = subst (IsStrictlySortedBy device_cmp) (sym is.devices) ordered
 
--- the device that went is in no place
+-- the device that went is at no index
 pub listed_fewer : (device : List ℕ) (before after : Vehicles) → IsOrdered device_cmp before → HasDeparted device before after → (published : Published) (listed fewer : Listed) (place : ℕ) → place < length listed.devices.items
     → ((d : List ℕ) → device_cmp (get_or listed.devices.items place d) device ≡ Equal)
     → fewer.devices.items ≡ remove listed.devices.items place → fewer.sinces.items ≡ without_place place listed.sinces.items → fewer.seen ≡ listed.seen → AreEdited (without_place place) listed.columns.items fewer.columns.items

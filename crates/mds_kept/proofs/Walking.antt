@@ -1,4 +1,4 @@
--- One entry more of a walk over a map, and words at the places of devices.
+-- One more entry of a walk over a map, and words at the indices of devices.
 use Rattle.std.proofs.Common.{◌≡◌, ◌⊎◌, ℕ, zero, suc, ◌+◌, ◌<◌, ◌≤◌, Option, None, Some, List, [], ◌∷◌, ◌++◌, length, get_or, set, take, drop, sym, ap, subst, ◌∙◌, inl, inr, arith}
 use Rattle.std.specs.declared.alloc.Global.{Global}
 use Rattle.std.specs.declared.boxed.Box.{Box}
@@ -36,11 +36,11 @@ next (y ∷ ys) (suc n) x rest e =
 pub all_taken : {X : Type 0} (xs : List X) (n : ℕ) → drop n xs ≡ [] → take n xs ≡ xs
 all_taken xs n e = sym (append-nil (take n xs)) ∙ ap (λ ys. take n xs ++ ys) (sym e) ∙ take-append-drop n xs
 
--- a word of a row, at other names of both
+-- a word of a row, where row and word are equal to others
 pub at_row : (Is : Row → ℕ → Type 0) (x y : Row) (m n : ℕ) → x ≡ y → m ≡ n → Is y n → Is x m
 at_row Is x y m n e f h = subst (λ (z : Row). Is z m) (sym e) (subst (Is y) (sym f) h)
 
--- one word more
+-- one more word
 pub read_more : (Is : Row → ℕ → Type 0) (rows : List Row) (words : List ℕ) (row : Row) (word : ℕ) → Is row word → AreRead Is rows words → AreRead Is (rows ++ row ∷ []) (words ++ word ∷ [])
 read_more Is rows words row word fresh are = record {
   long = omega (arith, length_push words word, length_push rows row, are.long);
@@ -59,7 +59,7 @@ pub not_first : (x k : List ℕ) (rest : List (List ℕ)) → (k ≡ x → ⊥) 
 not_first x k rest apart out (zero, lt, e) = apart (sym e)
 not_first x k rest apart out (suc j, lt, e) = out (j, omega arith, e)
 
--- nothing is among no devices
+-- an empty list of changed devices has no device
 pub none_changed : (device : List ℕ) → Contains [] device → ⊥
 none_changed device e = absurd (omega (arith, e.1))
 
@@ -67,7 +67,7 @@ abbrev pub in_some : Box Vehicle Global → Option (Box Vehicle Global) → Box 
 in_some v None = v
 in_some v (Some x) = x
 
--- the entry at a place of a map is found by its key
+-- the entry at an index of a map is found by its key
 pub found_at : (vehicles : Vehicles) → IsOrdered device_cmp vehicles → (k : ℕ) (d : Box Vehicle Global) → k < length (values vehicles) → get device_cmp vehicles (get_or (keys vehicles) k []) ≡ Some (get_or (values vehicles) k d)
 found_at vehicles ordered k d short =
     let within : k < length vehicles.entries = omega (arith, short, length-map vehicles.entries (λ (e : List ℕ × Box Vehicle Global). e.1)) in
@@ -75,7 +75,7 @@ found_at vehicles ordered k d short =
     let value : get_or (values vehicles) k d ≡ (get_or vehicles.entries k ([], d)).1 = get_or-map (λ (e : List ℕ × Box Vehicle Global). e.1) vehicles.entries k ([], d) d within in
     ap (get device_cmp vehicles) key ∙ All-found nat_list_cmp_total vehicles ordered k ([], d) within ∙ ap Some (sym value)
 
--- words that are read are kept, and words that are kept and whole are read
+-- words that are all computed are right, and right words that are complete are as computed
 module _ (Is : Row → ℕ → Type 0) (vehicles : Vehicles) (ordered : IsOrdered device_cmp vehicles) (devices : List (List ℕ)) (listed : devices ≡ keys vehicles) (words : List ℕ) where
   same_length : length (rows_in vehicles) ≡ length (values vehicles)
   same_length = length-map (values vehicles) (λ (v : Box Vehicle Global). row_of v.value)
@@ -106,7 +106,7 @@ module _ (Is : Row → ℕ → Type 0) (vehicles : Vehicles) (ordered : IsOrdere
           let found = ap (λ ds. get device_cmp vehicles (get_or ds k [])) listed ∙ found_at vehicles ordered k (some_in (values vehicles) k short) short in
           subst (λ (r : Row). Is r (get_or words k 0)) (sym (row_at k v row short found)) (kept k v (omega (arith, short, long)) found (none_changed _))
 
--- devices stand at one place each
+-- each device has one index
 apart_before : (vehicles : Vehicles) → IsOrdered device_cmp vehicles → (j k : ℕ) → j < k → k < length (keys vehicles) → get_or (keys vehicles) j [] ≡ get_or (keys vehicles) k [] → ⊥
 apart_before vehicles ordered j k less within e =
     let device = get_or (keys vehicles) j [] in
@@ -121,7 +121,7 @@ apart_places vehicles ordered j k inside within e apart = by (cases_order j k)
     by (inr (inl less)) = apart_before vehicles ordered j k less within e
     by (inr (inr less)) = apart_before vehicles ordered k j less inside (sym e)
 
--- a changed device that isn't held any more has no word
+-- a changed device without a vehicle has no word
 pub not_held : (Is : Row → ℕ → Type 0) (vehicles : Vehicles) (devices changed : List (List ℕ)) (words : List ℕ) (i : ℕ) → i < length changed → get device_cmp vehicles (get_or changed i []) ≡ None
     → AreKept Is vehicles devices words (drop i changed) → AreKept Is vehicles devices words (drop (i + 1) changed)
 not_held Is vehicles devices changed words i short absent kept k v less found out =
@@ -129,7 +129,7 @@ not_held Is vehicles devices changed words i short absent kept k v less found ou
     let apart : here ≡ get_or changed i [] → ⊥ = λ e. let no : None ≡ Some v = sym absent ∙ ap (get device_cmp vehicles) (sym e) ∙ found in absurd (cc) in
     kept k v less found (λ e. not_first (get_or changed i []) here (drop (i + 1) changed) apart out (subst (λ (xs : List (List ℕ)). Contains xs here) (drop_more changed i [] short) e))
 
--- one changed device more is read
+-- one more changed device is taken in
 module _ (Is : Row → ℕ → Type 0) (vehicles : Vehicles) (ordered : IsOrdered device_cmp vehicles) (devices changed : List (List ℕ)) (listed : devices ≡ keys vehicles) (words : List ℕ) (i : ℕ) (short : i < length changed)
     (kept : AreKept Is vehicles devices words (drop i changed)) (at : ℕ) (here : get_or devices at [] ≡ get_or changed i []) (inside : at < length devices) where
   not_among : (k : ℕ) → k < length devices → (k ≡ at → ⊥) → (Contains (drop (i + 1) changed) (get_or devices k []) → ⊥) → Contains (drop i changed) (get_or devices k []) → ⊥

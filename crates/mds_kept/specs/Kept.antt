@@ -1,4 +1,4 @@
--- What is kept of an operator's vehicles between questions, and what ties it to the vehicles and to what is published.
+-- The bitmap index of an operator's vehicles, and how it is related to the vehicles and to what is published.
 use Rattle.std.specs.Prelude.{◌≡◌, ◌<◌, ◌≤◌, ◌*◌, ◌⊎◌, ℕ, suc, List, [], Bool, IsTrue, true, Option, None, Some, IfSome, bytes_eq, All, Contains, if◌then◌else◌, length, get_or, nat_lt, drop, map}
 use Rattle.std.specs.declared.alloc.Global.{Global}
 use Rattle.std.specs.declared.boxed.Box.{Box}
@@ -33,12 +33,12 @@ Vehicles = BTreeMap (List ℕ) (Box Vehicle Global)
 abbrev pub rows_in : Vehicles → List Row
 rows_in vehicles = map (λ v. row_of v.value) (values vehicles)
 
--- each vehicle stands under its own device id
+-- each vehicle is stored under its own device id
 abbrev pub AreOwn : Vehicles → Type 0
 AreOwn vehicles = (device : List ℕ) → IfSome (get device_cmp vehicles device) (λ v. v.value.device ≡ device)
 
--- Of which policies all that their matches rest on is published for good, by their identifiers; and for each rule of such
--- a policy whether a row matches it.
+-- The identifiers of the policies of which everything that decides a match is published for good; and for each rule of
+-- such a policy whether a row matches it.
 pub record Published : Type 0 where
   pub lasting : List ℕ → Bool
   pub bits : List ℕ → Row → List Bool
@@ -47,60 +47,61 @@ pub record Published : Type 0 where
 abbrev pub IsSince : Row → ℕ → Type 0
 IsSince row word = word ≡ row.since
 
--- a word has the bits of the rules of a published policy that a row matches
+-- a word is the bitmap of the rules of a published policy that a row matches
 abbrev pub IsMaskOf : Published → List ℕ → Row → ℕ → Type 0
 IsMaskOf published id row word = HasBits (published.bits id row) word
 
--- a word has the bits of the rules that a row matches, of whatever policy these are the rules
+-- a word is the bitmap of the rules that a row matches, for any policy with these rules
 abbrev pub IsMaskBy : MaskedPolicy → Row → ℕ → Type 0
 IsMaskBy masked row word =
     (policy : Policy) (polygons : List ℕ → List (List (List Position))) → IsMasked masked policy polygons → IsMask policy polygons row word
 
--- each word is that of its row
+-- each word is that of its row, for all rows
 pub record AreRead (Is : Row → ℕ → Type 0) (rows : List Row) (words : List ℕ) : Type 0 where
   pub long : length words ≡ length rows
   pub each : (k : ℕ) (row : Row) → k < length rows → Is (get_or rows k row) (get_or words k 0)
 
--- each word that there is is that of its device's row, unless the device is among the changed ones
+-- each cached word is that of its device's row, unless the device is one of the changed ones
 abbrev pub AreKept : (Row → ℕ → Type 0) → Vehicles → List (List ℕ) → List ℕ → List (List ℕ) → Type 0
 AreKept Is vehicles devices words changed =
     (k : ℕ) (v : Box Vehicle Global) → k < length words → get device_cmp vehicles (get_or devices k []) ≡ Some v
     → (Contains changed (get_or devices k []) → ⊥) → Is (row_of v.value) (get_or words k 0)
 
--- a column is of a policy that lasts, and its masks are kept since it read the log of changes
+-- a column is that of a policy that is published for good, and its bitmaps are right but for the changes that it hasn't
+-- taken in
 pub record IsColumn (published : Published) (vehicles : Vehicles) (devices changed : List (List ℕ)) (column : Column) : Type 0 where
   pub lasts : published.lasting column.policy ≡ true
   pub seen : column.seen ≤ length changed
   pub masks : AreKept (IsMaskOf published column.policy) vehicles devices column.masks.items (drop column.seen changed)
 
--- the devices are those of the vehicles, and all words are kept
+-- the devices are those of the vehicles, and all cached words are right but for the changes that they haven't taken in
 pub record IsListed (published : Published) (vehicles : Vehicles) (listed : Listed) : Type 0 where
   pub devices : listed.devices.items ≡ keys vehicles
   pub seen : listed.seen ≤ length listed.changed.items
   pub sinces : AreKept IsSince vehicles listed.devices.items listed.sinces.items (drop listed.seen listed.changed.items)
   pub columns : All (IsColumn published vehicles listed.devices.items listed.changed.items) listed.columns.items
 
--- the devices are those of the vehicles, and the beginnings of their states are kept
+-- the same of the devices and of the beginnings of their states alone
 abbrev pub AreRows : Vehicles → Listed → Type 0
 AreRows vehicles listed =
     (listed.devices.items ≡ keys vehicles) × (listed.seen ≤ length listed.changed.items)
     × AreKept IsSince vehicles listed.devices.items listed.sinces.items (drop listed.seen listed.changed.items)
 
--- what is kept, if anything, is right for these vehicles and for what is published
+-- the index, where there is one, is right for these vehicles and for what is published
 abbrev pub Fits : Published → Vehicles → Kept → Type 0
 Fits published vehicles kept = IfSome kept.listed (IsListed published vehicles)
 
--- a column of this policy is kept
+-- a column of this policy is cached
 abbrev pub has_column : List Column → List ℕ → Bool
 has_column columns policy = list_any (λ column. bytes_eq column.policy policy) columns
 
--- A column of this policy for so many vehicles has room beside what is kept: it is there, or with one more there are no more
--- than 4,194,304 masks.
+-- A column of this policy for so many vehicles has room in the index: it is cached already, or with one more column
+-- there are at most 4,194,304 bitmaps.
 abbrev pub HasRoom : Option Listed → List ℕ → ℕ → Type 0
 HasRoom kept policy vehicles =
     IfSome kept (λ listed. IsTrue (has_column listed.columns.items policy) ⊎ (suc (length listed.columns.items) * vehicles ≤ MOST_MASKS))
 
--- all that a policy's matches rest on is published for good, and these are its rules
+-- everything that decides a match of a policy is published for good, and these are its rules
 abbrev pub IsPublished : Published → Policy → (List ℕ → List (List (List Position))) → Type 0
 IsPublished published policy polygons =
     (published.lasting policy.id ≡ true) × ((row : Row) → published.bits policy.id row ≡ map (matches polygons row) policy.rules)
@@ -111,38 +112,38 @@ IsChanged device before after =
     (keys after ≡ keys before)
     × ((other : List ℕ) → (other ≡ device → ⊥) → get device_cmp after other ≡ get device_cmp before other)
 
--- a device came, and the others' vehicles are as they were
+-- a device came, and the vehicles of the others are unchanged
 abbrev pub HasArrived : List ℕ → Vehicles → Vehicles → Type 0
 HasArrived device before after =
     (keys after ≡ insert_key device_cmp (keys before) device)
     × ((other : List ℕ) → (other ≡ device → ⊥) → get device_cmp after other ≡ get device_cmp before other)
 
--- a device went, and the others' vehicles are as they were
+-- a device went, and the vehicles of the others are unchanged
 abbrev pub HasDeparted : List ℕ → Vehicles → Vehicles → Type 0
 HasDeparted device before after =
     (keys after ≡ remove_key (is_at (device_cmp device)) (keys before)) × (get device_cmp after device ≡ None)
     × ((other : List ℕ) → (other ≡ device → ⊥) → get device_cmp after other ≡ get device_cmp before other)
 
--- words with a 0 put in at a place, if they reach so far
+-- words with a 0 inserted at an index, where they reach so far
 abbrev pub with_place : ℕ → List ℕ → List ℕ
 with_place place words = if nat_lt (length words) place then words else insert words place 0
 
--- words without that at a place, if they reach so far
+-- words without the one at an index, where they reach so far
 abbrev pub without_place : ℕ → List ℕ → List ℕ
 without_place place words = remove words place
 
--- columns are as they were, but for what was done to the masks of each
+-- the columns are unchanged but for `edit`, which was done to the bitmaps of each
 pub record AreEdited (edit : List ℕ → List ℕ) (before after : List Column) : Type 0 where
   pub long : length after ≡ length before
   pub policies : (k : ℕ) (d : Column) → k < length before → (get_or after k d).policy ≡ (get_or before k d).policy
   pub seen : (k : ℕ) (d : Column) → k < length before → (get_or after k d).seen ≡ (get_or before k d).seen
   pub masks : (k : ℕ) (d : Column) → k < length before → (get_or after k d).masks.items ≡ edit (get_or before k d).masks.items
 
--- what is kept is right for what is published, and the policy is among that
+-- the index is right for something that is published, and the policy is part of that
 abbrev pub MayAsk : Kept → Policy → (List ℕ → List (List (List Position))) → Vehicles → Type 0
 MayAsk kept policy polygons vehicles = (published : Published) × Fits published vehicles kept × IsPublished published policy polygons
 
--- more is published: what lasts still does, and says the same
+-- more is published: what is published for good stays so, and matches the same rows
 abbrev pub Grows : Published → Published → Type 0
 Grows published more =
     (id : List ℕ) → published.lasting id ≡ true → (more.lasting id ≡ true) × ((row : Row) → more.bits id row ≡ published.bits id row)

@@ -6,8 +6,8 @@ use mds_policy::{Bounds, Kind};
 use mds_text::Moment;
 use mds_verdict::{Status, millis, within};
 
-/// Whether a vehicle that a rule catches adds to the rule's measure, where the run of its state began
-/// at this millisecond.
+/// Whether a vehicle that a rule catches counts towards the rule's measure, where the run of its
+/// state began at this millisecond.
 pub(crate) fn adds_since(kind: Kind, bounds: Bounds, moment: Moment, since: u64) -> bool
     ensures { result ≡ adds_since kind bounds moment since }
 {
@@ -18,7 +18,7 @@ pub(crate) fn adds_since(kind: Kind, bounds: Bounds, moment: Moment, since: u64)
     }
 }
 
-/// What is found of an open rule with this measure.
+/// The status of an open rule with this measure.
 pub(crate) fn status_of(kind: Kind, bounds: Bounds, measure: u64) -> Status
     ensures { result ≡ status_of kind bounds measure }
 {
@@ -30,7 +30,7 @@ pub(crate) fn status_of(kind: Kind, bounds: Bounds, measure: u64) -> Status
     if kept { Status::Ok } else { Status::Violated }
 }
 
-/// The milliseconds from a state's begin to this moment; 0 where it begins later.
+/// The milliseconds from the beginning of a state to this moment; 0 where it begins later.
 fn dwell(since: u64, moment: Moment) -> u64
     ensures { result ≡ moment - since }
 {

@@ -16,23 +16,24 @@ use mds_text::{Id, Moment};
 use mds_verdict::{MOST_DEVICES, RuleVerdict, Status};
 use std::alloc::{AllocError, Global};
 
-/// Of each vehicle of an operator, in the order of their device ids, what a policy is judged by.
+/// What a policy is evaluated by, for each vehicle of an operator, in the order of the device ids.
 #[derive(Clone, Copy)]
 pub struct Columns<'a> {
     /// The device ids.
     pub devices: &'a [Id],
     /// When the run of each vehicle's state began, in milliseconds since the Unix epoch.
     pub sinces: &'a [u64],
-    /// The rules of the policy that each vehicle meets whenever they are open, as the bits of a word.
+    /// For each vehicle, the bitmap of the policy's rules that it meets whenever they are open.
     pub masks: &'a [u64],
 }
 
-/// The verdict on each rule of a policy by columns, in the rules' order, at a local time and at the
-/// moment up to which a vehicle's time in its state counts: the same as by the vehicles themselves.
+/// One verdict for each rule of a policy, in the rules' order, from columns, at a local time and at
+/// the moment up to which a vehicle's time in its state is measured: the same as from the vehicles
+/// themselves.
 ///
 /// # Errors
 ///
-/// Memory ran out.
+/// Out of memory.
 pub fn verdicts_by(
     alloc: Global,
     policy: &Policy,
@@ -52,8 +53,8 @@ pub fn verdicts_by(
     Ok(held)
 }
 
-/// What the vehicles come to for each rule, with the first `MOST_DEVICES` of them, whether the rule
-/// is kept or not.
+/// Counts the vehicles for each rule, and lists the first `MOST_DEVICES` of them, whether the rule
+/// is violated or not.
 fn counted(
     alloc: Global,
     policy: &Policy,
@@ -85,8 +86,8 @@ fn counted(
     Ok(held)
 }
 
-/// Counts a vehicle in the rule of this number, the first that it meets, and lists it, whether its
-/// rule is kept or not.
+/// Counts a vehicle for the rule at this index, the first that the vehicle meets, and lists it,
+/// whether the rule is violated or not.
 fn count(
     held: &mut [RuleVerdict],
     policy: &Policy,
@@ -111,7 +112,7 @@ fn count(
     Ok(())
 }
 
-/// Counts one vehicle more, and lists its device, if fewer than `MOST_DEVICES` are listed.
+/// Counts one more vehicle, and lists its device where fewer than `MOST_DEVICES` are listed.
 fn count_in(verdict: &mut RuleVerdict, rule: &Rule, device: Id) -> Result<(), AllocError>
     requires { verdict.old.measure < 2 ^ 63 }
     ensures { OnOk result (verdict_document verdict.new ≡ record (verdict_document verdict.old) {
@@ -167,7 +168,7 @@ fn show(held: &mut [RuleVerdict])
     }
 }
 
-/// Drops the devices of a rule that isn't violated. A list keeps no more memory than it shows.
+/// Drops the devices of a rule that isn't violated, and the spare capacity of the list.
 fn show_in(verdict: &mut RuleVerdict)
     ensures { verdict_document verdict.new ≡ shown (verdict_document verdict.old) }
 {

@@ -15,15 +15,15 @@ use mds_verdict::RuleVerdict;
 use std::alloc::Global;
 use std::collections::BTreeMap;
 
-/// The most masks that are kept of an operator's vehicles, over all policies.
+/// The most bitmaps that are cached for an operator's vehicles, over all policies.
 pub(crate) const MOST_MASKS: usize = 4_194_304;
 
-/// How many changed devices are noted at least, before all that is kept is dropped; of a great fleet
-/// an eighth.
+/// The log holds at least this many changed devices, or an eighth of the fleet where that is more,
+/// before the index is dropped.
 const LEAST_NOTES: usize = 64;
 
-/// The masks of one policy, by the places of the devices, as far as they go, and up to where they
-/// have read the log of changed devices.
+/// The bitmaps of one policy, by the indices of the devices, as far as they go, and how much of the
+/// log of changed devices they have taken in.
 #[derive(Drop)]
 pub(crate) struct Column {
     pub(crate) policy: Id,
@@ -31,9 +31,9 @@ pub(crate) struct Column {
     pub(crate) seen: usize,
 }
 
-/// The devices in the order of their ids, when the runs of their states began, up to where these have
-/// read the log, the columns of policies, the log of changed devices, and how many devices came or
-/// went since the last question.
+/// The devices in the order of their ids, when the runs of their states began and how much of the
+/// log these have taken in, the columns of policies, the log of changed devices, and how many
+/// devices came or went since the last question.
 #[derive(Drop)]
 pub(crate) struct Listed {
     pub(crate) devices: Vec<Id>,
@@ -44,8 +44,8 @@ pub(crate) struct Listed {
     pub(crate) moved: usize,
 }
 
-/// What is kept of an operator's vehicles between questions, if anything is, and which policies were
-/// asked about since anything was dropped last.
+/// The bitmap index of an operator's vehicles, where there is one, and which policies were asked
+/// about since it was last cleared.
 #[derive(Drop)]
 pub struct Kept {
     pub(crate) listed: Option<Listed>,
@@ -59,7 +59,7 @@ impl Kept {
     ghost use Rattle.mds_verdict.specs.Verdict.{verdict_document, verdicts};
     ghost use Rattle.mds_kept.specs.Kept.{AreOwn, Fits, HasArrived, HasDeparted, HasRoom, IsChanged, IsPublished, MayAsk, Published, Vehicles, device_cmp, rows_in};
 
-    /// Nothing is kept. Takes no memory.
+    /// An empty index. Allocates nothing.
     pub fn new() -> Kept
         ensures { (published : Published) (vehicles : Vehicles) → Fits published vehicles result }
     {
@@ -69,8 +69,8 @@ impl Kept {
         }
     }
 
-    /// Notes that the vehicle of a device changed, where no device came or went. Where there is no room
-    /// or no memory for the note, nothing is kept any more.
+    /// Notes that the vehicle of a device changed, where no device came or went. Where the log has
+    /// no room for it, or out of memory, the index is dropped.
     pub fn note(&mut self, device: Id)
         ensures { (published : Published) (before after : Vehicles) → IsChanged device before after →
             Fits published before self.old → Fits published after self.new }
@@ -80,8 +80,8 @@ impl Kept {
         }
     }
 
-    /// Notes that a device came. Where more than 64 came or went since the last question, or there is no
-    /// room or no memory for it, nothing is kept any more.
+    /// Notes that a device came. Where more than 64 came or went since the last question, where
+    /// there is no room for it, or out of memory, the index is cleared.
     pub fn arrive(&mut self, device: Id)
         ensures { (published : Published) (before after : Vehicles) → IsOrdered device_cmp before → HasArrived device before after →
             Fits published before self.old → Fits published after self.new }
@@ -94,8 +94,8 @@ impl Kept {
         }
     }
 
-    /// Notes that a device went. Where more than 64 came or went since the last question, nothing is kept
-    /// any more. Takes no memory.
+    /// Notes that a device went. Where more than 64 came or went since the last question, the index
+    /// is cleared. Allocates nothing.
     pub fn depart(&mut self, device: Id)
         ensures { (published : Published) (before after : Vehicles) → IsOrdered device_cmp before → HasDeparted device before after →
             Fits published before self.old → Fits published after self.new }
@@ -108,7 +108,7 @@ impl Kept {
         }
     }
 
-    /// Drops what is kept, and forgets which policies were asked about.
+    /// Drops the index, and forgets which policies were asked about.
     fn clear(&mut self)
         ensures { (published : Published) (vehicles : Vehicles) → Fits published vehicles self.new }
     {
@@ -116,12 +116,15 @@ impl Kept {
         self.asked = None;
     }
 
-    /// The verdict on each rule of a policy, in their order, at the local time of a moment, up to which a
-    /// vehicle's time in its state counts: what is kept is brought up to date and looked at alone. `None`
-    /// where the policy wasn't asked about since all was dropped, where it has more than 64 rules, where
-    /// there are more than 4,194,304 vehicles, where its masks have no room beside those that are kept, or
-    /// where memory ran out; then the vehicles themselves are to be asked. So what is asked once, or can't be
-    /// kept, costs no more than that.
+    /// One verdict for each rule of a policy, in their order, at the local time of a moment, up to
+    /// which a vehicle's time in its state is measured: brings the index up to date, and reads it
+    /// alone.
+    ///
+    /// `None` where the policy wasn't asked about since the index was last cleared, where it has
+    /// more than 64 rules, where there are more than 4,194,304 vehicles, where its bitmaps have no
+    /// room next to the cached ones, or out of memory; then the vehicles themselves must be
+    /// evaluated. So a question that is asked once, or whose bitmaps can't be cached, costs no more
+    /// than that.
     pub fn verdicts<P: Places>(
         &mut self,
         alloc: Global,
@@ -168,15 +171,15 @@ impl Kept {
     }
 }
 
-/// Whether a column of this policy is kept.
+/// Whether a column of this policy is cached.
 fn has_column(columns: &[Column], policy: Id) -> bool
     ensures { result ≡ has_column columns.now policy }
 {
     columns.iter().any(|column| column.policy == policy)
 }
 
-/// Whether a column of this policy has room: it is kept, or with one more there are no more than
-/// 4,194,304 masks.
+/// Whether a column of this policy has room: it is cached already, or with one more column there
+/// are at most 4,194,304 bitmaps.
 fn has_room(kept: &Option<Listed>, policy: &Policy, vehicles: &BTreeMap<Id, Box<Vehicle>>) -> bool
     ensures { result ≡ true → HasRoom kept.now (policy_document policy.now).id (btree_map_len vehicles.now) }
 {
@@ -187,7 +190,8 @@ fn has_room(kept: &Option<Listed>, policy: &Policy, vehicles: &BTreeMap<Id, Box<
     has_column(&listed.columns, policy.id()) || columns.saturating_mul(vehicles.len()) <= MOST_MASKS
 }
 
-/// Whether a policy is among those that were asked about. It is from now on, if there is memory for it.
+/// Whether a policy was asked about before. It counts as asked about from now on, unless out of
+/// memory.
 fn was_asked(alloc: Global, asked: &mut Option<Vec<Id>>, policy: Id) -> bool {
     let mut policies = asked.take().unwrap_or_else(|| Vec::new(alloc));
     let is_there = policies.contains(&policy);
@@ -198,7 +202,7 @@ fn was_asked(alloc: Global, asked: &mut Option<Vec<Id>>, policy: Id) -> bool {
     is_there
 }
 
-/// What is kept after a device changed, if it can be noted.
+/// The index after a device changed; `None` where the change can't be logged.
 fn noted(listed: Listed, device: Id) -> Option<Listed>
     ensures { IfSome result (λ new. (published : Published) (before after : Vehicles) → IsChanged device before after →
         IsListed published before listed → IsListed published after new) }
@@ -211,15 +215,15 @@ fn noted(listed: Listed, device: Id) -> Option<Listed>
     Some(listed)
 }
 
-/// Logs a changed device. `false` where there is no room or no memory for it in the log of so great a
-/// fleet.
+/// Logs a changed device. `false` where the log of a fleet of this size has no room, or out of
+/// memory.
 pub(crate) fn logged(changed: &mut Vec<Id>, fleet: usize, device: Id) -> bool
     ensures { result ≡ true → changed.new.items ≡ changed.old.items ++ device ∷ [] }
 {
     changed.len() < LEAST_NOTES.max(fleet / 8) && changed.push(device).is_ok()
 }
 
-/// What is kept; where nothing is, a list of the devices alone. `None` where memory ran out.
+/// The index, or where there is none a new one of the devices alone. `None` where out of memory.
 fn kept_or_new(
     alloc: Global,
     kept: Option<Listed>,
@@ -235,7 +239,7 @@ fn kept_or_new(
     }
 }
 
-/// What is kept, with the beginnings of states up to date. `None` where memory ran out.
+/// The index with the beginnings of states up to date. `None` where out of memory.
 fn with_sinces(
     alloc: Global,
     listed: Listed,
@@ -269,7 +273,7 @@ fn with_sinces(
     })
 }
 
-/// A list of the devices alone. `None` where memory ran out.
+/// An index of the devices alone. `None` where out of memory.
 fn without_columns(alloc: Global, vehicles: &BTreeMap<Id, Box<Vehicle>>) -> Option<Listed>
     ensures rows { IfSome result (AreRows vehicles.now) }
     ensures kept { IfSome result (λ new. (published : Published) → IsListed published vehicles.now new) }
@@ -287,7 +291,7 @@ fn without_columns(alloc: Global, vehicles: &BTreeMap<Id, Box<Vehicle>>) -> Opti
     })
 }
 
-/// Takes the column of a policy out of those that are kept, or begins one that has no mask.
+/// Takes the column of a policy out of the index; a new one without bitmaps where there is none.
 fn taken_out(columns: &mut Vec<Column>, alloc: Global, policy: Id, seen: usize) -> Column
     ensures policy { result.policy ≡ policy }
     ensures kept { (published : Published) (vehicles : Vehicles) (devices changed : List (List ℕ)) →
@@ -305,7 +309,7 @@ fn taken_out(columns: &mut Vec<Column>, alloc: Global, policy: Id, seen: usize) 
     }
 }
 
-/// A column of a policy with all masks, up to date. `None` where memory ran out.
+/// The column of a policy with all its bitmaps, up to date. `None` where out of memory.
 fn refreshed<P: Places>(
     alloc: Global,
     column: Column,
@@ -342,7 +346,7 @@ fn refreshed<P: Places>(
     })
 }
 
-/// What is kept with a column more, if there is memory for it.
+/// The index with this column added; without it where out of memory.
 fn put_back(listed: Listed, column: Column) -> Listed
     ensures { (published : Published) (vehicles : Vehicles) → IsListed published vehicles listed →
         IsColumn published vehicles listed.devices.items listed.changed.items column → IsListed published vehicles result }

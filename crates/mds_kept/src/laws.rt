@@ -1,9 +1,10 @@
-//! What follows from the definitions of what is kept.
+//! Laws of the bitmap index. Each function's contract is the law; the functions themselves do
+//! nothing.
 
 ghost use Rattle.mds_kept.specs.Kept.{Fits, Grows, Published, Vehicles};
 ghost use Rattle.mds_kept.specs.declared.kept.Kept.{Kept};
 
-/// What is kept stays right as more is published.
+/// The index stays right as more is published.
 pub fn stays_right()
     ensures { (published more : Published) (vehicles : Vehicles) (kept : Kept) → Grows published more →
         Fits published vehicles kept → Fits more vehicles kept }

@@ -1,5 +1,5 @@
-//! What is kept between questions of an operator's vehicles: for each policy that was asked about, the
-//! rules that each vehicle meets whenever they are open, renewed for the vehicles that changed since.
+//! The bitmap index of an operator's vehicles: each policy's bitmaps, cached between questions and
+//! renewed for the vehicles that changed.
 #![tactic(auto)]
 
 mod bounds;

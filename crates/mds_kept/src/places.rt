@@ -6,13 +6,14 @@ ghost use Rattle.mds_kept.specs.Kept.{AreEdited, HasArrived, HasDeparted, IsList
 use crate::kept::{Column, Listed, MOST_MASKS, logged};
 use mds_text::Id;
 
-/// The most devices that may come or go between two questions, before all that is kept is dropped: each
-/// moves 24 bytes of every vehicle behind it, and 8 more for each further policy, and so these cost less
-/// than to read all vehicles anew.
+/// The most devices that may come or go between two questions, before the index is cleared: each
+/// moves 24 bytes of every vehicle after it, and 8 more for each cached policy, so this many cost
+/// less than reading all vehicles again.
 const MOST_MOVES: usize = 64;
 
-/// What is kept after a device came, if there is room and memory for it. Nothing is told of its vehicle
-/// but that it changed.
+/// The index after a device came; `None` where too many came or went, where there is no room for
+/// it, or out of memory. The device is logged as changed, so that its words are computed by the
+/// next question.
 pub(crate) fn arrived(listed: Listed, device: Id) -> Option<Listed>
     ensures { IfSome result (λ new. (published : Published) (before after : Vehicles) → IsOrdered device_cmp before → HasArrived device before after →
         IsListed published before listed → IsListed published after new) }
@@ -36,7 +37,7 @@ pub(crate) fn arrived(listed: Listed, device: Id) -> Option<Listed>
     Some(listed)
 }
 
-/// What is kept after a device went, if not too many came or went.
+/// The index after a device went; `None` where too many came or went.
 pub(crate) fn departed(listed: Listed, device: Id) -> Option<Listed>
     ensures { IfSome result (λ new. (published : Published) (before after : Vehicles) → IsOrdered device_cmp before → HasDeparted device before after →
         IsListed published before listed → IsListed published after new) }
@@ -55,8 +56,8 @@ pub(crate) fn departed(listed: Listed, device: Id) -> Option<Listed>
     Some(listed)
 }
 
-/// Puts a value in at a place of a list. A full list grows by as many places as the next moves need.
-/// `false` where memory ran out.
+/// Inserts a value at an index of a list. A full list is enlarged by `MOST_MOVES` entries at once.
+/// `false` where out of memory.
 fn put_in<T: Copy>(list: &mut Vec<T>, place: usize, value: T) -> bool
     requires { place ≤ length list.old.items }
     ensures { result ≡ true → list.new.items ≡ insert list.old.items place value }
@@ -67,14 +68,15 @@ fn put_in<T: Copy>(list: &mut Vec<T>, place: usize, value: T) -> bool
     list.insert(place, value).is_ok()
 }
 
-/// Puts a 0 in at a place of words, if they reach so far. `false` where memory ran out.
+/// Inserts a 0 at an index of a list of words, where the list reaches so far. `false` where out of
+/// memory.
 fn put_word(words: &mut Vec<u64>, place: usize) -> bool
     ensures { result ≡ true → words.new.items ≡ with_place place words.old.items }
 {
     words.len() < place || put_in(words, place, 0)
 }
 
-/// Puts a 0 in at a place of the masks of each column. `false` where memory ran out.
+/// Inserts a 0 at an index of each column's bitmaps. `false` where out of memory.
 fn put_masks(columns: &mut [Column], place: usize) -> bool
     ensures { result ≡ true → AreEdited (with_place place) columns.old columns.new }
 {
@@ -86,7 +88,7 @@ fn put_masks(columns: &mut [Column], place: usize) -> bool
     true
 }
 
-/// Takes out the word at a place, if the words reach so far.
+/// Removes the word at an index, where the list reaches so far.
 fn take_word(words: &mut Vec<u64>, place: usize)
     ensures { words.new.items ≡ without_place place words.old.items }
 {
@@ -95,7 +97,7 @@ fn take_word(words: &mut Vec<u64>, place: usize)
     }
 }
 
-/// Takes out the mask at a place of each column.
+/// Removes the bitmap at an index of each column.
 fn take_masks(columns: &mut [Column], place: usize)
     ensures { AreEdited (without_place place) columns.old columns.new }
 {

@@ -8,7 +8,7 @@ use mds_text::Id;
 use std::alloc::{AllocError, Global};
 use std::collections::BTreeMap;
 
-/// What is kept of each vehicle as a word.
+/// What is cached of each vehicle, as one word.
 pub(crate) trait Word {
     ghost use Rattle.std.specs.Prelude.{ℕ};
     ghost use Rattle.mds_match.specs.Row.{Row, row_of};
@@ -34,7 +34,7 @@ impl Word for Since {
     }
 }
 
-/// The rules of a policy that a vehicle meets whenever they are open.
+/// The bitmap of the rules of a policy that a vehicle meets whenever they are open.
 #[derive(Drop)]
 pub(crate) struct Mask<'a> {
     pub(crate) rules: MaskedPolicy<'a>,
@@ -51,11 +51,11 @@ impl<'a> Word for Mask<'a> {
     }
 }
 
-/// The words of these vehicles, in the order of their device ids.
+/// The words of all these vehicles, in the order of their device ids.
 ///
 /// # Errors
 ///
-/// Memory ran out.
+/// Out of memory.
 fn made<W: Word>(
     alloc: Global,
     word: &W,
@@ -70,8 +70,8 @@ fn made<W: Word>(
     Ok(words)
 }
 
-/// Makes the words of changed devices anew where they stand, if they are still held. `false` where one
-/// isn't listed.
+/// Computes the words of changed devices again, where they are still there. `false` where one of
+/// them isn't listed.
 fn renew<W: Word>(
     words: &mut [u64],
     word: &W,
@@ -100,8 +100,8 @@ fn renew<W: Word>(
     true
 }
 
-/// The words of these vehicles: those that are kept, with those of changed devices made anew, or all
-/// made anew where not all are there. `None` where memory ran out.
+/// The words of these vehicles: the cached ones, with those of changed devices computed again, or
+/// all computed again where some are missing. `None` where out of memory.
 pub(crate) fn fresh<W: Word>(
     alloc: Global,
     kept: Vec<u64>,

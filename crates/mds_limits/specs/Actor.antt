@@ -1,9 +1,9 @@
--- The place of who asks among all who may.
+-- The index of a client among all clients.
 use Rattle.std.specs.Prelude.{ℕ, ◌+◌, min}
 use Rattle.mds_request.specs.declared.config.Actor.{Actor}
 use Rattle.mds_request.specs.declared.config.Actor.TheVariants.{Author, Operator, Nobody}
 
--- who has no known access token, the author, and then the operators, as far as places are numbers of the machine
+-- anonymous, the author, and then the operators, as long as the index is a machine number
 abbrev pub index_of : Actor → ℕ
 index_of Nobody = 0
 index_of Author = 1

@@ -1,4 +1,4 @@
--- What an answer takes of the queue of who asks.
+-- What an answer takes of its client's queue.
 use Rattle.std.specs.Prelude.{ℕ, nat_le, if◌then◌else◌}
 use Rattle.mds_request.specs.declared.call.AuthorCall.{AuthorCall}
 use Rattle.mds_request.specs.declared.call.AuthorCall.TheVariants as author
@@ -10,7 +10,7 @@ use Rattle.mds_limits.specs.declared.cost.Cost.{Cost}
 use Rattle.mds_limits.specs.declared.cost.Cost.TheVariants.{Shared, Exclusive}
 use Rattle.mds_limits.specs.declared.limits.TheConstants.{SMALL_BODY}
 
--- what is published is cached; all else of the author may take long
+-- published documents are cached; every other answer to the author may take long
 abbrev pub author_cost : AuthorCall → Cost
 author_cost author.Policies = Shared
 author_cost (author.Policy id) = Shared
@@ -18,7 +18,8 @@ author_cost author.Geographies = Shared
 author_cost (author.Geography id) = Shared
 author_cost call = Exclusive
 
--- what is published is cached, and a small report is one entry of a fleet; all else of an operator may take long
+-- published documents are cached, and a small report is one entry of a fleet; every other answer to an operator may
+-- take long
 abbrev pub operator_cost : OperatorCall → ℕ → Cost
 operator_cost operator.Policies length = Shared
 operator_cost (operator.Policy id) length = Shared

@@ -6,6 +6,6 @@ use Rattle.mds_limits.specs.declared.limits.TheConstants.{HEAD_SECONDS, IDLE_SEC
 abbrev pub seconds_of : Stage → ℕ
 seconds_of stage = if stage.is_head then HEAD_SECONDS else IDLE_SECONDS
 
--- the time of a head runs until it has come, that of an idle connection until a head begins
+-- the deadline of a head runs until it has come, that of an idle connection until a head begins
 abbrev pub goes_on : Stage → Stage → Bool
 goes_on stage next = (stage.pace == next.pace) && (stage.is_head || not next.is_head)

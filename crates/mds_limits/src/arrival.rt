@@ -1,4 +1,4 @@
-//! How a body arrives.
+//! How a request body arrives.
 ghost use Rattle.std.specs.Prelude.{◌≡◌};
 ghost use Rattle.mds_limits.specs.Arrival.{arrived_of, body_in, closes_after, piece_at};
 
@@ -9,9 +9,9 @@ use mds_request::MOST_BODY;
 /// What becomes of a piece of a body.
 #[derive(Clone, Copy, Debug, PartialEq, Eq)]
 pub enum Piece {
-    /// It is kept.
+    /// It is stored.
     Kept,
-    /// The body is too long: it is read past.
+    /// The body is too long: the piece is read and discarded.
     Passed,
     /// Nothing more is read.
     Refused,
@@ -22,15 +22,15 @@ pub enum Piece {
 pub enum End {
     /// The body ended.
     Over,
-    /// It went on after all that is read past.
+    /// It went on after all that is read and discarded.
     Refused,
     /// It broke off, or wasn't framed as HTTP says.
     Broken,
-    /// There was no memory for it.
+    /// Out of memory.
     NoMemory,
 }
 
-/// How the body of a request arrived.
+/// A request body as it arrived.
 #[derive(Drop)]
 pub enum Arrived {
     /// All of it.
@@ -39,7 +39,7 @@ pub enum Arrived {
     Broken,
     /// It was over the limit of a body.
     TooLong,
-    /// There was no memory for it.
+    /// Out of memory.
     NoMemory,
 }
 
@@ -62,7 +62,7 @@ impl Piece {
 }
 
 impl Arrived {
-    /// How a body arrived of which these bytes came until its reading ended so.
+    /// The body of which these bytes were read, and whose reading ended so.
     pub fn of(end: End, body: Bytes) -> Arrived
         ensures { result ≡ arrived_of end body }
     {
@@ -74,7 +74,7 @@ impl Arrived {
         }
     }
 
-    /// The body; no bytes, where it didn't arrive whole.
+    /// The bytes of the body; none, where it didn't arrive whole.
     pub fn bytes(&self) -> &[u8]
         ensures { result.now ≡ body_in self.now }
     {
@@ -84,7 +84,7 @@ impl Arrived {
         }
     }
 
-    /// Whether the connection is closed after the reply to a request whose body arrived so.
+    /// Whether the connection is closed after the response to this body's request.
     pub fn closes(&self) -> bool
         ensures { result ≡ closes_after self.now }
     {

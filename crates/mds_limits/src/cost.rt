@@ -1,22 +1,22 @@
-//! What an answer takes of the queue of who asks.
+//! What an answer takes of its client's queue.
 ghost use Rattle.std.specs.Prelude.{◌≡◌};
 ghost use Rattle.mds_limits.specs.Cost.{author_cost, cost_of, operator_cost};
 
 use crate::limits::SMALL_BODY;
 use mds_request::{AuthorCall, Call, OperatorCall};
 
-/// What an answer takes of the queue of who asks.
+/// What an answer takes of its client's queue.
 #[derive(Clone, Copy, Debug, PartialEq, Eq)]
 pub enum Cost {
     /// Nothing: it is given at once.
     Free,
-    /// One permit: it is given beside other short ones.
+    /// One permit: it runs concurrently with other short ones.
     Shared,
-    /// All permits: it may take long, and is given alone.
+    /// All permits: it may take long, and runs alone.
     Exclusive,
 }
 
-/// What the answer to a call of the author takes. What is published is cached as bytes.
+/// What the answer to a call of the author takes. Published documents are cached as bytes.
 fn author_cost(call: &AuthorCall) -> Cost
     ensures { result ≡ author_cost call.now }
 {
@@ -32,8 +32,8 @@ fn author_cost(call: &AuthorCall) -> Cost
     }
 }
 
-/// What the answer to a call of an operator takes, whose body has so many bytes. What is published is cached as bytes, and
-/// a report is one entry of a fleet.
+/// What the answer to a call of an operator takes, whose body has so many bytes. Published
+/// documents are cached as bytes, and a report is one entry of a fleet.
 fn operator_cost(call: &OperatorCall, length: usize) -> Cost
     ensures { result ≡ operator_cost call.now length }
 {

@@ -1,4 +1,5 @@
-//! What is decided of a connection: its limits, whose it is, who may take a seat, and what may wait.
+//! Decisions about a connection: its limits, whose it is, whether it gets a slot, what may wait,
+//! and what an answer takes of its client's queue.
 #![tactic(auto)]
 
 mod actor;

@@ -1,23 +1,24 @@
-//! Who may take a seat.
+//! Who gets a connection slot.
 ghost use Rattle.std.specs.Prelude.{◌≡◌, ◌≤◌, ℕ, IsTrue, IsFalse};
 ghost use Rattle.mds_limits.specs.Seat.{most_of, without_any, is_over, is_full, HasMost};
 ghost use Rattle.mds_limits.specs.declared.seat.Decision.TheVariants.{Take, Close};
 
 use crate::limits::{MOST_CONNECTIONS, MOST_OF_ASKER, MOST_STRANGERS};
 
-/// What is to be done for a connection that wants a seat.
+/// What to do for a connection that wants a slot.
 #[derive(Clone, Copy, Debug, PartialEq, Eq)]
 pub enum Decision {
-    /// It takes one.
+    /// It takes a slot.
     Take,
-    /// The oldest idle connection of the asker at this place has to be closed for it.
+    /// The oldest idle connection of the client at this index has to be closed for it.
     Close(usize),
 }
 
-/// What is to be done for a connection of the asker at this place, which is counted already: `counts` has those of
-/// strangers, of the author and of each operator, and `all` is how many there are. Strangers have at most half of all seats
-/// and each other asker at most `MOST_OF_ASKER`: beyond that one of its own has to go. One seat is left for each asker that
-/// has none: where all others are taken, one goes of whoever has most.
+/// What to do for a connection of the client at this index, which is counted already: `counts` has
+/// those of anonymous, of the author and of each operator, and `all` is their number. Anonymous
+/// have at most half of all slots and any other client at most `MOST_OF_ASKER`: beyond that, one of
+/// its own is closed. One slot is reserved for each client that has none: where all others are
+/// taken, a connection of the client with the most is closed.
 pub fn seat_for(counts: &[usize], all: usize, asker: usize) -> Decision
     ensures own { IsTrue (is_over counts.now asker) → result ≡ Close asker }
     ensures most { IsFalse (is_over counts.now asker) → IsTrue (is_full counts.now all)
@@ -33,7 +34,7 @@ pub fn seat_for(counts: &[usize], all: usize, asker: usize) -> Decision
     }
 }
 
-/// The most connections of the asker at this place.
+/// The most connections of the client at this index.
 fn most_of(asker: usize) -> usize
     ensures { result ≡ most_of asker }
 {
@@ -44,7 +45,7 @@ fn most_of(asker: usize) -> usize
     }
 }
 
-/// Whether the asker at this place has more connections than it may.
+/// Whether the client at this index has more connections than it may.
 fn is_over(counts: &[usize], asker: usize) -> bool
     ensures { result ≡ is_over counts.now asker }
 {
@@ -54,21 +55,21 @@ fn is_over(counts: &[usize], asker: usize) -> bool
     }
 }
 
-/// How many askers have no connection, strangers aside.
+/// How many clients have no connection, anonymous aside.
 fn without_any(counts: &[usize]) -> usize
     ensures { result ≡ without_any counts.now }
 {
     counts.iter().skip(1).filter(|count| **count == 0).count()
 }
 
-/// Whether so many connections leave too few seats for askers that have none.
+/// Whether so many connections leave too few slots for clients that have none.
 fn is_full(counts: &[usize], all: usize) -> bool
     ensures { result ≡ is_full counts.now all }
 {
     all > MOST_CONNECTIONS.saturating_sub(without_any(counts))
 }
 
-/// The place of whoever has most connections.
+/// The index of the client with the most connections.
 fn fullest(counts: &[usize]) -> usize
     ensures { HasMost counts.now result }
 {

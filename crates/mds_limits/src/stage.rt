@@ -4,16 +4,17 @@ ghost use Rattle.mds_limits.specs.Stage.{seconds_of, goes_on};
 
 use crate::limits::{HEAD_SECONDS, IDLE_SECONDS};
 
-/// How far a connection is, while it waits for a head.
+/// What a connection waits for: its next head, or the rest of one.
 #[derive(Clone, Copy, Debug, PartialEq, Eq)]
 pub struct Stage {
-    /// How many requests it carried, and how many of them were answered.
+    /// How many requests it carried, plus how many of them were answered.
     pub pace: u64,
     /// A head has begun.
     pub is_head: bool,
 }
 
-/// Whether a request is answered at this pace: it rises by one as a head has come, and as its reply is made.
+/// Whether a request is being answered at this pace, which rises by one when a head has come, and
+/// by one when its response is made.
 pub fn is_answering(pace: u64) -> bool
     ensures { result ≡ (pace % 2 == 1) }
 {
@@ -32,7 +33,8 @@ impl Stage {
         }
     }
 
-    /// Whether its time is still the one that runs at the next stage: a head's isn't put off by what comes of it.
+    /// Whether this stage's deadline still runs at the next one: that of a head isn't put off as
+    /// more of it comes.
     pub fn goes_on(self, next: Stage) -> bool
         ensures { result ≡ goes_on self next }
     {

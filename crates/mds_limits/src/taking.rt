@@ -1,11 +1,11 @@
-//! Whether a reply is taken.
+//! Whether a client reads a response too slowly.
 ghost use Rattle.std.specs.Prelude.{◌≡◌};
 ghost use Rattle.mds_limits.specs.Taking.{is_untaken};
 
 use crate::limits::{LEAST_TAKEN, SLOW_SECONDS};
 
-/// Whether too little of a reply is taken: nothing for as long as may be, or of its bytes too few in so many seconds
-/// since its first one.
+/// Whether too little of a response is written: nothing for as long as may be, or so many bytes are
+/// too few in so many seconds since it first had to wait.
 pub fn is_untaken(is_stalled: bool, seconds: u32, taken: u64) -> bool
     ensures { result ≡ is_untaken is_stalled seconds taken }
 {

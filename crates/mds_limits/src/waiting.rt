@@ -5,14 +5,16 @@ ghost use Rattle.mds_limits.specs.Waiting.{counted_of, may_wait_beside};
 use crate::limits::{MOST_HELD, MOST_HELD_BY_ALL, MOST_WAITING};
 use mds_request::MOST_BODY;
 
-/// What waits of one who asks: requests whose replies aren't made, and the bytes that their bodies count as.
+/// What waits of one client: requests whose responses aren't made, and the bytes that their bodies
+/// count as.
 #[derive(Clone, Copy, Debug, PartialEq, Eq)]
 pub struct Load {
     pub requests: usize,
     pub bytes: usize,
 }
 
-/// How many bytes a body counts as, whose head says that it has so many; the most, where it says nothing or more.
+/// How many bytes a body of this declared length counts as; the maximum, where none is declared or
+/// a larger one.
 pub fn counted(length: Option<u64>) -> usize
     ensures { result ≡ counted_of length }
 {
@@ -22,7 +24,7 @@ pub fn counted(length: Option<u64>) -> usize
     }
 }
 
-/// Whether so many bytes fit beside those that are held.
+/// Whether so many bytes more fit with those that are held.
 fn fits(held: usize, more: usize, most: usize) -> bool
     ensures { result ≡ nat_le (held + more) most }
 {
@@ -32,8 +34,8 @@ fn fits(held: usize, more: usize, most: usize) -> bool
     }
 }
 
-/// Whether one more request of one who asks may wait, whose body counts as so many bytes, beside what waits of its asker
-/// and the bytes of all. Beyond it the server is busy.
+/// Whether one more request of a client may wait, whose body counts as so many bytes, given the
+/// client's load and the bytes of all. Where it may not, the server is busy.
 pub fn may_wait(load: Load, all: usize, bytes: usize) -> bool
     ensures { result ≡ may_wait_beside load all bytes }
 {

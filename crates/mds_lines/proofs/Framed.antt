@@ -14,13 +14,13 @@ without_return [] = []
 without_return (byte ∷ []) = cond (eqb byte 13) [] (byte ∷ [])
 without_return (byte ∷ next ∷ bytes) = byte ∷ without_return (next ∷ bytes)
 
--- the line that a kept line and its line feed end, or that it is over the limit
+-- the line that ends at a line feed after the stored bytes, or that it is over the limit
 abbrev pub Closes : List ℕ → Found → List ℕ → Type 0
 Closes old Line new = (new ≡ without_return old) × (length new ≤ LINE_LIMIT)
 Closes old TooLong new = LINE_LIMIT < length (without_return old)
 Closes old End new = ⊥
 
--- the last line, which no line feed ended, or that there is none
+-- the last line, without a line feed, or that there is none
 abbrev pub ClosesLast : List ℕ → Found → List ℕ → Type 0
 ClosesLast old Line new = (new ≡ old) × (0 < length old) × (length old ≤ LINE_LIMIT)
 ClosesLast old TooLong new = LINE_LIMIT < length old

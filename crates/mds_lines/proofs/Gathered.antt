@@ -15,7 +15,7 @@ use Rattle.mds_lines.proofs.Framed.{without_return, Closes, ClosesLast}
 use Rattle.mds_lines.proofs.Positions.{word_found, word_missing, none_before}
 use Rattle.mds_lines.specs.declared.gather.TheConstants.{LINE_LIMIT}
 
--- what is added where there is room for so many bytes
+-- what is appended where there is room for so many bytes
 pub keeps_front : (limit : ℕ) (line bytes : List ℕ) → length line ≤ limit → line ++ take (min (length bytes) (limit - length line)) bytes ≡ take limit (line ++ bytes)
 keeps_front limit line bytes short =
     let room = limit - length line in
@@ -24,7 +24,7 @@ keeps_front limit line bytes short =
     ∙ (ap (λ xs. line ++ xs) (take_min room bytes)
     ∙ (sym (take-append-add line bytes room) ∙ ap (λ n. take n (line ++ bytes)) whole))
 
--- a line feed that was found ends the bytes before it, which have none
+-- the line feed that is found ends the bytes before it, which have none
 pub feed_splits : (bytes : List ℕ) (place : ℕ) → position is_feed bytes ≡ Some place → bytes ≡ take place bytes ++ 10 ∷ drop (place + 1) bytes
 feed_splits bytes place found =
     let at = position-Some is_feed bytes place 0 found in
@@ -39,7 +39,7 @@ feed_length bytes place found =
     let at = position-Some is_feed bytes place 0 found in
     length-take-le place bytes (omega (arith, at.0))
 
--- where no line feed was found there is none
+-- where no line feed is found there is none
 pub feed_missing : (bytes : List ℕ) → position is_feed bytes ≡ None → IsWithoutFeed bytes
 feed_missing bytes missing = ap (list_any is_feed) (word_missing is_feed bytes missing) ∙ none_before is_feed bytes
 
@@ -55,7 +55,7 @@ ends_is byte bytes =
     ap (λ b. b && eqb (get_or (byte ∷ bytes) (length (byte ∷ bytes) - 1) 0) 13) (lt-ltb 0 (length (byte ∷ bytes)) (omega arith))
     ∙ ap (λ k. eqb (get_or (byte ∷ bytes) k 0) 13) (one_less (length bytes))
 
--- std's word for the same
+-- the same as in `std`
 pub strip_is : (bytes : List ℕ) → strip_last 13 bytes ≡ without_return bytes
 strip_is [] = refl
 strip_is (byte ∷ []) = refl
@@ -73,7 +73,7 @@ return_dropped old new e h = h ∙ sym (cond-true (ends_with_byte 13 old) (take 
 pub no_return : (old : List ℕ) → ends_with_byte 13 old ≡ false → old ≡ strip_last 13 old
 no_return old e = sym (cond-false (ends_with_byte 13 old) (take (length old - 1) old) old e)
 
--- what the test of the length says of a line that its line feed ended
+-- the test of the length, for a line that ended at its line feed
 closes_at : (old new : List ℕ) (b : Bool) → ltb LINE_LIMIT (length new) ≡ b → new ≡ without_return old → Closes old (cond b TooLong Line) new
 closes_at old new true e h = omega (arith, ltb-true LINE_LIMIT (length new) e, ap length h)
 closes_at old new false e h = (h, ltb-false LINE_LIMIT (length new) e)
@@ -82,7 +82,7 @@ pub closes : (old new : List ℕ) (found : Found) → found ≡ cond (ltb LINE_L
 closes old new found e h =
     subst (λ r. Closes old r new) (sym e) (closes_at old new (ltb LINE_LIMIT (length new)) refl (h ∙ strip_is old))
 
--- and of the last one
+-- and for the last line
 last_at : (byte : ℕ) (old new : List ℕ) (b : Bool) → ltb LINE_LIMIT (length (byte ∷ old)) ≡ b → new ≡ byte ∷ old → ClosesLast (byte ∷ old) (cond b TooLong Line) new
 last_at byte old new true e same = ltb-true LINE_LIMIT (length (byte ∷ old)) e
 last_at byte old new false e same = (same, omega arith, ltb-false LINE_LIMIT (length (byte ∷ old)) e)

@@ -28,7 +28,7 @@ begins configuration world = state_of world ≡ new_state configuration
 abbrev pub steps : {E : Type 0} → World E → Request → Reply → World E → Type 0
 steps old request reply new = Step (state_of old) request reply (state_of new)
 
--- one more line in front
+-- one more line at the beginning
 in_front : {E : Type 0} (found : Option Request) (old mid : World E) (reply : Reply) (rest : List Exchange) (new : State) → MatchOption found ((reply ≡ refused BadLine) × (mid ≡ old)) (λ request. steps old request reply mid) → History (state_of mid) rest new → History (state_of old) (cons_option (option_map (λ request. record { request = request; reply = reply }) found) rest) new
 in_front None old mid reply rest new answers run = subst (λ w. History (state_of w) rest new) answers.1 run
 in_front (Some request) old mid reply rest new answers run = (state_of mid, answers, run)
@@ -67,14 +67,14 @@ gives_histories input output replays =
           (histories machine outputs.last (asked_of input) outputs.replies outputs.run);
     }
 
--- the parts of bytes that a line feed ends
+-- the parts of bytes between line feeds
 split_line : (line rest : List ℕ) → IsWithoutFeed line → slice_split is_feed (line ++ 10 ∷ rest) ≡ line ∷ slice_split is_feed rest
 split_line [] rest plain = refl
 split_line (byte ∷ line) rest plain =
     slice_split-cons_no is_feed byte (line ++ 10 ∷ rest) (no_feed_here byte line plain)
     ∙ ap (onto_first byte) (split_line line rest (no_feed_later byte line plain))
 
--- the parts of an output are what the replies are written as, and nothing behind the last line feed
+-- the parts of an output are the texts of the replies, and nothing after the last line feed
 split_output : (replies : List Reply) → AreLines replies → slice_split is_feed (flat_map answer_line replies) ≡ map answer_text replies ++ [] ∷ []
 split_output [] one = refl
 split_output (reply ∷ replies) one =
@@ -109,7 +109,7 @@ module _ (configuration : Configuration) (place : ℕ) where
       one_line (request_in line) line reply (zip lines (map answer_text replies ++ more)) (exchanges_on lines replies) (asked_lines lines replies more (cc))
 
 module _ {E : Type 0} where
-  -- the history of a replay, from the new machine of a configuration that its first line reads as
+  -- the history of a replay, from the new machine of the configuration on its first line
   from_new : (configuration : Configuration) (input output : List ℕ) → read_configuration (configuration_of input) ≡ Ok configuration → (replay : Replays (begins {E = E}) steps input output) → History (new_state configuration) (exchanges_on (asked_of input) replay.2.replies) (state_of replay.2.last)
   unfolding gives_histories
   from_new configuration input output read replay =
@@ -117,7 +117,7 @@ module _ {E : Type 0} where
       let same : fresh.configuration ≡ configuration = cc (read, fresh.read) in
       subst (λ c. History (new_state c) (exchanges_on (asked_of input) replay.2.replies) (state_of replay.2.last)) same (gives_histories input output replay).history
 
-  -- the lines that answer an operator are its replies
+  -- the lines that answer an operator are the texts of its replies
   told : (configuration : Configuration) (place : ℕ) (input output : List ℕ) (replay : Replays (begins {E = E}) steps input output) → answers_to configuration place input output ≡ map answer_text (replies_to configuration place (exchanges_on (asked_of input) replay.2.replies))
   told configuration place input output replay =
       let outputs = replay.2 in
@@ -132,7 +132,7 @@ module _ {E : Type 0} where
       (from_new configuration other apart reads two) seen has had in
       told configuration place input output one ∙ (ap (map answer_text) same.0 ∙ sym (told configuration place other apart two))
 
--- a line that is a request stands in the history behind those before it
+-- a line that is a request is in the history, after those before it
 abbrev Stands : List (List ℕ) → List Reply → List Exchange → Request → Type 0
 Stands before replies history request =
     (reply : Reply) × StandsAfter (exchanges_on before replies) (record { request = request; reply = reply }) history

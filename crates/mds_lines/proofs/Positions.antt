@@ -1,4 +1,4 @@
--- What the position of the first such byte says of the bytes before and behind it.
+-- The position of the first such byte, and the bytes before and after it.
 use Rattle.std.proofs.Common.{◌≡◌, ℕ, ◌+◌, ◌≤◌, Bool, true, false, not, cond, ◌||◌, List, [], ◌∷◌, length, take, drop, Option, Some, None, position, ltb, refl, sym, ap, ◌∙◌, add_comm, add-one, arith}
 use Rattle.std.specs.List.{position_or_len, prefix_len, before_first, after_first, list_any}
 use Rattle.std.proofs.lemmas.Option.{cond_some}
@@ -50,7 +50,7 @@ untrue : (b : Bool) → ¬ (b ≡ true) → b ≡ false
 untrue true h = absurd (h refl)
 untrue false h = refl
 
--- the first byte that passes stands at the position of the first that does
+-- the first byte that passes is at the position of the first element that does
 pub first_is_position : (p : ℕ → Bool) (xs : List ℕ) (found : Option ℕ) → IsFirstByte p xs found → found ≡ position p xs
 first_is_position p xs None h =
     let at : position_or_len p xs ≡ length xs = position_or_len_is p xs (length xs) 0 (omega arith) (λ k low. untrue _ (h k (omega arith) low)) (λ low. absurd (omega (arith, low))) in

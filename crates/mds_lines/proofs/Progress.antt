@@ -20,7 +20,7 @@ use Rattle.mds_lines.specs.Turning.{Replies, Turned, Turns, written_of, filled_l
 use Rattle.mds_lines.proofs.Written.{appends_more}
 use Rattle.mds_lines.specs.declared.gather.TheConstants.{LINE_LIMIT}
 
--- which lines were answered between these two places
+-- the lines that were answered between these two states of the input
 abbrev pub LinesBetween : Option (List ℕ) → Option (List ℕ) → List (List ℕ) → Type 0
 LinesBetween None now answered = Unit {0}
 LinesBetween (Some xs) None answered = ⊥
@@ -51,12 +51,12 @@ lines_both before after one other =
     ∙ and_from (list_all (λ reply. is_line reply.body) before) (list_all (λ reply. is_line reply.body) after) one other
 
 module _ {M : Type 0} (step : M → Request → Reply → M → Type 0) where
-  -- the answers to all lines that were left were written
+  -- the answers to all remaining lines were written
   abbrev pub AnswersAll : M → Option (List ℕ) → Option (List ℕ) → Option (List ℕ) → Type 0
   AnswersAll machine left written_old written_new =
       (output : List ℕ) × Appends written_old written_new output × IfSome left (λ bytes. Outputs step machine (filled_lines bytes) output)
 
-  -- the front of them was
+  -- a prefix of them was written
   abbrev pub AnswersSome : M → Option (List ℕ) → Option (List ℕ) → Option (List ℕ) → Type 0
   AnswersSome machine left written_old written_new =
       (front : List ℕ) × (rest : List ℕ) × Appends written_old written_new front × IfSome left (λ bytes. Outputs step machine (filled_lines bytes) (front ++ rest))
@@ -162,7 +162,7 @@ module _ {M : Type 0} (step : M → Request → Reply → M → Type 0) where
     option_total None machine = (refused BadLine, machine, (refl, refl), refl)
     option_total (Some request) machine = total machine request
 
-    -- any lines have answers
+    -- there are answers to any lines
     run_total : (lines : List (List ℕ)) (machine : M) → (replies : List Reply) × (last : M) × Run step machine lines replies last × AreLines replies
     run_total [] machine = ([], machine, refl, refl)
     run_total (line ∷ lines) machine =
@@ -170,7 +170,7 @@ module _ {M : Type 0} (step : M → Request → Reply → M → Type 0) where
         let more = run_total lines one.1 in
         (one.0 ∷ more.0, more.1, (one.1, one.2, more.2), and_from (is_line one.0.body) (list_all (λ reply. is_line reply.body) more.0) one.3 more.3)
 
-    -- what was written is the front of the answers to all lines
+    -- what was written is a prefix of the answers to all lines
     ran_rest : (old now : Option (List ℕ)) (first last : M) (output : List ℕ) → Ran old now first last output → (rest : List ℕ) × IfSome old (λ bytes. Outputs step first (filled_lines bytes) (output ++ rest))
     ran_rest None now first last output r = ([], tt)
     ran_rest (Some xs) None first last output r = absurd r.between

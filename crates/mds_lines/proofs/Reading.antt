@@ -1,4 +1,4 @@
--- How one line is read, from piece to piece.
+-- How one line is read, piece by piece.
 use Rattle.std.proofs.Common.{◌≡◌, ℕ, ◌+◌, ◌-◌, ◌<◌, ◌≤◌, ◌⊎◌, List, [], ◌∷◌, ◌++◌, length, take, drop, Option, Some, None, inl, inr, IfSome, refl, sym, ap, subst, ◌∙◌, append_assoc, arith}
 use Rattle.std.specs.List.{list_any}
 use Rattle.std.specs.Io.KnownBytes.{Consumes, Keeps, IsAtEnd, prepend_known}
@@ -13,7 +13,7 @@ use Rattle.mds_lines.proofs.Framed.{Closes, ClosesLast, without_return, first_li
 use Rattle.mds_lines.specs.declared.gather.TheConstants.{KEPT_LIMIT}
 use Rattle.mds_lines.specs.declared.lines.TheConstants.{INPUT_LIMIT}
 
--- From what was left, bytes without a line feed were read, of which the front is kept.
+-- Bytes without a line feed were consumed, and their prefix is stored.
 pub record Gathered (old now : Option (List ℕ)) (passed_old passed_now : ℕ) (kept : List ℕ) : Type 0 where
   pub bytes : List ℕ
   pub consumed : Consumes old now bytes
@@ -70,7 +70,7 @@ gathered_piece {old} {passed_old} {passed_now} {kept} remaining piece ahead kept
   passed = omega (arith, passed_is, g.passed, length-append g.bytes piece);
 }
 
--- reading further bytes changes nothing of what is left
+-- reading further bytes doesn't change what is left
 pub gathered_kept : {old mid new : Option (List ℕ)} {passed_old passed_now : ℕ} {kept : List ℕ} (kept' : List ℕ) (passed' : ℕ) → Gathered old mid passed_old passed_now kept → Keeps mid new → kept' ≡ kept → passed' ≡ passed_now → Gathered old new passed_old passed' kept'
 gathered_kept {old} {mid} {new} kept' passed' g k kept_same passed_same = record {
   bytes = g.bytes;
@@ -83,7 +83,7 @@ gathered_kept {old} {mid} {new} kept' passed' g k kept_same passed_same = record
 pub gathered_advances : {old now : Option (List ℕ)} {passed_old passed_now : ℕ} {kept : List ℕ} → Gathered old now passed_old passed_now kept → Advances passed_old old passed_now now
 gathered_advances g = (g.bytes, g.consumed, g.passed)
 
--- with a line feed read past too
+-- the line feed is consumed too
 pub feed_advances : {old : Option (List ℕ)} {passed_old passed_now : ℕ} {kept : List ℕ} (remaining : Option (List ℕ)) (ahead front rest : List ℕ) (passed' : ℕ) → Gathered old (prepend_known ahead remaining) passed_old passed_now kept → ahead ≡ front ++ 10 ∷ rest → passed' ≡ passed_now + length front + 1 → Advances passed_old old passed' (prepend_known rest remaining)
 feed_advances {old} remaining ahead front rest passed' g whole passed_is =
     let regrouped : ahead ≡ (front ++ 10 ∷ []) ++ rest = whole ∙ sym (append_assoc front (10 ∷ []) rest) in (
@@ -99,7 +99,7 @@ begins_at_feed (Some xs) (Some ys) bytes front rest h plain =
     let whole : xs ≡ (bytes ++ front) ++ 10 ∷ (rest ++ ys) = h ∙ (ap (λ zs. bytes ++ zs) (append_assoc front (10 ∷ rest) ys) ∙ sym (append_assoc bytes front (10 ∷ rest ++ ys))) in
     ap lines whole ∙ first_line (bytes ++ front) (rest ++ ys) plain
 
--- a line that was cut off while it was kept is over the limit with and without what was cut off
+-- a line that was truncated is over the limit with and without the bytes that were dropped
 found_line : (bytes kept final : List ℕ) (found : Found) (old new : Option (List ℕ)) → kept ≡ take KEPT_LIMIT bytes → Closes kept found final → BeginsWithLine old new (without_return bytes) → Finds found final old new
 found_line bytes kept final Line old new k closed begins = either (cases_lt KEPT_LIMIT (length bytes))
     (λ long.
@@ -115,7 +115,7 @@ found_line bytes kept final TooLong old new k closed begins = either (cases_lt K
     (without_return bytes, omega (arith, closed, ap length same), begins))
 found_line bytes kept final End old new k closed begins = absurd closed
 
--- what a line feed in the bytes ahead ends is the next line
+-- the bytes up to a line feed among the buffered ones are the next line
 pub found_at_feed : {old : Option (List ℕ)} {passed_old passed_now : ℕ} {kept : List ℕ} (remaining : Option (List ℕ)) (ahead front rest kept' final : List ℕ) (found : Found) → Gathered old (prepend_known ahead remaining) passed_old passed_now kept → ahead ≡ front ++ 10 ∷ rest → IsWithoutFeed front → kept' ≡ take KEPT_LIMIT (kept ++ front) → Closes kept' found final → Finds found final old (prepend_known rest remaining)
 found_at_feed {old} remaining ahead front rest kept' final found g whole plain kept_is closed =
     found_line (g.bytes ++ front) kept' final found old (prepend_known rest remaining)
@@ -151,7 +151,7 @@ found_last bytes kept TooLong old now some k begins final closed = either (cases
 found_last bytes kept End old now some k begins final closed =
     absurd (omega (arith, some, ap length closed.0, ap length k, length-take KEPT_LIMIT bytes))
 
--- bytes behind the last line feed are the last line, and without one there is none
+-- bytes after the last line feed are the last line, and without such bytes there is none
 found_at_end_of : (bytes kept : List ℕ) (found : Found) (old now : Option (List ℕ)) → Consumes old now bytes → IsAtEnd now → IsWithoutFeed bytes → kept ≡ take KEPT_LIMIT bytes → (final : List ℕ) → ClosesLast kept found final → Finds found final old now
 found_at_end_of [] kept Line old now consumed over plain k final closed = absurd (omega (arith, closed.1, ap length k))
 found_at_end_of [] kept TooLong old now consumed over plain k final closed = absurd (omega (arith, closed, ap length k))
@@ -163,7 +163,7 @@ pub found_at_end : {old now : Option (List ℕ)} {passed_old passed_now : ℕ} {
 found_at_end {old} {now} {passed_old} {passed_now} {kept} final found g over closed =
     found_at_end_of g.bytes kept found old now g.consumed over g.plain g.kept_is final closed
 
--- a last line has a byte, so it was read past
+-- a last line has a byte, which was consumed
 pub nearer_at_end : {old now : Option (List ℕ)} {passed_old passed_now : ℕ} {kept : List ℕ} (final : List ℕ) (found : Found) → Gathered old now passed_old passed_now kept → ClosesLast kept found final → (found ≡ End) ⊎ (passed_old < passed_now)
 nearer_at_end final End g closed = inl refl
 nearer_at_end final Line g closed = inr (omega (arith, closed.1, ap length g.kept_is, length-take KEPT_LIMIT g.bytes, g.passed))
@@ -180,7 +180,7 @@ fails_from old mid passed_old passed_mid failures_old failures_mid failures_new 
     (λ one_more. inl (one_more ∙ ap (λ n. n + 1) same))
     (λ over. inr (over_limit old mid a.0 passed_old passed_mid a.1 a.2 over))
 
--- what is ahead once a line and its line feed are taken
+-- the buffered bytes after a line and its line feed are taken
 pub ahead_behind : (chunk : List ℕ) (start end count : ℕ) (front rest : List ℕ) → take (end - start) (drop start chunk) ≡ front ++ 10 ∷ rest → count ≡ length front + 1 → take (end - (start + count)) (drop (start + count) chunk) ≡ rest
 ahead_behind chunk start end count front rest whole count_is =
     let window = take (end - start) (drop start chunk) in

@@ -1,4 +1,4 @@
--- What each step of the line reader leaves gathered.
+-- What is gathered after each step of the line reader.
 use Rattle.std.proofs.Common.{◌≡◌, ℕ, ◌<◌, ◌⊎◌, ◌+◌, Bool, true, false, take, length, ◌∷◌, ◌++◌, List, [], Option, Some, None, sym, ap, subst, ◌∙◌}
 use Rattle.std.specs.Io.KnownBytes.{Keeps, IsAtEnd, prepend_known}
 use Rattle.mds_lines.specs.declared.lines.LineReader.{LineReader}
@@ -9,15 +9,15 @@ use Rattle.mds_lines.specs.declared.gather.TheConstants.{KEPT_LIMIT}
 use Rattle.mds_lines.proofs.Framed.{Closes, ClosesLast}
 use Rattle.mds_lines.proofs.Reading.{Gathered, gathered_piece, gathered_kept, gathered_advances, feed_advances, found_at_feed, found_at_end, nearer_at_end}
 
--- The kept line gained the bytes ahead up to their first line feed, or all where there is none, so
--- many as there is room for.
+-- The stored line gained the buffered bytes up to their first line feed, or all where there is none, as many as there
+-- is room for.
 abbrev pub TakesLine : Bool → LineReader → LineReader → Type 0
 TakesLine true old new =
     (front : List ℕ) × (ahead old ≡ front ++ 10 ∷ ahead new) × IsWithoutFeed front × (held new ≡ take KEPT_LIMIT (held old ++ front)) × (passed new ≡ passed old + length front + 1)
 TakesLine false old new =
     IsWithoutFeed (ahead old) × (ahead new ≡ []) × (held new ≡ take KEPT_LIMIT (held old ++ ahead old)) × (passed new ≡ passed old + length (ahead old))
 
--- the bytes ahead and how many lie before them stay as they were
+-- the buffered bytes and the number of bytes before them don't change
 pub record SameAhead (old new : LineReader) : Type 0 where
   pub ahead_same : ahead new ≡ ahead old
   pub passed_same : passed new ≡ passed old
@@ -33,7 +33,7 @@ left_over r remaining none over = subst (λ xs. IsAtEnd (prepend_known xs remain
     nothing (Some xs) over = over
 
 module _ (old : Option (List ℕ)) (passed_old : ℕ) where
-  -- the reader has gathered this from there
+  -- the reader has gathered this since then
   abbrev pub HasGathered : LineReader → Option (List ℕ) → Type 0
   HasGathered r remaining = Gathered old (left r remaining) passed_old (passed r) (held r)
 

@@ -1,4 +1,4 @@
--- A whole replay: the answers to an input, and how many lines they are.
+-- A whole replay: the answers to an input, and how many lines they have.
 use Rattle.std.proofs.Common.{◌≡◌, ℕ, ◌+◌, ◌%◌, ◌/◌, Bool, true, false, not, cond, eqb, List, [], ◌∷◌, ◌++◌, length, filter, suc, Option, Some, None, inr, refl, ap, subst, ◌∙◌, arith}
 use Rattle.std.specs.List.{count_by, list_all, list_any, flat_map}
 use Rattle.std.specs.Io.KnownBytes.{prepend_known}

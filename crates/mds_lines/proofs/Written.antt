@@ -4,7 +4,7 @@ use Rattle.std.specs.Io.KnownBytes.{Appends, Keeps}
 use Rattle.mds_lines.specs.Ends.{Writes}
 use Rattle.std.proofs.lemmas.List.{append-nil, take-append-drop}
 
--- from old to now the front of these bytes was written, and the rest is left
+-- a prefix of these bytes was written between these states, and the rest is left
 pub record Wrote (old now : Option (List ℕ)) (bytes rest : List ℕ) : Type 0 where
   pub front : List ℕ
   pub whole : bytes ≡ front ++ rest
@@ -37,16 +37,16 @@ wrote_more old mid new bytes rest count w a = record {
   appended = appends_more old mid new w.front (take count rest) w.appended a;
 }
 
--- no byte is left, so all were written
+-- no bytes are left, so all were written
 pub wrote_all : (old now : Option (List ℕ)) (bytes rest : List ℕ) → Wrote old now bytes rest → rest ≡ [] → Appends old now bytes
 wrote_all old now bytes rest w none =
     subst (Appends old now) (sym (w.whole ∙ (ap (λ xs. w.front ++ xs) none ∙ append-nil w.front))) w.appended
 
--- a failed write of bytes in front of others is one of all of them
+-- a failed write of bytes that others follow is a failed write of all of them
 pub writes_stopped : (old new : Option (List ℕ)) (xs ys : List ℕ) → ((front : List ℕ) × (rest : List ℕ) × (xs ≡ front ++ rest) × Appends old new front) → (front : List ℕ) × (rest : List ℕ) × (xs ++ ys ≡ front ++ rest) × Appends old new front
 writes_stopped old new xs ys w = (w.0, w.1 ++ ys, ap (λ zs. zs ++ ys) w.2 ∙ append_assoc w.0 w.1 ys, w.3)
 
--- bytes written behind others
+-- bytes written after others
 pub writes_next : {T E : Type 0} (old mid new : Option (List ℕ)) (result : Result T E) (xs ys : List ℕ) → Appends old mid xs → Writes mid new result ys → Writes old new result (xs ++ ys)
 writes_next old mid new (Ok value) xs ys a w = appends_more old mid new xs ys a w
 writes_next old mid new (Err failed) xs ys a w =

@@ -5,7 +5,7 @@ use Rattle.mds_request.specs.declared.fault.ConfigFault.{ConfigFault}
 use Rattle.mds_lines.specs.declared.fault.ReplayFault.{ReplayFault}
 use Rattle.mds_lines.specs.declared.fault.ReplayFault.TheVariants.{Read, Write, BadConfig, NoMemory}
 
--- the fault of a first line that gives no configuration: it is none, or memory ran out
+-- the fault of a first line that isn't read: it is no configuration, or memory ran out
 abbrev pub fault_of : ConfigFault → ReplayFault
 fault_of fault = if is_some (config_cause fault) then BadConfig else NoMemory
 

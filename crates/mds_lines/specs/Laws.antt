@@ -1,5 +1,5 @@
--- Laws of a replay by the server's machine: what it writes is the replies of one history, in which operators are
--- isolated, and each answers what the operator has seen.
+-- Laws of a replay by the server's machine: its output is the replies of one history, in which operators are isolated,
+-- and each reply is the one that the operator's view defines.
 use Rattle.std.specs.Prelude.{◌≡◌, ℕ, true, false, List, [], ◌∷◌, ◌++◌, length, map, filter, Some, Ok, slice_get, MatchOption}
 use Rattle.std.specs.List.{filter_map, flat_map, slice_split, zip}
 use Rattle.std.specs.Option.{option_map, option_map_or}
@@ -28,7 +28,7 @@ AreReplies (line ∷ lines) (reply ∷ replies) =
 AreReplies lines replies = ⊥
 
 -- the output is the replies to an input's lines, and those to requests are a history of a new machine of the
--- configuration that the first line reads as
+-- configuration on the first line
 pub record IsHistory (input output : List ℕ) : Type 0 where
   pub configuration : Configuration
   pub read : read_configuration (configuration_of input) ≡ Ok configuration
@@ -38,24 +38,24 @@ pub record IsHistory (input output : List ℕ) : Type 0 where
   pub last : State
   pub history : History (new_state configuration) (exchanges_on (asked_of input) replies) last
 
--- the lines of an output that stand where the input's lines are requests of an operator
+-- the lines of an output at the positions where the input's lines are requests of an operator
 abbrev pub answers_to : Configuration → ℕ → List ℕ → List ℕ → List (List ℕ)
 answers_to configuration place input output =
     map (λ e. e.1) (filter (λ e. option_map_or (is_of configuration place) (request_in e.0) false) (zip (asked_of input) (slice_split is_feed output)))
 
--- what an operator sees of the history on these lines, the first of an input
+-- what an operator sees of the history on these lines, which are the first of an input
 abbrev pub seen_on : Configuration → ℕ → List (List ℕ) → List Reply → List Seen
 seen_on configuration place lines replies =
     view configuration (new_state configuration).drafts (exchanges_on lines replies) place
 
 module _ {E : Type 0} (begins : Configuration → World E → Type 0) (step : World E → Request → Reply → World E → Type 0) where
-  -- the answers to an input are such a history
+  -- the output for an input is such a history
   abbrev pub GivesHistories : Type 0
   GivesHistories = (input output : List ℕ) → Replays begins step input output → IsHistory input output
 
-  -- Isolation. In the outputs for two inputs of one configuration, whose histories look the same to an operator (its own
-  -- requests and the publications, at the same moments and in the same order), the lines that answer its requests are the
-  -- same, byte for byte, as long as memory suffices for these.
+  -- Isolation. In the outputs for two inputs of one configuration, whose histories look the same to an operator (its
+  -- own requests and the publications, at the same moments and in the same order), the lines that answer its requests
+  -- are the same, byte for byte, as long as memory suffices for these.
   abbrev pub IsolatesOperators : Type 0
   IsolatesOperators =
       (configuration : Configuration) (place : ℕ) (input output other apart : List ℕ)
@@ -67,7 +67,7 @@ module _ {E : Type 0} (begins : Configuration → World E → Type 0) (step : Wo
       → HasMemory configuration place (exchanges_on (asked_of other) two.2.replies)
       → answers_to configuration place input output ≡ answers_to configuration place other apart
 
-  -- Meaning. The line that answers an operator's request is that of the reply which its view of the lines before defines.
+  -- Meaning. The line that answers an operator's request has the reply that its view of the lines before defines.
   abbrev pub AnswersByViews : Type 0
   AnswersByViews =
       (configuration : Configuration) (place : ℕ) (operator : Operator) (input output : List ℕ)

@@ -1,4 +1,4 @@
--- One turn of a replay: a line is found, and answered.
+-- One turn of a replay: a line is found and answered.
 use Rattle.std.specs.Prelude.{◌≡◌, ℕ, Bool, true, false, List, [], filter, drop, Option, Some, None, Result, Ok, Err, IfSome, ⊤}
 use Rattle.std.specs.Io.KnownBytes.{Appends, IsAtEnd}
 use Rattle.mds_request.specs.Configuration.{Configuration}
@@ -11,7 +11,7 @@ use Rattle.mds_lines.specs.Answering.{Answers, Configures, answer_line}
 use Rattle.mds_lines.specs.Ends.{Writes}
 use Rattle.mds_lines.specs.LineReading.{BeginsWithLine}
 
--- what is written for a line that has a reply, or none
+-- what is written for a line with a reply, or without one
 abbrev pub written_of : Option Reply → List ℕ
 written_of None = []
 written_of (Some reply) = answer_line reply
@@ -21,7 +21,7 @@ abbrev pub filled_lines : List ℕ → List (List ℕ)
 filled_lines bytes = filter is_filled (lines bytes)
 
 module _ {M : Type 0} (begins : Configuration → M → Type 0) where
-  -- the machine is one of the configuration in front, and the other lines are left
+  -- the machine is one of the configuration on the first line, and the other lines are left
   abbrev pub Begins : Option (List ℕ) → Option (List ℕ) → M → Type 0
   Begins None new machine = ⊤
   Begins (Some input) None machine = ⊥
@@ -33,23 +33,23 @@ module _ {M : Type 0} (step : M → Request → Reply → M → Type 0) where
   Replies old line None new = (is_filled line ≡ false) × (new ≡ old)
   Replies old line (Some reply) new = (is_filled line ≡ true) × Answers step old line reply new
 
-  -- the next line of what was left has this reply, if any
+  -- the next of the remaining lines has this reply, if any
   pub record Turned (old now : Option (List ℕ)) (machine_old machine_new : M) (reply : Option Reply) : Type 0 where
     pub line : List ℕ
     pub found : BeginsWithLine old now line
     pub replied : Replies machine_old line reply machine_new
     pub one_line : IfSome reply (λ r. is_line r.body ≡ true)
 
-  -- what a turn did to what is left, the machine and the bytes written
+  -- what a turn did to the remaining input, to the machine and to the output
   abbrev pub Turns : Result Bool ReplayFault → Option (List ℕ) → Option (List ℕ) → M → M → Option (List ℕ) → Option (List ℕ) → Type 0
   -- there is no further line
   Turns (Ok false) old now machine_old machine_new written_old written_new =
       IsAtEnd old × (machine_new ≡ machine_old) × Appends written_old written_new []
   -- no line was found
   Turns (Err Read) old now machine_old machine_new written_old written_new = Appends written_old written_new []
-  -- no other fault comes but that of writing
+  -- there is no other fault than that of writing
   Turns (Err BadConfig) old now machine_old machine_new written_old written_new = ⊥
   Turns (Err NoMemory) old now machine_old machine_new written_old written_new = ⊥
-  -- a line was answered, or a part of the answer written
+  -- a line was answered, or a prefix of the answer was written
   Turns result old now machine_old machine_new written_old written_new =
       (reply : Option Reply) × Turned old now machine_old machine_new reply × Writes written_old written_new result (written_of reply)

@@ -1,4 +1,4 @@
-//! A line of the script, cut into the parts of a request.
+//! Splits a line of the script into the parts of a request.
 ghost use Rattle.std.specs.Prelude.{◌≡◌, ◌^◌, ◌<◌, ◌≤◌, length, Some, None, IfSome, option_map, if◌then◌else◌};
 ghost use Rattle.mds_lines.specs.Input.{word_of, behind_word, are_digits, decimal, is_moment, request_from, request_on};
 ghost use Rattle.mds_request.specs.Request.{request_of};
@@ -7,9 +7,9 @@ use crate::gather::position_of;
 use mds_request::{Request, Verb};
 use mds_text::Moment;
 
-/// The request on a line `AT TOKEN METHOD TARGET [BODY]`, cut at the first four spaces; what is left
-/// is the body. `None` where one of the first four is missing or empty, and where the first isn't 1
-/// to 13 decimal digits (leading zeros are taken) that stand for a moment.
+/// The request on a line `AT TOKEN METHOD TARGET [BODY]`, split at the first four spaces; the rest is the body. `None`
+/// where one of the first four is missing or empty, and where the first isn't 1 to 13 decimal digits (leading zeros are
+/// allowed) of a moment.
 pub fn cut(line: &[u8]) -> Option<Request<'_>>
     ensures { option_map request_of result ≡ request_on line.now }
 {
@@ -46,7 +46,7 @@ fn checked<'a>(
     }
 }
 
-/// The bytes before the first space and those behind it; without a space all bytes and none.
+/// The bytes before the first space and those after it; without a space, all bytes and none.
 fn split_word(bytes: &[u8]) -> (&[u8], &[u8])
     ensures word { result.0.now ≡ word_of bytes.now }
     ensures behind { result.1.now ≡ behind_word bytes.now }
@@ -57,7 +57,7 @@ fn split_word(bytes: &[u8]) -> (&[u8], &[u8])
     }
 }
 
-/// The moment that 1 to 13 digits stand for.
+/// The moment written as 1 to 13 digits.
 fn moment_of(digits: &[u8]) -> Option<Moment>
     ensures { result ≡ (if is_moment digits.now then Some (decimal digits.now) else None) }
 {
@@ -67,7 +67,7 @@ fn moment_of(digits: &[u8]) -> Option<Moment>
     Moment::new(number_of(digits)? as i64)
 }
 
-/// The number that decimal digits stand for; `None` where another byte is among them.
+/// The number written in decimal digits; `None` where there is another byte.
 fn number_of(digits: &[u8]) -> Option<u64>
     requires { length digits.now ≤ 13 }
     ensures value { result ≡ (if are_digits digits.now then Some (decimal digits.now) else None) }

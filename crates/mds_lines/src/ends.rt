@@ -1,4 +1,4 @@
-//! The two ends of a replay: where its bytes come from, and where they go.
+//! The input and the output of a replay.
 ghost use Rattle.std.specs.Prelude.{◌≡◌, ℕ, ◌+◌, ◌-◌, ◌^◌, ◌<◌, ◌≤◌, List, Option, length, IfOk};
 ghost use Rattle.std.specs.Io.Buffered.{writer_contents};
 ghost use Rattle.std.specs.Io.KnownBytes.{Keeps, ReadConsumes, WriteAppends};
@@ -11,16 +11,16 @@ use std::io::{BufWriter, Read, Write};
 #[derive(Clone, Copy, Debug, PartialEq, Eq)]
 pub struct Failed;
 
-/// Where bytes come from, in pieces of any size.
+/// An input of bytes, in pieces of any size.
 pub trait Source {
-    /// The bytes that reads will give from here on, where they are known.
+    /// The bytes that further reads will return, where they are known.
     ghost remaining: { Self → Option (List ℕ) };
 
     /// How many reads have failed so far.
     ghost failures: { Self → ℕ };
 
-    /// Puts some of the next bytes into the buffer's front, and gives how many. No byte into a
-    /// buffer that isn't empty is the end of the input. A failed read takes no byte.
+    /// Copies some of the next bytes to the beginning of the buffer, and returns how many. No bytes for a buffer that
+    /// isn't empty is the end of the input. A failed read consumes nothing.
     fn read(&mut self, buffer: &mut [u8]) -> Result<usize, Failed>
         requires countable { failures self.old < 2 ^ 64 - 1 }
         ensures bound { IfOk result (λ n. n ≤ length buffer.new) }
@@ -28,15 +28,15 @@ pub trait Source {
         ensures counted { failures self.new ≡ failures self.old + read_failures result };
 }
 
-/// Where bytes go, in pieces of any size.
+/// An output of bytes, in pieces of any size.
 pub trait Sink {
     /// The bytes written so far, where they are known.
     ghost contents: { Self → Option (List ℕ) };
 
-    /// How many writes have failed so far; a write that took no byte is one of them.
+    /// How many writes have failed so far; a write that took no bytes is one of them.
     ghost failures: { Self → ℕ };
 
-    /// Takes some of the bytes from their front, and gives how many. A failed write takes none.
+    /// Writes some bytes from the beginning of these, and returns how many. A failed write takes none.
     fn write(&mut self, bytes: &[u8]) -> Result<usize, Failed>
         requires countable { failures self.old < 2 ^ 64 - 1 }
         ensures bound { IfOk result (λ n. n ≤ length bytes.now) }
@@ -44,7 +44,7 @@ pub trait Sink {
         ensures counted { failures self.new ≡ failures self.old + write_failures result };
 }
 
-/// Any reader of the standard library as a source.
+/// Any reader of the standard library, as a source.
 #[derive(Drop)]
 pub struct FromReader<R> {
     reader: R,
@@ -52,7 +52,7 @@ pub struct FromReader<R> {
 }
 
 impl<R: Read> FromReader<R> {
-    /// The source of this reader's bytes.
+    /// The source with this reader's bytes.
     pub fn new(reader: R) -> Self
         ensures bytes { ⟦<FromReader<R> as Source>⟧.remaining result ≡ R.remaining reader }
         ensures fresh { ⟦<FromReader<R> as Source>⟧.failures result ≡ 0 }
@@ -80,7 +80,7 @@ impl<R: Read> Source for FromReader<R> {
     }
 }
 
-/// Any writer of the standard library as a sink, which keeps a few kilobytes before it sends them on.
+/// Any writer of the standard library, as a sink with a buffer of a few kilobytes.
 #[derive(Drop)]
 pub struct ToWriter<W: Write + Drop> {
     writer: BufWriter<W>,
@@ -88,7 +88,7 @@ pub struct ToWriter<W: Write + Drop> {
 }
 
 impl<W: Write + Drop> ToWriter<W> {
-    /// The sink whose bytes go to this writer. The only error is want of memory.
+    /// The sink that writes to this writer. The only error is out of memory.
     pub fn new(alloc: Global, writer: W) -> Result<Self, AllocError>
         ensures bytes { IfOk result (λ s. Keeps (W.contents writer) (⟦<ToWriter<W> as Sink>⟧.contents s)) }
         ensures fresh { IfOk result (λ s. ⟦<ToWriter<W> as Sink>⟧.failures s ≡ 0) }
@@ -102,7 +102,7 @@ impl<W: Write + Drop> ToWriter<W> {
         }
     }
 
-    /// Sends on what is kept, and gives the writer back. The error is a write that failed.
+    /// Flushes the buffer, and returns the writer. The error is a failed write.
     pub fn finish(mut self) -> Result<W, Failed>
         ensures { IfOk result (λ writer. Keeps (⟦<ToWriter<W> as Sink>⟧.contents self) (W.contents writer)) }
     {

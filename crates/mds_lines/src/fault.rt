@@ -13,15 +13,15 @@ pub enum ReplayFault {
     Read,
     /// A write failed.
     Write,
-    /// The first line is no configuration, or over the limit of a line. Nothing was written.
+    /// The first line is no configuration, or is over the limit of a line. Nothing was written.
     BadConfig,
-    /// What is made first, the buffers, the configuration and the machine, found no memory. Nothing
-    /// was written.
+    /// Out of memory for what is allocated first: the buffers, the configuration and the machine.
+    /// Nothing was written.
     NoMemory,
 }
 
 impl ReplayFault {
-    /// What the program says of it on standard error.
+    /// The program's message on standard error.
     pub fn message(self) -> &'static str
         ensures { result.now ≡ message_of self }
     {

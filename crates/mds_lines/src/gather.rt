@@ -1,4 +1,4 @@
-//! The bytes of one line, gathered from pieces of the input.
+//! Gathers the bytes of one line from pieces of the input.
 ghost use Rattle.std.specs.Prelude.{◌≡◌, ◌==◌, ◌+◌, ◌<◌, ◌≤◌, ◌++◌, position, take, length, nat_lt, if◌then◌else◌, vec_len, vec_capacity};
 ghost use Rattle.std.specs.Io.BufRead.{ends_with_byte, strip_last};
 ghost use Rattle.mds_lines.specs.LineReading.{Gathers};
@@ -6,15 +6,16 @@ ghost use Rattle.mds_lines.specs.LineReading.{Gathers};
 use crate::lines::Found;
 use memchr::memchr;
 
-/// The most bytes of a line, its end not counted.
+/// The most bytes of a line, without its end.
 pub const LINE_LIMIT: usize = 2_097_152;
 
-/// How many bytes of a line are kept: one that is cut off there is over the limit, even if its last
-/// byte is a carriage return that is dropped.
+/// How many bytes of a line are stored: one that is truncated there is over the limit, even if its
+/// last byte is a carriage return that is dropped.
 pub const KEPT_LIMIT: usize = LINE_LIMIT + 2;
 
-/// Adds the bytes before the first line feed to the line, and gives how many bytes they and the
-/// line feed are. Without a line feed all bytes are added, and the answer is `None`.
+/// Appends the bytes before the first line feed to the line, as many as there is room for. Returns
+/// how many bytes come before the line feed, plus one for it; `None` without a line feed, where all
+/// bytes are appended, as many as there is room for.
 pub fn gather(line: &mut Vec<u8>, bytes: &[u8]) -> Option<usize>
     requires short { vec_len line.old ≤ KEPT_LIMIT }
     requires reserved { KEPT_LIMIT ≤ vec_capacity line.old }
@@ -34,7 +35,7 @@ pub fn gather(line: &mut Vec<u8>, bytes: &[u8]) -> Option<usize>
     }
 }
 
-/// Adds as many of the bytes as there is room for.
+/// Appends as many of the bytes as there is room for.
 fn keep(line: &mut Vec<u8>, bytes: &[u8])
     requires short { vec_len line.old ≤ KEPT_LIMIT }
     requires reserved { KEPT_LIMIT ≤ vec_capacity line.old }
@@ -47,7 +48,7 @@ fn keep(line: &mut Vec<u8>, bytes: &[u8])
     append(line, &bytes[..count]);
 }
 
-/// Adds bytes that there is room for, so that no memory is asked for.
+/// Appends bytes that there is room for, so that it can't fail.
 fn append(line: &mut Vec<u8>, bytes: &[u8])
     requires { vec_len line.old + length bytes.now ≤ vec_capacity line.old }
     ensures items { line.new.items ≡ line.old.items ++ bytes.now }
@@ -56,7 +57,7 @@ fn append(line: &mut Vec<u8>, bytes: &[u8])
     let _ = line.extend_from_slice(bytes);
 }
 
-/// Ends a line at a line feed: drops a carriage return at its end, and looks at its length.
+/// Ends a line at a line feed: drops a carriage return at its end, and checks its length.
 pub fn close(line: &mut Vec<u8>) -> Found
     requires short { vec_len line.old ≤ KEPT_LIMIT }
     requires reserved { KEPT_LIMIT ≤ vec_capacity line.old }
@@ -81,7 +82,7 @@ fn ends_with_return(line: &[u8]) -> bool
     }
 }
 
-/// Ends the last line, which no line feed ends.
+/// Ends the last line, which has no line feed.
 pub fn close_last(line: &mut Vec<u8>) -> Found
     requires { vec_len line.old ≤ KEPT_LIMIT }
     ensures found { result ≡ (if length line.old.items == 0 then Found.End else (if nat_lt LINE_LIMIT (length line.old.items) then Found.TooLong else Found.Line)) }
@@ -94,7 +95,7 @@ pub fn close_last(line: &mut Vec<u8>) -> Found
     }
 }
 
-/// A line, or one over the limit.
+/// Whether a line is over the limit.
 fn found(line: &[u8]) -> Found
     ensures { result ≡ (if nat_lt LINE_LIMIT (length line.now) then Found.TooLong else Found.Line) }
 {
@@ -105,7 +106,7 @@ fn found(line: &[u8]) -> Found
     }
 }
 
-/// Where the first such byte stands.
+/// The position of the first such byte.
 pub fn position_of(bytes: &[u8], wanted: u8) -> Option<usize>
     ensures { result ≡ position (λ byte. byte == wanted) bytes.now }
 {

@@ -1,5 +1,5 @@
-//! Laws of a replay by the server's machine. Each function's contract is the law; the functions
-//! themselves do nothing but call the laws of the machine that they follow from.
+//! Laws of a replay by the server's machine. Each function's contract is the law; the functions do nothing but call the
+//! laws of the machine that they follow from.
 ghost use Rattle.mds_lines.specs.Laws.{AnswersByViews, GivesHistories, IsolatesOperators};
 
 use crate::machine::Machine;
@@ -7,17 +7,16 @@ use mds_machine::laws;
 use mds_verdict::Plain;
 use mds_world::World;
 
-/// What a replay writes is a reply to each line that isn't empty, in order, `bad_line` to one that is
-/// no request, and those to requests are a history from the new machine of the configuration that the
-/// first line reads as.
+/// The output of a replay is a reply to each line that isn't empty, in order, `bad_line` to one that is no request, and
+/// those to requests are a history from the new machine of the configuration on the first line.
 pub fn gives_histories()
     ensures { GivesHistories ⟦<World<Plain> as Machine>⟧.begins ⟦<World<Plain> as Machine>⟧.step }
 {}
 
-/// In what replays write for two inputs of one configuration, the lines that answer an operator are
-/// the same, byte for byte, where it sees the same of both histories: its own requests and the
-/// publications, at the same moments and in the same order. Drafts and requests of others change
-/// nothing, as long as memory suffices for its own.
+/// In the outputs of replays for two inputs of one configuration, the lines that answer an operator are the same, byte
+/// for byte, where both histories look the same to it: its own requests and the publications, at the same moments and
+/// in the same order. Drafts and requests of others change nothing, as long as its own requests don't run out of
+/// memory.
 pub fn isolates_operators()
     ensures { IsolatesOperators ⟦<World<Plain> as Machine>⟧.begins ⟦<World<Plain> as Machine>⟧.step }
 {
@@ -25,8 +24,8 @@ pub fn isolates_operators()
     laws::is_isolated_throughout();
 }
 
-/// Each line that answers a request of an operator is that of the reply which the published texts and
-/// the operator's own requests before it define.
+/// Each line that answers a request of an operator has the reply that the published texts and the operator's own
+/// earlier requests define.
 pub fn answers_by_views()
     ensures { AnswersByViews ⟦<World<Plain> as Machine>⟧.begins ⟦<World<Plain> as Machine>⟧.step }
 {

@@ -1,5 +1,4 @@
-//! Lines in, lines out: a configuration line and request lines are read, and one answer line is written for each
-//! request, by any machine that keeps the contract of `Machine`.
+//! A line protocol: a configuration line and request lines in, one answer line out for each request, by any `Machine`.
 #![tactic(auto)]
 
 mod cut;

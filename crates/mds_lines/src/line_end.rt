@@ -1,3 +1,4 @@
+//! The end of a line.
 ghost use Rattle.std.specs.Prelude.{◌≡◌};
 ghost use Rattle.mds_lines.specs.Input.{without_end};
 

@@ -1,4 +1,4 @@
-//! The lines of an input, one after another, in memory that is made first.
+//! Reads an input line by line, in buffers allocated first.
 ghost use Rattle.std.specs.Prelude.{◌≡◌, ℕ, ◌+◌, ◌-◌, ◌<◌, ◌≤◌, vec_len, vec_capacity};
 ghost use Rattle.mds_lines.specs.declared.gather.TheConstants.{KEPT_LIMIT, LINE_LIMIT};
 ghost use Rattle.mds_lines.specs.declared.lines.TheConstants.{INPUT_LIMIT};
@@ -10,13 +10,13 @@ use std::alloc::{AllocError, Global};
 /// The most bytes of a whole input.
 pub const INPUT_LIMIT: usize = 1_073_741_824;
 
-/// How many bytes are asked of the source at once.
+/// How many bytes are read from the source at once.
 const CHUNK: usize = 65_536;
 
-/// What a reader found next.
+/// The result of a search for the next line.
 #[derive(Clone, Copy, Debug, PartialEq, Eq)]
 pub enum Found {
-    /// A line, which the reader keeps.
+    /// A line, which is in the reader.
     Line,
     /// A line of more bytes than the limit.
     TooLong,
@@ -25,8 +25,8 @@ pub enum Found {
 }
 
 /// Reads the lines of a source. A line ends at a line feed, and one carriage return before it is
-/// dropped; bytes behind the last line feed are a line too, and keep a carriage return at their
-/// end. The memory is made first, and a line over the limit is read past.
+/// dropped; bytes after the last line feed are a line too, and keep a carriage return at their end.
+/// The buffers are allocated first, and a line over the limit is skipped.
 #[derive(Drop)]
 pub struct LineReader {
     chunk: Vec<u8>,
@@ -49,7 +49,7 @@ impl LineReader {
     ghost use Rattle.mds_lines.specs.LineReading.{ahead, held, passed, left, Advances, FailsReading, Finds, IsWithoutFeed};
     ghost use Rattle.std.specs.Io.BufRead.{strip_last};
 
-    /// A reader that has read nothing. The only error is want of memory.
+    /// A reader that has read nothing. The only error is out of memory.
     pub fn new(alloc: Global) -> Result<LineReader, AllocError>
         ensures ahead { IfOk result (λ r. ahead r ≡ []) }
         ensures passed { IfOk result (λ r. passed r ≡ 0) }
@@ -70,7 +70,7 @@ impl LineReader {
         self.line.as_slice()
     }
 
-    /// Finds the next line. The error is a read that failed or an input over its limit.
+    /// Finds the next line. The error is a failed read or an input over its limit.
     pub fn next<S: Source>(&mut self, source: &mut S) -> Result<Found, Failed>
         requires countable { S.failures source.old < 2 ^ 64 - 1 }
         ensures found { IfOk result (λ found. Finds found (held self.new) (left self.old (S.remaining source.old)) (left self.new (S.remaining source.new))) }
@@ -92,7 +92,7 @@ impl LineReader {
         }
     }
 
-    /// Begins a line without a byte.
+    /// Begins an empty line.
     fn begin_line(&mut self)
         ensures held { held self.new ≡ [] }
         ensures ahead { ahead self.new ≡ ahead self.old }
@@ -111,7 +111,7 @@ impl LineReader {
         close(&mut self.line)
     }
 
-    /// Ends the last line, which no line feed ends.
+    /// Ends the last line, which has no line feed.
     fn end_input(&mut self) -> Found
         ensures held { held self.new ≡ held self.old }
         ensures found { result ≡ (if length (held self.old) == 0 then Found.End else (if nat_lt LINE_LIMIT (length (held self.old)) then Found.TooLong else Found.Line)) }
@@ -121,8 +121,8 @@ impl LineReader {
         close_last(&mut self.line)
     }
 
-    /// Takes the bytes ahead up to their first line feed to the line, as many as there is room for,
-    /// and tells whether there is one. Without one all of them are taken.
+    /// Appends the buffered bytes up to their first line feed to the line, as many as there is room
+    /// for, and returns whether there is a line feed. Without one all of them are taken.
     fn take_line(&mut self) -> bool
         ensures takes { MatchBool result
             ((front : List ℕ) × (ahead self.old ≡ front ++ 10 ∷ ahead self.new) × IsWithoutFeed front
@@ -144,8 +144,8 @@ impl LineReader {
         }
     }
 
-    /// Reads further bytes, once none are ahead; `false` at the end of the input. The error is a
-    /// read that failed or an input over its limit.
+    /// Reads further bytes, once none are buffered; `false` at the end of the input. The error is a
+    /// failed read or an input over its limit.
     fn refill<S: Source>(&mut self, source: &mut S) -> Result<bool, Failed>
         requires countable { S.failures source.old < 2 ^ 64 - 1 }
         requires empty { ahead self.old ≡ [] }

@@ -1,4 +1,4 @@
-//! A replay: its configuration, and then line after line.
+//! A replay: its configuration line, and then line after line.
 ghost use Rattle.std.specs.Prelude.{◌≡◌, ◌+◌, ◌*◌, ◌-◌, ◌^◌, ◌<◌, ◌≤◌, ◌⊎◌, ℕ, List, [], ◌++◌, length, true, false, is_ok, if◌then◌else◌, IfOk, IfErr, OnOk, OnErr, IfSome, IsTrue, IsErrOf, ◌≢◌};
 ghost use Rattle.std.specs.Io.KnownBytes.{Appends, IsAtEnd};
 ghost use Rattle.mds_request.specs.Configuration.{read_configuration};
@@ -23,14 +23,13 @@ use mds_diagnosis::Detail;
 use mds_request::{Code, Config, Reply};
 use std::alloc::Global;
 
-/// Reads a configuration line and request lines, and writes one answer line for each of the latter.
+/// Reads a configuration line and request lines, and writes one answer line for each request line.
 ///
-/// A line ends at a line feed, and one carriage return before it is dropped; a last line without
-/// a line feed counts. Empty lines behind the first are skipped. A line that is no request, or is
-/// over the limit of 2,097,152 bytes, is answered `400 {"error":"bad_line"}`. The faults are told
-/// by `ReplayFault`; an input of more than 1,073,741,824 bytes is a read fault. After a fault what
-/// was written is the front of the answers, or nothing. What is wrong with a bad configuration is left
-/// in `detail`.
+/// A line ends at a line feed, and one carriage return before it is dropped; a last line without a line feed counts.
+/// Empty lines after the first are skipped. A line that is no request, or is over the limit of 2,097,152 bytes, is
+/// answered `400 {"error":"bad_line"}`. Faults are reported as `ReplayFault`; an input of more than 1,073,741,824 bytes
+/// is a read fault. After a fault, what was written is a prefix of the answers, or nothing. What is wrong with a bad
+/// configuration is left in `detail`.
 pub fn replay<M: Machine, S: Source, W: Sink>(
     alloc: Global,
     source: &mut S,
@@ -40,7 +39,7 @@ pub fn replay<M: Machine, S: Source, W: Sink>(
     requires readable { S.failures source.old < 2 ^ 64 - 1 }
     requires writable { W.failures sink.old < 2 ^ 64 - 1 }
 
-    // The input was read to its end, and what was written is the answers to it.
+    // The input was read to its end, and the answers to it were written.
     ensures answered { OnOk result (Answered M.begins M.step (S.remaining source.old)
         (W.contents sink.old) (W.contents sink.new)) }
     ensures ended { OnOk result (IsAtEnd (S.remaining source.new)) }
@@ -49,7 +48,7 @@ pub fn replay<M: Machine, S: Source, W: Sink>(
     ensures sound { OnOk result ((S.failures source.new ≡ S.failures source.old) × (W.failures sink.new ≡ W.failures sink.old)) }
     ensures limited { OnOk result (IfSome (S.remaining source.old) (λ input. length input ≤ INPUT_LIMIT)) }
 
-    // After a fault it is their front, or nothing.
+    // After a fault a prefix of them was written, or nothing.
     ensures started { OnErr result (Started M.begins M.step (S.remaining source.old)
         (W.contents sink.old) (W.contents sink.new)) }
 
@@ -59,7 +58,7 @@ pub fn replay<M: Machine, S: Source, W: Sink>(
     ensures write { IsErrOf result ReplayFault.Write → W.failures sink.new ≡ W.failures sink.old + 1 }
     ensures bad_config { IsErrOf result ReplayFault.BadConfig → IfSome (S.remaining source.old) IsUnconfigured }
     ensures told { IsErrOf result ReplayFault.BadConfig → IfSome (S.remaining source.old) (IsTold detail.new) }
-    // Want of memory hides no failed read, and no first line that is over the limit, once something was read.
+    // Out of memory hides no failed read, and no first line that is over the limit, once something was read.
     ensures memory { IsErrOf result ReplayFault.NoMemory → (source.new ≡ source.old)
         ⊎ ((S.failures source.new ≡ S.failures source.old) × IfSome (S.remaining source.old) (λ input. length (configuration_of input) ≤ LINE_LIMIT)) }
 
@@ -72,7 +71,7 @@ pub fn replay<M: Machine, S: Source, W: Sink>(
     answer_all(&mut reader, &mut machine, source, sink)
 }
 
-/// The machine of the configuration that the first line is.
+/// The machine of the configuration on the first line.
 fn begin<M: Machine, S: Source>(
     alloc: Global,
     reader: &mut LineReader,
@@ -103,7 +102,7 @@ fn begin<M: Machine, S: Source>(
     }
 }
 
-/// The machine of the configuration that the text is.
+/// The machine of the configuration that this text is.
 fn configured<M: Machine>(alloc: Global, text: &[u8], detail: &mut Detail) -> Result<M, ReplayFault>
     ensures begins { IfOk result (λ machine. length text.now ≤ LINE_LIMIT → Configures M.begins text.now machine) }
     ensures bad_config { IsErrOf result ReplayFault.BadConfig → is_ok (read_configuration text.now) ≡ false }
@@ -119,7 +118,7 @@ fn configured<M: Machine>(alloc: Global, text: &[u8], detail: &mut Detail) -> Re
     }
 }
 
-/// Answers all lines that are left.
+/// Answers all remaining lines.
 fn answer_all<M: Machine, S: Source, W: Sink>(
     reader: &mut LineReader,
     machine: &mut M,
@@ -128,7 +127,7 @@ fn answer_all<M: Machine, S: Source, W: Sink>(
 ) -> Result<(), ReplayFault>
     requires readable { S.failures source.old < 2 ^ 64 - 1 }
     requires writable { W.failures sink.old < 2 ^ 64 - 1 }
-    // All answers were written, or, after a fault, a front of them.
+    // All answers were written, or, after a fault, a prefix of them.
     ensures all { OnOk result ((output : List ℕ) × Appends (W.contents sink.old) (W.contents sink.new) output
         × IfSome (left reader.old (S.remaining source.old)) (λ bytes. Outputs M.step machine.old (filled_lines bytes) output)) }
     ensures ended { OnOk result (IsAtEnd (S.remaining source.new)) }
@@ -179,7 +178,7 @@ fn turn<M: Machine, S: Source, W: Sink>(
     }
 }
 
-/// Writes a reply, if there is one. The only fault is a write that failed.
+/// Writes a reply, if there is one. The only fault is a failed write.
 fn answer<W: Sink>(sink: &mut W, reply: Option<Reply>) -> Result<bool, ReplayFault>
     requires { W.failures sink.old < 2 ^ 64 - 1 }
     ensures writes { Writes (W.contents sink.old) (W.contents sink.new) result (written_of reply) }

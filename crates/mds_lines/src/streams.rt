@@ -11,8 +11,8 @@ use mds_diagnosis::Detail;
 use std::alloc::Global;
 use std::io::{Read, Write};
 
-/// Replays what is read to what is written, and gives the writer back once all answers have gone out
-/// to it. A write that fails, also the last one, is the fault `Write`.
+/// Replays the reader's input to the writer, and returns the writer once all answers are flushed to it. A write that
+/// fails, also the last one, is the fault `Write`.
 pub fn run<M: Machine, R: Read + Drop, W: Write + Drop>(
     alloc: Global,
     reader: R,
@@ -25,8 +25,7 @@ pub fn run<M: Machine, R: Read + Drop, W: Write + Drop>(
     run_told::<M, R, W>(alloc, reader, writer, &mut Detail::Untold)
 }
 
-/// Replays as `run` does, and after the fault `BadConfig` leaves in `detail` what is wrong with the
-/// configuration.
+/// Replays as `run` does, and after the fault `BadConfig` leaves in `detail` what is wrong with the configuration.
 pub fn run_told<M: Machine, R: Read + Drop, W: Write + Drop>(
     alloc: Global,
     reader: R,

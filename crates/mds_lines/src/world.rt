@@ -1,11 +1,11 @@
-//! The server's machine as a replay's.
+//! The server's state machine as the machine of a replay.
 use crate::machine::Machine;
 use mds_request::{Config, Reply, Request};
 use mds_verdict::Plain;
 use mds_world::World;
 use std::alloc::{AllocError, Global};
 
-/// The machine of the server, which judges vehicles one after another.
+/// The state machine of the server, which evaluates vehicles one after another.
 impl Machine for World<Plain> {
     ghost use Rattle.std.specs.Prelude.{◌≡◌};
     ghost use Rattle.mds_machine.proofs.Replies.{some_reply};

@@ -1,4 +1,4 @@
-//! Answer lines, written to a sink.
+//! Writes answer lines to a sink.
 ghost use Rattle.std.specs.Prelude.{◌≡◌, ◌+◌, ◌-◌, ◌^◌, ◌<◌, ◌∷◌, ◌++◌, [], IsTrue, is_ok, if◌then◌else◌};
 ghost use Rattle.mds_request.specs.Reply.{is_line};
 ghost use Rattle.mds_lines.specs.Ends.{Writes};
@@ -7,8 +7,8 @@ ghost use Rattle.mds_lines.specs.Answering.{answer_line, status_text};
 use crate::ends::{Failed, Sink};
 use mds_request::Reply;
 
-/// Writes a reply as `STATUS BODY` and a line feed. The error is a write that failed; then some of
-/// the line's front may be written.
+/// Writes a reply as `STATUS BODY` and a line feed. The error is a failed write; then a prefix of
+/// the line may be written.
 pub fn write_answer<W: Sink>(sink: &mut W, reply: &Reply) -> Result<(), Failed>
     requires { W.failures sink.old < 2 ^ 64 - 1 }
     ensures writes { Writes (W.contents sink.old) (W.contents sink.new) result (answer_line reply.now) }

@@ -1,4 +1,4 @@
--- A request's call is a call of the one whose access token it carries.
+-- A request's call is a call of the client whose access token it has.
 use Rattle.std.proofs.Common.{◌≡◌, Result, Ok, Err, refl, subst, sym}
 use Rattle.mds_request.specs.Call.{call_of}
 use Rattle.mds_request.specs.Configuration.{Configuration, actor_of}
@@ -10,7 +10,7 @@ use Rattle.mds_request.specs.declared.config.Actor.{Actor}
 use Rattle.mds_request.specs.declared.config.Actor.TheVariants.{Author, Operator, Nobody}
 use Rattle.mds_request.proofs.Callers.{caller, call_of-caller}
 
--- a call is one that an actor may have
+-- a call is one that a client may make
 abbrev pub IsBy : Actor → Result Call Code → Type 0
 IsBy actor (Err code) = Unit {0}
 IsBy Author (Ok (call.Author own)) = Unit {0}

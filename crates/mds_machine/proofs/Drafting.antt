@@ -47,7 +47,7 @@ use Rattle.mds_machine.specs.Published.{policy_answer, geography_answer}
 use Rattle.mds_machine.specs.Step.{State, Exchange, Step, answered}
 use Rattle.mds_machine.proofs.Steps.{call_step, lifted, authored, operator_step}
 
--- a refusal is never told as a success
+-- a refusal never has the status of a success
 pub not_done : (c : Code) → (status_of c == 200) ≡ false
 not_done code.BadLine = refl
 not_done code.Clock = refl
@@ -191,7 +191,7 @@ own_fate (policy x) kinds.Geography q true of d is = absurd (cc)
 own_fate (geography x) kinds.Policy q true of d is = absurd (cc)
 own_fate document k q false of d is = absurd (cc)
 
--- a document that is read is of the kind that is asked for
+-- a document that is read has the kind that is asked for
 policy_kind : (found : Result Policy Fault) (d : Document) → (coded fault_code found >>= λ x. Ok (policy x)) ≡ Ok d → kind_of d ≡ kinds.Policy
 policy_kind (Ok x) d is = let same : policy x ≡ d = cc in ap kind_of (sym same)
 policy_kind (Err fault) d is = absurd (cc)
@@ -218,7 +218,7 @@ module _ (old : Drafts) (was : List Publication) (own : AreKeyed old) where
   refusal : (c : Code) (fate : DraftKind → List ℕ → Option (Option Document)) (made : Option Publication) → Does old was ((refused c).status == 200) fate made old was
   refusal c fate made = subst (λ b. Does old was b fate made old was) (sym (not_done c)) (still fate made)
 
-  -- nor does one that says nothing
+  -- a request that makes nothing does nothing
   silent : (done : Bool) (fate : DraftKind → List ℕ → Option (Option Document)) (made : Option Publication) → ((kind : DraftKind) (id : List ℕ) → fate kind id ≡ None) → made ≡ None → Does old was done fate made old was
   silent done fate made says makes =
       record {
@@ -227,7 +227,7 @@ module _ (old : Drafts) (was : List Publication) (own : AreKeyed old) where
         keyed = own;
       }
 
-  -- what a call comes to
+  -- the effect of a call
   abbrev Did : (DraftKind → List ℕ → Option (Option Document)) → Option Publication → Result (Reply × (Drafts × List Publication)) Code → Type 0
   Did fate made outcome =
       let after = settled (old, was) outcome in
@@ -264,7 +264,7 @@ module _ (old : Drafts) (was : List Publication) (own : AreKeyed old) where
   put_under document fate true says = put_room document fate (put_answer old document) (says refl)
   put_under document fate false says = refusal code.IdMismatch fate None
 
-  -- what a put says, as a document that stands
+  -- what a put makes of a draft, as a document
   put_says : (kind : DraftKind) (id body : List ℕ) (d : Document) → document_of kind body ≡ Ok d → bytes_eq (id_of d) id ≡ true → (k : DraftKind) (q : List ℕ) → fate_by (Ok (call.Author (author.PutDraft kind id))) body k q ≡ cond (is_of d k q) (Some (Some d)) None
   put_says kind id body d is same k q =
       ap (λ read. cond (is_same_kind k kind && bytes_eq id q) (option_map Some (result_ok read)) None) is
@@ -373,7 +373,7 @@ module _ (w : State) (request : Request) (own : AreKeyed w.drafts) where
   call_done (Ok (call.Operator place c)) = operator_by place (slice_get w.configuration.operators place) (slice_get w.fleets place) c
   call_done (Err code) = refused_call code (Err code)
 
--- what an exchange makes of a state's drafts and publications
+-- the effect of an exchange on a state's drafts and publications
 pub record Made (w : State) (e : Exchange) (next : State) : Type 0 where
   pub configuration : next.configuration ≡ w.configuration
   pub publications : next.publications ≡ w.publications ++ option_to_list (published_in w.configuration (draft_at w.drafts) e)

@@ -1,4 +1,4 @@
--- What the machine's drafts and publications are after a history.
+-- The machine's drafts and publications after a history.
 use Rattle.std.proofs.Common.{◌≡◌, ℕ, Bool, true, false, cond, List, [], ◌∷◌, ◌++◌, reverse, get_or, Option, Some, None, refl, sym, ap, subst, ◌∙◌}
 use Rattle.std.specs.Option.{option_to_list, unwrap_or}
 use Rattle.std.specs.List.{flat_map, filter_map, cons_option}
@@ -51,7 +51,7 @@ each_found f before a =
     ap (filter_map f) (preceded_on [] before a) ∙ filter_map-append f (preceded [] before) ((before, a) ∷ [])
     ∙ ap (λ xs. filter_map f (preceded [] before) ++ xs) (found_one f (before, a) (f (before, a)) refl)
 
--- what is so at first, and stays so by each step, is so after a run
+-- what holds at first, and is kept by each step, holds after a run
 pub along : (So : List Exchange → State → Type 0) → ((before : List Exchange) (w : State) (e : Exchange) (next : State) → So before w → Step w e.request e.reply next → So (before ++ e ∷ []) next) → (before history : List Exchange) (w next : State) → So before w → Run w history next → So (before ++ history) next
 along So on before [] w next so run = subst (λ h. So h next) (sym (append-nil before)) (subst (So before) (sym run) so)
 along So on before (e ∷ history) w next so run =
@@ -90,7 +90,7 @@ after_none w own = record { configuration = refl; publications = sym (append-nil
 pub goes_by_history : GoesByHistory
 goes_by_history w next history own run = along (IsAfter w) (after_one w) [] history w next (after_none w own) run
 
--- ---- drafts under their own identifiers
+-- ---- the keys of drafts
 
 own_id : (document : Document) (kind : DraftKind) (id : List ℕ) → is_of document kind id ≡ true → id_of document ≡ id
 own_id (policy d) kinds.Policy id is = (bytes_eq-Decides d.id id).0 is

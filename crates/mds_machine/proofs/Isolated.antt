@@ -1,4 +1,4 @@
--- An operator's replies in a history are those that its view of it defines.
+-- An operator's replies in a history are those that its view of the history defines.
 use Rattle.std.proofs.Common.{◌≡◌, ◌≢◌, ℕ, Bool, true, false, cond, List, [], ◌∷◌, ◌++◌, map, Option, Some, None, Result, Ok, Err, inl, inr, refl, sym, ap, subst, ◌∙◌}
 use Rattle.std.specs.List.{slice_get}
 use Rattle.std.specs.Option.{option_to_list}
@@ -35,7 +35,7 @@ module _ (w : State) (place : ℕ) (request : Request) where
   abbrev Kept : State → Type 0
   Kept next = slice_get next.fleets place ≡ slice_get w.fleets place
 
-  -- a call of one who isn't the operator is not of the operator's place
+  -- a call of a client that isn't the operator isn't at the operator's place
   elsewhere : (actor : Actor) (other : ℕ) (own : OperatorCall) → IsBy actor (Ok (call.Operator other own)) → is_place place actor ≡ false → place ≢ other
   elsewhere Author other own by is = absurd by
   elsewhere (OperatorAt at) other own by is = λ here. eqb-false place at is (here ∙ by)
@@ -48,7 +48,7 @@ module _ (w : State) (place : ℕ) (request : Request) where
       (operator_left w other place (slice_get w.configuration.operators other) (slice_get w.fleets other) own request (elsewhere actor other own by is)).0.rows
   call_leaves actor (Err code) by is = refl
 
--- a request that isn't an operator's leaves its rows
+-- a request that isn't an operator's doesn't change its rows
 pub rows_stay : (w : State) (place : ℕ) (request : Request) (reply : Reply) (next : State) → is_of w.configuration place request ≡ false → Step w request reply next → slice_get next.fleets place ≡ slice_get w.fleets place
 rows_stay w place request reply next is step = elim step [
   | inl a ↦ ap (λ s. slice_get s.fleets place) a.1
@@ -115,7 +115,7 @@ module _ (first : State) (place : ℕ) (operator : Operator) (found : slice_get 
   abbrev So : List Exchange → State → Type 0
   So before w = IsAfter first before w × (HasMemory first.configuration place before → Known before w)
 
-  -- the answer to a request of the operator, and what is known after it
+  -- the answer to a request of the operator, and what is known afterwards
   own_known : (before : List Exchange) (w : State) (e : Exchange) (next : State) → IsAfter first before w → Known before w → is_of first.configuration place e.request ≡ true → Step w e.request e.reply next → e.reply ≢ refused NoMemory → IsAnswer first.configuration operator (viewed before) e.request e.reply × Shows first.configuration operator place (viewed before ++ asked e.request ∷ []) next
   own_known before w e next is known own step really =
       let same : w.configuration ≡ first.configuration = is.configuration in
@@ -127,7 +127,7 @@ module _ (first : State) (place : ℕ) (operator : Operator) (found : slice_get 
         subst (λ c. Shows c operator place (viewed before ++ asked e.request ∷ []) next) same meant.1,
       )
 
-  -- what is known after a request of another
+  -- what is known after a request of another client
   others_known : (before : List Exchange) (w : State) (e : Exchange) (next : State) → IsAfter first before w → Known before w → is_of first.configuration place e.request ≡ false → Step w e.request e.reply next → (made : Option Publication) → published_in first.configuration (draft_after first.configuration first.drafts before) e ≡ made → Shows first.configuration operator place (viewed before ++ map published (option_to_list made)) next
   others_known before w e next is known other step made makes =
       let apart = ap (λ c. is_of c place e.request) is.configuration ∙ other in

@@ -1,4 +1,4 @@
--- An operator's own steps keep up the rows that its requests come to.
+-- An operator's own steps keep the rows equal to those of its requests.
 use Rattle.std.proofs.Common.{◌≡◌, ◌≢◌, ℕ, ◌+◌, cond, inl, inr, List, [], ◌∷◌, ◌++◌, Option, Some, None, Result, Ok, Err, refl, sym, ap, subst, ◌∙◌, arith}
 use Rattle.std.specs.Prelude.{reverse}
 use Rattle.std.specs.Option.{is_some, option_map}
@@ -74,7 +74,7 @@ module _ (configuration : Configuration) (operator : Operator) (publications : L
   abbrev Left : Option Event → Rows → Type 0
   Left event new = Agrees operator.limit (onto event before) new
 
-  -- what only tells something leaves the rows
+  -- a call that only reads doesn't change the rows
   telling : (answer : Result Reply Code) → Left None (settled rows (answer >>= leaving rows)).1
   telling (Ok reply) = agrees
   telling (Err code) = agrees
@@ -133,7 +133,8 @@ events_on configuration requests request =
     ap reverse (filter_map-append f requests (request ∷ [])) ∙ reverse-append (filter_map f requests) (filter_map f (request ∷ []))
     ∙ last_event f request (f request) (reverse (filter_map f requests)) refl
 
--- the rows of a list of requests, after one more request's own step, are those of the list with this request at its end
+-- the rows of a list of requests, after the own step of one more request, are those of the list with this request at
+-- its end
 abbrev RowsGoOn : Type 0
 RowsGoOn =
     (configuration : Configuration) (operator : Operator) (publications : List Publication) (requests : List Request)
@@ -184,8 +185,8 @@ pub is_own : (w : State) (request : Request) (place : ℕ) (operator : Operator)
 is_own w request place operator rows whose found held =
     own_is w request place operator rows found held (call_of w.configuration request) (own_by w request place whose)
 
--- In a state that shows a view to an operator, a request of it has the answer that this view defines, and the state
--- afterwards shows the view with this request at its end.
+-- In a state that shows a view to an operator, a request of it has the answer that this view defines, and the next
+-- state shows the view with this request at its end.
 abbrev IsMeant : Type 0
 IsMeant =
     (w : State) (request : Request) (reply : Reply) (next : State) (place : ℕ) (operator : Operator) (seen : List Seen)

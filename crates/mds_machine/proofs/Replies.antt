@@ -1,5 +1,5 @@
--- Some reply of one line is right at any time, after which the state is as it was: the refusal of a request that calls
--- for nothing, or want of memory.
+-- Some reply of one line is possible at any time without changing the state: the refusal of a request that has no call,
+-- or the one for out of memory.
 use Rattle.std.proofs.Common.{◌≡◌, ◌≢◌, Result, Ok, Err, inl, inr, refl, sym, ap, ◌∙◌}
 use Rattle.std.specs.Prelude.{IsTrue}
 use Rattle.mds_request.specs.Call.{call_of}
@@ -17,7 +17,7 @@ refused_line : (code : Code) → IsTrue (is_line (body_of code))
 refused_line BadLine = refl
 refused_line other = refl
 
--- some reply of one line, after which the state is as it was
+-- some reply of one line that doesn't change the state
 abbrev pub SomeReply : State → Request → Type 0
 SomeReply w request = (reply : Reply) × Step w request reply w × IsTrue (is_line reply.body)
 

@@ -1,4 +1,4 @@
--- What one step of the machine depends on, and what it leaves.
+-- What one step of the machine depends on, and what it doesn't change.
 use Rattle.std.proofs.Common.{◌≡◌, ◌≢◌, ℕ, ◌+◌, suc, zero, ◌<◌, List, [], ◌∷◌, set, length, Option, Some, None, Result, Ok, Err, inl, inr, refl, sym, ap, subst, ◌∙◌, arith}
 use Rattle.std.specs.List.{slice_get}
 use Rattle.std.proofs.lemmas.List.{get_or-set_same, length-set}
@@ -41,11 +41,11 @@ is_determined w request reply other next apart h k real really = elim h [
 abbrev pub call_step : State → Result Call Code → Request → Reply × State
 call_step w call request = settled w (call >>= λ c. call_does w c request)
 
--- what is done to an operator's rows, as it is done to the state
+-- what a call does to an operator's rows, as a change of the state
 abbrev pub lifted : State → ℕ → Result (Reply × Rows) Code → Reply × State
 lifted w place own = settled w (own >>= λ after. Ok (after.0, with_rows w place after.1))
 
--- the same of the author's drafts and publications
+-- the same for the author's drafts and publications
 abbrev pub authored : State → Result (Reply × (Drafts × List Publication)) Code → Reply × State
 authored w own =
     settled w (own >>= λ after. Ok (after.0, record { configuration = w.configuration; publications = after.1.1; drafts = after.1.0; fleets = w.fleets }))
@@ -56,9 +56,9 @@ operator_step w place found held call request =
     settled w (or_code Token found >>= λ operator. or_code Token held >>= λ rows.
     operator_does w.configuration.zone operator w.publications rows call request >>= λ after. Ok (after.0, with_rows w place after.1))
 
--- ---- what is left
+-- ---- what doesn't change
 
--- the state is left to an operator
+-- nothing changes for an operator
 abbrev IsLeft : State → State → ℕ → Type 0
 IsLeft w next other = Agree next w other × (next.drafts ≡ w.drafts)
 
@@ -89,7 +89,7 @@ call_left w place other (Ok (call.Author own)) request by apart = absurd by
 call_left w place other (Ok (call.Operator at own)) request by apart =
     operator_left w at other _ _ own request (λ is. apart (is ∙ by))
 
--- a request's call is its operator's
+-- a request's call is its own client's
 pub own_by : (w : State) (request : Request) (place : ℕ) → actor_of w.configuration request.token ≡ OperatorAt place → IsBy (OperatorAt place) (call_of w.configuration request)
 own_by w request place whose = subst (λ actor. IsBy actor (call_of w.configuration request)) whose (call_by w.configuration request)
 
@@ -198,8 +198,8 @@ module _ (w v : State) (request : Request) (place : ℕ) (agree : Agree w v plac
       (ap (λ c. call_of c request) agree.configuration)
       (same_call (call_of w.configuration request) (own_by w request place whose))
 
--- in states that agree for an operator, a request of it has the same reply, and they agree for it afterwards,
--- whatever drafts and rows of others there are
+-- in states that agree for an operator, a request of it has the same reply, and they agree for it afterwards, whatever
+-- the drafts and the rows of others are
 abbrev IsIsolated : Type 0
 IsIsolated =
     (w v : State) (request : Request) (reply other : Reply) (next apart : State) (place : ℕ)

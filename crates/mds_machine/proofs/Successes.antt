@@ -1,4 +1,4 @@
--- What changes something is told as a success, so that any other reply leaves the state.
+-- What changes something is answered with a success, so that any other reply keeps the state.
 use Rattle.std.proofs.Common.{◌≡◌, ◌≢◌, ℕ, Bool, true, false, cond, List, Option, Some, None, Result, Ok, Err, inl, inr, refl, ap, ◌∙◌}
 use Rattle.std.specs.List.{slice_get}
 use Rattle.std.specs.FinMap.{get}

@@ -1,4 +1,4 @@
--- In two histories that an operator sees alike its replies are the same.
+-- In two histories that look the same to an operator its replies are the same.
 use Rattle.std.proofs.Common.{◌≡◌, ◌≢◌, ℕ, Bool, true, false, cond, List, [], ◌∷◌, ◌++◌, map, Option, Some, None, inl, inr, refl, sym, ap, subst, ◌∙◌}
 use Rattle.std.specs.List.{filter, slice_get}
 use Rattle.std.specs.Option.{option_to_list}
@@ -24,7 +24,7 @@ agree_on : (u v w : State) (place : ℕ) → Agree u v place → Agree v w place
 agree_on u v w place one two =
     record { configuration = one.configuration ∙ two.configuration; publications = one.publications ∙ two.publications; rows = one.rows ∙ two.rows }
 
--- ---- what a view alone makes of a state, and the replies that it has
+-- ---- the state and the replies by a view alone
 
 abbrev shown : State → Seen → State
 shown w (asked request) = (answered w request).1
@@ -75,7 +75,7 @@ module _ (first other : State) (place : ℕ) where
   news before e own =
       cond own (asked e.request ∷ []) (map published (option_to_list (published_in first.configuration (draft_after first.configuration first.drafts before) e)))
 
-  -- a history has gone as its view alone makes another state go
+  -- a history changes a state as its view alone changes another
   abbrev Goes : List Exchange → State → Type 0
   Goes before w =
       Agree w (all_shown other (seen_by before)) place
@@ -84,7 +84,7 @@ module _ (first other : State) (place : ℕ) where
   abbrev So : List Exchange → State → Type 0
   So before w = IsAfter first before w × (HasMemory first.configuration place before → Goes before w)
 
-  -- one more exchange goes like what is seen of it
+  -- one more exchange changes it as what is seen of the exchange does
   abbrev Follows : State → State → Exchange → Bool → List Seen → Type 0
   Follows u next e own more = Agree next (all_shown u more) place × (reply_if own e ≡ replies_shown u more)
 

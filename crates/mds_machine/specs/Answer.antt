@@ -1,5 +1,4 @@
--- The answer to a call: a success with its reply and with what stands after it, or the code of a refusal, which changes
--- nothing.
+-- The answer to a call: a success with its reply and the next state, or the code of a refusal, which changes nothing.
 use Rattle.std.specs.Prelude.{◌≡◌, ◌⊎◌, Bool, if◌then◌else◌, Option, Some, None, Result, Ok, Err}
 use Rattle.mds_text.specs.Tree.{Json}
 use Rattle.mds_text.specs.Printed.{printed}
@@ -7,23 +6,23 @@ use Rattle.mds_request.specs.Reply.{Reply, success, refused}
 use Rattle.mds_request.specs.declared.code.Code.{Code}
 use Rattle.mds_request.specs.declared.code.Code.TheVariants.{NoMemory}
 
--- one thing after another; the first refusal stays
+-- one computation after another; the first refusal stays
 infixl 10 ◌>>=◌
 abbrev pub ◌>>=◌ : {A B : Type 0} → Result A Code → (A → Result B Code) → Result B Code
 (Ok a) >>= f = f a
 (Err code) >>= f = Err code
 
--- what there is, or the code of the fault that there is in its place
+-- a value, or the code of the fault in its place
 abbrev pub coded : {A F : Type 0} → (F → Code) → Result A F → Result A Code
 coded code_of (Ok a) = Ok a
 coded code_of (Err fault) = Err (code_of fault)
 
--- what is there, or the code where nothing is
+-- a value, or this code where there is none
 abbrev pub or_code : {A : Type 0} → Code → Option A → Result A Code
 or_code code None = Err code
 or_code code (Some a) = Ok a
 
--- what passes a test, or the code
+-- a value that passes a test, or this code
 abbrev pub if_it : {A : Type 0} → Code → (A → Bool) → A → Result A Code
 if_it code test a = if test a then Ok a else Err code
 
@@ -35,12 +34,13 @@ told json = success (printed json)
 abbrev pub leaving : {S : Type 0} → S → Reply → Result (Reply × S) Code
 leaving old reply = Ok (reply, old)
 
--- The reply, and what stands after it: a refused call changes nothing.
+-- The reply and the next state: a refused call changes nothing.
 abbrev pub settled : {S : Type 0} → S → Result (Reply × S) Code → Reply × S
 settled old (Ok outcome) = outcome
 settled old (Err code) = (refused code, old)
 
--- What may be given: the defined reply and change; or, where memory may run out, want of memory and no change.
+-- The possible outcomes: the defined reply and change; or, where memory may run out, the refusal for that and no
+-- change.
 abbrev pub Gives : {S : Type 0} → Type 0 → S → Result (Reply × S) Code → Reply → S → Type 0
 Gives MayRunOut old defined reply new =
     ((reply ≡ (settled old defined).0) × (new ≡ (settled old defined).1))

@@ -1,4 +1,4 @@
--- What the author's call does: the reply to it, and the drafts and the publications after it.
+-- What a call of the author does: its reply, and the drafts and the publications afterwards.
 use Rattle.std.specs.Prelude.{ℕ, ◌+◌, List, [], ◌∷◌, ◌++◌, length, codes, bytes_eq, if◌then◌else◌, None, Result, Ok, Err}
 use Rattle.mds_text.specs.Tree.{Json}
 use Rattle.mds_text.specs.declared.draft_kind.DraftKind.{DraftKind}
@@ -24,21 +24,21 @@ use Rattle.mds_machine.specs.Codes.{fault_code, put_code, publish_code}
 use Rattle.mds_machine.specs.Bodies.{result_json, removed_json, draft_json, published_json}
 use Rattle.mds_machine.specs.Published.{policies_reply, policy_answer, geographies_reply, geography_answer}
 
--- the document of a kind that a text reads as
+-- the document of a kind that a text is read as
 abbrev pub document_of : DraftKind → List ℕ → Result Document Code
 document_of kinds.Policy text = coded fault_code (read_policy text) >>= λ d. Ok (policy d)
 document_of kinds.Geography text = coded fault_code (read_geography text) >>= λ d. Ok (geography d)
 
--- a draft's own identifier is the path's
+-- a draft's own identifier must be the one in the path
 abbrev pub under : List ℕ → Document → Result Document Code
 under id document = if bytes_eq (id_of document) id then Ok document else Err IdMismatch
 
--- what became of a draft
+-- the word for what a put did
 abbrev pub put_word : Put → List ℕ
 put_word New = codes "new"
 put_word Replaced = codes "replaced"
 
--- a draft is put
+-- a put of a draft
 abbrev pub put_draft : Drafts → DraftKind → List ℕ → List ℕ → Result (Reply × Drafts) Code
 put_draft drafts kind id text = do
   read ← document_of kind text
@@ -46,39 +46,39 @@ put_draft drafts kind id text = do
   put ← coded put_code (put_answer drafts document)
   Ok (told (result_json (put_word put)), with_draft drafts document)
 
--- a draft as it is served: without a moment, since it isn't published
+-- a draft as it is served: without a moment, because it isn't published
 abbrev pub draft_served : Document → Json
 draft_served (policy d) = served_policy.served d None
 draft_served (geography d) = served_geography.served d None
 
--- a draft is asked for
+-- a request for a draft
 abbrev pub draft_answer : Drafts → DraftKind → List ℕ → Result Reply Code
 draft_answer drafts kind id = do
   document ← or_code NoDraft (draft_at drafts kind id)
   Ok (told (draft_json (draft_served document)))
 
--- a draft is dropped
+-- a drop of a draft
 abbrev pub drop_draft : Drafts → DraftKind → List ℕ → Result (Reply × Drafts) Code
 drop_draft drafts kind id =
     if has_draft drafts kind id then Ok (told (removed_json id), without_draft drafts kind id) else Err NoDraft
 
--- the publication that a publish request makes
+-- the publication of a publish request
 abbrev pub publication_asked : Drafts → List Publication → Request → Result Publication Code
 publication_asked drafts publications request = do
   named ← coded fault_code (read_publish_list request.body)
   coded publish_code (batch_of drafts named publications request.at)
 
--- drafts are published: their publication stands last, and they are drafts no more
+-- a publication of drafts: it is appended to the publications, and they are no longer drafts
 abbrev pub publish : Drafts → List Publication → Request → Result (Reply × (Drafts × List Publication)) Code
 publish drafts publications request = do
   p ← publication_asked drafts publications request
   Ok (told (published_json request.at (length publications + 1)), (taken_out drafts p, publications ++ p ∷ []))
 
--- what is done to drafts alone leaves the publications
+-- a change of drafts alone keeps the publications
 abbrev pub beside : List Publication → Reply × Drafts → Result (Reply × (Drafts × List Publication)) Code
 beside publications after = Ok (after.0, (after.1, publications))
 
--- What a call does: puts, drops and publications alone change something.
+-- What a call does: only puts, drops and publications change something.
 abbrev pub author_does : Drafts → List Publication → AuthorCall → Request → Result (Reply × (Drafts × List Publication)) Code
 author_does drafts publications Policies request = Ok (policies_reply publications None, (drafts, publications))
 author_does drafts publications (Policy id) request = policy_answer publications None id >>= leaving (drafts, publications)

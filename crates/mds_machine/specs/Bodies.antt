@@ -1,4 +1,4 @@
--- The bodies of successes: JSON objects with their names in byte order.
+-- The bodies of successes: JSON objects with their members' names in byte order.
 use Rattle.std.specs.Prelude.{ℕ, pos, List, [], ◌∷◌, map, codes}
 use Rattle.mds_text.specs.Tree.{Json, int, text, degrees, list, object, items_of, members_of}
 use Rattle.mds_match.specs.Row.{Row}
@@ -8,7 +8,7 @@ use Rattle.mds_verdict.specs.Verdict.{printed_id}
 abbrev pub list_json : List Json → Json
 list_json values = list (items_of values)
 
--- words, each as a text
+-- words, each as a JSON text
 abbrev pub words_json : List (List ℕ) → Json
 words_json words = list_json (map text words)
 
@@ -16,28 +16,28 @@ words_json words = list_json (map text words)
 abbrev pub number_json : ℕ → Json
 number_json n = int (pos n)
 
--- what became of a report or of a draft
+-- the result of a report or of a put
 abbrev pub result_json : List ℕ → Json
 result_json word = object (members_of ((codes "result", text word) ∷ []))
 
--- what was removed
+-- the identifier of what was removed
 abbrev pub removed_json : List ℕ → Json
 removed_json id = object (members_of ((codes "removed", printed_id id) ∷ []))
 
--- a draft, served
+-- a draft, as it is served
 abbrev pub draft_json : Json → Json
 draft_json served = object (members_of ((codes "draft", served) ∷ []))
 
--- a publication at a moment, after which there are so many
+-- a publication at a moment, and the number of publications then
 abbrev pub published_json : ℕ → ℕ → Json
 published_json t revision =
     object (members_of ((codes "published_date", number_json t) ∷ (codes "revision", number_json revision) ∷ []))
 
--- something that is published, under its name, and the number of publications
+-- something published, under its name, and the number of publications
 abbrev pub revised_json : List ℕ → Json → ℕ → Json
 revised_json name value revision = object (members_of ((name, value) ∷ (codes "revision", number_json revision) ∷ []))
 
--- what is found at a moment, under its name
+-- a result at a moment, under its name
 abbrev pub compliance_json : ℕ → List ℕ → Json → ℕ → Json
 compliance_json t name value revision =
     object (members_of ((codes "at", number_json t) ∷ (name, value) ∷ (codes "revision", number_json revision) ∷ (codes "version", number_json 2) ∷ []))

@@ -1,5 +1,5 @@
--- The codes of the faults that are found below: of documents, reports, drafts and publish requests. Where memory runs
--- out, that is said in the place of anything else.
+-- The codes of faults of the crates below: of documents, reports, drafts and publish requests. Out of memory is
+-- reported in place of anything else.
 use Rattle.mds_text.specs.Fault.{Fault, bad_json, bad_field, bad_number, out_of_range, decimal, too_many_rules, too_many_points, ring_short, ring_open}
 use Rattle.mds_drafts.specs.declared.drafts.PutFault.{PutFault}
 use Rattle.mds_drafts.specs.declared.drafts.PutFault.TheVariants as put
@@ -10,7 +10,7 @@ use Rattle.mds_fleet.specs.declared.book.BookFault.TheVariants as book
 use Rattle.mds_request.specs.declared.code.Code.{Code}
 use Rattle.mds_request.specs.declared.code.Code.TheVariants.{BadJson, BadField, BadNumber, OutOfRange, Decimal, TooManyRules, TooManyPoints, RingShort, RingOpen, Future, Stale, FleetFull, DraftsFull, Empty, NoDraft, Published, NoGeography, NoPredecessor, NotPublished, CatalogFull, NoMemory}
 
--- A document's first fault. The others are faults of configurations, which no request holds.
+-- A document's first fault. The others are faults of configurations, which no request has.
 abbrev pub fault_code : Fault → Code
 fault_code bad_json = BadJson
 fault_code (bad_field field) = BadField
@@ -30,7 +30,7 @@ book_code book.Stale = Stale
 book_code book.FleetFull = FleetFull
 book_code book.NoMemory = NoMemory
 
--- why a draft isn't put
+-- why a draft can't be put
 abbrev pub put_code : PutFault → Code
 put_code put.DraftsFull = DraftsFull
 put_code put.NoMemory = NoMemory

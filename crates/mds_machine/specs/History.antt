@@ -1,4 +1,4 @@
--- What a history, which is requests with their replies in order, has drafted and published.
+-- The drafts and publications of a history, which is requests with their replies, in order.
 use Rattle.std.specs.Prelude.{ℕ, ◌==◌, ◌&&◌, Bool, true, false, List, [], ◌∷◌, ◌++◌, reverse, get_or, filter_map, if◌then◌else◌, Option, Some, None, option_map, option_and_then, Result, Ok, bytes_eq}
 use Rattle.std.specs.Result.{result_ok}
 use Rattle.mds_text.specs.declared.draft_kind.DraftKind.{DraftKind}
@@ -23,13 +23,13 @@ is_same_kind kinds.Policy kinds.Policy = true
 is_same_kind kinds.Geography kinds.Geography = true
 is_same_kind kind other = false
 
--- the identifiers of a kind of which a publish request names the drafts
+-- the identifiers of a kind in a publish request
 abbrev pub named_ids : DraftKind → Named → List (List ℕ)
 named_ids kinds.Policy named = named.policies
 named_ids kinds.Geography named = named.geographies
 
--- What a call with this body says of the draft of a kind and an identifier, if it says anything: that it is a document,
--- which is put, or that there is none, since it is dropped or published.
+-- What a call with this body makes of the draft of a kind and an identifier, if anything: a document, which is put, or
+-- none, because it is dropped or published.
 abbrev pub fate_by : Result Call Code → List ℕ → DraftKind → List ℕ → Option (Option Document)
 fate_by (Ok (Author (PutDraft of named))) body kind id =
     if is_same_kind kind of && bytes_eq named id then option_map Some (result_ok (document_of of body)) else None
@@ -39,14 +39,14 @@ fate_by (Ok (Author Publish)) body kind id =
     option_and_then (λ named. if is_among (named_ids kind named) id then Some None else None) (result_ok (read_publish_list body))
 fate_by other body kind id = None
 
--- what an exchange says of the draft of a kind and an identifier: nothing, unless it was answered with a success
+-- what an exchange makes of the draft of a kind and an identifier: nothing, unless its reply is a success
 abbrev pub fate_in : Configuration → DraftKind → List ℕ → Exchange → Option (Option Document)
 fate_in configuration kind id e =
     if e.reply.status == 200 then fate_by (call_of configuration e.request) e.request.body kind id else None
 
--- The draft of a kind and an identifier after a history, from the drafts held at first: the last word on it, or the
--- draft that was held at first. It is the last document that was put with success, unless a drop or a publication of it
--- came after.
+-- The draft of a kind and an identifier after a history that began with these drafts: what the last exchange that
+-- concerns it made of it, or the initial draft. It is the last document that was put with success, unless a drop or a
+-- publication of it came afterwards.
 abbrev pub draft_after : Configuration → Drafts → List Exchange → DraftKind → List ℕ → Option Document
 draft_after configuration first history kind id =
     get_or (filter_map (fate_in configuration kind id) (reverse history)) 0 (draft_at first kind id)
@@ -59,8 +59,7 @@ abbrev pub as_geography : Option Document → Option Geography
 as_geography (Some (geography d)) = Some d
 as_geography other = None
 
--- the documents that the drafts give for the identifiers of a publish request, in the order of its lists, and the
--- policies that it withdraws
+-- the drafts with the identifiers of a publish request, in the order of its lists, and the policies that it withdraws
 abbrev pub publication_named : (DraftKind → List ℕ → Option Document) → ℕ → Named → Publication
 publication_named held moment named =
     record {
@@ -70,24 +69,24 @@ publication_named held moment named =
       withdrawn = named.withdraw;
     }
 
--- the publication that a call makes, by the drafts that are held: a publish request makes one, and no other call does
+-- the publication of a call, by the drafts at that time: a publish request makes one, and no other call does
 abbrev pub published_by : Result Call Code → (DraftKind → List ℕ → Option Document) → Request → Option Publication
 published_by (Ok (Author Publish)) held request =
     option_map (publication_named held request.at) (result_ok (read_publish_list request.body))
 published_by other held request = None
 
--- the publication that an exchange made, by the drafts that were held just before it
+-- the publication of an exchange, by the drafts just before it
 abbrev pub published_in : Configuration → (DraftKind → List ℕ → Option Document) → Exchange → Option Publication
 published_in configuration held e =
     if e.reply.status == 200 then published_by (call_of configuration e.request) held e.request else None
 
--- each element of a list, with those before it; some stand before the list
+-- each element of a list, with those before it; `before` comes before the list
 abbrev pub preceded : {A : Type 0} → List A → List A → List (List A × A)
 preceded before [] = []
 preceded before (a ∷ more) = (before, a) ∷ preceded (before ++ a ∷ []) more
 
--- The publications of a history, in order: the moment of each publish request that was answered with a success, with
--- the documents that the drafts gave just before it.
+-- The publications of a history, in order: one for each publish request with a successful reply, at its moment, with
+-- the documents that were drafts just before it.
 abbrev pub publications_after : Configuration → Drafts → List Exchange → List Publication
 publications_after configuration first history =
     filter_map (λ e. published_in configuration (draft_after configuration first e.0) e.1) (preceded [] history)

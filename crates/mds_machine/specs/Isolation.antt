@@ -1,4 +1,4 @@
--- Isolation: an operator's replies in a history depend on what the operator sees of it, and on nothing else.
+-- Isolation: an operator's replies in a history depend on what the operator sees of the history, and on nothing else.
 use Rattle.std.specs.Prelude.{◌≡◌, ◌≢◌, ℕ, List, ◌∷◌, ◌++◌, map, filter, true, Some, slice_get}
 use Rattle.mds_text.specs.declared.draft_kind.DraftKind.{DraftKind}
 use Rattle.mds_drafts.specs.Drafts.{Drafts, Document, draft_at, id_of}
@@ -9,35 +9,35 @@ use Rattle.mds_machine.specs.Meaning.{IsAnswer, Shows}
 use Rattle.mds_machine.specs.Step.{State, Exchange, Run, new_state}
 use Rattle.mds_machine.specs.Views.{Seen, is_of, view}
 
--- two states agree for an operator: in the configuration, in what is published, and in that operator's rows
+-- two states agree for an operator: in the configuration, in the publications, and in that operator's rows
 pub record Agree (w v : State) (place : ℕ) : Type 0 where
   pub configuration : w.configuration ≡ v.configuration
   pub publications : w.publications ≡ v.publications
   pub rows : slice_get w.fleets place ≡ slice_get v.fleets place
 
--- each draft is held under its own identifier
+-- each draft has its own identifier as its key
 abbrev pub AreKeyed : Drafts → Type 0
 AreKeyed drafts =
     (kind : DraftKind) (id : List ℕ) (document : Document)
     → draft_at drafts kind id ≡ Some document → id_of document ≡ id
 
--- an exchange stands in a history, after those before it
+-- an exchange in a history, after those before it
 abbrev pub StandsAfter : List Exchange → Exchange → List Exchange → Type 0
 StandsAfter before e history = (rest : List Exchange) × (history ≡ before ++ e ∷ rest)
 
--- no request of an operator was refused for want of memory
+-- no request of an operator was refused because memory ran out
 abbrev pub HasMemory : Configuration → ℕ → List Exchange → Type 0
 HasMemory configuration place history =
     (before : List Exchange) (e : Exchange)
     → StandsAfter before e history → is_of configuration place e.request ≡ true → e.reply ≢ refused NoMemory
 
--- the replies to an operator's requests, in their order
+-- the replies to an operator's requests, in order
 abbrev pub replies_to : Configuration → ℕ → List Exchange → List Reply
 replies_to configuration place history = map (λ e. e.reply) (filter (λ e. is_of configuration place e.request) history)
 
--- Two worlds. Take any other history, from a state that agrees for an operator and holds its drafts under their own
--- identifiers, as a machine always does. If what the operator sees of both is the same, its replies are the same and the
--- states afterwards agree for it, whatever drafts and requests of others there are in them.
+-- Two histories. Take any other history, from a state that agrees for an operator and whose drafts have their own
+-- identifiers as keys, as a machine's always have. If what the operator sees of both is the same, its replies are the
+-- same and the states afterwards agree for it, whatever drafts and requests of others there are in them.
 abbrev pub IsIsolatedFrom : State → List Exchange → State → Type 0
 IsIsolatedFrom w history next =
     (v apart : State) (other : List Exchange) (place : ℕ)
@@ -46,9 +46,9 @@ IsIsolatedFrom w history next =
     → HasMemory w.configuration place history → HasMemory v.configuration place other
     → (replies_to w.configuration place history ≡ replies_to v.configuration place other) × Agree next apart place
 
--- Meaning. Take any view whose publications, and whose rows of an operator, are those at first. Each reply to the
--- operator is the answer that this view defines, followed by what the operator has seen of the history before; and the
--- publications and the operator's rows afterwards are those of all that it has seen.
+-- Meaning. Take any view whose publications, and whose rows of an operator, are those of the initial state. Each reply
+-- to the operator is the answer that this view defines, followed by what the operator has seen of the history before;
+-- and the publications and the operator's rows afterwards are those of all that it has seen.
 abbrev pub IsMeantFrom : State → List Exchange → State → Type 0
 IsMeantFrom w history next =
     (place : ℕ) (operator : Operator) (seen : List Seen)
@@ -58,7 +58,7 @@ IsMeantFrom w history next =
     → IsAnswer w.configuration operator (seen ++ view w.configuration w.drafts before place) e.request e.reply)
     × Shows w.configuration operator place (seen ++ view w.configuration w.drafts history place) next
 
--- So it is in each history of the machine.
+-- This holds in each history of the machine.
 abbrev pub IsIsolatedThroughout : Type 0
 IsIsolatedThroughout =
     (w next : State) (history : List Exchange) → AreKeyed w.drafts → Run w history next → IsIsolatedFrom w history next
@@ -67,7 +67,7 @@ abbrev pub IsMeantThroughout : Type 0
 IsMeantThroughout =
     (w next : State) (history : List Exchange) → AreKeyed w.drafts → Run w history next → IsMeantFrom w history next
 
--- In a history from a new machine an operator's answers are those that its view of the history alone defines.
+-- In a history from a new machine, an operator's answers are those that its view of the history alone defines.
 abbrev pub IsMeantFromNew : Type 0
 IsMeantFromNew =
     (configuration : Configuration) (next : State) (history : List Exchange) (place : ℕ) (operator : Operator)

@@ -1,4 +1,4 @@
--- What an operator is answered, told by what is published and by this operator's own requests alone: no state is kept.
+-- An operator's answers, by what is published and by this operator's own requests alone: without any state.
 use Rattle.std.specs.Prelude.{◌≡◌, ℕ, List, reverse, filter_map, Option, Some, None, option_map, Result, Ok, Err, slice_get}
 use Rattle.std.specs.FinMap.{get}
 use Rattle.std.specs.Result.{result_ok}
@@ -21,17 +21,17 @@ use Rattle.mds_machine.specs.Operator.{operator_does}
 use Rattle.mds_machine.specs.Step.{State}
 use Rattle.mds_machine.specs.Views.{Seen, requests_of, publications_of}
 
--- an operator's own call; one of the author is none, and no operator's request has it
+-- an operator's own call; a call of the author is none, and no operator's request has one
 abbrev pub own_call : Call → Result OperatorCall Code
 own_call (OperatorAt place call) = Ok call
 own_call (Author call) = Err Role
 
--- an operator's own step: the reply to its request, and its rows after it
+-- an operator's own step: the reply to its request, and its rows afterwards
 abbrev pub own_step : Configuration → Operator → List Publication → Rows → Request → Reply × Rows
 own_step configuration operator publications rows request =
     settled rows (call_of configuration request >>= own_call >>= λ call. operator_does configuration.zone operator publications rows call request)
 
--- what a call does to a fleet, if it does anything: it reports a vehicle, or it removes the one in the path
+-- what a call does to a fleet, if anything: it reports a vehicle, or removes the one in the path
 abbrev pub event_by : Result Call Code → Request → Option Event
 event_by (Ok (OperatorAt place Report)) request =
     option_map (λ report. arrival report request.at) (result_ok (read_report request.body))
@@ -42,13 +42,13 @@ event_by other request = None
 abbrev pub events_of : Configuration → List Request → List Event
 events_of configuration requests = reverse (filter_map (λ request. event_by (call_of configuration request) request) requests)
 
--- the rows of an operator's list of requests: the row of each device is what its accepted reports come to
+-- the rows of an operator's list of requests: each device's row follows from its accepted reports
 abbrev pub AreRows : Configuration → Operator → List Request → Rows → Type 0
 AreRows configuration operator requests rows =
     (device : List ℕ) → get rows device ≡ row_by (accepted_reports operator.limit (events_of configuration requests) device)
 
--- The answer to an operator's request after a view: the reply that its own step gives with the publications of the view
--- and the rows of the view's requests.
+-- The answer to an operator's request after a view: the reply of its own step with the publications of the view and the
+-- rows of the view's requests.
 abbrev pub IsAnswer : Configuration → Operator → List Seen → Request → Reply → Type 0
 IsAnswer configuration operator seen request reply =
     (rows : Rows) × AreRows configuration operator (requests_of seen) rows

@@ -1,4 +1,4 @@
--- What an operator's call does: the reply to it, and the operator's rows after it. It depends on the zone, the operator,
+-- What a call of an operator does: its reply, and the operator's rows afterwards. It depends on the zone, the operator,
 -- the publications, these rows, the call and the request, and on nothing else.
 use Rattle.std.specs.Prelude.{ℕ, List, map, length, codes, if◌then◌else◌, Some, is_some, Result, Ok, Err}
 use Rattle.std.specs.FinMap.{get, remove, values}
@@ -24,26 +24,26 @@ use Rattle.mds_machine.specs.Codes.{fault_code, book_code}
 use Rattle.mds_machine.specs.Bodies.{list_json, result_json, removed_json, vehicles_json, compliance_json}
 use Rattle.mds_machine.specs.Published.{policies_reply, policy_answer, geographies_reply, geography_answer}
 
--- what became of a report
+-- the word for what a report did
 abbrev pub taken_word : Taken → List ℕ
 taken_word New = codes "new"
 taken_word Changed = codes "changed"
 taken_word Same = codes "same"
 
--- a report is taken
+-- a report of a vehicle
 abbrev pub report : Operator → Rows → Request → Result (Reply × Rows) Code
 report operator rows request = do
   report ← coded fault_code (read_report request.body)
   taken ← coded book_code (outcome rows operator.limit report request.at)
   Ok (told (result_json (taken_word taken)), rows_after rows report (Ok taken))
 
--- a vehicle is removed
+-- a removal of a vehicle
 abbrev pub removal : Rows → List ℕ → Result (Reply × Rows) Code
 removal rows device =
     if is_some (get rows device) then Ok (told (removed_json device), remove rows device) else Err NotFound
 
--- the report on a policy at a moment: the verdicts of its rules over these rows, in the published geographies,
--- whatever the moment of their publication
+-- the report on a policy at a moment: the verdicts on its rules over these rows, in the published geographies, whatever
+-- the moment of their publication
 abbrev pub policy_report : Zone → List Publication → Rows → ℕ → Published Policy → Json
 policy_report zone publications rows t p =
     reported p.document (verdicts p.document (published_area publications) (values rows) (local_of zone t) t)
@@ -60,7 +60,7 @@ policy_compliance_answer zone operator publications rows t id = do
   binding ← if_it NotFound (is_in_force publications operator.id t) found
   Ok (told (compliance_json t (codes "policy") (policy_report zone publications rows t binding) (length publications)))
 
--- What a call does: reports and removals alone change the rows.
+-- What a call does: only reports and removals change the rows.
 abbrev pub operator_does : Zone → Operator → List Publication → Rows → OperatorCall → Request → Result (Reply × Rows) Code
 operator_does zone operator publications rows Policies request = Ok (policies_reply publications (Some operator.id), rows)
 operator_does zone operator publications rows (PolicyAt id) request = policy_answer publications (Some operator.id) id >>= leaving rows

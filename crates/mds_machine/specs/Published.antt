@@ -1,5 +1,5 @@
--- What is told of published documents: to the author of all, to an operator of the policies that are meant for it (MDS
--- 2.0 Policy and Geography). A reader is an operator's identifier, or none for the author.
+-- The answers about published documents: the author sees all of them, an operator the policies that are meant for it
+-- (MDS 2.0 Policy and Geography). A reader is an operator's identifier, or none for the author.
 use Rattle.std.specs.Prelude.{ℕ, List, map, length, codes, Bool, true, Option, Some, Result, Ok}
 use Rattle.std.specs.Option.{option_map_or}
 use Rattle.mds_text.specs.Tree.{Json}
@@ -22,16 +22,16 @@ policy_json p = policy.served p.document (Some p.moment)
 abbrev pub geography_json : Published Geography → Json
 geography_json g = geography.served g.document (Some g.moment)
 
--- the policies that the reader is shown, in order of publication
+-- the policies that are visible to the reader, in order of publication
 abbrev pub policies_reply : List Publication → Option (List ℕ) → Reply
 policies_reply publications reader =
     told (revised_json (codes "policies") (list_json (map policy_json (policies_for publications reader))) (length publications))
 
--- whether the reader is shown a policy
+-- whether a policy is visible to the reader
 abbrev pub is_shown : Option (List ℕ) → Published Policy → Bool
 is_shown reader p = option_map_or (λ operator. is_meant_for operator p.document) reader true
 
--- one of them
+-- one such policy
 abbrev pub policy_answer : List Publication → Option (List ℕ) → List ℕ → Result Reply Code
 policy_answer publications reader id = do
   found ← or_code NotFound (find_policy publications id)
@@ -43,7 +43,7 @@ abbrev pub geographies_reply : List Publication → Reply
 geographies_reply publications =
     told (revised_json (codes "geographies") (list_json (map geography_json (published_geographies publications))) (length publications))
 
--- one of them
+-- one such geography
 abbrev pub geography_answer : List Publication → List ℕ → Result Reply Code
 geography_answer publications id = do
   found ← or_code NotFound (find_geography publications id)

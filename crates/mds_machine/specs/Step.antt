@@ -1,4 +1,4 @@
--- One step of the machine: a request comes in, a reply goes out, and the state may change.
+-- One step of the machine: a request, its reply and the next state.
 use Rattle.std.specs.Prelude.{◌≡◌, ◌≢◌, ℕ, List, [], ◌∷◌, map, zip, set, slice_get, Result, Ok, Err}
 use Rattle.std.specs.FinMap.{empty}
 use Rattle.mds_catalog.specs.Publication.{Publication}
@@ -16,7 +16,7 @@ use Rattle.mds_machine.specs.Answer.{or_code, settled, Gives, ◌>>=◌}
 use Rattle.mds_machine.specs.Author.{author_does}
 use Rattle.mds_machine.specs.Operator.{operator_does}
 
--- the whole machine between two requests
+-- the whole state of the machine between two requests
 pub record State : Type 0 where
   pub configuration : Configuration
   -- in their order
@@ -25,13 +25,13 @@ pub record State : Type 0 where
   -- the rows of each operator, in the configuration's order
   pub fleets : List Rows
 
--- the state with other rows of one operator
+-- the state with other rows for one operator
 abbrev pub with_rows : State → ℕ → Rows → State
 with_rows w place rows =
     record { configuration = w.configuration; publications = w.publications; drafts = w.drafts; fleets = set w.fleets place rows }
 
--- What a call does: the author's leaves all rows, and an operator's leaves all but its own. In a state with rows for each
--- operator, as a machine's has, the two refusals don't come.
+-- What a call does: one of the author changes no rows, one of an operator only its own. In a state with rows for each
+-- operator, as a machine's always is, neither of the two refusals occurs.
 abbrev pub call_does : State → Call → Request → Result (Reply × State) Code
 call_does w (Author call) request = do
   after ← author_does w.drafts w.publications call request
@@ -42,20 +42,20 @@ call_does w (OperatorAt place call) request = do
   after ← operator_does w.configuration.zone operator w.publications rows call request
   Ok (after.0, with_rows w place after.1)
 
--- what a request does, where it isn't refused
+-- what a request does, unless it is refused
 abbrev pub does : State → Request → Result (Reply × State) Code
 does w request = call_of w.configuration request >>= λ call. call_does w call request
 
--- the reply to a request and the state after it, where memory doesn't run out
+-- the reply to a request and the next state, where memory doesn't run out
 abbrev pub answered : State → Request → Reply × State
 answered w request = settled w (does w request)
 
--- memory may run out for a request that isn't too large and is somebody's
+-- memory may run out for a request that isn't too large and whose token is known
 pub record MayRunOut (w : State) (request : Request) : Type 0 where
   pub fits : call_of w.configuration request ≢ Err TooLarge
   pub known : call_of w.configuration request ≢ Err Token
 
--- A step of the machine. Want of memory is answered in the place of anything else, and changes nothing.
+-- A step of the machine. Out of memory may be the reply in place of anything else, and changes nothing.
 abbrev pub Step : State → Request → Reply → State → Type 0
 Step w request reply next = Gives (MayRunOut w request) w (does w request) reply next
 
@@ -73,7 +73,7 @@ abbrev pub Run : State → List Exchange → State → Type 0
 Run w [] next = next ≡ w
 Run w (e ∷ history) next = (between : State) × Step w e.request e.reply between × Run between history next
 
--- the state of a configuration before its first request: no publication, no draft, and no row of any operator
+-- the state of a configuration before its first request: no publications, no drafts, and no rows of any operator
 abbrev pub new_state : Configuration → State
 new_state configuration =
     record {

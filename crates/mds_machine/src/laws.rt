@@ -1,68 +1,67 @@
-//! Laws of the machine. Each function's contract is the law; the functions themselves do nothing.
+//! Laws of the machine. Each function's contract is the law; the functions do nothing.
 ghost use Rattle.mds_machine.specs.Laws.{IsTotal, IsDetermined, RefusedLeaves, LeavesOthers, LeavesRows, HasOneAnswer, GoesByHistory, BeginsKeyed};
 ghost use Rattle.mds_machine.specs.Isolation.{IsIsolatedThroughout, IsMeantThroughout, IsMeantFromNew};
 
-/// Some reply is right to every request.
+/// Every request has a possible reply.
 pub fn is_total()
     ensures { IsTotal }
 {}
 
-/// Want of memory aside, only one reply is, and only one state follows.
+/// Apart from running out of memory, a request has only one possible reply and only one next state.
 pub fn is_determined()
     ensures { IsDetermined }
 {}
 
-/// A reply other than a success leaves the state.
+/// A reply other than a success doesn't change the state.
 pub fn refused_leaves()
     ensures { RefusedLeaves }
 {}
 
-/// A request of an operator leaves the publications, the drafts and the rows of every other operator.
+/// A request of an operator doesn't change the publications, the drafts or the rows of another operator.
 pub fn leaves_others()
     ensures { LeavesOthers }
 {}
 
-/// A request of the author leaves all rows.
+/// A request of the author changes no rows.
 pub fn leaves_rows()
     ensures { LeavesRows }
 {}
 
-/// What an operator has seen, its own requests and the publications in their order, defines one answer
-/// to its next request.
+/// An operator's view, which is its own requests and the publications in order, defines exactly one answer to its next
+/// request.
 pub fn has_one_answer()
     ensures { HasOneAnswer }
 {}
 
-/// The machine's drafts and publications after a history are those of the history: each draft is the
-/// last document that was put with success, unless it was dropped or published after that, and each
-/// publication has the documents that were drafts just before it.
+/// The machine's drafts and publications after a history follow from the history: each draft is the last document that
+/// was put with success, unless it was dropped or published after that, and each publication has the documents that
+/// were drafts just before it.
 pub fn goes_by_history()
     ensures { GoesByHistory }
 {}
 
-/// A new machine holds each of its drafts under its own identifier.
+/// In a new machine each draft has its own identifier as its key.
 pub fn begins_keyed()
     ensures { BeginsKeyed }
 {}
 
-/// An operator's requests have the answers that the published texts and its own requests before each
-/// of them define, however many others ask in between and whatever is drafted, as long as memory
-/// suffices for its own; and what is published afterwards, and the operator's rows, are again those of
-/// what it has seen, so that a further history goes on from there. The state at first holds each draft
-/// under its own identifier.
+/// An operator's replies are the answers that the published texts and its own earlier requests define, whatever others
+/// ask in between and whatever is drafted, as long as its own requests don't run out of memory. What is published
+/// afterwards, and the operator's rows, follow from its view again, so that a further history can go on from there. In
+/// the initial state each draft has its own identifier as its key.
 pub fn is_meant_throughout()
     ensures { IsMeantThroughout }
 {}
 
-/// In a history from a new machine these are the answers that its view of the history alone defines.
+/// In a history from a new machine these are the answers that the operator's view of the history alone defines.
 pub fn is_meant_from_new()
     ensures { IsMeantFromNew }
 {}
 
-/// In two histories, from states that agree for an operator, that look the same to it (its own
-/// requests and the publications, at the same moments and in the same order), its replies are the
-/// same, and the states afterwards agree for it, whatever drafts and requests of others stand between,
-/// as long as memory suffices for its own. Both states hold each draft under its own identifier.
+/// Take two histories, from states that agree for an operator, that look the same to it (its own requests and the
+/// publications, at the same moments and in the same order). Its replies are the same, and the states afterwards agree
+/// for it, whatever drafts and requests of others there are, as long as its own requests don't run out of memory. In
+/// both initial states each draft has its own identifier as its key.
 pub fn is_isolated_throughout()
     ensures { IsIsolatedThroughout }
 {}

@@ -1,4 +1,4 @@
--- What the row decides and what the time decides, together; values of values.
+-- The row's part of a match and the time's part, together; values of values.
 use Rattle.std.proofs.Common.{◌≡◌, ℕ, Bool, true, false, ◌&&◌, List, [], ◌∷◌, map, refl, ap}
 use Rattle.mds_geometry.specs.declared.position.Position.{Position}
 use Rattle.mds_policy.specs.Policy.{Rule}

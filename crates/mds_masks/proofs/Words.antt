@@ -1,4 +1,4 @@
--- One bit more of a word, and the lowest bit of two words.
+-- One more bit of a word, and the lowest common bit of two words.
 use Rattle.std.proofs.Common.{◌≡◌, ◌⊎◌, ℕ, ◌*◌, ◌%◌, ◌^◌, ◌<◌, ◌≤◌, Bool, true, false, ◌&&◌, cond, Some, None, List, [], ◌∷◌, ◌++◌, length, map, get_or, bit_and, bit_or, min, refl, sym, ap, ◌∙◌, inl, inr, arith, w64}
 use Rattle.std.specs.Int.{bit_at, trailing_zeros}
 use Rattle.std.specs.List.{position}
@@ -13,7 +13,7 @@ use Rattle.mds_masks.specs.Masks.{HasBits}
 abbrev pub as_bit : Bool → ℕ
 as_bit b = cond b 1 0
 
--- what stands at a place of a list with one element more
+-- the elements of a list with one more at its end
 module _ (bits : List Bool) (b : Bool) (k : ℕ) where
   pub at_before : k < length bits → get_or (bits ++ b ∷ []) k false ≡ get_or bits k false
   at_before less = get_or_append_left bits (b ∷ []) false k less
@@ -42,7 +42,7 @@ module _ (bits : List Bool) (word number : ℕ) (long : length bits ≡ number) 
       by (inr (inl less)) = before k fits ∙ ap as_bit (sym (at_before bits false k (omega arith)))
       by (inr (inr more)) = before k fits ∙ ap as_bit (get_or_past bits k false (omega arith) ∙ sym (at_past bits false k (omega arith)))
 
--- no rule has its bit set in an empty word
+-- an empty word has no rule's bit
 pub no_bits : HasBits [] 0
 no_bits k fits = bit_at-zero k
 
@@ -65,7 +65,7 @@ first_in : {X : Type 0} (xs : List X) (n : ℕ) → n < length xs → X
 first_in [] n h = absurd (omega arith)
 first_in (x ∷ xs) n h = x
 
--- words with the bits of two tests, and a third test that passes where both do
+-- words with the bits of two tests, and a test that passes where both do
 module _ {X : Type 0} (p q both : X → Bool) (xs : List X) (a b : ℕ) (is_both : (x : X) → both x ≡ (p x && q x)) (few : length xs ≤ 64) (ps : HasBits (map p xs) a) (qs : HasBits (map q xs) b) where
   bit_of_both : (k : ℕ) (d : X) → k < length xs → bit_at (bit_and a b) k ≡ as_bit (both (get_or xs k d))
   bit_of_both k d short =

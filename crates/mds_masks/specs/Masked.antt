@@ -1,4 +1,4 @@
--- What a policy with the areas of its geographies at hand says of a row.
+-- Matching rows with a policy that has the areas of its geographies looked up.
 use Rattle.std.specs.Prelude.{◌≡◌, ℕ, Bool, ◌&&◌, List, map}
 use Rattle.std.specs.List.{list_any}
 use Rattle.mds_geometry.specs.Area.{area_holds}
@@ -15,6 +15,6 @@ abbrev pub masked_matches : Row → MaskedRule → Bool
 masked_matches row rule =
     rule.is_evaluated && list_any (λ area. area_holds area.now row.position) rule.areas.items && is_meant (rule_document rule.rule.now) row
 
--- its rules are those of the policy, as far as any row can tell
+-- for every row, its rules match as those of the policy do
 abbrev pub IsMasked : MaskedPolicy → Policy → (List ℕ → List (List (List Position))) → Type 0
 IsMasked masked policy polygons = (row : Row) → map (masked_matches row) masked.rules.items ≡ map (matches polygons row) policy.rules

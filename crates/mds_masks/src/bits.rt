@@ -6,11 +6,11 @@ ghost use Rattle.mds_match.specs.Matching.{first};
 ghost use Rattle.mds_match.specs.Row.{Row};
 ghost use Rattle.mds_masks.specs.Masks.{HasBits, IsMask, IsOpenMask};
 
-/// The most rules of a policy whose masks are made: the bits of a word.
+/// The most rules of a policy for which bitmaps are made: the bits of a word.
 pub const MOST_RULES: usize = 64;
 
-/// The number of the first rule, counted from 0, that is among those that are open and among those
-/// whose mask this is, if there is one (MDS 2.0 Policy, order of operations).
+/// The index of the first rule that is both in `active`, the bitmap of the open rules, and in
+/// `mask`, that of a vehicle, if there is one (MDS 2.0 Policy, order of operations).
 pub fn first_of(active: u64, mask: u64) -> Option<usize>
     ensures within { IfSome result (λ n. n < 64) }
     ensures first { (policy : Policy) (polygons : List ℕ → List (List (List Position))) (row : Row) (local : Time) →
@@ -24,7 +24,7 @@ pub fn first_of(active: u64, mask: u64) -> Option<usize>
     Some(met.trailing_zeros() as usize)
 }
 
-/// The word with the bit of this number set, where it is to be.
+/// The word with the bit of this number set, where `is_set`.
 pub(crate) fn with_bit(word: u64, number: usize, is_set: bool) -> u64
     requires { number < 64 }
     ensures { (bits : List Bool) → length bits ≡ number → HasBits bits word → HasBits (bits ++ is_set ∷ []) result }

@@ -1,4 +1,5 @@
-//! What follows from the definitions of masks, for all rules and vehicles.
+//! Laws of bitmaps, for all rules and vehicles. Each function's contract is the law; the functions
+//! themselves do nothing.
 
 ghost use Rattle.std.specs.Prelude.{◌≡◌, ◌&&◌, ℕ, List};
 ghost use Rattle.mds_geometry.specs.declared.position.Position.{Position};
@@ -8,7 +9,8 @@ ghost use Rattle.mds_match.specs.Matching.{meets};
 ghost use Rattle.mds_match.specs.Row.{Row};
 ghost use Rattle.mds_masks.specs.Masks.{is_open_at, matches};
 
-/// A vehicle meets a rule at a local time where the rule is open and the vehicle's row alone matches.
+/// A vehicle meets a rule at a local time exactly where the rule is open then and the vehicle's row
+/// matches the rule whatever the time.
 pub fn row_and_time()
     ensures { (rule : Rule) (polygons : List ℕ → List (List (List Position))) (row : Row) (local : Local) →
         meets rule polygons row local ≡ (is_open_at local rule && matches polygons row rule) }

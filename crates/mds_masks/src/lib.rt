@@ -1,5 +1,5 @@
-//! The rules that a vehicle meets and those that are open, each as the bits of a word, and the first
-//! rule of both (MDS 2.0 Policy, order of operations).
+//! Bitmaps of a policy's rules: those that a vehicle meets, those that are open, and the first rule
+//! of both.
 #![tactic(auto)]
 
 mod bits;

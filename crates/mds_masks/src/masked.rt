@@ -16,7 +16,7 @@ use mds_policy::{Policy, Rule};
 use mds_text::Id;
 use std::alloc::{AllocError, Global};
 
-/// A rule with the areas of its geographies at hand.
+/// A rule with the areas of its geographies looked up.
 #[derive(Drop)]
 pub(crate) struct MaskedRule<'a> {
     rule: &'a Rule,
@@ -24,8 +24,9 @@ pub(crate) struct MaskedRule<'a> {
     areas: Vec<&'a Area>,
 }
 
-/// The rules of a policy, each with the areas of its geographies at hand: the masks of many vehicles
-/// are made after one search for each geography. It says nothing of the time.
+/// Makes bitmaps of the rules that vehicles meet. It has the rules of a policy with the areas of
+/// their geographies looked up: one look-up for each geography serves many vehicles. It does not
+/// depend on the time.
 #[derive(Drop)]
 pub struct MaskedPolicy<'a> {
     rules: Vec<MaskedRule<'a>>,
@@ -39,11 +40,11 @@ impl<'a> MaskedPolicy<'a> {
     ghost use Rattle.mds_masks.specs.Masks.{IsMask};
     ghost use Rattle.mds_masks.specs.Masked.{IsMasked};
 
-    /// Finds the geographies of a policy's rules, and which of the rules are evaluated.
+    /// Looks up the geographies of a policy's rules, and decides which of the rules are evaluated.
     ///
     /// # Errors
     ///
-    /// Memory ran out.
+    /// Out of memory.
     pub fn new<P: Places>(
         alloc: Global,
         policy: &'a Policy,
@@ -55,9 +56,9 @@ impl<'a> MaskedPolicy<'a> {
         Ok(MaskedPolicy { rules })
     }
 
-    /// The rules that a vehicle meets whenever they are open, as the bits of a word: those that are
-    /// evaluated, and that its type, propulsion, state, last events and place match (MDS 2.0 Policy,
-    /// rules). Takes no memory.
+    /// The bitmap of the rules that a vehicle meets whenever they are open: those that are
+    /// evaluated and that match its type, propulsion, state, last events and position (MDS 2.0
+    /// Policy, rules). Allocates nothing.
     pub fn mask(&self, vehicle: &Vehicle) -> u64
         requires { length self.now.rules.items ≤ 64 }
         ensures { (policy : Document) (polygons : List ℕ → List (List (List Position))) →
@@ -121,8 +122,8 @@ fn areas_of<'a, P: Places>(
     Ok(areas)
 }
 
-/// Whether a vehicle meets the rule whenever it is open: the place is tested first, since few
-/// positions pass it.
+/// Whether a vehicle meets the rule whenever it is open. The position is tested first, since few
+/// positions pass.
 fn matches(rule: &MaskedRule<'_>, vehicle: &Vehicle) -> bool
     ensures { result ≡ masked_matches (row_of vehicle.now) rule.now }
 {

@@ -1,4 +1,4 @@
-//! Which vehicles a rule is for, wherever they are and at whatever time.
+//! Which vehicles a rule is for, whatever their position and the time.
 
 ghost use Rattle.std.specs.Prelude.{◌≡◌, bytes_eq, map};
 ghost use Rattle.std.specs.List.{list_any};
@@ -22,7 +22,7 @@ pub(crate) fn is_evaluated(kind: Kind) -> bool
     }
 }
 
-/// Whether the vehicle's type, propulsion, state and last events are those of the rule.
+/// Whether the vehicle's type, propulsion, state and last events match the rule.
 pub(crate) fn is_meant(rule: &Rule, vehicle: &Vehicle) -> bool
     ensures { result ≡ is_meant (rule_document rule.now) (row_of vehicle.now) }
 {

@@ -6,7 +6,7 @@ use crate::bits::with_bit;
 use mds_match::{Local, open_at};
 use mds_policy::Policy;
 
-/// The rules of a policy that are open at a local time, as the bits of a word.
+/// The bitmap of the rules of a policy that are open at a local time.
 pub fn open_mask(policy: &Policy, local: Local) -> u64
     requires { length (policy_document policy.now).rules ≤ 64 }
     ensures { IsOpenMask (policy_document policy.now) local result }

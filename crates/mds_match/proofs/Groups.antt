@@ -1,4 +1,4 @@
--- Values that are put into numbered groups.
+-- Values sorted into numbered groups.
 use Rattle.std.proofs.Common.{◌≡◌, ℕ, zero, suc, ◌+◌, ◌<◌, ◌≤◌, ◌==◌, Bool, true, false, cond, Option, Some, None, List, [], ◌∷◌, length, filter, sum_by, count_by, refl, sym, ◌∙◌, arith}
 use Rattle.std.proofs.lemmas.Bool.{eqb-true}
 use Rattle.std.proofs.lemmas.Bool.Decides.{nat_tests}
@@ -58,7 +58,7 @@ zeros : (ns : List ℕ) → sum_by (λ n. 0) ns ≡ 0
 zeros [] = refl
 zeros (n ∷ ns) = zeros ns
 
--- the groups have together no more than all values
+-- all groups together have no more elements than there are values
 pub groups_at_most : {X : Type 0} (f : X → Option ℕ) (m : ℕ) (xs : List X) → sum_by (λ n. length (filter (λ x. is_rule n (f x)) xs)) (range_with_len 0 m) ≤ length xs
 groups_at_most f m [] = omega (arith, zeros (range_with_len 0 m))
 groups_at_most f m (x ∷ xs) =

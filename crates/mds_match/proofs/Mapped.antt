@@ -1,4 +1,4 @@
--- What a test finds in a list of values and in the list of what they stand for.
+-- Tests over a list of values, and over the list of what they stand for.
 use Rattle.std.proofs.Common.{◌≡◌, ◌+◌, ◌==◌, Bool, false, cond, not, ◌||◌, List, [], ◌∷◌, length, map, refl, sym, ap}
 use Rattle.std.proofs.lemmas.List.{length-map}
 use Rattle.std.specs.List.{list_any, position, position_or_len}
@@ -15,7 +15,7 @@ position_or_len-map p f (x ∷ xs) = ap (λ n. cond (not (p (f x))) (1 + n) 0) (
 pub position-map : {A B : Type 0} (p : B → Bool) (f : A → B) (xs : List A) → position p (map f xs) ≡ position (λ x. p (f x)) xs
 position-map p f xs = rw (position_or_len-map p f xs, length-map xs f)
 
--- where a list isn't empty, what its test says counts
+-- for a list that isn't empty, the test decides
 pub empty_or-map : {A B : Type 0} (p : B → Bool) (f : A → B) (xs : List A) → false ≡ (length xs == 0) → list_any (λ x. p (f x)) xs ≡ empty_or (map f xs) (list_any p (map f xs))
 empty_or-map p f [] h = cc
 empty_or-map p f (x ∷ xs) h = sym (list_any-map p f (x ∷ xs))

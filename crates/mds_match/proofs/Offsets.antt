@@ -1,4 +1,4 @@
--- What `jiff` says of a rule's offset is what is defined.
+-- `jiff`'s offset of a rule is the defined one.
 use Rattle.std.proofs.Common.{◌≡◌, ℕ, ℤ, Bool, true, false, if◌then◌else◌, Option, Some, None, option_map, refl}
 use Rattle.jiff.specs.Words.{offset_at, tz_view}
 use Rattle.jiff_core.specs.declared.offset.Offset.{Offset}
@@ -12,12 +12,12 @@ use Rattle.jiff_tz.specs.Year.{year_of_nanos}
 use Rattle.mds_match.specs.Kept.{IsRule, rule_kind}
 use Rattle.mds_match.specs.Zone.{summer, rule_offset, instant_of, offset_in}
 
--- the seasons of a year are `jiff`'s
+-- daylight saving time of a year is `jiff`'s
 summer-is : (dst : Dst) (year : ℤ) (std : Offset) → summer (dst_view dst) year std.seconds ≡ Posix.utc_window dst year std
 unfolding summer Posix.utc_window Posix.rule_nanos
 summer-is dst year std = refl
 
--- the one offset or the other
+-- either of the two offsets
 chosen : (dst : Dst) (std : Offset) (b : Bool) → (if b then dst.offset.seconds else std.seconds) ≡ (Posix.match_some (if b then Some dst else None) std (λ d. d.offset)).seconds
 chosen dst std true = refl
 chosen dst std false = refl
@@ -30,7 +30,7 @@ pub rule_offset-is : (rule : TimeZone) (n : ℤ) → rule_offset (tz_view rule) 
 unfolding rule_offset offset_at
 rule_offset-is rule n = by_dst rule.std_offset rule.dst n
 
--- of a zone that is a rule, the offset at a moment
+-- the offset at a moment, for a zone that is a rule
 pub offset_in-is : (any : AnyZone) (moment : ℕ) → IsRule any → offset_at any (instant_of moment) ≡ offset_in (rule_kind any) moment
 unfolding offset_at offset_in
 offset_in-is (zone.Posix rule) moment is = rw (rule_offset-is rule (instant_of moment)) refl

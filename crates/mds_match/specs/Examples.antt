@@ -1,4 +1,4 @@
--- Windows and local times that the laws work out.
+-- The windows and local times of the worked examples among the laws.
 use Rattle.std.specs.Prelude.{ℕ, ◌+◌, ◌*◌, [], ◌∷◌, true, false}
 use Rattle.mds_policy.specs.declared.rule.Window.{Window}
 use Rattle.mds_match.specs.declared.local.Local.{Local}

@@ -11,7 +11,7 @@ use Rattle.mds_match.specs.declared.local.Local.{Local}
 use Rattle.mds_geometry.specs.Area.{area_holds}
 use Rattle.mds_match.specs.Row.{Row}
 
--- a count rule, and a rule on time in one of the four units, is evaluated; no other is
+-- a count rule is evaluated, and so is a time rule in one of the four units; no other rule is
 abbrev pub is_evaluated : Kind → Bool
 is_evaluated Other = false
 is_evaluated kind = true
@@ -48,15 +48,15 @@ abbrev pub empty_or : {A : Type 0} → List A → Bool → Bool
 empty_or [] holds = true
 empty_or (x ∷ xs) holds = holds
 
--- the state is listed, and the vehicle's last report has one of its event types, where there are any
+-- the state is the listed one, and the vehicle's last report has one of the event types listed for it, where any are
 abbrev pub state_fits : Row → States → Bool
 state_fits row states = bytes_eq states.state row.state && empty_or states.events (shares states.events row.events)
 
--- one of the rule's geographies holds the position; none covers nothing
+-- one of the rule's geographies holds the position; an empty list holds none
 abbrev pub in_place : List (List ℕ) → (List ℕ → List (List (List Position))) → Position → Bool
 in_place geographies polygons position = list_any (λ id. area_holds (polygons id) position) geographies
 
--- A vehicle meets a rule when the rule is evaluated and open, and type, propulsion, state, events and place match.
+-- A vehicle meets a rule where the rule is evaluated and open, and type, propulsion, state, events and position match.
 abbrev pub meets : Rule → (List ℕ → List (List (List Position))) → Row → Local → Bool
 meets rule polygons row local =
     is_evaluated rule.kind && is_open rule.window local
@@ -65,7 +65,7 @@ meets rule polygons row local =
     && empty_or rule.states (list_any (state_fits row) rule.states)
     && in_place rule.geographies polygons row.position
 
--- A vehicle is caught by the first rule of the policy that it meets, if there is one.
+-- The first rule of the policy that a vehicle meets, if there is one, is the rule that catches it.
 abbrev pub first : Policy → (List ℕ → List (List (List Position))) → Row → Local → Option ℕ
 first policy polygons row local = position (λ rule. meets rule polygons row local) policy.rules
 

@@ -1,4 +1,4 @@
--- A device's row: its last accepted report with the beginning of the run of its state.
+-- A device's row: its last accepted report, and since when its state lasts.
 use Rattle.std.specs.Prelude.{ℕ, List}
 use Rattle.mds_geometry.specs.declared.position.Position.{Position}
 use Rattle.mds_match.specs.declared.vehicle.Vehicle.{Vehicle}
@@ -14,11 +14,11 @@ pub record Row : Type 0 where
   pub position : Position
   pub since : ℕ
 
--- a word with its types, as a `Words` has them
+-- a word with its types, from the program's `Words`
 abbrev pub words_of : Words → List ℕ × List (List ℕ)
 words_of w = (w.word, w.types.items)
 
--- the row that a `Vehicle` stands for
+-- the row of the program's `Vehicle`
 abbrev pub row_of : Vehicle → Row
 row_of v =
     record {

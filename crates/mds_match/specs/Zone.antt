@@ -1,5 +1,6 @@
--- Time zones, and the local time in them. A zone is a fixed offset from UTC or a rule of POSIX's TZ variable. Which
--- texts are rules, and what a rule says, is `jiff`'s: its `read_whole`, and its words for a rule's moments.
+-- Time zones, and the local time in them. A zone is a fixed offset from UTC or a rule as in POSIX's TZ variable. Which
+-- texts are rules, and what a rule says, is defined by `jiff`: by its `read_whole`, and by its words for the moments of
+-- a rule.
 use Rattle.std.specs.Prelude.{ℕ, ◌+◌, ◌*◌, ℤ, pos, neg_ℤ, ◌+ℤ◌, ◌-ℤ◌, ◌*ℤ◌, int_lt, List, ◌==◌, ◌&&◌, ◌||◌, if◌then◌else◌, length, slice_index, unsigned_abs, Option, Some, None, option_and_then, bytes_eq, codes, Result, Ok, Err}
 use Rattle.std.specs.Int.{int_div_euclid, int_rem_euclid}
 use Rattle.jiff_core.specs.Date.{epoch_day}
@@ -15,7 +16,7 @@ use Rattle.mds_text.specs.Fault.{Fault, bad_zone}
 use Rattle.mds_text.specs.Numbers.{two_digits}
 use Rattle.mds_match.specs.declared.local.Local.{Local}
 
--- a fixed offset in seconds, positive east of Greenwich, or the rule that a text says
+-- a fixed offset in seconds, positive east of Greenwich, or the rule of a text
 pub data ZoneKind : Type 0 where
   fixed : (offset : ℤ) → ZoneKind
   ruled : (rule : TzText) → ZoneKind
@@ -36,24 +37,25 @@ abbrev pub rule_or_bad : Option TzText → Result ZoneKind Fault
 rule_or_bad None = Err bad_zone
 rule_or_bad (Some rule) = Ok (ruled rule)
 
--- an offset, where there is one, and else the rule that the text is
+-- the offset, where there is one, else the rule of the text
 abbrev pub fixed_or_rule : List ℕ → Option ℤ → Result ZoneKind Fault
 fixed_or_rule text None = rule_or_bad (read_whole text)
 fixed_or_rule text (Some offset) = Ok (fixed offset)
 
--- the zone that a text names
+-- the zone of a text
 abbrev pub zone_of : List ℕ → Result ZoneKind Fault
 zone_of text = fixed_or_rule text (if bytes_eq text (codes "Z") then Some (pos 0) else offset_of text)
 
--- When a rule's moment, a day and the seconds after its midnight, falls in the year: in nanoseconds on a clock at UTC,
--- for a rule's clock `seconds` ahead of UTC. It stays within the year, and a day that the year lacks is its end.
+-- The instant in the year of a rule's moment, which is a day and a number of seconds after its midnight: in nanoseconds
+-- of UTC, where the rule's clock is `seconds` ahead of UTC. It stays within the year; a day that the year lacks is its
+-- end.
 abbrev pub moment_in : ℤ → Day × ℤ → ℤ → ℤ
 moment_in year moment seconds = match_some (rule_day year moment.0) (last_nanosecond year) (λ day.
     clamp_to (first_nanosecond year) (last_nanosecond year)
     (day *ℤ nanos_per_day +ℤ nanos_of_seconds (moment.1 -ℤ seconds)))
 
 -- When daylight saving time begins and ends in the year, for a standard time `seconds` ahead of UTC. Where it begins
--- as the year does and its end, read at standard time, leaves the year, it is in force all year.
+-- with the year, and its end, read at standard time, is outside the year, it is in force all year.
 unfoldable pub summer : DstText → ℤ → ℤ → ℤ × ℤ
 summer dst year seconds =
     let start : ℤ = moment_in year dst.start seconds in
@@ -64,8 +66,8 @@ summer dst year seconds =
     then (start, last_nanosecond year)
     else (start, end)
 
--- how far the clock is ahead of UTC at an instant, in seconds, by a rule: daylight saving time between its moments of
--- the instant's year, and standard time else
+-- how far the clock is ahead of UTC at an instant, in seconds, by a rule: daylight saving time between its two moments
+-- of the instant's year, else standard time
 unfoldable pub rule_offset : TzText → ℤ → ℤ
 rule_offset rule instant = match_some rule.dst rule.std_seconds (λ dst.
     if in_window (summer dst (year_of_nanos instant) rule.std_seconds) instant then dst.seconds else rule.std_seconds)
@@ -79,8 +81,8 @@ unfoldable pub offset_in : ZoneKind → ℕ → ℤ
 offset_in (fixed offset) moment = offset
 offset_in (ruled rule) moment = rule_offset rule (instant_of moment)
 
--- The local time at an offset: the moment's milliseconds, the offset added. The weekday goes by the days since the
--- Sunday before the Unix epoch, which was a Thursday; the second of the day is cut down.
+-- The local time at an offset: the moment's milliseconds plus the offset. The weekday is counted from the Sunday before
+-- the Unix epoch, which was a Thursday; the second of the day is rounded down.
 abbrev pub local_at : ℤ → ℕ → Local
 local_at offset moment =
     let instant = pos moment +ℤ (offset *ℤ pos 1000) in

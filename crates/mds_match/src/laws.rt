@@ -1,5 +1,5 @@
-//! What follows from the definitions of zones, windows and matching, for all rules, policies and
-//! vehicles, and for some that are worked out.
+//! Laws of zones, windows and matching: for all rules, policies and vehicles, and on some worked
+//! examples. Each function's contract is the law; the functions themselves do nothing.
 
 ghost use Rattle.std.specs.Prelude.{◌≡◌, ◌⊎◌, ◌+ℤ◌, ℕ, ℤ, ◌<◌, ◌≤◌, List, IsTrue, Some, None, Contains, length, slice_get, sum_by};
 ghost use Rattle.std.specs.List.{range_with_len};
@@ -16,7 +16,7 @@ ghost use Rattle.mds_match.specs.Matching.{is_open, is_listed, day_before, meets
 ghost use Rattle.mds_match.specs.Zone.{ruled, rule_offset, instant_of, local_of, shown};
 ghost use Rattle.mds_match.specs.Examples.{friday_night, until_last_minute, all_day, at};
 
-/// A rule is open on the days that it lists alone, unless its window crosses midnight and the day
+/// A rule is open only on the days that it lists, unless its window crosses midnight and the day
 /// before is listed.
 pub fn open_on_listed_days()
     ensures { (window : Window) (local : Local) → IsTrue (is_open window local)
@@ -24,7 +24,8 @@ pub fn open_on_listed_days()
         ⊎ ((window.end < window.start) × IsTrue (is_listed window (day_before local.weekday))) }
 {}
 
-/// The rule that catches a vehicle is one that it meets, and it meets no rule before.
+/// The rule that catches a vehicle is one that the vehicle meets, and it meets none of the rules
+/// before it.
 pub fn first_is_least()
     ensures { (policy : Policy) (polygons : List ℕ → List (List (List Position))) (row : Row) (local : Local) (n : ℕ) →
         first policy polygons row local ≡ Some n →
@@ -38,7 +39,8 @@ pub fn caught_by_one_rule()
         Contains (caught policy i polygons rows local) row → Contains (caught policy j polygons rows local) row → i ≡ j }
 {}
 
-/// The numbers of vehicles that a policy's rules catch sum to at most that of all vehicles.
+/// The numbers of vehicles that the rules of a policy catch add up to at most the number of all
+/// vehicles.
 pub fn caught_at_most_all()
     ensures { (policy : Policy) (polygons : List ℕ → List (List (List Position))) (rows : List Row) (local : Local) →
         sum_by (λ n. length (caught policy n polygons rows local)) (range_with_len 0 (length policy.rules)) ≤ length rows }
@@ -65,8 +67,8 @@ pub fn last_minute()
     ensures without_times { IsTrue (is_open all_day (at 1 23 59 59)) }
 {}
 
-/// A rule's offset is the one that `jiff` gives for it, and the local time by a rule is the weekday
-/// and the second of the day of the civil datetime that `jiff` converts the instant to.
+/// A rule's offset is the one that `jiff` computes for it, and the local time by a rule is the
+/// weekday and the second of the day of the civil datetime to which `jiff` converts the instant.
 pub fn rules_are_as_jiff_converts()
     ensures offset { (rule : PosixZone) (instant : ℤ) → rule_offset (tz_view rule) instant ≡ offset_at (Posix rule) instant }
     ensures datetime { (rule : PosixZone) (moment : ℕ) (datetime : DateTime) →

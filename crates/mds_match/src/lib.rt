@@ -1,5 +1,5 @@
-//! The local time in a zone, when a rule is open, which vehicles meet it, and by which rule of a
-//! policy a vehicle is caught (MDS 2.0 Policy, rules and order of operations).
+//! When a rule is open in local time, which vehicles meet it, and which rule of a policy catches a
+//! vehicle (MDS 2.0 Policy, order of operations).
 #![tactic(auto)]
 
 pub mod laws;

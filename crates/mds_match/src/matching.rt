@@ -13,8 +13,8 @@ use mds_geometry::Position;
 use mds_policy::{Kind, Policy, Rule, StateEvents};
 use mds_text::{Id, Token};
 
-/// Whether a vehicle meets a rule at a local time (MDS 2.0 Policy, rules): the rule is evaluated and
-/// open, and the vehicle's type, propulsion, state, last events and place match.
+/// Whether a vehicle meets a rule at a local time (MDS 2.0 Policy, rules): the rule is evaluated
+/// and open, and the vehicle's type, propulsion, state, last events and position match.
 pub fn meets<P: Places>(rule: &Rule, places: &P, vehicle: &Vehicle, local: Local) -> bool
     ensures { result
         ≡ meets (rule_document rule.now) (P.polygons places.now) (row_of vehicle.now) local }
@@ -25,7 +25,7 @@ pub fn meets<P: Places>(rule: &Rule, places: &P, vehicle: &Vehicle, local: Local
         && in_place(&rule.geographies, places, vehicle.position)
 }
 
-/// Whether the vehicle's type, propulsion, state and last events are those of the rule.
+/// Whether the vehicle's type, propulsion, state and last events match the rule.
 pub(crate) fn is_meant(rule: &Rule, vehicle: &Vehicle) -> bool
     ensures { result ≡ is_meant (rule_document rule.now) (row_of vehicle.now) }
 {
@@ -34,15 +34,16 @@ pub(crate) fn is_meant(rule: &Rule, vehicle: &Vehicle) -> bool
         && state_fits_or_all(&rule.states, vehicle)
 }
 
-/// Whether the rule is for vehicles of this type in this state, whatever events are meant with it.
+/// Whether the rule is for vehicles of this type in this state, whatever event types it lists for
+/// the state.
 pub(crate) fn is_for(rule: &Rule, vehicle_type: Token, state: Token) -> bool
     ensures { result ≡ is_for (rule_document rule.now) vehicle_type state }
 {
     has_or_all(&rule.vehicle_types, vehicle_type) && names_state_or_all(&rule.states, state)
 }
 
-/// The number of the first rule of a policy that a vehicle meets, counted from 0, if there is one
-/// (MDS 2.0 Policy, order of operations).
+/// The index of the first rule of a policy that a vehicle meets, if there is one (MDS 2.0 Policy,
+/// order of operations).
 pub fn first<P: Places>(
     policy: &Policy,
     places: &P,

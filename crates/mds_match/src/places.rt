@@ -1,8 +1,8 @@
 use mds_geometry::{Area, Position};
 use mds_text::Id;
 
-/// Geographies by their identifiers. It stands for a finite map from identifiers to lists of
-/// polygons; an identifier that isn't known has no polygon, so it holds no position.
+/// Geographies by their identifiers: a finite map from identifiers to lists of polygons. An unknown
+/// identifier has no polygon, so it holds no position.
 pub trait Places {
     ghost use Rattle.std.specs.Prelude.{◌≡◌, ℕ, List, []};
     ghost use Rattle.std.specs.Option.{option_map_or};
@@ -16,8 +16,8 @@ pub trait Places {
     fn holds(&self, geography: Id, position: Position) -> bool
         ensures { result ≡ area_holds (polygons self.now geography) position };
 
-    /// The area of the geography of this identifier, so that many positions are tested against it
-    /// after one search; `None` where there is none, which holds no position.
+    /// The area of the geography of this identifier, so that many positions can be tested after one
+    /// look-up; `None` for an unknown one, which holds no position.
     fn area(&self, geography: Id) -> Option<&Area>
         ensures { option_map_or (λ area. area.now) result [] ≡ polygons self.now geography };
 }

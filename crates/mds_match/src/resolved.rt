@@ -16,7 +16,7 @@ use mds_policy::{Policy, Rule};
 use mds_text::{Id, Token};
 use std::alloc::{AllocError, Global};
 
-/// A rule at one local time, with the areas of its geographies at hand.
+/// A rule at one local time, with the areas of its geographies looked up.
 #[derive(Drop)]
 pub(crate) struct ResolvedRule<'a> {
     rule: &'a Rule,
@@ -24,8 +24,8 @@ pub(crate) struct ResolvedRule<'a> {
     areas: Vec<&'a Area>,
 }
 
-/// The rules of a policy at one local time, each with the areas of its geographies at hand: many
-/// vehicles are matched after one search for each geography.
+/// The rules of a policy at one local time, each with the areas of its geographies looked up: one
+/// look-up for each geography serves many vehicles.
 #[derive(Drop)]
 pub struct ResolvedPolicy<'a> {
     rules: Vec<ResolvedRule<'a>>,
@@ -37,11 +37,12 @@ impl<'a> ResolvedPolicy<'a> {
     ghost use Rattle.mds_match.specs.Resolved.{first_among, first_of, meets_number, Finds, Suffices};
     ghost use Rattle.mds_match.specs.Row.{row_of};
 
-    /// Finds the geographies of a policy's rules, and which of the rules are evaluated and open.
+    /// Looks up the geographies of a policy's rules, and decides which of the rules are evaluated
+    /// and open.
     ///
     /// # Errors
     ///
-    /// Memory ran out.
+    /// Out of memory.
     pub fn new<P: Places>(
         alloc: Global,
         policy: &'a Policy,
@@ -54,8 +55,8 @@ impl<'a> ResolvedPolicy<'a> {
         Ok(ResolvedPolicy { rules })
     }
 
-    /// The number of the first rule that a vehicle meets, counted from 0, if there is one (MDS 2.0
-    /// Policy, order of operations). Takes no memory.
+    /// The index of the first rule that a vehicle meets, if there is one (MDS 2.0 Policy, order of
+    /// operations). Allocates nothing.
     pub fn first(&self, vehicle: &Vehicle) -> Option<usize>
         ensures { result ≡ first_of self.now (row_of vehicle.now) }
     {
@@ -67,12 +68,12 @@ impl<'a> ResolvedPolicy<'a> {
         None
     }
 
-    /// The numbers of the rules, ascending, that vehicles of this type in this state can meet: of
-    /// those that are open the ones that are for them, wherever a vehicle is.
+    /// The indices, ascending, of the rules that vehicles of this type in this state can meet:
+    /// those that are open and for such vehicles, wherever a vehicle is.
     ///
     /// # Errors
     ///
-    /// Memory ran out.
+    /// Out of memory.
     pub fn candidates(
         &self,
         alloc: Global,
@@ -90,7 +91,7 @@ impl<'a> ResolvedPolicy<'a> {
         Ok(numbers)
     }
 
-    /// The first of these numbers whose rule a vehicle meets, if there is one. Takes no memory.
+    /// The first of these indices whose rule a vehicle meets, if there is one. Allocates nothing.
     pub fn first_among(&self, numbers: &[usize], vehicle: &Vehicle) -> Option<usize>
         ensures { result ≡ first_among self.now numbers.now (row_of vehicle.now) }
     {
@@ -164,7 +165,7 @@ fn areas_of<'a, P: Places>(
     Ok(areas)
 }
 
-/// Whether a vehicle meets the rule: the place is tested first, since few positions pass it.
+/// Whether a vehicle meets the rule. The position is tested first, since few positions pass.
 fn meets(rule: &ResolvedRule<'_>, vehicle: &Vehicle) -> bool
     ensures { result ≡ resolved_meets rule.now (row_of vehicle.now) }
 {

@@ -3,11 +3,11 @@ use mds_text::{Id, Moment, Token};
 use std::alloc::{AllocError, Global};
 use std::sync::Arc;
 
-/// The most vehicles that an operator may hold.
+/// The most vehicles of one operator.
 pub const MOST_VEHICLES: u32 = 200_000;
 
-/// A word of a vehicle with the list of types that goes with it: its vehicle type with its propulsion
-/// types, or its state with the types of the events that led to it. Vehicles with the same words may
+/// A word that describes a vehicle, with its list of types: the vehicle type with the propulsion
+/// types, or the state with the types of the events that led to it. Vehicles with equal words may
 /// share them.
 #[derive(Drop)]
 pub struct Words {
@@ -20,11 +20,11 @@ pub struct Words {
 impl Words {
     ghost use Rattle.std.specs.Prelude.{◌≡◌, IfOk};
 
-    /// A share of a word and its types, that may be held by many.
+    /// A reference to a word and its types that many vehicles may share.
     ///
     /// # Errors
     ///
-    /// Memory ran out.
+    /// Out of memory.
     pub fn shared(alloc: Global, word: Token, types: Vec<Token>) -> Result<Arc<Words>, AllocError>
         ensures word { IfOk result (λ share. share.value.word ≡ word) }
         ensures types { IfOk result (λ share. share.value.types ≡ types) }
@@ -33,7 +33,7 @@ impl Words {
     }
 }
 
-/// A device as its last accepted report says, with the beginning of the run of its state.
+/// A device by its last accepted report, and since when its state lasts.
 #[derive(Drop)]
 pub struct Vehicle {
     pub device: Id,
@@ -44,7 +44,7 @@ pub struct Vehicle {
     /// The report's own timestamp.
     pub timestamp: Moment,
     pub position: Position,
-    /// The timestamp of the first report of the unbroken run of reports with this state.
+    /// The timestamp of the first report in the unbroken run of reports with this state.
     pub since: Moment,
 }
 
@@ -59,14 +59,14 @@ impl Vehicle {
         self.make.word
     }
 
-    /// Its types of propulsion.
+    /// Its propulsion types.
     pub fn propulsion(&self) -> &[Token]
         ensures { result.now ≡ (row_of self.now).propulsion }
     {
         &self.make.types
     }
 
-    /// The state that it is in.
+    /// Its state.
     pub fn state(&self) -> Token
         ensures { result ≡ (row_of self.now).state }
     {

@@ -5,11 +5,11 @@ ghost use Rattle.mds_match.specs.Matching.{is_open, is_listed};
 use crate::local::Local;
 use mds_policy::{Rule, Window};
 
-/// Whether a rule is open at a local time (MDS 2.0 Policy, rules: `start_time`, `end_time`, `days`).
-/// It is open from its start to its end, both included, on the days that it lists. With a start
-/// after the end it is open from the start to midnight on a listed day, and from midnight to the
-/// end, included, on the day after a listed one. A local time that `Zone::local` gives has a weekday
-/// from 0 to 6; one beyond is never listed.
+/// Whether a rule is open at a local time (MDS 2.0 Policy, rules: `start_time`, `end_time`,
+/// `days`). It is open from its start to its end, both included, on the days that it lists. With a
+/// start after the end it is open from the start to midnight on a listed day, and from midnight to
+/// the end, included, on the day after a listed one. `Zone::local` returns weekdays from 0 to 6; a
+/// greater one is never listed.
 pub fn open_at(rule: &Rule, local: Local) -> bool
     ensures { result ≡ is_open (rule_document rule.now).window local }
 {
@@ -23,7 +23,7 @@ pub fn open_at(rule: &Rule, local: Local) -> bool
     }
 }
 
-/// Whether the window's days have this weekday, 0 for Sunday.
+/// Whether this weekday, 0 for Sunday, is one of the window's days.
 fn is_listed(window: Window, weekday: usize) -> bool
     ensures { result ≡ is_listed window weekday }
 {

@@ -10,35 +10,35 @@ use mds_text::{Moment, two_digits};
 use std::alloc::AllocError;
 use std::marker::Model;
 
-/// The greatest hours of an offset.
+/// The most hours of an offset.
 const MOST_HOURS: u8 = 14;
-/// The greatest minutes of an offset.
+/// The most minutes of an offset, after its hours.
 const MOST_MINUTES: u8 = 59;
-/// The milliseconds from the Sunday before the Unix epoch to the epoch, a Thursday.
+/// The milliseconds from the Sunday before the Unix epoch to the epoch, which was a Thursday.
 const FOUR_DAYS: i64 = 345_600_000;
 /// The milliseconds of a day.
 const DAY: i64 = 86_400_000;
 /// The seconds of a day.
 const DAY_SECONDS: i64 = 86_400;
 
-/// Why a text is no time zone.
+/// Why a text is not a time zone.
 #[derive(Clone, Copy, Debug, PartialEq, Eq)]
 pub enum ZoneFault {
-    /// The text names no zone.
+    /// The text is not a zone.
     BadZone,
-    /// Memory ran out.
+    /// Out of memory.
     NoMemory,
 }
 
-/// What a zone goes by: an offset in seconds, positive east of Greenwich, or a POSIX rule.
+/// The form of a zone: an offset in seconds, positive east of Greenwich, or a POSIX rule.
 #[derive(Drop)]
 enum Kind {
     Fixed(i64),
     Rule(TimeZone<'static>),
 }
 
-/// A time zone: a fixed offset from UTC, or a rule of POSIX's TZ variable. Contracts see the offset
-/// or what the rule says.
+/// A time zone: a fixed offset from UTC, or a rule as in POSIX's TZ variable. Contracts see the
+/// offset, or what the rule says.
 #[derive(Drop)]
 pub struct Zone {
     kind: Kind,
@@ -61,12 +61,12 @@ impl Zone {
     ghost use Rattle.mds_match.specs.Zone.{zone_of, offset_in, local_of};
     ghost use Rattle.mds_match.specs.ZoneFault.{zone_cause};
 
-    /// The zone of a text: `Z`; `+hh:mm` or `-hh:mm` with hours from 00 to 14 and minutes from 00
-    /// to 59; or a POSIX rule, as `PST8PDT,M3.2.0,M11.1.0`.
+    /// Parses a zone: `Z`; `+hh:mm` or `-hh:mm` with hours from 00 to 14 and minutes from 00 to 59;
+    /// or a POSIX rule such as `PST8PDT,M3.2.0,M11.1.0`.
     ///
     /// # Errors
     ///
-    /// `BadZone` for any other text; never `NoMemory`, since no zone of these asks for memory.
+    /// `BadZone` for any other text; never `NoMemory`, since no such zone allocates.
     pub fn read(text: &str) -> Result<Zone, ZoneFault>
         ensures zone { Gives zone_cause (λ z. z) result (zone_of text.now) }
         ensures memory { IfErr result (λ fault. fault ≡ ZoneFault.BadZone) }
@@ -88,12 +88,12 @@ impl Zone {
         }
     }
 
-    /// The local weekday and second of the day at a moment. The second is cut down, also before the
-    /// Unix epoch.
+    /// The local weekday and second of the day at a moment. The second is rounded down, also before
+    /// the Unix epoch.
     ///
     /// # Errors
     ///
-    /// None: no zone of these asks for memory.
+    /// None: no such zone allocates.
     pub fn local(&self, at: Moment) -> Result<Local, AllocError>
         ensures { result ≡ Ok (local_of self.now at) }
     {
@@ -135,7 +135,7 @@ fn local_at(offset: i64, at: Moment) -> Local
     }
 }
 
-/// The seconds of `+hh:mm` or `-hh:mm`.
+/// The seconds of `+hh:mm` or `-hh:mm`; `None` for any other text.
 fn offset_of(text: &[u8]) -> Option<i64>
     ensures value { result ≡ offset_of text.now }
     ensures least { IfSome result (λ offset. negsuc 53939 ≤ℤ offset) }
@@ -149,7 +149,8 @@ fn offset_of(text: &[u8]) -> Option<i64>
     signed(*sign, u32::from(hours) * 3600 + u32::from(minutes) * 60)
 }
 
-/// An offset of this size, east of Greenwich for `+` and west of it for `-`.
+/// An offset of this size, east of Greenwich for `+`, west of it for `-`; `None` for any other
+/// sign.
 fn signed(sign: u8, size: u32) -> Option<i64>
     ensures value { result ≡ with_sign sign size }
     ensures size { IfSome result (λ offset. unsigned_abs offset ≡ size) }

@@ -1,4 +1,4 @@
-//! Replies that are counted as they leave. What is told stays what it is.
+//! Responses that are counted as they leave. A response stays as it is.
 #![tactic(auto)]
 
 mod reply;

@@ -1,4 +1,4 @@
-//! A reply that is counted as it leaves.
+//! A pending response that is counted as it leaves.
 ghost use Rattle.std.specs.Prelude.{◌≡◌};
 
 use futures::Future;
@@ -10,8 +10,8 @@ use std::time::{Clock, Instant};
 /// The status of a success.
 const SUCCESS: u16 = 200;
 
-/// How a request is counted: of which kind it is, and since when its reply is on its way. It is one of the pending replies
-/// until it is dropped: the reply was told then, or is given up.
+/// How a request is counted: its kind, and since when its response has been pending. It counts as
+/// pending until this is dropped: the response has left then, or was given up.
 pub struct Ticket<'a, C> {
     counters: &'a Counters,
     clock: C,
@@ -20,7 +20,7 @@ pub struct Ticket<'a, C> {
 }
 
 impl<'a, C: Clock> Ticket<'a, C> {
-    /// The ticket of a request of this kind, whose reply is on its way from now on.
+    /// The ticket of a request of this kind, whose response is pending from now on.
     pub fn new(counters: &'a Counters, clock: C, kind: Kind) -> Ticket<'a, C>
         ensures { result.kind ≡ kind }
     {
@@ -34,7 +34,7 @@ impl<'a, C: Clock> Ticket<'a, C> {
         }
     }
 
-    /// For how many milliseconds the reply has been on its way; 0 where the clock can't be read.
+    /// For how many milliseconds the response has been pending; 0 where the clock can't be read.
     fn millis(&self) -> u64 {
         let Some(since) = self.since else {
             return 0;
@@ -45,7 +45,7 @@ impl<'a, C: Clock> Ticket<'a, C> {
         }
     }
 
-    /// The request was answered with this status.
+    /// Counts an answer with this status.
     fn count(&self, status: u16) {
         self.counters.count_answer(self.kind, status, self.millis());
         if self.kind == Kind::Publish && status == SUCCESS {
@@ -66,7 +66,7 @@ impl<C: Drop> Drop for Ticket<'_, C> {
     }
 }
 
-/// A reply on its way, which is counted as it leaves. It is told as it was made.
+/// A pending response that is counted as it leaves. It stays as it was made.
 #[derive(Drop)]
 pub struct MeteredReply<'a, F, C> {
     reply: F,
@@ -74,7 +74,7 @@ pub struct MeteredReply<'a, F, C> {
 }
 
 impl<'a, F: Future, C> MeteredReply<'a, F, C> {
-    /// This reply, counted by that ticket.
+    /// This pending response, counted by that ticket.
     pub fn new(reply: F, ticket: Ticket<'a, C>) -> MeteredReply<'a, F, C>
         ensures { result.reply ≡ reply }
     {
@@ -93,7 +93,7 @@ where
 
     ghost needs = { λ s source. F.needs s.reply source };
 
-    // What the reply gives.
+    // What the pending response gives.
     ghost gives = { λ s told. F.gives s.reply told };
 
     fn poll(&mut self, cx: &mut Context<'_>) -> Poll<HttpResult> {

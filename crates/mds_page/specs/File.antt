@@ -1,4 +1,4 @@
--- The files of the page, where each is asked for, of which type it is, and what is in it.
+-- The files of the page: the path, media type and bytes of each.
 use Rattle.std.specs.Prelude.{◌≢◌, ℕ, List, [], ◌∷◌, bytes_eq, codes, find, Option}
 use Rattle.mds_page.specs.declared.file.File.{File}
 use Rattle.mds_page.specs.declared.file.File.TheVariants.{IndexHtml, PageCss, AuthorJs, CardsJs, DomJs, FleetJs, GeometryJs, LayersJs, MapJs, PageJs, RulesJs, ServerJs, SettingsJson, StateJs, ZoneJs}
@@ -38,7 +38,7 @@ files =
     ∷ ZoneJs
     ∷ []
 
--- the path at which a file is asked for (RFC 3986, section 3.3)
+-- the path of a file (RFC 3986, section 3.3)
 abbrev pub path_of : File → List ℕ
 path_of IndexHtml = codes "/"
 path_of PageCss = codes "/page.css"

@@ -22,7 +22,7 @@ end_trimmed bytes = take (length bytes - suffix_len is_ascii_whitespace bytes) b
 abbrev pub trimmed : List ℕ → List ℕ
 trimmed bytes = end_trimmed (drop (prefix_len is_ascii_whitespace bytes) bytes)
 
--- a tag without the mark of a weak one, which the comparison leaves out (RFC 9110, section 8.8.3.2)
+-- a tag without the prefix of a weak one, which the comparison leaves out (RFC 9110, section 8.8.3.2)
 abbrev pub opaque : List ℕ → List ℕ
 opaque tag = if bytes_eq (take 2 tag) (codes "W/") then drop 2 tag else tag
 
@@ -30,8 +30,8 @@ opaque tag = if bytes_eq (take 2 tag) (codes "W/") then drop 2 tag else tag
 abbrev pub is_member : List ℕ → List ℕ → Bool
 is_member tag member = bytes_eq (opaque (trimmed member)) tag
 
--- A line of `if-none-match` names a tag: it is `*`, or a list with the tag (RFC 9110, sections 13.1.2 and 5.6.1). The tags of
--- the page have no comma, so that a list may be cut at each one.
+-- A line of `if-none-match` names a tag: it is `*`, or a list with the tag (RFC 9110, sections 13.1.2 and 5.6.1). The
+-- tags of the page have no comma, so that a list may be split at each one.
 abbrev pub is_named : List ℕ → List ℕ → Bool
 is_named tag line = bytes_eq (trimmed line) (codes "*") || list_any (is_member tag) (slice_split is_comma line)
 

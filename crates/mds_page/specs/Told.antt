@@ -1,4 +1,4 @@
--- What is told to who asks for a file.
+-- Which response a request for a file gets.
 use Rattle.std.specs.Prelude.{ℕ, List, Bool, ◌||◌, bytes_eq, codes, if◌then◌else◌}
 use Rattle.http_header.specs.FieldValue.{FieldValue}
 use Rattle.http_header.specs.HeaderMap.{Entries}
@@ -10,7 +10,8 @@ use Rattle.mds_page.specs.declared.told.Told.TheVariants.{Whole, Unchanged, Wron
 abbrev pub reads : List ℕ → Bool
 reads method = bytes_eq method (codes "GET") || bytes_eq method (codes "HEAD")
 
--- Any other method is refused. Who names the file's tag has it already (RFC 9110, section 13.1.2).
+-- Any other method is refused. A client that names the file's tag has the file already (RFC 9110,
+-- section 13.1.2).
 abbrev pub told_of : List ℕ → Entries FieldValue → List ℕ → Told
 told_of method headers tag =
     if reads method then (if is_named_in headers tag then Unchanged else Whole)

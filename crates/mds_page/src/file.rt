@@ -60,7 +60,7 @@ pub const FILES: [File; 15] = [
 ];
 
 impl File {
-    /// The file that is asked for at a path, given without its query; none, where the page has no file at the path.
+    /// The file at a path, given without its query; none, where the page has no file at the path.
     pub fn at(path: &[u8]) -> Option<File>
         ensures value { result ≡ file_at path.now }
         ensures at { MatchOption result (IsNoFile path.now) (λ file. path_of file ≡ path.now) }
@@ -68,14 +68,14 @@ impl File {
         first_at(path)
     }
 
-    /// Its place among the files.
+    /// Its index among the files.
     pub(crate) fn index(self) -> usize
         ensures { slice_get files result ≡ Some self }
     {
         self as usize
     }
 
-    /// The path at which it is asked for.
+    /// Its path.
     pub fn path(self) -> &'static str
         ensures { result.now ≡ path_of self }
     {

@@ -1,4 +1,4 @@
-//! A file with its tag.
+//! A file with its entity tag.
 ghost use Rattle.std.specs.Prelude.{◌≡◌, IfOk};
 ghost use Rattle.mds_page.specs.File.{text_of};
 ghost use Rattle.mds_page.specs.Tag.{tag_of};
@@ -7,7 +7,7 @@ use crate::file::File;
 use crate::tag::tag_of;
 use std::alloc::{AllocError, Global};
 
-/// A file with its tag.
+/// A file with its entity tag.
 #[derive(Drop)]
 pub(crate) struct Leaf {
     pub(crate) file: File,
@@ -20,7 +20,7 @@ impl Leaf {
     ///
     /// # Errors
     ///
-    /// Memory ran out.
+    /// Out of memory.
     pub(crate) fn new(alloc: Global, file: File) -> Result<Leaf, AllocError>
         ensures { IfOk result (λ leaf. leaf.file ≡ file) }
     {

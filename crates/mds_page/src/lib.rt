@@ -1,4 +1,4 @@
-//! The page for people, as it lies in the program: its files, and what is told to who asks for one of them over HTTP.
+//! The page's files as they lie in the program, and the HTTP response for each.
 #![tactic(auto)]
 
 mod file;

@@ -21,11 +21,12 @@ pub struct Page {
 }
 
 impl Page {
-    /// The page, with the sum of each file's bytes as its tag. It is made once, since that reads them all.
+    /// The page, with the hash of each file's bytes as its tag. It is made once, since that reads
+    /// them all.
     ///
     /// # Errors
     ///
-    /// Memory ran out.
+    /// Out of memory.
     pub fn new(alloc: Global) -> Result<Page, AllocError> {
         Ok(Page {
             leaves: leaves(alloc, &FILES)?,
@@ -40,12 +41,12 @@ impl Page {
         &self.leaves[index]
     }
 
-    /// What is told to a request for a file with this method and these fields. To `HEAD` the same is told as to `GET`, and the
-    /// server sends it without the body.
+    /// The response to a request for a file with this method and these header fields. `HEAD` gets
+    /// the same as `GET`, and the server sends it without the body.
     ///
     /// # Errors
     ///
-    /// Memory ran out.
+    /// Out of memory.
     pub fn respond(
         &self,
         alloc: Global,

@@ -1,4 +1,4 @@
-//! The responses that tell it.
+//! The responses to requests for a file.
 ghost use Rattle.std.specs.Prelude.{◌≡◌, IfOk, OnOk, ◌++◌, [], map};
 ghost use Rattle.http_header.specs.FieldValue.{plain_value};
 ghost use Rattle.mds_page.specs.Response.{Says, field, fields_of, version_of};
@@ -17,12 +17,13 @@ use http_body_util::Full;
 use mds_responses::{HttpResult, json_response, set_field, with_field};
 use std::alloc::{AllocError, Global};
 
-/// What a browser may load for the page: what comes from the same origin.
+/// What a browser may load for the page: what comes from the same origin, and pictures inside the
+/// page (`data:`).
 const POLICY: &str = "default-src 'none'; script-src 'self'; worker-src 'self'; style-src 'self'; \
     img-src 'self' data:; connect-src 'self'; form-action 'none'; base-uri 'none'; \
     frame-ancestors 'none'";
 
-/// Sets what tells the version of a file: a cache asks whether it is still the same.
+/// Sets the header fields of a file's version: a cache has to validate it.
 fn put_version(alloc: Global, headers: &mut HeaderMap, tag: &[u8]) -> Result<(), AllocError>
     requires { headers.old ≡ [] }
     ensures { OnOk result (headers.new ≡ map field (version_of tag.now)) }
@@ -34,7 +35,7 @@ fn put_version(alloc: Global, headers: &mut HeaderMap, tag: &[u8]) -> Result<(),
     set_field(headers, CACHE_CONTROL, HeaderValue::from_static("no-cache"))
 }
 
-/// Sets what tells a file's type, and what a browser may do with it.
+/// Sets a file's media type, and what a browser may do with it.
 fn put_type(headers: &mut HeaderMap, leaf: &Leaf) -> Result<(), AllocError>
     requires { headers.old ≡ map field (version_of leaf.now.tag.items) }
     ensures { OnOk result (headers.new ≡ map field (fields_of Whole leaf.now.file)) }
@@ -58,7 +59,7 @@ fn put_type(headers: &mut HeaderMap, leaf: &Leaf) -> Result<(), AllocError>
     )
 }
 
-/// The file.
+/// The file (200).
 fn whole(alloc: Global, leaf: &Leaf) -> HttpResult
     ensures { IfOk result (Says Whole leaf.now.file) }
 {
@@ -69,7 +70,7 @@ fn whole(alloc: Global, leaf: &Leaf) -> HttpResult
     Ok(response)
 }
 
-/// That the asker has the file as it is.
+/// The client has the file as it is (304).
 fn unchanged(alloc: Global, leaf: &Leaf) -> HttpResult
     ensures { IfOk result (Says Unchanged leaf.now.file) }
 {
@@ -79,7 +80,7 @@ fn unchanged(alloc: Global, leaf: &Leaf) -> HttpResult
     Ok(response)
 }
 
-/// That a file is only to be read.
+/// A file can only be read (405).
 fn wrong_method(alloc: Global) -> HttpResult
     ensures { (file : File) → IfOk result (Says WrongMethod file) }
 {
@@ -88,11 +89,11 @@ fn wrong_method(alloc: Global) -> HttpResult
     with_field(response, ALLOW, HeaderValue::from_static("GET, HEAD"))
 }
 
-/// The response that tells this of a file.
+/// The response of this kind for a file.
 ///
 /// # Errors
 ///
-/// Memory ran out.
+/// Out of memory.
 pub(crate) fn response_of(alloc: Global, told: Told, leaf: &Leaf) -> HttpResult
     ensures { IfOk result (Says told leaf.now.file) }
 {

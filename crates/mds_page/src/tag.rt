@@ -1,4 +1,4 @@
-//! Entity tags: what names the bytes of a file, and whether a request's condition names it.
+//! Entity tags: the tag of a file's bytes, and whether a request's condition names it.
 ghost use Rattle.std.specs.Prelude.{◌≡◌, IfOk, codes};
 ghost use Rattle.std.specs.List.{list_any, slice_split};
 ghost use Rattle.http_header.specs.HeaderMap.{get_all};
@@ -13,7 +13,7 @@ use std::alloc::{AllocError, Global};
 ///
 /// # Errors
 ///
-/// Memory ran out.
+/// Out of memory.
 pub(crate) fn tag_of(alloc: Global, bytes: &[u8]) -> Result<Vec<u8>, AllocError>
     ensures { IfOk result (λ tag. tag.items ≡ tag_of bytes.now) }
 {
@@ -32,7 +32,7 @@ fn trimmed(bytes: &[u8]) -> &[u8]
     bytes.trim_ascii()
 }
 
-/// A tag without the mark of a weak one.
+/// A tag without the prefix of a weak one.
 fn opaque(tag: &[u8]) -> &[u8]
     ensures { result.now ≡ opaque tag.now }
 {
@@ -64,7 +64,7 @@ pub(crate) fn is_named(line: &[u8], tag: &[u8]) -> bool
     trimmed(line) == b"*".as_slice() || is_listed(line, tag)
 }
 
-/// Whether a field `if-none-match` of a head names the tag.
+/// Whether a head's `if-none-match` field names the tag.
 pub(crate) fn is_named_in(headers: &HeaderMap, tag: &[u8]) -> bool
     ensures { result ≡ is_named_in headers.now tag.now }
 {

@@ -1,4 +1,4 @@
-//! The page as it is told.
+//! Tests of the page's responses.
 use crate::file::File;
 use crate::page::Page;
 use crate::tag::{is_named, tag_of};
@@ -26,7 +26,7 @@ fn a_line_names_a_tag(rt: HostRuntime) {
     assert!(rt; !is_named(b"", b"\"a\""));
 }
 
-/// The status of what is told of the file at a path, if there is one.
+/// The status of the response for the file at a path, if there is one.
 fn asked(
     page: &Page,
     alloc: Global,

@@ -1,22 +1,23 @@
-//! What is told to who asks for a file.
+//! Which response a request for a file gets.
 ghost use Rattle.std.specs.Prelude.{◌≡◌};
 ghost use Rattle.mds_page.specs.Told.{told_of};
 
 use crate::tag::is_named_in;
 use http::HeaderMap;
 
-/// What is told to who asks for a file.
+/// Which response a request for a file gets.
 #[derive(Clone, Copy)]
 pub(crate) enum Told {
     /// The file.
     Whole,
-    /// That the asker has the file as it is.
+    /// The client has the file as it is.
     Unchanged,
-    /// That a file is only to be read.
+    /// A file can only be read.
     WrongMethod,
 }
 
-/// What is told to a request with this method and these fields for a file with this tag.
+/// Which response a request with this method and these header fields gets, for a file with this
+/// tag.
 pub(crate) fn told_of(method: &[u8], headers: &HeaderMap, tag: &[u8]) -> Told
     ensures { result ≡ told_of method.now headers.now tag.now }
 {

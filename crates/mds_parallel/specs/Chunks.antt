@@ -1,4 +1,4 @@
--- What chunks of an operator's vehicles come to.
+-- Tallies of chunks of an operator's vehicles.
 use Rattle.std.specs.Prelude.{◌≡◌, ℕ, ◌<◌, ◌^◌, List, Result, IfOk, flat_map, length}
 use Rattle.std.specs.List.{AllZip}
 use Rattle.std.specs.declared.alloc.AllocError.{AllocError}
@@ -11,16 +11,16 @@ use Rattle.mds_match.specs.Row.{Row}
 use Rattle.mds_verdict.specs.Gathered.{IsTally}
 use Rattle.mds_verdict.specs.declared.tally.Tally.{Tally}
 
--- the policy is resolved, by some geographies
+-- the policy is resolved, with some geographies
 abbrev pub IsResolved : ResolvedPolicy → Policy → Local → Type 0
 IsResolved resolved policy local = (polygons : List ℕ → List (List (List Position))) × Finds resolved policy polygons local
 
--- a tally of these rows, whichever the geographies are
+-- a tally of these rows, whatever the geographies are
 abbrev pub IsTallyBy : ResolvedPolicy → Policy → List Row → Local → ℕ → Tally → Type 0
 IsTallyBy resolved policy rows local t tally =
     (polygons : List ℕ → List (List (List Position))) → Finds resolved policy polygons local → IsTally tally policy polygons rows local t
 
--- where memory sufficed, these are tallies of the pieces, one after another
+-- those that didn't run out of memory are tallies of the pieces, in order
 abbrev pub AreTallies : Policy → (List ℕ → List (List (List Position))) → List (List Row) → Local → ℕ → List (Result Tally AllocError) → Type 0
 AreTallies policy polygons pieces local t parts =
     AllZip (λ piece part. IfOk part (λ tally. IsTally tally policy polygons piece local t)) pieces parts

@@ -9,6 +9,6 @@ use Rattle.mds_parallel.specs.declared.table.Table.{Table}
 abbrev pub IsServed : ResolvedPolicy → Pair → Type 0
 IsServed resolved pair = Suffices resolved pair.vehicle_type pair.state pair.numbers.items
 
--- so it is for each pair of the table
+-- the same for each pair of the table
 abbrev pub IsTableOf : ResolvedPolicy → Table → Type 0
 IsTableOf resolved table = All (IsServed resolved) table.pairs.items

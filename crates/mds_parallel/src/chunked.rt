@@ -1,3 +1,4 @@
+//! The evaluator that counts chunks of vehicles by several threads, and adds the counts.
 ghost use Rattle.std.specs.Prelude.{◌≡◌, ◌^◌, ◌<◌, All, IfOk, List, ℕ, flat_map, map};
 ghost use Rattle.mds_geometry.specs.declared.position.Position.{Position};
 ghost use Rattle.mds_policy.specs.Policy.{policy_document};
@@ -16,20 +17,20 @@ use rayon::prelude::*;
 use std::alloc::{AllocError, Global};
 use std::thread::Threads;
 
-/// The least work that is worth the start of threads, in vehicles times rules: a few milliseconds.
+/// The least work for which starting threads pays, in vehicles times rules: a few milliseconds.
 const LEAST_WORK: usize = 300_000;
 
-/// How many chunks there are about, where each has at least `LEAST_CHUNK` vehicles: a multiple of
-/// the pieces that `rayon` makes on up to 16 processors.
+/// About how many chunks there are, where each has at least `LEAST_CHUNK` vehicles: a multiple of the pieces that
+/// `rayon` makes on up to 16 processors.
 const CHUNKS: usize = 32;
 
-/// The fewest vehicles of a chunk, but for the last one.
+/// The fewest vehicles of a chunk, except the last one.
 const LEAST_CHUNK: usize = 1024;
 
-/// Takes the vehicles in chunks, by as many threads as there are processors. Each chunk finds for
-/// each pair of vehicle type and state among its vehicles the rules that these can meet, and counts
-/// and lists its vehicles; then the counts are added and the lists joined in the order of the chunks.
-/// Little work is left to `Plain`, and so is all where memory for tables and counts is refused.
+/// Evaluates the vehicles in chunks, by as many threads as there are processors. Each chunk finds, for each pair of
+/// vehicle type and state among its vehicles, the rules that such vehicles can meet, and counts and lists its vehicles;
+/// then the counts are added and the lists joined in the order of the chunks. Little work goes to `Plain`, and so does
+/// all work where memory for tables and counts is refused.
 #[derive(Clone, Copy)]
 pub struct Chunked<R>(pub R);
 
@@ -67,11 +68,11 @@ impl<R: Threads + Sync, P: Places> Evaluator<P> for Chunked<R> {
     }
 }
 
-/// The verdicts on a policy's rules by threads, however little the work; the same as those of one thread.
+/// The verdicts on a policy's rules by several threads, however little the work; equal to those of one thread.
 ///
 /// # Errors
 ///
-/// Memory ran out.
+/// Out of memory.
 pub fn by_threads<R: Threads + Sync, P: Places>(
     rt: &R,
     alloc: Global,
@@ -90,11 +91,11 @@ pub fn by_threads<R: Threads + Sync, P: Places>(
     Ok(tally.verdicts())
 }
 
-/// What the chunks of the vehicles come to, in the order of the chunks.
+/// The tallies of the chunks, in the order of the chunks.
 ///
 /// # Errors
 ///
-/// Memory ran out.
+/// Out of memory.
 fn tallies<R: Threads + Sync>(
     rt: &R,
     alloc: Global,
@@ -122,11 +123,11 @@ fn tallies<R: Threads + Sync>(
         .collect(rt, alloc)
 }
 
-/// What the vehicles of one chunk come to.
+/// The tally of one chunk.
 ///
 /// # Errors
 ///
-/// Memory ran out.
+/// Out of memory.
 fn tally_of(
     alloc: Global,
     resolved: &ResolvedPolicy<'_>,
@@ -147,11 +148,11 @@ fn tally_of(
     Ok(tally)
 }
 
-/// What all chunks come to.
+/// The tally of all chunks.
 ///
 /// # Errors
 ///
-/// Memory ran out, now or for a chunk.
+/// Out of memory, now or at one of the chunks.
 fn joined(
     alloc: Global,
     policy: &Policy,

@@ -1,4 +1,4 @@
-//! Verdicts by several threads.
+//! Verdicts by several threads, over vehicles in chunks.
 #![tactic(auto)]
 
 mod chunked;

@@ -1,3 +1,4 @@
+//! A table of the rules that vehicles of a type and a state can meet.
 ghost use Rattle.std.specs.Prelude.{◌≡◌, ◌&&◌, [], All, Contains, IfOk, IfSome, OnOk, bytes_eq};
 ghost use Rattle.mds_match.specs.Resolved.{first_of};
 ghost use Rattle.mds_match.specs.Row.{row_of};
@@ -7,7 +8,7 @@ use mds_match::{ResolvedPolicy, Vehicle};
 use mds_text::Token;
 use std::alloc::{AllocError, Global};
 
-/// The most pairs that a table keeps. Vehicles of further pairs are tried against all rules.
+/// The most pairs of a table. Vehicles of further pairs are tried against all rules.
 const MOST_PAIRS: usize = 64;
 
 /// A vehicle type and a state, with the numbers of the rules that such vehicles can meet.
@@ -18,8 +19,8 @@ pub(crate) struct Pair {
     numbers: Vec<usize>,
 }
 
-/// For each pair of vehicle type and state among the vehicles so far the rules that such vehicles can
-/// meet, so that a vehicle is tried against these alone.
+/// For each pair of vehicle type and state that was met so far, the rules that such vehicles can meet, so that a
+/// vehicle is tried against these alone.
 #[derive(Drop)]
 pub(crate) struct Table {
     alloc: Global,
@@ -32,7 +33,7 @@ impl Table {
     ghost use Rattle.mds_match.specs.Row.{row_of};
     ghost use Rattle.mds_parallel.specs.Served.{IsTableOf};
 
-    /// No pair.
+    /// A table without pairs.
     pub(crate) fn new(alloc: Global) -> Table
         ensures { result.pairs.items ≡ [] }
     {
@@ -42,12 +43,11 @@ impl Table {
         }
     }
 
-    /// The number of the first rule that a vehicle meets. Its pair is put into the table, where it
-    /// isn't there and there is room.
+    /// The number of the first rule that a vehicle meets. A new pair is added to the table, where there is room.
     ///
     /// # Errors
     ///
-    /// Memory ran out.
+    /// Out of memory.
     pub(crate) fn first(
         &mut self,
         resolved: &ResolvedPolicy<'_>,
@@ -67,7 +67,7 @@ impl Table {
     }
 }
 
-/// The pair of a vehicle, with the rules that it can meet.
+/// The pair of a vehicle, with the rules that such vehicles can meet.
 fn new_pair(
     alloc: Global,
     resolved: &ResolvedPolicy<'_>,
@@ -83,7 +83,7 @@ fn new_pair(
     })
 }
 
-/// The pair that a vehicle is of, where it is there.
+/// The table's entry for the type and the state of a vehicle, if there is one.
 fn pair_of<'a>(pairs: &'a [Pair], vehicle: &Vehicle) -> Option<&'a Pair>
     ensures { IfSome result (λ pair. Contains pairs.now pair.now × ((row_of vehicle.now).vehicle_type ≡ pair.now.vehicle_type) × ((row_of vehicle.now).state ≡ pair.now.state)) }
 {
@@ -95,6 +95,7 @@ fn pair_of<'a>(pairs: &'a [Pair], vehicle: &Vehicle) -> Option<&'a Pair>
     None
 }
 
+/// Whether a vehicle has this type and this state.
 fn is_of(pair: &Pair, vehicle: &Vehicle) -> bool
     ensures { result ≡ (bytes_eq pair.now.vehicle_type (row_of vehicle.now).vehicle_type && bytes_eq pair.now.state (row_of vehicle.now).state) }
 {

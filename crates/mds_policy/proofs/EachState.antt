@@ -13,7 +13,7 @@ push_front : (done : List States) (a : States) (found : Result (List States) Fau
 push_front done a (Ok xs) = ap Ok (append_assoc done (a ∷ []) xs)
 push_front done a (Err fault) = refl
 
--- one turn of the loop over the members
+-- one iteration of the loop over the members
 pub states_of-turn : (ms : List NodeMember) (i : ℕ) (m : NodeMember) (done more : List States) (a : States) → i < length ms → m ≡ get_or ms i m → state_of (node_member_view m).0 (node_member_view m).1 ≡ Ok a → more ≡ done ++ a ∷ []
     → with_front more (states_of (members_of (map node_member_view (drop (i + 1) ms)))) ≡ with_front done (states_of (members_of (map node_member_view (drop i ms))))
 states_of-turn ms i m done more a within here is grown =

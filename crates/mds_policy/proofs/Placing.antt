@@ -1,4 +1,4 @@
--- A member put among members that ascend by name.
+-- Inserting a member among members that ascend by name.
 use Rattle.std.proofs.Common.{◌≡◌, ℕ, ◌+◌, ◌<◌, List, [], ◌∷◌, ◌++◌, length, map, take, drop, get_or, string_bytes, refl, sym, ap, ◌∙◌, arith}
 use Rattle.std.proofs.lemmas.List.{drop_more, take_more, drop_all, take_all, take-map, drop-map, get_or-map, length-map}
 use Rattle.std.specs.Cmp.Lexicographic.{slice_cmp}
@@ -13,7 +13,7 @@ use Rattle.mds_policy.specs.Served.{with_member}
 abbrev pub Pair : Type 0
 Pair = List ℕ × Json
 
--- members with more behind them
+-- these members, then those of `ms`
 abbrev pub before : List Pair → Members → Members
 before [] ms = ms
 before (x ∷ xs) ms = member x.0 x.1 (before xs ms)
@@ -26,14 +26,14 @@ before-push : (xs : List Pair) (x : Pair) (ms : Members) → before (xs ++ x ∷
 before-push [] x ms = refl
 before-push (y ∷ ys) x ms = ap (member y.0 y.1) (before-push ys x ms)
 
--- the members before a place were passed
+-- the members before a place have smaller names
 abbrev pub Passed : List ℕ → List Pair → ℕ → Type 0
 Passed name ms i = (value : Json) → before (take i ms) (with_member name value (members_of (drop i ms))) ≡ with_member name value (members_of ms)
 
 chosen : (o : Ordering) (p : Ordering) (a b c : Members) → o ≡ p → match_ordering o a b c ≡ match_ordering p a b c
 chosen o p a b c e = ap (λ q. match_ordering q a b c) e
 
--- the place is found
+-- the member belongs at this place
 here-Less : (name : List ℕ) (ms : List Pair) (i : ℕ) (m : Pair) → Passed name ms i → i < length ms → m ≡ get_or ms i m → slice_cmp nat_cmp name m.0 ≡ Less
     → (value : Json) → with_member name value (members_of ms) ≡ members_of (take i ms ++ (name, value) ∷ drop i ms)
 here-Less name ms i m passed within at less value =
@@ -55,7 +55,7 @@ here-Equal name ms i m passed within at equal value =
     ∙ ap (before (take i ms)) (chosen (slice_cmp nat_cmp name m.0) Equal (member name value (member m.0 m.1 rest)) (member name value rest) (member m.0 m.1 (with_member name value rest)) equal)
     ∙ before-members_of (take i ms) ((name, value) ∷ drop (i + 1) ms)
 
--- the place is behind this member
+-- it belongs after this member
 Passed-more : (name : List ℕ) (ms : List Pair) (i : ℕ) (m : Pair) → Passed name ms i → i < length ms → m ≡ get_or ms i m → slice_cmp nat_cmp name m.0 ≡ Greater
     → Passed name ms (i + 1)
 Passed-more name ms i m passed within at greater = λ value.
@@ -68,7 +68,7 @@ Passed-more name ms i m passed within at greater = λ value.
     ∙ sym (ap (λ ys. before (take i ms) (with_member name value (members_of ys))) split)
     ∙ passed value
 
--- every member was passed
+-- it belongs after all members
 all_passed : (name : List ℕ) (ms : List Pair) (i : ℕ) → Passed name ms i → length ms ≡ i → (value : Json) → with_member name value (members_of ms) ≡ members_of (ms ++ (name, value) ∷ [])
 all_passed name ms i passed whole value =
     let none : drop i ms ≡ [] = drop_all i ms (omega arith) in
@@ -84,7 +84,7 @@ viewed ms i m within at = ap member_view at ∙ sym (get_or-map member_view ms i
 sized : (ms : List Member) (i : ℕ) → i < length ms → i < length (map member_view ms)
 sized ms i within = simp (length-map) within
 
--- the same, of the members of a tree
+-- the same for the members of a tree
 abbrev pub HasPlace : List ℕ → List Member → List Member → List Member → Type 0
 HasPlace name ms front back = (value : Json) → with_member name value (members_of (map member_view ms)) ≡ members_of (map member_view front ++ (name, value) ∷ map member_view back)
 

@@ -4,13 +4,13 @@ use Rattle.mds_text.specs.Fault.{Fault, decimal, too_many_rules, text_cause, tex
 use Rattle.mds_policy.specs.declared.fault.PolicyFault.{PolicyFault}
 use Rattle.mds_policy.specs.declared.fault.PolicyFault.TheVariants.{Text, Decimal, TooManyRules}
 
--- the reason that an answer names, or none for want of memory
+-- the reason that a fault stands for; out of memory is none
 abbrev pub policy_cause : PolicyFault → Option Fault
 policy_cause (Text fault) = text_cause fault
 policy_cause Decimal = Some decimal
 policy_cause TooManyRules = Some too_many_rules
 
--- what is written of a fault of a policy
+-- the message of a policy's fault
 abbrev pub policy_wording : PolicyFault → List ℕ
 policy_wording (Text fault) = text_wording fault
 policy_wording Decimal = codes "decimal"

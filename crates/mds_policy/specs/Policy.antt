@@ -1,4 +1,4 @@
--- A policy and its rules (MDS 2.0 Policy, policies and rules), and what the types of the program stand for.
+-- A policy and its rules (MDS 2.0 Policy, policies and rules), and the documents that the program's types stand for.
 use Rattle.std.specs.Prelude.{ℕ, List, map, Option, Result, Ok, Err}
 use Rattle.mds_text.specs.Fault.{Fault}
 use Rattle.mds_text.specs.Reading.{read_text}
@@ -10,7 +10,7 @@ use Rattle.mds_policy.specs.declared.rule.StateEvents.{StateEvents}
 use Rattle.mds_policy.specs.declared.rule.Rule as program
 use Rattle.mds_policy.specs.declared.policy.Policy as program'
 
--- a state, and the event types meant with it; none means all
+-- a state, and the event types that a rule is for; an empty list means all
 pub record States : Type 0 where
   pub state : List ℕ
   pub events : List (List ℕ)
@@ -57,11 +57,11 @@ abbrev pub or_null : Result Json Fault → Json
 or_null (Ok tree) = tree
 or_null (Err fault) = null
 
--- the value of a JSON text that reads as one
+-- the value of a JSON text
 unfoldable pub tree_of : List ℕ → Json
 tree_of bytes = or_null (read_text bytes)
 
--- the document that a `Policy` of the program stands for
+-- the document of the program's `Policy`
 abbrev pub policy_document : program'.Policy → Policy
 policy_document p =
     record {

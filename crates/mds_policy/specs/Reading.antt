@@ -1,5 +1,5 @@
--- What a text of a policy reads as: the document, or the first line of the tables that isn't met
--- (MDS 2.0 Policy, policies and rules).
+-- What the text of a policy is read as: the document, or the first line of the tables that isn't
+-- met (MDS 2.0 Policy, policies and rules).
 use Rattle.std.specs.Prelude.{ℕ, ◌+◌, ◌*◌, List, [], ◌∷◌, Bool, true, ◌&&◌, ◌==◌, nat_le, slice_index, if◌then◌else◌, Option, Some, None, Result, Ok, Err, length, map, replicate, bytes_eq, codes, unwrap_or}
 use Rattle.std.specs.List.{list_any}
 use Rattle.mds_text.specs.Tree.{Json, null, list, object, Members, no_members, member, entries}
@@ -18,11 +18,11 @@ use Rattle.mds_policy.specs.declared.rule.TimeUnit.TheVariants.{Seconds, Minutes
 use Rattle.mds_policy.specs.declared.rule.Bounds.{Bounds}
 use Rattle.mds_policy.specs.declared.rule.Window.{Window}
 
--- an optional list; none there is the empty one
+-- an optional list; an absent one is read as the empty one
 abbrev pub optional_list : {A : Type 0} → (Field → Json → Result (List A) Fault) → Json → Field → Result (List A) Fault
 optional_list read document field = optional_at read document field >>= λ found. Ok (or_empty found)
 
--- a rule on time is evaluated in one of four units
+-- the kind of a time rule: it is evaluated in one of four units, and not in others
 abbrev pub time_kind : Option (List ℕ) → Kind
 time_kind None = Other
 time_kind (Some unit) =
@@ -39,13 +39,13 @@ kind_of rule_type units =
     else if bytes_eq rule_type (codes "time") then time_kind units
     else Other
 
--- the event types of a state: null counts as none
+-- the event types of a state: null is read as the empty list
 abbrev pub events_of : Json → Result (List (List ℕ)) Fault
 events_of null = Ok []
 events_of (list ts) = each (token_of StatesField) (entries ts)
 events_of value = Err (bad_field StatesField)
 
--- the entries of a state's event types: what is neither null nor a list has none
+-- the entries of a state's event types: null has none, and what is no list either is a bad field
 abbrev pub event_entries : Json → Result (List Json) Fault
 event_entries null = Ok []
 event_entries value = list_of StatesField value
@@ -57,7 +57,7 @@ state_of name value = do
   events ← events_of value
   Ok (record { state = state; events = events })
 
--- each of them, in the order of the names' bytes, in which members are read
+-- the states of an object's members, which are in the byte order of their names
 abbrev pub states_of : Members → Result (List States) Fault
 states_of no_members = Ok []
 states_of (member name value rest) = do
@@ -69,12 +69,12 @@ abbrev pub states_member : Field → Json → Result (List States) Fault
 states_member field (object ms) = states_of ms
 states_member field value = Err (bad_field field)
 
--- the second of the day of an hour, a minute and a second, where each is there
+-- the second of the day of an hour, a minute and a second, where there are all three
 abbrev pub second_of_day : Option ℕ → Option ℕ → Option ℕ → Option ℕ
 second_of_day (Some h) (Some m) (Some s) = Some (3600 * h + 60 * m + s)
 second_of_day hour minute second = None
 
--- two digits of a text, from this place on, as a number up to a limit
+-- two digits of a text, at this index, as a number up to a limit
 abbrev pub digits_at : ℕ → List ℕ → ℕ → Option ℕ
 digits_at most s place = two_digits most (slice_index s place) (slice_index s (place + 1))
 
@@ -134,7 +134,7 @@ bounds_of rule = do
   inclusive_maximum ← optional_at bool_of rule InclusiveMaximum
   Ok (record { minimum = minimum; maximum = maximum; inclusive_minimum = unwrap_or inclusive_minimum true; inclusive_maximum = unwrap_or inclusive_maximum true })
 
--- a rule, line by line of its table
+-- a rule, in the order of its table
 unfoldable pub rule_of : Json → Result Rule Fault
 rule_of entry = do
   rule ← object_of Rules entry
@@ -159,7 +159,7 @@ rule_of entry = do
     window = window;
   })
 
--- a policy, line by line of its table
+-- a policy, in the order of its table
 unfoldable pub policy_of : Json → Result Policy Fault
 policy_of tree = do
   document ← document_of tree
@@ -183,11 +183,11 @@ policy_of tree = do
     rules = rules;
   })
 
--- the document of a text of whose numbers this many aren't plain: there may be none
+-- the document of a text with this many numbers that aren't plain, which must be none
 abbrev pub if_plain : ℕ → Json → Result Json Fault
 if_plain count tree = if count == 0 then Ok tree else Err decimal
 
--- what the text of a policy reads as
+-- what the text of a policy is read as
 unfoldable pub read_policy : List ℕ → Result Policy Fault
 read_policy bytes = do
   tree ← read_text bytes

@@ -5,7 +5,7 @@ use Rattle.std.specs.Ordering.{nat_cmp, match_ordering}
 use Rattle.mds_text.specs.Tree.{Json, int, object, Members, no_members, member}
 use Rattle.mds_policy.specs.Policy.{Policy}
 
--- a member among members that ascend by name: instead of the one of its name, or at its own place
+-- a member put among members that ascend by name: in place of the one of its name, or at its own place
 abbrev pub with_member : List ℕ → Json → Members → Members
 with_member name value no_members = member name value no_members
 with_member name value (member key old rest) =

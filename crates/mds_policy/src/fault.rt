@@ -3,10 +3,10 @@ use std::alloc::{AllocError, AllocFailed};
 use std::error::Error;
 use std::fmt;
 
-/// Why a text is no policy.
+/// Why a text is refused as a policy.
 #[derive(Clone, Copy, Debug)]
 pub enum PolicyFault {
-    /// The text is no JSON, a member isn't as it has to be, or memory ran out.
+    /// The text is not JSON, a member is not as it must be, or out of memory.
     Text(TextFault),
     /// A number somewhere in the text isn't plain: it has a fraction or an exponent, is `-0`, or has
     /// more than eighteen digits.

@@ -1,4 +1,4 @@
-//! What a rule limits, by its type and its units (MDS 2.0 Policy, rule types and rule units).
+//! What a rule limits, from its type and its units (MDS 2.0 Policy, rule types and rule units).
 ghost use Rattle.std.specs.Prelude.{◌≡◌};
 ghost use Rattle.mds_policy.specs.Reading.{kind_of, time_kind};
 

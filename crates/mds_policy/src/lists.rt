@@ -1,4 +1,4 @@
-//! Optional lists, with none for the empty one.
+//! Optional lists, where an absent one is read as the empty one.
 ghost use Rattle.std.specs.Prelude.{◌≡◌, option_map};
 ghost use Rattle.mds_text.specs.Fault.{Gives, text_cause};
 ghost use Rattle.mds_text.specs.Fields.{id_of, token_of, list_each, or_empty};
@@ -29,7 +29,7 @@ pub(crate) fn optional_tokens(
     Ok(or_empty(alloc, tokens_at(alloc, document, field)?))
 }
 
-/// The empty list where there is none.
+/// The list, or the empty one where there is none.
 fn or_empty<T: Drop>(alloc: Global, found: Option<Vec<T>>) -> Vec<T>
     ensures { result.items ≡ or_empty (option_map (λ v. v.items) found) }
 {

@@ -6,8 +6,8 @@ use mds_reading::{KeptScratch, Source, read_tree};
 use mds_text::{Id, Moment, Tree};
 use std::alloc::{AllocError, Global};
 
-/// A policy (MDS 2.0 Policy, policies): the text of the author's whole document, and beside it what
-/// the server reads of it.
+/// A policy (MDS 2.0 Policy, policies): the text of the author's whole document, next to what the
+/// server reads of it.
 #[derive(Drop)]
 pub struct Policy {
     pub(crate) text: Vec<u8>,
@@ -28,9 +28,12 @@ impl Policy {
     ghost use Rattle.mds_policy.specs.Reading.{read_policy};
     ghost use Rattle.mds_policy.specs.Served.{served};
 
-    /// Reads the text of a policy. The error is the first line of the tables that isn't met: no JSON
-    /// (RFC 8259), then a number that isn't plain, then the policy's members and the rules in their
-    /// order (MDS 2.0 Policy, policies and rules); or want of memory.
+    /// Reads the text of a policy (MDS 2.0 Policy, policies and rules).
+    ///
+    /// # Errors
+    ///
+    /// The first fault in this order: the text is not JSON (RFC 8259), a number in it isn't plain,
+    /// then the policy's members and its rules in the order of their tables; or out of memory.
     #[tactic(auto, unfolding(crate::specs::Reading::read_policy))]
     pub fn read(alloc: Global, text: &[u8]) -> Result<Policy, PolicyFault>
         ensures { Gives policy_cause policy_document result (read_policy text.now) }
@@ -43,11 +46,11 @@ impl Policy {
         policy_of(alloc, text, &tree)
     }
 
-    /// Reads the text of a policy as `read` does, a short one by the scratch that is kept.
+    /// Reads the text of a policy as `read` does, a short one with the scratch buffer `kept`.
     ///
     /// # Errors
     ///
-    /// As those of `read`.
+    /// Those of `read`.
     #[tactic(auto, unfolding(crate::specs::Reading::read_policy))]
     pub fn read_with(
         alloc: Global,
@@ -81,15 +84,15 @@ impl Policy {
         self.start
     }
 
-    /// The moment from which the policy isn't in force any more. An end that isn't after the start
-    /// leaves no moment.
+    /// The moment from which the policy is no longer in force. Where it isn't after the start, the
+    /// policy is never in force.
     pub fn end(&self) -> Option<Moment>
         ensures { result ≡ (policy_document self.now).end }
     {
         self.end
     }
 
-    /// The operators that the policy is meant for; none means all.
+    /// The operators that the policy applies to; an empty list means all.
     pub fn providers(&self) -> &[Id]
         ensures { result.now ≡ (policy_document self.now).providers }
     {
@@ -110,8 +113,11 @@ impl Policy {
         &self.rules
     }
 
-    /// The author's document, every member as it was read. It is read again from its text, and
-    /// the only error is want of memory.
+    /// The author's document, with every member as it was read. It is parsed again from its text.
+    ///
+    /// # Errors
+    ///
+    /// Out of memory.
     #[tactic(auto, unfolding(crate::specs::Policy::tree_of))]
     pub fn tree(&self, alloc: Global) -> Result<Tree, AllocError>
         ensures { IfOk result (λ t. view t ≡ (policy_document self.now).tree) }
@@ -122,9 +128,12 @@ impl Policy {
         }
     }
 
-    /// The author's document, every member as it was read, with `published_date` set where a moment
-    /// is given: in the place of the author's own, or else at its place in the order of names.
-    /// The only error is want of memory.
+    /// The author's document, with every member as it was read, and with `published_date` set where
+    /// a moment is given: in place of the author's own, or else at its place in the order of names.
+    ///
+    /// # Errors
+    ///
+    /// Out of memory.
     pub fn served(&self, alloc: Global, published: Option<Moment>) -> Result<Tree, AllocError>
         ensures { IfOk result (λ t. view t ≡ served (policy_document self.now) published) }
     {

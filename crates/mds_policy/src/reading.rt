@@ -1,4 +1,4 @@
-//! A policy and its rules, read line by line of their tables (MDS 2.0 Policy, policies and rules).
+//! Reads a policy and its rules in the order of their tables (MDS 2.0 Policy, policies and rules).
 ghost use Rattle.std.specs.Prelude.{◌≡◌, map, Ok};
 ghost use Rattle.mds_text.specs.Fault.{Gives, text_cause};
 ghost use Rattle.mds_text.specs.Fields.{each};
@@ -26,7 +26,7 @@ use std::alloc::Global;
 /// The most rules of a policy.
 const MOST_RULES: usize = 64;
 
-/// The policy of a text that reads as this document.
+/// The policy of this text, of which `tree` is the document.
 #[tactic(auto, unfolding(crate::specs::Reading::policy_of, crate::specs::Policy::tree_of))]
 pub(crate) fn policy_of(alloc: Global, text: &[u8], tree: &Node<'_>) -> Result<Policy, PolicyFault>
     requires { read_text text.now ≡ Ok (node_view tree.now) }

@@ -1,6 +1,6 @@
 use mds_text::{Id, Token};
 
-/// The unit of a rule on time (MDS 2.0 Policy, rule units).
+/// The unit of a time rule (MDS 2.0 Policy, rule units).
 #[derive(Clone, Copy, Debug, PartialEq, Eq)]
 pub enum TimeUnit {
     /// 1,000 ms.
@@ -16,16 +16,15 @@ pub enum TimeUnit {
 /// What a rule limits (MDS 2.0 Policy, rule types).
 #[derive(Clone, Copy, Debug, PartialEq, Eq)]
 pub enum Kind {
-    /// How many vehicles there are.
+    /// The number of vehicles.
     Count,
-    /// For how long a vehicle is in its state.
+    /// How long a vehicle stays in its state.
     Time(TimeUnit),
-    /// Any rule that is kept and served, and not evaluated.
+    /// Any other rule: it is stored and served, but not evaluated.
     Other,
 }
 
-/// The least and the greatest measure, each with whether it is itself within the bounds.
-/// An absent bound is none.
+/// The bounds of a rule's measure. An absent bound doesn't bound anything.
 #[derive(Clone, Copy, Debug, PartialEq, Eq)]
 pub struct Bounds {
     /// The least measure, in vehicles or in the rule's units.
@@ -38,8 +37,9 @@ pub struct Bounds {
     pub inclusive_maximum: bool,
 }
 
-/// The seconds of the local day from `start` to `end`, both included, and the days of the week, from
-/// Sunday on, on which the rule opens. A start after the end means a window over midnight.
+/// When a rule is open: the seconds of the local day from `start` to `end`, both included, and the
+/// days of the week, from Sunday on, on which it opens. A start after the end means a window over
+/// midnight.
 #[derive(Clone, Copy, Debug, PartialEq, Eq)]
 pub struct Window {
     /// The first second, counted from midnight.
@@ -50,7 +50,7 @@ pub struct Window {
     pub days: [bool; 7],
 }
 
-/// A vehicle state and the event types that are meant with it; none means all.
+/// A vehicle state and the event types that a rule is for; an empty list means all.
 #[derive(Drop)]
 pub struct StateEvents {
     /// The vehicle state.
@@ -67,13 +67,13 @@ pub struct Rule {
     pub id: Id,
     /// What the rule limits.
     pub kind: Kind,
-    /// Where the rule holds.
+    /// The geographies in which the rule applies.
     pub geographies: Vec<Id>,
-    /// The vehicle states that are meant, in the order of their names.
+    /// The vehicle states that the rule is for, in the order of their names.
     pub states: Vec<StateEvents>,
-    /// The vehicle types that are meant.
+    /// The vehicle types that the rule is for.
     pub vehicle_types: Vec<Token>,
-    /// The propulsion types of which a vehicle has to have one.
+    /// The propulsion types of which a vehicle must have one.
     pub propulsion_types: Vec<Token>,
     /// The bounds of the measure.
     pub bounds: Bounds,

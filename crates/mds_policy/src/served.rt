@@ -8,7 +8,7 @@ use mds_text::{Member, Moment, Tree, add_member, copy_members, copy_tree, int_tr
 use std::alloc::{AllocError, Global};
 use std::cmp::Ordering;
 
-/// The member that holds the moment of publication.
+/// The name of the member for the moment of publication.
 const PUBLISHED_DATE: &str = "published_date";
 
 /// A copy of the document with the moment of its publication.
@@ -36,7 +36,7 @@ fn dated_members(
     Ok(dated)
 }
 
-/// The members before and behind the place of this name.
+/// The members before this name and those after it; one of this name is in neither.
 fn around<'a>(members: &'a [Member], name: &str) -> (&'a [Member], &'a [Member])
     ensures { (value : Json) → with_member name.now value (members_of (map member_view members.now)) ≡ members_of (map member_view result.0.now ++ (name.now, value) ∷ map member_view result.1.now) }
 {

@@ -52,7 +52,7 @@ fn state_of(alloc: Global, member: &NodeMember<'_>) -> Result<StateEvents, TextF
     Ok(StateEvents { state, events })
 }
 
-/// The event types of a state: null counts as none, which means all.
+/// The event types of a state: null is read as the empty list, which means all.
 fn events_of(alloc: Global, value: &Node<'_>) -> Result<Vec<Token>, TextFault>
     ensures value { Gives text_cause (λ v. v.items) result (events_of (node_view value.now)) }
     ensures memory { IsCausedWhere (event_entries (node_view value.now)) result }

@@ -43,7 +43,7 @@ fn time_of(value: &Node<'_>, field: Field) -> Result<u32, TextFault>
     time_of_day(text.as_bytes()).ok_or(TextFault::BadField(field))
 }
 
-/// The second of the day of `hh:mm`, which stands for `hh:mm:00`, or of `hh:mm:ss`.
+/// The second of the day of `hh:mm`, which means `hh:mm:00`, or of `hh:mm:ss`.
 fn time_of_day(text: &[u8]) -> Option<u32>
     ensures { result ≡ time_of_day text.now }
 {
@@ -66,7 +66,7 @@ fn second_of_day(hour: Option<u8>, minute: Option<u8>, second: Option<u8>) -> Op
     Some(3600 * u32::from(hour?) + 60 * u32::from(minute?) + u32::from(second?))
 }
 
-/// The number of two decimal digits at this place, if it is at most `most`.
+/// The number of the two decimal digits at this index, where it is at most `most`.
 fn digits_at(text: &[u8], most: u8, place: usize) -> Option<u8>
     requires { place + 1 < length text.now }
     ensures { result ≡ digits_at most text.now place }
@@ -103,7 +103,7 @@ fn day_of(value: &Node<'_>) -> Result<u8, TextFault>
     weekday_of(text).ok_or(TextFault::BadField(Field::Days))
 }
 
-/// A day of the week, counted from Sunday on.
+/// A day of the week by its name, counted from Sunday on.
 fn weekday_of(name: &str) -> Option<u8>
     ensures { result ≡ weekday_of name.now }
 {

@@ -1,4 +1,4 @@
--- A notice that is found among notices.
+-- A document that is found among the public documents.
 use Rattle.std.proofs.Common.{◌≡◌, ℕ, Bool, true, false, cond, List, [], ◌∷◌, map, find, bytes_eq, Option, Some, None, option_map, option_copied, refl, ap, ◌∙◌}
 use denote.Ref.{Bor}
 use Rattle.mds_public.specs.Face.{Notice}

@@ -1,4 +1,4 @@
--- Lists by equal tests.
+-- Lists filtered by equal tests.
 use Rattle.std.proofs.Common.{◌≡◌, ◌||◌, Bool, cond, List, [], ◌∷◌, map, filter, refl, ap, ◌∙◌}
 use Rattle.std.specs.List.{list_any}
 

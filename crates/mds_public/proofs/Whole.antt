@@ -1,4 +1,4 @@
--- All notices, in a period without bounds.
+-- All documents, in a period without bounds.
 use Rattle.std.proofs.Common.{◌≡◌, ◌==◌, ℕ, Bool, true, List, [], ◌∷◌, length, map, filter, None, refl, ap, arith}
 use Rattle.std.proofs.lemmas.Bool.Decides.{nat_tests}
 use Rattle.mds_public.specs.Face.{Notice}

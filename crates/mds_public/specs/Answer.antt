@@ -1,4 +1,4 @@
--- What everyone is told to what is asked.
+-- The answer to a request for the public documents.
 use Rattle.std.specs.Prelude.{◌≡◌, ⊤, ℕ, List, [], ◌∷◌, map, filter, find, Bool, true, ◌||◌, bytes_eq, codes, Option, Some, None, Result, Ok, Err, if◌then◌else◌}
 use Rattle.http_header.specs.FieldValue.{FieldValue}
 use Rattle.http_header.specs.HeaderMap.{Entries}
@@ -37,7 +37,7 @@ abbrev pub one_told : List ℕ → Option Notice → ℕ → Result (List ℕ) R
 one_told name None updated = Err NotFound
 one_told name (Some n) updated = Ok (told name (n ∷ []) updated)
 
--- what is asked for; the query of anything but the list of policies is no matter
+-- the body that a request asks for; the query of anything but the list of policies doesn't matter
 abbrev pub found : Face → Asked → List ℕ → Result (List ℕ) Refusal
 found face Policies query = policies_told face (period_in query)
 found face (Policy id) query = one_told (codes "policies") (sought face.policies id) face.updated
@@ -49,7 +49,7 @@ abbrev pub answer_of : Face → Asked → List ℕ → List ℕ → Entries Fiel
 answer_of face asked method query headers =
     if reads method then (if is_accepted headers then found face asked query else Err NotAcceptable) else Err Method
 
--- what was answered, where memory sufficed
+-- the answer is the expected one, where it isn't out of memory
 abbrev pub Meets : Result (List ℕ) Refusal → Result (List ℕ) Denied → Type 0
 Meets expected (Ok body) = expected ≡ Ok body
 Meets expected (Err NoMemory) = ⊤

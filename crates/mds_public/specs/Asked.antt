@@ -1,4 +1,4 @@
--- What is asked for, by its path (MDS 2.0 Policy and Geography, endpoints).
+-- What a path of the public documents asks for (MDS 2.0 Policy and Geography, endpoints).
 use Rattle.std.specs.Prelude.{ℕ, List, take, drop, bytes_eq, codes, Option, Some, None, if◌then◌else◌}
 use Rattle.std.specs.Option.{option_or}
 use Rattle.std.specs.Str.{is_utf8}
@@ -6,7 +6,7 @@ use Rattle.uuid.specs.Text.{parsed}
 use Rattle.mds_public.specs.declared.asked.Asked.{Asked}
 use Rattle.mds_public.specs.declared.asked.Asked.TheVariants.{Policies, Policy, Geographies, Geography}
 
--- the identifier that the end of a path is; none, where it is none
+-- the identifier at the end of a path; none where it is none
 abbrev pub identifier : List ℕ → Option (List ℕ)
 identifier text = if is_utf8 text then parsed text else None
 
@@ -25,6 +25,6 @@ policy_at path = if bytes_eq (take 18 path) (codes "/mds/2.0/policies/") then So
 abbrev pub geography_at : List ℕ → Option Asked
 geography_at path = if bytes_eq (take 21 path) (codes "/mds/2.0/geographies/") then Some (Geography (identifier (drop 21 path))) else None
 
--- What a path asks for. Any other path is none of these.
+-- What a path asks for; none for any other path.
 abbrev pub asked_by : List ℕ → Option Asked
 asked_by path = option_or (list_at path) (option_or (policy_at path) (geography_at path))

@@ -3,8 +3,8 @@ use Rattle.std.specs.Prelude.{ℕ, List, ◌++◌, codes}
 use Rattle.std.specs.Fmt.{decimal}
 use Rattle.std.specs.List.{join_with_byte}
 
--- documents under their name, from their texts, and when something of what is told changed last, in milliseconds since the Unix
--- epoch
+-- documents under their name, from their texts, and when the public documents changed last, in milliseconds since the
+-- Unix epoch
 abbrev pub body_text : List ℕ → List (List ℕ) → ℕ → List ℕ
 body_text name texts updated =
     codes "{\"data\":{\"" ++ name ++ codes "\":[" ++ join_with_byte 44 texts ++ codes "]},\"last_updated\":" ++ decimal updated

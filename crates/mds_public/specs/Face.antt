@@ -1,5 +1,5 @@
--- What everyone is told of what is published: the policies that are meant for everyone (MDS 2.0 Policy, `provider_ids`), and the
--- geographies that these name.
+-- The public documents: the policies that are meant for everyone (MDS 2.0 Policy, `provider_ids`), and the geographies
+-- that these name.
 use Rattle.std.specs.Prelude.{ℕ, ◌==◌, List, [], ◌∷◌, map, filter, length, max, Bool, Option, Some, None}
 use Rattle.std.specs.List.{list_any}
 use Rattle.std.specs.Option.{option_map_or}
@@ -21,12 +21,12 @@ public_policies publications = filter is_public (published_policies publications
 abbrev pub names : List ℕ → Published Policy → Bool
 names id p = list_any (λ rule. is_among rule.geographies id) p.document.rules
 
--- the geographies that policies which are meant for everyone name; who may know none of these policies is told no other
+-- the geographies that policies which are meant for everyone name; no other geography is public
 abbrev pub public_geographies : List Publication → List (Published Geography)
 public_geographies publications =
     filter (λ g. list_any (names g.document.id) (public_policies publications)) (published_geographies publications)
 
--- a document that is told, with when it takes effect and when it ends
+-- a public document, with when it takes effect and when it ends
 pub record Notice : Type 0 where
   pub id : List ℕ
   pub start : ℕ
@@ -41,16 +41,16 @@ abbrev pub geography_notice : Published Geography → Notice
 geography_notice g =
     record { id = g.document.id; start = g.moment; end = None; text = printed (geography.served g.document (Some g.moment)) }
 
--- when a policy was published, or withdrawn after that
+-- when a policy was published, or withdrawn if that was later
 abbrev pub touched : List Publication → Published Policy → ℕ
 touched publications p = option_map_or (max p.moment) (withdrawn_from publications p.document.id) p.moment
 
--- the last of a moment and some more
+-- the latest of a moment and some more
 abbrev pub last : ℕ → List ℕ → ℕ
 last t [] = t
 last t (later ∷ ts) = last (max later t) ts
 
--- what everyone is told, and when it changed last
+-- the public documents, and when they changed last
 pub record Face : Type 0 where
   pub policies : List Notice
   pub geographies : List Notice

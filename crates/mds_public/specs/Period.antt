@@ -1,5 +1,5 @@
--- Which policies of a list are asked for, by the moments at which they hold (MDS 2.0 Policy, query parameters `start_date` and
--- `end_date`, in milliseconds since the Unix epoch).
+-- The period of a query: which policies of the list it asks for, by the moments at which they hold (MDS 2.0 Policy,
+-- query parameters `start_date` and `end_date`, in milliseconds since the Unix epoch).
 use Rattle.std.specs.Prelude.{ℕ, ◌==◌, ◌&&◌, List, find, take, drop, length, Bool, true, nat_le, nat_lt, bytes_eq, codes, Option, Some, None, if◌then◌else◌}
 use Rattle.std.specs.Char.{is_ascii_digit}
 use Rattle.std.specs.List.{list_all, slice_split}
@@ -16,16 +16,16 @@ is_ampersand b = b == 38
 abbrev pub begins : List ℕ → List ℕ → Bool
 begins name parameter = bytes_eq (take (length name) parameter) name
 
--- what stands behind a name in a parameter that begins so
+-- the bytes after a name in a parameter that begins with it
 abbrev pub stripped : List ℕ → List ℕ → Option (List ℕ)
 stripped name parameter = if begins name parameter then Some (drop (length name) parameter) else None
 
--- the value of a parameter that may be given
+-- the value of a parameter, if there is one
 abbrev pub value_in : List ℕ → Option (List ℕ) → Option (List ℕ)
 value_in name None = None
 value_in name (Some parameter) = stripped name parameter
 
--- the value of the first parameter that begins so
+-- the value of the first parameter that begins with this name
 abbrev pub value_of : List ℕ → List ℕ → Option (List ℕ)
 value_of name query = value_in name (find (begins name) (slice_split is_ampersand query))
 
@@ -33,11 +33,11 @@ value_of name query = value_in name (find (begins name) (slice_split is_ampersan
 abbrev pub is_moment : List ℕ → Bool
 is_moment text = nat_lt 0 (length text) && nat_le (length text) 18 && list_all is_ascii_digit text
 
--- the number that it is
+-- the number that it writes
 abbrev pub number_in : List ℕ → Option ℕ
 number_in text = if is_moment text then Some (digits_value 10 text) else None
 
--- the moment that a value is; none, where it is none
+-- the moment of a number; none where there is none
 abbrev pub as_given : Option ℕ → Option (Option ℕ)
 as_given None = None
 as_given (Some moment) = Some (Some moment)
@@ -45,7 +45,7 @@ as_given (Some moment) = Some (Some moment)
 abbrev pub moment_at : List ℕ → Option (Option ℕ)
 moment_at text = if is_utf8 text then as_given (number_in text) else None
 
--- a moment that may be given: none where it isn't, and an error where it is no moment
+-- an optional moment: none where it isn't given, and an error where it is no moment
 abbrev pub moment_in : Option (List ℕ) → Option (Option ℕ)
 moment_in None = Some None
 moment_in (Some text) = moment_at text
@@ -55,7 +55,7 @@ abbrev pub both : Option (Option ℕ) → Option (Option ℕ) → Option Period
 both (Some from) (Some to) = Some (record { from = from; to = to })
 both from to = None
 
--- what a query asks for; none, where one of its moments is none
+-- the period of a query; none where one of its moments is none
 abbrev pub period_in : List ℕ → Option Period
 period_in query = both (moment_in (value_of (codes "start_date=") query)) (moment_in (value_of (codes "end_date=") query))
 

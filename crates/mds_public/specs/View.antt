@@ -1,4 +1,4 @@
--- What a `Notice` and a `Face` of the program stand for.
+-- The definition's values of the program's `Notice` and `Face`.
 use Rattle.std.specs.Prelude.{map}
 use Rattle.mds_public.specs.Face.{Face, Notice}
 use Rattle.mds_public.specs.declared.notice.Notice as program

@@ -1,5 +1,5 @@
--- When a policy ends that is withdrawn, and its document then. That a policy is withdrawn is this server's own; MDS 2.0 Policy
--- has an end, `end_date`.
+-- When a withdrawn policy ends, and its document then. Withdrawal is this server's own; MDS 2.0 Policy has an end,
+-- `end_date`.
 use Rattle.std.specs.Prelude.{ℕ, pos, List, [], ◌∷◌, ◌++◌, filter, min, Bool, not, bytes_eq, codes, Option, Some, None, if◌then◌else◌}
 use Rattle.std.specs.Option.{option_map_or}
 use Rattle.mds_text.specs.Tree.{Json, int, object, Members, no_members, member, members_of}
@@ -7,7 +7,7 @@ use Rattle.mds_policy.specs.Policy.{Policy}
 use Rattle.mds_policy.specs.Served as policy
 use Rattle.mds_catalog.specs.Publication.{Publication, Published, is_among}
 
--- the earlier of a moment and one that may be known
+-- the earlier of a moment and another, if there is one
 abbrev pub earlier : ℕ → Option ℕ → ℕ
 earlier moment known = option_map_or (min moment) known moment
 
@@ -17,7 +17,7 @@ withdrawn_from [] id = None
 withdrawn_from (p ∷ ps) id =
     if is_among p.withdrawn id then Some (earlier p.moment (withdrawn_from ps id)) else withdrawn_from ps id
 
--- when a policy ends that may be withdrawn: as it says itself, and where it is withdrawn, then at the latest
+-- when a policy ends that may be withdrawn: at its own end, and if it is withdrawn, then at the latest
 abbrev pub ends : Option ℕ → Option ℕ → Option ℕ
 ends None end = end
 ends (Some moment) end = Some (earlier moment end)
@@ -40,12 +40,12 @@ abbrev pub ended : ℕ → Json → Json
 ended moment (object ms) = object (members_of (filter is_not_end (listed ms) ++ (codes "end_date", int (pos moment)) ∷ []))
 ended moment value = value
 
--- a document with its own end, that may be withdrawn
+-- a document with its own end, which may be withdrawn
 abbrev pub ended_at : Option ℕ → Option ℕ → Json → Json
 ended_at None end document = document
 ended_at (Some moment) end document = ended (earlier moment end) document
 
--- a published policy as everyone is told it: where it is withdrawn, with the end that this makes
+-- a published policy as a public document: if it is withdrawn, with the end of that
 abbrev pub policy_json : List Publication → Published Policy → Json
 policy_json publications p =
     ended_at (withdrawn_from publications p.document.id) p.document.end (policy.served p.document (Some p.moment))

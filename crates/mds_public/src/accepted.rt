@@ -1,4 +1,4 @@
-//! Which versions of a response who asks takes (MDS 2.0, general information: versioning).
+//! Which versions of a response the client accepts (MDS 2.0, general information: versioning).
 ghost use Rattle.std.specs.Prelude.{◌≡◌, ◌<◌, codes, length, position, IfSome};
 ghost use Rattle.std.specs.List.{list_any};
 ghost use Rattle.http_header.specs.HeaderMap.{get_all};
@@ -15,7 +15,7 @@ fn trimmed(bytes: &[u8]) -> &[u8]
     bytes.trim_ascii()
 }
 
-/// Whether a type is one of any version.
+/// Whether a media type accepts any version.
 fn is_any_version(media_type: &[u8]) -> bool
     ensures { result ≡ is_any_version media_type.now }
 {
@@ -24,7 +24,7 @@ fn is_any_version(media_type: &[u8]) -> bool
         || media_type.eq_ignore_ascii_case(b"application/json")
 }
 
-/// How many bytes the name of the parameter is, with its `=`.
+/// The length of the parameter's name in bytes, with its `=`.
 const NAME: usize = 8;
 
 /// Whether a parameter doesn't name another version.
@@ -39,7 +39,7 @@ fn is_this_version(parameter: &[u8]) -> bool
     }
 }
 
-/// Where the first `;` of a media range stands.
+/// The position of the first `;` of a media range.
 fn mark(range: &[u8]) -> Option<usize>
     ensures value { result ≡ position is_semicolon range.now }
     ensures bound { IfSome result (λ at. at < length range.now) }
@@ -57,7 +57,7 @@ fn type_of(range: &[u8]) -> &[u8]
     }
 }
 
-/// Whether nothing between its `;` names another version.
+/// Whether no parameter of a media range names another version.
 fn has_this_version(range: &[u8]) -> bool
     ensures { result ≡ has_this_version range.now }
 {
@@ -66,7 +66,7 @@ fn has_this_version(range: &[u8]) -> bool
         .all(|parameter| is_this_version(trimmed(parameter)))
 }
 
-/// Whether a media range takes the response.
+/// Whether a media range accepts the response.
 fn takes(range: &[u8]) -> bool
     ensures { result ≡ takes range.now }
 {
@@ -75,14 +75,14 @@ fn takes(range: &[u8]) -> bool
         || (media_type.eq_ignore_ascii_case(b"application/vnd.mds+json") && has_this_version(range))
 }
 
-/// Whether a line of `accept` has a range that takes the response.
+/// Whether a line of `accept` has a range that accepts the response.
 fn line_takes(line: &[u8]) -> bool
     ensures { result ≡ line_takes line.now }
 {
     line.split(|byte| *byte == b',').any(|range| takes(range))
 }
 
-/// Whether a line of `accept` takes the response.
+/// Whether a line of `accept` accepts the response.
 fn one_takes(headers: &HeaderMap) -> bool
     ensures { result ≡ list_any (λ line. line_takes line.bytes) (get_all headers.now (codes "accept")) }
 {
@@ -92,7 +92,7 @@ fn one_takes(headers: &HeaderMap) -> bool
         .any(|line| line_takes(line.as_bytes()))
 }
 
-/// Whether who asks takes the response: no field `accept`, or one that allows it.
+/// Whether the client accepts the response: it has no field `accept`, or one that allows it.
 pub(crate) fn is_accepted(headers: &HeaderMap) -> bool
     ensures { result ≡ is_accepted headers.now }
 {

@@ -1,4 +1,4 @@
-//! What everyone is told to what is asked.
+//! The answer to a request for the public documents.
 ghost use Rattle.std.specs.Prelude.{◌≡◌, ◌∷◌, ◌++◌, [], bytes_eq, filter, find, map, option_copied, option_map, IfOk, OnOk};
 ghost use Rattle.mds_public.specs.Answer.{Meets, answer_of, found, one_told, policies_told, sought};
 ghost use Rattle.mds_public.specs.View.{face, notice};
@@ -16,7 +16,7 @@ use http::HeaderMap;
 use mds_text::Id;
 use std::alloc::{AllocError, Global};
 
-/// Adds the text of a notice, where it holds in the period.
+/// Adds the text of a document, where it holds in the period.
 fn add<'a>(texts: &mut Vec<&'a [u8]>, sheet: &'a Notice, period: &Period) -> Result<(), AllocError>
     ensures { OnOk result (map (λ t. t.now) texts.new.items
         ≡ map (λ t. t.now) texts.old.items ++ map (λ n. n.text) (filter (is_in period.now) (notice sheet.now ∷ []))) }
@@ -31,7 +31,7 @@ fn add<'a>(texts: &mut Vec<&'a [u8]>, sheet: &'a Notice, period: &Period) -> Res
     }
 }
 
-/// The texts of the notices that hold in a period.
+/// The texts of the documents that hold in a period.
 fn texts_in<'a>(
     alloc: Global,
     notices: &'a [Notice],
@@ -46,14 +46,14 @@ fn texts_in<'a>(
     Ok(texts)
 }
 
-/// The first of these notices with this identifier.
+/// The first of these documents with this identifier.
 fn of_id(notices: &[Notice], id: Id) -> Option<&Notice>
     ensures { option_copied result ≡ find (λ n. bytes_eq n.id id) notices.now }
 {
     notices.iter().find(|sheet| sheet.id == id)
 }
 
-/// The first of these notices with an identifier that may be none.
+/// The first of these documents with this identifier, if there is one.
 fn sought(notices: &[Notice], id: Option<Id>) -> Option<&Notice>
     ensures { option_map (λ n. notice n.now) result ≡ sought (map notice notices.now) id }
 {
@@ -63,7 +63,7 @@ fn sought(notices: &[Notice], id: Option<Id>) -> Option<&Notice>
     }
 }
 
-/// One document under its name.
+/// A body of one document under its name.
 fn one_told(
     alloc: Global,
     name: &str,
@@ -92,7 +92,7 @@ impl Face {
         Ok(body)
     }
 
-    /// What is asked for.
+    /// The body that a request asks for.
     fn found(&self, alloc: Global, asked: Asked, query: &[u8]) -> Result<Bytes, Denied>
         ensures { Meets (found (face self.now) asked query.now) result }
     {
@@ -114,13 +114,13 @@ impl Face {
         }
     }
 
-    /// The body that is told to a request with this method, query and fields; both lists, where no period is asked for, are shared
-    /// and not copied.
+    /// The body of the response to a request with this method, query and fields. Both lists, where no period is asked
+    /// for, are shared and not copied.
     ///
     /// # Errors
     ///
-    /// `Refused` with the first of these: another method than `GET` and `HEAD`, a field `accept` that takes no response of this
-    /// version, a moment in the query that is none, nothing of this identifier; `NoMemory`.
+    /// `Refused` with the first of these: another method than `GET` and `HEAD`, a field `accept` that accepts no
+    /// response of this version, a moment in the query that is none, nothing of this identifier; `NoMemory`.
     pub fn answer(
         &self,
         alloc: Global,

@@ -1,11 +1,11 @@
-//! What a path asks for.
+//! What a path of the public documents asks for.
 ghost use Rattle.std.specs.Prelude.{◌≡◌};
 ghost use Rattle.std.specs.Option.{option_or};
 ghost use Rattle.mds_public.specs.Asked.{asked_by, geography_at, identifier, list_at, policy_at};
 
 use mds_text::Id;
 
-/// What is asked for: a list, or the document of an identifier, where the path ends with one.
+/// What a request asks for: a list, or the document of an identifier, where the path ends with one.
 #[derive(Clone, Copy)]
 pub enum Asked {
     /// The policies.
@@ -24,7 +24,7 @@ const POLICY: usize = 18;
 /// How many bytes the path of one geography has, up to its identifier.
 const GEOGRAPHY: usize = 21;
 
-/// The identifier that the end of a path is.
+/// The identifier at the end of a path.
 fn identifier(text: &[u8]) -> Option<Id>
     ensures { result ≡ identifier text.now }
 {
@@ -82,7 +82,7 @@ fn one_at(path: &[u8]) -> Option<Asked>
 }
 
 impl Asked {
-    /// What a path, without its query, asks for; none, where it is the path of nothing that everyone is told.
+    /// What a path, without its query, asks for; none, where it isn't a path of the public documents.
     pub fn by(path: &[u8]) -> Option<Asked>
         ensures { result ≡ asked_by path.now }
     {

@@ -1,4 +1,4 @@
-//! Bodies of responses, from texts that were printed before.
+//! Bodies of responses, made of texts that are already printed.
 ghost use Rattle.std.specs.Prelude.{◌≡◌, ◌++◌, codes, map, IfOk, OnOk};
 ghost use Rattle.std.specs.Fmt.{decimal};
 ghost use Rattle.std.specs.List.{join_with_byte};
@@ -7,7 +7,7 @@ ghost use Rattle.mds_public.specs.Body.{body_text};
 use bytes::Bytes;
 use std::alloc::{AllocError, Global};
 
-/// Room for what stands beside a name and texts.
+/// Room for the bytes of a body besides its name and texts.
 const MARGIN: usize = 80;
 
 /// How many bytes these texts have, each with a comma.
@@ -34,7 +34,8 @@ fn join(body: &mut Vec<u8>, texts: &[&[u8]]) -> Result<(), AllocError>
     Ok(())
 }
 
-/// A body up to its documents, with room for so many bytes of them and the rest.
+/// The bytes of a body up to its documents, with capacity for documents of this length and the
+/// rest.
 fn opened(alloc: Global, name: &str, length: usize) -> Result<Vec<u8>, AllocError>
     ensures { IfOk result (λ v. v.items ≡ codes "{\"data\":{\"" ++ name.now ++ codes "\":[") }
 {
@@ -46,7 +47,7 @@ fn opened(alloc: Global, name: &str, length: usize) -> Result<Vec<u8>, AllocErro
     Ok(body)
 }
 
-/// Adds what stands behind the documents.
+/// Adds the bytes that come after the documents.
 fn close(body: &mut Vec<u8>, updated: u64) -> Result<(), AllocError>
     ensures { OnOk result (body.new.items
         ≡ body.old.items ++ codes "]},\"last_updated\":" ++ decimal updated ++ codes ",\"version\":\"2.0.0\"}") }
@@ -68,11 +69,12 @@ fn body_in(alloc: Global, name: &str, texts: &[&[u8]], updated: u64) -> Result<V
     Ok(body)
 }
 
-/// Documents under their name, and when something of what is told changed last.
+/// A body of documents under their name, with the moment of the last change of the public
+/// documents.
 ///
 /// # Errors
 ///
-/// Memory ran out.
+/// Out of memory.
 pub(crate) fn body_of(
     alloc: Global,
     name: &str,

@@ -12,7 +12,7 @@ use mds_policy::Policy;
 use mds_text::{Member, Moment, Tree, add_member, copy_tree, int_tree};
 use std::alloc::{AllocError, Global};
 
-/// The member that holds the end (MDS 2.0 Policy).
+/// The member with the end (MDS 2.0 Policy).
 const END_DATE: &str = "end_date";
 
 /// Adds a copy of a member, unless it is the end.
@@ -50,7 +50,7 @@ fn ended(alloc: Global, document: &Tree, end: Moment) -> Result<Tree, AllocError
     }
 }
 
-/// The document of a published policy that may be withdrawn from a moment on.
+/// The document of a published policy, which may be withdrawn from a moment on.
 pub(crate) fn told_policy(
     alloc: Global,
     policy: &Published<'_, Policy>,

@@ -1,4 +1,4 @@
-//! What everyone is told.
+//! The public documents.
 ghost use Rattle.std.specs.Prelude.{◌≡◌, codes, map};
 ghost use Rattle.mds_public.specs.Body.{body_text};
 
@@ -11,12 +11,12 @@ pub(crate) const POLICIES: &str = "policies";
 /// The name of geographies in a body.
 pub(crate) const GEOGRAPHIES: &str = "geographies";
 
-/// What everyone is told of what is published: each document, and both lists as bodies that lie ready.
+/// The public documents of what is published: each document, and both lists as cached bodies.
 #[derive(Drop)]
 pub struct Face {
     pub(crate) policies: Vec<Notice>,
     pub(crate) geographies: Vec<Notice>,
-    /// When something of it changed last, in milliseconds since the Unix epoch.
+    /// When one of them changed last, in milliseconds since the Unix epoch.
     pub(crate) updated: u64,
     pub(crate) all_policies: Bytes,
     pub(crate) all_geographies: Bytes,

@@ -1,5 +1,5 @@
-//! What everyone is told of what is published, in the words of MDS 2.0 Policy and Geography, without an access token: the policies
-//! that are meant for everyone, and the geographies that these name.
+//! The public documents: what everyone may read without an access token, in the words of MDS 2.0, and the answer to a
+//! request for them. They are the policies that are meant for everyone, and the geographies that these name.
 #![tactic(auto)]
 
 mod accepted;

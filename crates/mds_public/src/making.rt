@@ -1,4 +1,4 @@
-//! What everyone is told of what a catalogue has published.
+//! Makes the public documents of a catalogue's publications.
 ghost use Rattle.std.specs.Prelude.{◌≡◌, map, IfOk};
 ghost use Rattle.std.specs.List.{list_any};
 ghost use Rattle.mds_catalog.specs.Catalogue.{lent_policy, lent_geography, publications_of};
@@ -73,7 +73,7 @@ fn named_geographies<'a>(
     Ok(geographies)
 }
 
-/// A notice of each policy.
+/// The public document of each policy.
 fn policy_notices(
     alloc: Global,
     catalogue: &Catalogue,
@@ -89,7 +89,7 @@ fn policy_notices(
     Ok(notices)
 }
 
-/// A notice of each geography.
+/// The public document of each geography.
 fn geography_notices(
     alloc: Global,
     geographies: &[Published<'_, Geography>],
@@ -103,7 +103,7 @@ fn geography_notices(
     Ok(notices)
 }
 
-/// When a policy was published, or withdrawn after that.
+/// When a policy was published, or withdrawn if that was later.
 fn touched(catalogue: &Catalogue, policy: &Published<'_, Policy>) -> u64
     ensures { result ≡ touched (publications_of catalogue.now) (lent_policy policy.now) }
 {
@@ -125,7 +125,7 @@ fn updated(catalogue: &Catalogue, policies: &[Published<'_, Policy>]) -> u64
     updated
 }
 
-/// The text of each notice.
+/// The text of each document.
 fn texts_of<'a>(alloc: Global, notices: &'a [Notice]) -> Result<Vec<&'a [u8]>, AllocError>
     ensures { IfOk result (λ v. map (λ t. t.now) v.items ≡ map (λ n. n.text.items) notices.now) }
 {
@@ -140,7 +140,7 @@ fn texts_of<'a>(alloc: Global, notices: &'a [Notice]) -> Result<Vec<&'a [u8]>, A
     Ok(texts)
 }
 
-/// A body of all of these notices.
+/// A body of all of these documents.
 fn listed(alloc: Global, name: &str, notices: &[Notice], updated: u64) -> Result<Bytes, AllocError>
     ensures { IfOk result (λ b. b ≡ body_text name.now (map (λ n. n.text.items) notices.now) updated) }
 {
@@ -149,11 +149,12 @@ fn listed(alloc: Global, name: &str, notices: &[Notice], updated: u64) -> Result
 }
 
 impl Face {
-    /// What everyone is told of what a catalogue has published. It is made once a publication, since that prints each document.
+    /// The public documents of a catalogue's publications. They are made once a publication, since that prints each
+    /// document.
     ///
     /// # Errors
     ///
-    /// Memory ran out.
+    /// Out of memory.
     pub fn new(alloc: Global, catalogue: &Catalogue) -> Result<Face, AllocError>
         ensures { IfOk result (λ f. face f ≡ face_of (publications_of catalogue.now)) }
     {

@@ -1,4 +1,4 @@
-//! One document as everyone is told it.
+//! One public document.
 ghost use Rattle.std.specs.Prelude.{◌≡◌, IfOk};
 ghost use Rattle.mds_catalog.specs.Catalogue.{lent_policy, lent_geography, publications_of};
 ghost use Rattle.mds_public.specs.Face.{geography_notice, policy_notice};
@@ -12,15 +12,15 @@ use mds_policy::Policy;
 use mds_text::{Id, Moment, print_tree};
 use std::alloc::{AllocError, Global};
 
-/// A document that everyone is told, as text, with the moments, in milliseconds since the Unix epoch, from which on and up to which
-/// it holds.
+/// A public document as text, with the moments, in milliseconds since the Unix epoch, from which on and up to which it
+/// holds.
 #[derive(Drop)]
 pub struct Notice {
     /// Its identifier.
     pub id: Id,
     /// From when on it holds; of a geography, when it was published.
     pub start: u64,
-    /// Up to when it holds; none, where it has no end.
+    /// Up to when it holds; none where it has no end.
     pub end: Option<u64>,
     /// Its JSON text.
     pub text: Vec<u8>,
@@ -33,7 +33,7 @@ pub(crate) fn millis(moment: Moment) -> u64
     moment.get() as u64
 }
 
-/// The milliseconds of a moment that may be known.
+/// The milliseconds of a moment, if there is one.
 fn some_millis(moment: Option<Moment>) -> Option<u64>
     ensures { result ≡ moment }
 {
@@ -43,7 +43,7 @@ fn some_millis(moment: Option<Moment>) -> Option<u64>
     }
 }
 
-/// The earlier of a moment and one that may be known.
+/// The earlier of a moment and another, if there is one.
 pub(crate) fn earlier(moment: Moment, known: Option<Moment>) -> Moment
     ensures { result ≡ earlier moment known }
 {
@@ -71,11 +71,11 @@ pub(crate) fn withdrawn(catalogue: &Catalogue, id: Id) -> Option<Moment>
 }
 
 impl Notice {
-    /// A published policy, with its end where it is withdrawn.
+    /// A published policy, with its end if it is withdrawn.
     ///
     /// # Errors
     ///
-    /// Memory ran out.
+    /// Out of memory.
     pub fn of_policy(
         alloc: Global,
         catalogue: &Catalogue,
@@ -98,7 +98,7 @@ impl Notice {
     ///
     /// # Errors
     ///
-    /// Memory ran out.
+    /// Out of memory.
     pub fn of_geography(
         alloc: Global,
         geography: &Published<'_, Geography>,

@@ -1,4 +1,4 @@
-//! Which policies of a list are asked for.
+//! The period of a query: which policies of the list it asks for.
 ghost use Rattle.std.specs.Prelude.{◌≡◌, find, option_copied};
 ghost use Rattle.std.specs.List.{list_all, slice_split};
 ghost use Rattle.std.specs.Char.{is_ascii_digit};
@@ -8,7 +8,7 @@ ghost use Rattle.mds_public.specs.Period.{period_in, stripped, value_of};
 
 use crate::notice::Notice;
 
-/// The moments from which and up to which, in milliseconds since the Unix epoch; what isn't given bounds nothing.
+/// The moments from which and up to which, in milliseconds since the Unix epoch; one that isn't given is no bound.
 #[derive(Clone, Copy)]
 pub struct Period {
     /// `start_date` of the query.
@@ -32,7 +32,7 @@ fn are_digits(bytes: &[u8]) -> bool
     true
 }
 
-/// The first parameter that begins so.
+/// The first parameter that begins with this name.
 fn parameter<'a>(name: &[u8], query: &'a [u8]) -> Option<&'a [u8]>
     ensures { option_copied result ≡ find (begins name.now) (slice_split is_ampersand query.now) }
 {
@@ -41,14 +41,14 @@ fn parameter<'a>(name: &[u8], query: &'a [u8]) -> Option<&'a [u8]>
         .find(|parameter| parameter.starts_with(name))
 }
 
-/// What stands behind a name in a parameter that begins so.
+/// The value of a parameter, if it begins with this name.
 fn stripped<'a>(name: &[u8], parameter: &'a [u8]) -> Option<&'a [u8]>
     ensures { option_copied result ≡ stripped name.now parameter.now }
 {
     parameter.strip_prefix(name)
 }
 
-/// The value of the first parameter that begins so.
+/// The value of the first parameter that begins with this name.
 fn value_of<'a>(name: &[u8], query: &'a [u8]) -> Option<&'a [u8]>
     ensures { option_copied result ≡ value_of name.now query.now }
 {
@@ -69,7 +69,7 @@ fn number(text: &str) -> Option<u64>
     text.parse::<u64>().ok()
 }
 
-/// A moment that a number is.
+/// The moment of a number.
 fn as_given(number: Option<u64>) -> Option<Option<u64>>
     ensures { result ≡ as_given number }
 {
@@ -79,7 +79,7 @@ fn as_given(number: Option<u64>) -> Option<Option<u64>>
     }
 }
 
-/// The moment that a value is.
+/// The moment that a value writes.
 fn moment_at(value: &[u8]) -> Option<Option<u64>>
     ensures { result ≡ moment_at value.now }
 {
@@ -89,7 +89,7 @@ fn moment_at(value: &[u8]) -> Option<Option<u64>>
     }
 }
 
-/// A moment that may be given. None where it is given and is none.
+/// An optional moment. None where it is given and is none.
 fn moment_in(value: Option<&[u8]>) -> Option<Option<u64>>
     ensures { result ≡ moment_in (option_copied value.entry) }
 {
@@ -100,7 +100,7 @@ fn moment_in(value: Option<&[u8]>) -> Option<Option<u64>>
 }
 
 impl Period {
-    /// What a query asks for; none, where one of its moments is none.
+    /// The period of a query; none where one of its moments is none.
     pub fn read(query: &[u8]) -> Option<Period>
         ensures { result ≡ period_in query.now }
     {
@@ -109,7 +109,7 @@ impl Period {
         Some(Period { from, to })
     }
 
-    /// Whether what a notice tells hasn't ended by the beginning of the period, and has taken effect by its end.
+    /// Whether a document hasn't ended by the beginning of the period, and has taken effect by its end.
     pub fn holds(&self, sheet: &Notice) -> bool
         ensures { result ≡ is_in self.now (notice sheet.now) }
     {

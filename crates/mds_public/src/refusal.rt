@@ -1,28 +1,28 @@
-//! What isn't told, and why.
+//! Why a request for the public documents is refused.
 ghost use Rattle.std.specs.Prelude.{◌≡◌};
 ghost use Rattle.std.specs.declared.alloc.AllocError.{AllocError};
 
 use std::alloc::AllocError;
 
-/// Why something isn't told (MDS 2.0, general information: error messages).
+/// Why a request is refused (MDS 2.0, general information: error messages).
 #[derive(Clone, Copy, Debug, PartialEq, Eq)]
 pub enum Refusal {
     /// A moment of the query is none.
     BadParameter,
-    /// Nothing of this identifier is told to everyone.
+    /// Nothing of this identifier is public.
     NotFound,
-    /// What is told is only to be read.
+    /// The public documents can only be read.
     Method,
-    /// Another version, or another type, is asked for.
+    /// The client accepts only another version, or another type.
     NotAcceptable,
 }
 
 /// Why there is no body.
 #[derive(Clone, Copy, Debug, PartialEq, Eq)]
 pub enum Denied {
-    /// Memory ran out.
+    /// Out of memory.
     NoMemory,
-    /// It isn't told.
+    /// The request is refused.
     Refused(Refusal),
 }
 

@@ -1,4 +1,4 @@
--- What everyone is told depends on the publications, and among these on the policies that are meant for everyone alone.
+-- The public documents depend on the publications, and among these on the policies that are meant for everyone alone.
 use Rattle.std.proofs.Common.{◌≡◌, ◌++◌, ◌∷◌, ◌==◌, ◌||◌, [], List, ℕ, Bool, true, false, cond, codes, filter, length, map, max, if◌then◌else◌, unwrap_or, Option, Some, Result, Err, refl, sym, ap, ◌∙◌}
 use Rattle.std.specs.List.{list_any}
 use Rattle.std.specs.Option.{option_map_or}
@@ -23,7 +23,7 @@ use Rattle.mds_public_answers.specs.Laws.{for_everyone}
 use Rattle.mds_public_answers.specs.Response.{query_of}
 use Rattle.mds_public_answers.specs.Told.{answer_to}
 
--- a response is taken by these lines of `accept`
+-- these lines of `accept` accept the response
 abbrev takes : List FieldValue → Bool
 takes lines = (length lines == 0) || list_any (λ line. line_takes line.bytes) lines
 
@@ -42,7 +42,7 @@ everyone_alike one other asked here there publications method uri accept =
     ∙ (ap (λ u. told other.publications asked there.method (unwrap_or (uri_query u) []) lines) uri
     ∙ ap (told other.publications asked there.method (query_of there)) accept))
 
--- functions that are alike give one list
+-- functions with the same values map to the same list
 map_alike : {A B : Type 0} (f g : A → B) (xs : List A) → ((x : A) → f x ≡ g x) → map f xs ≡ map g xs
 map_alike f g [] alike = refl
 map_alike f g (x ∷ xs) alike = ap (λ y. y ∷ map f xs) (alike x) ∙ ap (λ ys. g x ∷ ys) (map_alike f g xs alike)
@@ -53,13 +53,13 @@ is_for_all policy = length policy.providers == 0
 abbrev kept_of : ℕ → List Policy → List (Published Policy)
 kept_of moment ps = filter is_public (map (dated moment) ps)
 
--- one policy before others
+-- one more policy before others
 one_more : (moment : ℕ) (p : Policy) (rest ps : List Policy) (b : Bool) → is_for_all p ≡ b → kept_of moment rest ≡ kept_of moment ps
     → kept_of moment (cond b (p ∷ rest) rest) ≡ cond b (dated moment p ∷ kept_of moment ps) (kept_of moment ps)
 one_more moment p rest ps true is alike = ap (λ b. cond b (dated moment p ∷ kept_of moment rest) (kept_of moment rest)) is ∙ ap (λ xs. dated moment p ∷ xs) alike
 one_more moment p rest ps false is alike = alike
 
--- of policies of one moment
+-- the same of policies of one moment
 dated_alike : (moment : ℕ) (ps : List Policy) → kept_of moment (filter is_for_all ps) ≡ kept_of moment ps
 dated_alike moment [] = refl
 dated_alike moment (p ∷ ps) = one_more moment p (filter is_for_all ps) ps (is_for_all p) refl (dated_alike moment ps)
@@ -81,7 +81,7 @@ withdrawn_alike : (ps : List Publication) (id : List ℕ) → withdrawn_from (ma
 withdrawn_alike [] id = refl
 withdrawn_alike (p ∷ ps) id = ap (λ w. cond (is_among p.withdrawn id) (Some (earlier p.moment w)) w) (withdrawn_alike ps id)
 
--- a policy's notice, by when it is withdrawn
+-- a policy's public document, by when it is withdrawn
 abbrev notice_by : Published Policy → Option ℕ → Notice
 notice_by p withdrawn =
     record {
@@ -91,7 +91,7 @@ notice_by p withdrawn =
       text = printed (ended_at withdrawn p.document.end (policy.served p.document (Some p.moment)));
     }
 
--- when it was touched last, by when it is withdrawn
+-- when it was published or withdrawn last, by when it is withdrawn
 abbrev touched_by : Published Policy → Option ℕ → ℕ
 touched_by p withdrawn = option_map_or (max p.moment) withdrawn p.moment
 

@@ -1,4 +1,4 @@
--- What everyone is told may be shared by threads.
+-- The public documents may be shared by threads.
 use denote.RattleType.{RattleType}
 use denote.Param.Send.{IsSend, IsSync, sendable}
 use denote.Param.SendFields.{declared_send, declared_sync}

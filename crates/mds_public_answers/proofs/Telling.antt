@@ -1,4 +1,4 @@
--- From what is shown to the response.
+-- From the cached documents to the response.
 use Rattle.std.proofs.Common.{◌≡◌, ℕ, List, Result, Ok, Err, IfOk, sym, ap, subst, ◌∙◌}
 use Rattle.std.proofs.Math.Logic.{∥∥₁_map}
 use Rattle.std.specs.declared.alloc.AllocError.{AllocError}
@@ -16,12 +16,12 @@ use Rattle.mds_request.specs.Configuration.{Configuration}
 use Rattle.mds_public_answers.specs.Response.{Says, query_of}
 use Rattle.mds_public_answers.specs.Told.{IsFace, IsTold}
 
--- what is refused is what is to be refused
+-- the refusal is the expected one
 pub refused_for : (expected : Result (List ℕ) Refusal) (answer : Result (List ℕ) Denied) (denied : Denied) (refusal : Refusal)
     → answer ≡ Err denied → denied ≡ Refused refusal → Meets expected answer → expected ≡ Err refusal
 refused_for expected answer denied refusal is denied_is meets = subst (Meets expected) (is ∙ ap (λ d. Err d) denied_is) meets
 
--- the answer of what is shown is that of the room's publications
+-- the answer of the cached documents is that of the room's publications
 pub says_of_room : (configuration : Configuration) (f : program.Face) (asked : Asked) (parts : Parts) (answer : Result (List ℕ) Refusal)
     (response : Result (Response (Full (List ℕ))) AllocError)
     → ∥ IsFace configuration f ∥₁ → answer_of (face f) asked parts.method (query_of parts) parts.headers ≡ answer → IfOk response (Says answer)

@@ -1,11 +1,11 @@
--- Whether a configuration has it so that everyone is told what is published and meant for everyone.
+-- Whether a configuration turns the public documents on.
 use Rattle.std.specs.Prelude.{ℕ, List, Bool, false, codes, Option, Some, Result, Ok, Err}
 use Rattle.mds_text.specs.Fault.{Fault}
 use Rattle.mds_text.specs.Fields.{find_member}
 use Rattle.mds_text.specs.Reading.{read_text}
 use Rattle.mds_text.specs.Tree.{Json, boolean, object}
 
--- a value is there and is true
+-- there is a value, and it is true
 abbrev pub is_true : Option Json → Bool
 is_true (Some (boolean b)) = b
 is_true value = false
@@ -19,6 +19,6 @@ abbrev pub reads_public : Result Json Fault → Bool
 reads_public (Ok value) = says_public value
 reads_public (Err fault) = false
 
--- a configuration's text has it so
+-- a configuration's text turns them on
 abbrev pub is_public : List ℕ → Bool
 is_public text = reads_public (read_text text)

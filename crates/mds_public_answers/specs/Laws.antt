@@ -1,4 +1,4 @@
--- What holds of what everyone is told.
+-- The laws of the public documents.
 use Rattle.std.specs.Prelude.{◌≡◌, ◌==◌, List, codes, filter, length, map}
 use Rattle.http_header.specs.HeaderMap.{get_all}
 use Rattle.http.specs.declared.request.Parts.{Parts}
@@ -8,8 +8,8 @@ use Rattle.mds_public.specs.Face.{face_of}
 use Rattle.mds_public.specs.declared.asked.Asked.{Asked}
 use Rattle.mds_public_answers.specs.Told.{answer_to}
 
--- Two author's rooms with the same publications have the same answer to requests with the same method, target and `accept`: whatever their
--- drafts, their configurations and the other fields are, an access token among them.
+-- Two author's rooms with the same publications give the same answer to requests with the same method, target and
+-- `accept`: whatever their drafts, their configurations and the other fields are, an access token among them.
 abbrev pub EveryoneIsToldThePublications : Type 0
 EveryoneIsToldThePublications =
     (one other : RoomState) (asked : Asked) (here there : Parts)
@@ -27,6 +27,6 @@ for_everyone p =
       withdrawn = p.withdrawn;
     }
 
--- Had no policy that is meant for some operators ever been published, everyone would be told the same.
+-- Had no policy that is meant for some operators ever been published, the public documents would be the same.
 abbrev pub OneOperatorsPoliciesAreNotTold : Type 0
 OneOperatorsPoliciesAreNotTold = (publications : List Publication) → face_of (map for_everyone publications) ≡ face_of publications

@@ -1,4 +1,4 @@
--- The responses that tell everyone what is published, or why not (MDS 2.0, general information: responses, error messages).
+-- The responses with public documents, or with a refusal (MDS 2.0, general information: responses, error messages).
 use Rattle.std.specs.Prelude.{◌≡◌, ℕ, List, [], ◌∷◌, ◌++◌, ◌==◌, map, length, codes, if◌then◌else◌, Some, None, unwrap_or, Result, Ok, Err}
 use Rattle.http_header.specs.FieldValue.{FieldValue, plain_value}
 use Rattle.http_header.specs.HeaderMap.{Entry}
@@ -21,7 +21,7 @@ abbrev pub status_of : Result (List ℕ) Refusal → ℕ
 status_of (Ok body) = 200
 status_of (Err refusal) = refusal_status refusal
 
--- an error, in words and without further details
+-- the body of a refusal: its error, in words and without further details
 abbrev pub refusal_text : Refusal → List ℕ
 refusal_text BadParameter =
     codes "{\"error\":\"bad_param\",\"error_description\":\"moments are milliseconds since the Unix epoch\",\"error_details\":[]}"
@@ -46,11 +46,11 @@ abbrev pub fields_of : Result (List ℕ) Refusal → List (List ℕ × List ℕ)
 fields_of (Err Method) = common_fields ++ (codes "allow", codes "GET, HEAD") ∷ []
 fields_of answer = common_fields
 
--- a field as a head has it
+-- a header field, as `HeaderMap` has it
 abbrev pub field : List ℕ × List ℕ → Entry FieldValue
 field f = (f.0, plain_value f.1 ∷ [])
 
--- the response says this answer
+-- the response has this answer
 pub record Says (answer : Result (List ℕ) Refusal) (response : Response (Full (List ℕ))) : Type 0 where
   pub status : (head_of response).status ≡ status_of answer
   pub body : (body_of response).buf ≡ (if length (content_of answer) == 0 then None else Some (content_of answer))

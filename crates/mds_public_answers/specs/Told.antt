@@ -1,4 +1,4 @@
--- What everyone is told: of the publications of the author's room, and of nothing else.
+-- The public documents: of the publications of the author's room, and of nothing else.
 use Rattle.std.specs.Prelude.{◌≡◌, ℕ, List, Result}
 use Rattle.http.specs.declared.request.Parts.{Parts}
 use Rattle.http.specs.declared.response.Response.{Response}
@@ -14,11 +14,11 @@ use Rattle.mds_request.specs.Configuration.{Configuration}
 use Rattle.mds_hall.specs.Told.{RoomTells}
 use Rattle.mds_public_answers.specs.Response.{Says, query_of}
 
--- what everyone is told of publications, all at once
+-- all public documents of publications
 abbrev pub IsFaceOf : List Publication → program.Face → Type 0
 IsFaceOf publications told = face told ≡ face_of publications
 
--- what everyone is told of the publications of the author's room of this configuration
+-- the public documents of the publications of the author's room of this configuration
 abbrev pub IsFace : Configuration → program.Face → Type 0
 IsFace configuration told = RoomTells configuration (λ drafts publications f. IsFaceOf publications f) told
 
@@ -26,6 +26,6 @@ IsFace configuration told = RoomTells configuration (λ drafts publications f. I
 abbrev pub answer_to : List Publication → Asked → Parts → Result (List ℕ) Refusal
 answer_to publications asked parts = answer_of (face_of publications) asked parts.method (query_of parts) parts.headers
 
--- the response says the answer, of the publications of the author's room of this configuration
+-- the response has the answer, of the publications of the author's room of this configuration
 abbrev pub IsTold : Configuration → Asked → Parts → Response (Full (List ℕ)) → Type 0
 IsTold configuration asked parts response = ∥ RoomTells configuration (λ drafts publications told. Says (answer_to publications asked parts) told) response ∥₁

@@ -1,4 +1,4 @@
-//! Whether a configuration has it so that everyone is told what is meant for everyone.
+//! Whether a configuration turns the public documents on.
 ghost use Rattle.std.specs.Prelude.{◌≡◌, codes, map, option_map, IfOk};
 ghost use Rattle.mds_text.specs.Fields.{find_member};
 ghost use Rattle.mds_text.specs.Tree.{members_of};
@@ -20,7 +20,7 @@ fn find_member<'t>(members: &'t [Member], name: &str) -> Option<&'t Tree>
     None
 }
 
-/// Whether a value is there and is true.
+/// Whether there is a value, and it is true.
 fn is_true(value: Option<&Tree>) -> bool
     ensures { result ≡ is_true (option_map (λ t. view t.now) value.entry) }
 {
@@ -47,12 +47,12 @@ fn says_public(value: &Tree) -> bool
     }
 }
 
-/// Whether a configuration's text has it so that everyone is told what is published and meant for everyone: by its member `public`,
-/// which is `true`. Any other value of it, and none, leaves it off.
+/// Whether a configuration's text turns the public documents on: by its member `public`, which is `true`. Any other
+/// value of it, and none, leaves them off.
 ///
 /// # Errors
 ///
-/// Memory ran out.
+/// Out of memory.
 pub fn is_public(alloc: Global, text: &[u8]) -> Result<bool, AllocError>
     ensures { IfOk result (λ is_on. is_on ≡ is_public text.now) }
 {

@@ -1,10 +1,11 @@
-//! What everyone is told of what is published, made of the publications alone.
+//! Makes the public documents of the publications alone.
 use mds_catalog::Catalogue;
 use mds_desk::Telling;
 use mds_public::Face;
 use std::alloc::{AllocError, Global};
 
-/// What everyone is told. It looks at what is published, and at nothing else: at no drafts, and at no operator's vehicles.
+/// Makes the public documents. It looks at what is published, and at nothing else: at no drafts, and at no operator's
+/// vehicles.
 #[derive(Clone, Copy)]
 pub struct Everyone;
 

@@ -1,4 +1,4 @@
-//! What holds of what everyone is told. The functions do nothing: their contracts are the laws.
+//! Laws of the public documents. The functions do nothing: their contracts are the laws.
 ghost use Rattle.mds_public_answers.specs.Laws.{EveryoneIsToldThePublications, OneOperatorsPoliciesAreNotTold};
 
 /// The answer to a request depends on the publications and on its method, target and `accept` alone.
@@ -6,7 +6,7 @@ pub fn everyone_is_told_the_publications()
     ensures { EveryoneIsToldThePublications }
 {}
 
-/// Policies that are meant for some operators change nothing of what everyone is told.
+/// Policies that are meant for some operators change nothing in the public documents.
 pub fn one_operators_policies_are_not_told()
     ensures { OneOperatorsPoliciesAreNotTold }
 {}

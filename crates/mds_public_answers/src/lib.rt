@@ -1,4 +1,4 @@
-//! What everyone is told of what is published, in the words of MDS 2.0: whoever asks for it is told it, without an access token.
+//! The cache of the public documents, made once a publication, and the responses by it.
 #![tactic(auto)]
 
 mod configured;

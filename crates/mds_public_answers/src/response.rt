@@ -1,4 +1,4 @@
-//! The responses that tell it.
+//! The responses with public documents, or with a refusal.
 ghost use Rattle.std.specs.Prelude.{◌≡◌, [], map, IfOk, OnOk, Ok, Err};
 ghost use Rattle.mds_public.specs.declared.refusal.Refusal.TheVariants.{Method};
 ghost use Rattle.mds_public_answers.specs.Response.{Says, common_fields, field, fields_of, refusal_status, refusal_text};
@@ -38,7 +38,7 @@ fn status_of(refusal: Refusal) -> StatusCode
     }
 }
 
-/// A refusal as a body has it.
+/// The body of a refusal.
 fn text_of(refusal: Refusal) -> &'static str
     ensures { result.now ≡ refusal_text refusal }
 {
@@ -63,7 +63,7 @@ fn found(alloc: Global, body: Bytes) -> HttpResult
     Ok(response)
 }
 
-/// The response that says a refusal.
+/// The response with a refusal.
 fn refused(alloc: Global, refusal: Refusal) -> HttpResult
     ensures { IfOk result (Says (Err refusal)) }
 {
@@ -78,11 +78,11 @@ fn refused(alloc: Global, refusal: Refusal) -> HttpResult
     Ok(response)
 }
 
-/// The response that says an answer.
+/// The response with an answer.
 ///
 /// # Errors
 ///
-/// Memory ran out.
+/// Out of memory.
 pub fn response_of(alloc: Global, answer: Result<Bytes, Refusal>) -> HttpResult
     ensures { IfOk result (Says answer) }
 {

@@ -1,4 +1,4 @@
-//! What everyone is told at one front of what is published.
+//! The public documents at one front of what is published.
 ghost use Rattle.std.specs.Prelude.{◌≡◌, IfOk};
 ghost use Rattle.mds_public_answers.specs.Response.{query_of};
 ghost use Rattle.mds_public_answers.specs.Told.{IsFace, IsTold};
@@ -11,8 +11,8 @@ use mds_responses::HttpResult;
 use mds_snapshot::Note;
 use std::alloc::{AllocError, Global};
 
-/// What everyone is told of the publications of the author's room, and the latest note before it was made. Where there is no later
-/// note, it is what is published now.
+/// The public documents of the publications of the author's room, and the latest note before they were made. If there
+/// is no later note, they are of what is published now.
 #[derive(Drop)]
 pub struct Shown<K: Named> {
     note: Option<Note<K>>,
@@ -20,24 +20,24 @@ pub struct Shown<K: Named> {
     ghost of_room: { ∥ IsFace K.configuration face ∥₁ },
 }
 
-/// What shows what is published.
+/// A source of the public documents.
 pub trait Shows<K: Named> {
     ghost use Rattle.std.specs.Prelude.{IfOk};
     ghost use Rattle.mds_public_answers.specs.Told.{IsFace};
 
-    /// The latest note; none, where nothing was published since the start.
+    /// The latest note; none where nothing was published since the start.
     fn note(&self) -> Option<Note<K>>;
 
-    /// What everyone is told of what is published by now.
+    /// The public documents of what is published by now.
     ///
     /// # Errors
     ///
-    /// Memory ran out.
+    /// Out of memory.
     fn face(&self) -> Result<Face, AllocError>
         ensures { IfOk result (IsFace K.configuration) };
 }
 
-/// Whether a note, if there is one, is of all that another is of.
+/// Whether a note, if there is one, covers all that another one covers.
 fn covers<K: Named>(known: &Option<Note<K>>, latest: &Option<Note<K>>) -> bool {
     match (known, latest) {
         (_, None) => true,
@@ -57,19 +57,19 @@ fn query(parts: &Parts) -> &[u8]
 }
 
 impl<K: Named> Shown<K> {
-    /// What everyone is told by now.
+    /// The public documents by now.
     ///
     /// # Errors
     ///
-    /// Memory ran out.
+    /// Out of memory.
     pub fn of<A: Shows<K>>(answers: &A) -> Result<Shown<K>, AllocError> {
-        // The note comes first, so that what is made of it is of no earlier front.
+        // The note comes first, so that the documents are of no earlier front.
         let note = answers.note();
         let face = answers.face()?;
         Ok(Shown { note, face })
     }
 
-    /// Whether nothing was published since.
+    /// Whether nothing was published since they were made.
     pub fn is_latest<A: Shows<K>>(&self, answers: &A) -> bool {
         covers(&self.note, &answers.note())
     }
@@ -78,7 +78,7 @@ impl<K: Named> Shown<K> {
     ///
     /// # Errors
     ///
-    /// Memory ran out.
+    /// Out of memory.
     pub fn respond(&self, alloc: Global, asked: Asked, parts: &Parts) -> HttpResult
         ensures { IfOk result (IsTold K.configuration asked parts.now) }
     {

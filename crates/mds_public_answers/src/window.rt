@@ -1,4 +1,4 @@
-//! What everyone is told now.
+//! The cache of the public documents.
 ghost use Rattle.std.specs.Prelude.{◌≡◌, is_some, IfOk};
 ghost use Rattle.mds_public_answers.specs.Configured.{is_public};
 ghost use Rattle.mds_public_answers.specs.Told.{IsTold};
@@ -12,9 +12,9 @@ use mds_responses::HttpResult;
 use std::alloc::{AllocError, Global};
 use std::sync::{Arc, Mutex, Wait};
 
-/// What everyone is told by now, made once a publication: by the first request behind it, while others are told what was shown before.
-/// So however many ask, the author's room is looked at once a publication. The lock of what is shown is held for as long as a share is
-/// made, that of the room while documents are.
+/// The public documents, made once a publication: by the first request after it, while other requests are answered with
+/// the ones before. So the author's room is read once a publication, however many requests there are. The lock of the
+/// cached documents is held while a reference to them is cloned, the lock of the room while documents are made.
 #[derive(Drop)]
 pub struct Window<K: Named> {
     shown: Mutex<Arc<Shown<K>>>,
@@ -22,11 +22,11 @@ pub struct Window<K: Named> {
 }
 
 impl<K: Named> Window<K> {
-    /// A window in which this is shown.
+    /// A cache with these documents.
     ///
     /// # Errors
     ///
-    /// Memory ran out.
+    /// Out of memory.
     fn new(alloc: Global, shown: Shown<K>) -> Result<Window<K>, AllocError> {
         Ok(Window {
             shown: Mutex::new(Arc::new(alloc, shown)?),
@@ -34,11 +34,11 @@ impl<K: Named> Window<K> {
         })
     }
 
-    /// A window of what everyone is told by now, where a configuration's text has it so; else none.
+    /// A cache of the public documents by now, if a configuration's text turns them on; else none.
     ///
     /// # Errors
     ///
-    /// Memory ran out.
+    /// Out of memory.
     pub fn open<A: Shows<K>>(
         alloc: Global,
         configuration: &[u8],
@@ -53,18 +53,18 @@ impl<K: Named> Window<K> {
         Ok(Some(window))
     }
 
-    /// What was shown last.
+    /// The cached documents.
     fn current<R: Wait>(&self, rt: &R) -> Result<Arc<Shown<K>>, AllocError> {
         let shown = self.shown.lock(rt);
         Arc::try_clone(&*shown)
     }
 
-    /// Shows this from now on.
+    /// Caches these documents from now on.
     fn keep<R: Wait>(&self, rt: &R, share: Arc<Shown<K>>) {
         *self.shown.lock(rt) = share;
     }
 
-    /// What is shown by now, by the one request that may make it: where another made it a moment ago, that.
+    /// The documents by now, by the one request that may make them: if another made them a moment ago, those.
     fn renewed<R: Wait, A: Shows<K>>(
         &self,
         rt: &R,
@@ -80,7 +80,7 @@ impl<K: Named> Window<K> {
         Ok(shown)
     }
 
-    /// What is shown by now; what was shown before, while another request makes it.
+    /// The documents by now; the ones before, while another request makes them.
     fn latest<R: Wait, A: Shows<K>>(
         &self,
         rt: &R,
@@ -97,11 +97,12 @@ impl<K: Named> Window<K> {
         }
     }
 
-    /// The response to a request for this, of what is shown by now; of what was shown before, while another request makes it.
+    /// The response to a request for this, with the documents by now; with the ones before, while another request makes
+    /// them.
     ///
     /// # Errors
     ///
-    /// Memory ran out.
+    /// Out of memory.
     pub fn respond<R: Wait, A: Shows<K>>(
         &self,
         rt: &R,

@@ -1,4 +1,4 @@
--- The fast reader's tree is that of the definition.
+-- The fast reader's tree is the defined one.
 use Rattle.std.proofs.Common.{◌≡◌, ℕ, ℤ, List, [], Bool, true, false, cond, Option, Some, None, option_map, option_and_then, Result, Ok, Err, Ordering, Less, Equal, Greater, refl, ap, ◌∙◌, IsUtf8}
 use Rattle.std.specs.Ordering.{nat_cmp, match_ordering}
 use Rattle.std.specs.Cmp.Lexicographic.{slice_cmp}
@@ -116,7 +116,7 @@ mutual
       let a = members_agree ms (source.put k v.0 old) (put k c.0 found) ts (put_agrees k v.0 c.0 old found v.2 e) c.2 in
       (a.0, ap (option_and_then (λ d. of_members (turned_members ms) (source.put k d old))) v.1 ∙ a.1, a.2)
 
--- what the fast reader finds is what is defined
+-- the fast reader's result is the defined one
 pub read_text-direct : (bytes : List ℕ) (t : Json) → IsUtf8 bytes → converted tree_value (json.value max_depth (tokens bytes)) ≡ Some (t, []) → read_text bytes ≡ Ok t
 read_text-direct bytes t u h = go (json.value max_depth (tokens bytes)) refl h
   where

@@ -1,4 +1,4 @@
--- UTF-8 about ASCII bytes.
+-- UTF-8 on both sides of an ASCII byte.
 use Rattle.std.proofs.Common.{◌≡◌, ℕ, zero, suc, ◌+◌, ◌<◌, List, [], ◌∷◌, ◌++◌, true, ◌||◌, ◌==◌, length, get_or, sym, ap, ◌∙◌, subst, arith, inl, inr, ◌⊎◌, append_assoc, length-append, IsUtf8}
 use Rattle.std.proofs.lemmas.Bool.{eqb-true, leb-true, and_parts, or_cases}
 use Rattle.std.proofs.lemmas.List.{take_at, drop_at}
@@ -56,7 +56,7 @@ pub join_run : (n rest : List ℕ) → Continue n → IsUtf8 rest → IsUtf8 (n 
 join_run [] rest h u = u
 join_run (x ∷ n) rest h u = join x (n ++ rest) (small_continue x h.0) (join_run n rest h.1 u)
 
--- a text is cut behind a quotation mark
+-- a text may be cut after a quotation mark
 pub cut_behind : (before rest : List ℕ) → IsUtf8 ((before ++ 34 ∷ []) ++ rest) → IsUtf8 (before ++ 34 ∷ []) × IsUtf8 rest
 cut_behind before rest u =
     let bs = (before ++ 34 ∷ []) ++ rest in

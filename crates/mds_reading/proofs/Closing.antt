@@ -1,4 +1,4 @@
--- A string that closes: what its content and its pieces pass over.
+-- A string that is closed: how far its content and its pieces reach.
 use Rattle.std.proofs.Common.{◌≡◌, ℕ, zero, suc, ◌+◌, ◌≤◌, List, [], ◌∷◌, ◌++◌, Bool, true, false, cond, ◌&&◌, ◌==◌, nat_lt, length, Option, Some, None, option_and_then, refl, sym, ap, ◌∙◌, arith, length-append, append_assoc}
 use Rattle.std.proofs.lemmas.Bool.{false≢true, eqb-true, and_parts}
 use Rattle.std.specs.Char.{is_digit, encode_utf8}
@@ -37,7 +37,7 @@ len_close : (x : ℕ) (r : List ℕ) → (x == 34) ≡ true → string_len (x �
 len_close x [] q = refl
 len_close x (y ∷ r) q = rw q refl
 
--- ---- a text that closes
+-- ---- a string that is closed
 
 pub record Closed (xs c : List ℕ) : Type 0 where
   pub body : List ℕ
@@ -49,7 +49,7 @@ pub record Closed (xs c : List ℕ) : Type 0 where
   pub read : (q : List ℕ) → content plain (body ++ q) ≡ Some c
   pub lexed : (q : List ℕ) → lex in_string (body ++ q) ≡ lex between q
 
--- the front of a string, which stands for some bytes
+-- a prefix of a string, which stands for some bytes
 pub record Front (front made : List ℕ) : Type 0 where
   pub len : (r : List ℕ) → string_len (front ++ r) ≡ length front + string_len r
   pub read : (r : List ℕ) → content plain (front ++ r) ≡ prepend made (content plain r)
@@ -74,13 +74,13 @@ longer front made r c d f e h = record {
 abbrev Closes : ℕ → Type 0
 Closes n = (xs c : List ℕ) → length xs ≤ n → content plain xs ≡ Some c → Closed xs c
 
--- behind such a front the rest closes
+-- after such a prefix the rest is closed
 go_on : (n : ℕ) → Closes n → (front made r c : List ℕ) → Front front made → length r ≤ n → prepend made (content plain r) ≡ Some c → Closed (front ++ r) c
 go_on n ih front made r c f le e =
     let d = prepended made (content plain r) c e in
     longer front made r c d.0 f (ap (prepend made) (sym d.1) ∙ e) (ih r d.0 le d.1)
 
--- ---- the fronts
+-- ---- the prefixes
 
 pub byte_front : (x : ℕ) → (x == 34) ≡ false → (x == 92) ≡ false → nat_lt x 32 ≡ false → Front (x ∷ []) (x ∷ [])
 unfolding content
@@ -237,6 +237,6 @@ closes n [] c le e = never c e
 closes zero (x ∷ xs) c le e = absurd (omega arith)
 closes (suc n) (x ∷ xs) c le e = first_part n (closes n) x xs c (x == 34) (x == 92) (nat_lt x 32) refl refl refl (omega arith) e
 
--- a string with a content closes
+-- a string with a content is closed
 pub closed : (xs c : List ℕ) → content plain xs ≡ Some c → Closed xs c
 closed xs c e = closes (length xs) xs c (omega arith) e

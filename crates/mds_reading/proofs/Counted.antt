@@ -1,4 +1,4 @@
--- Numbers that aren't plain, counted among tokens.
+-- Counting the tokens that are numbers that aren't plain.
 use Rattle.std.proofs.Common.{◌≡◌, ℕ, ◌+◌, List, [], ◌∷◌, ◌++◌, Bool, true, false, cond, length, Option, Some, None, refl, sym, ap, ◌∙◌, arith}
 use Rattle.json.specs.Token.{Token, begin_object, end_object, begin_array, end_array, key, string, number, boolean, null, bad}
 use Rattle.json.specs.Json.{after_end_array, read_key}
@@ -13,7 +13,7 @@ use Rattle.mds_text.proofs.Pieces.{pieces-split}
 use Rattle.mds_reading.specs.Direct.{quoted_one, quoted_in}
 use Rattle.mds_reading.proofs.Turning.{no_bad}
 
--- a count goes on over one token
+-- the count, after one more token
 pub one_taken : (old more : ℕ) (t : Token) (ts rest : List Token) → ts ≡ t ∷ rest → more ≡ old + quoted_one t → more + quoted_in rest ≡ old + quoted_in ts
 one_taken old more t ts rest e f = let all = ap quoted_in e in omega (arith, all, f)
 
@@ -79,7 +79,7 @@ placed p (boolean b) c ls k f h = allowed (may_begin p) (boolean b) after_value 
 placed p null c ls k f h = allowed (may_begin p) null after_value ls k (f after_value) h
 placed p bad c ls k f h = absurd (false≢true h)
 
--- punctuation counts nothing
+-- punctuation isn't counted
 pub punctuate-counted : (ls : List Lexeme) (p : Place) → Counts (punctuate p ls) ls
 unfolding punctuate
 punctuate-counted [] fresh h = refl

@@ -1,4 +1,4 @@
--- A list whose entries are read one after another.
+-- Reading the entries of a list one after another.
 use Rattle.std.proofs.Common.{◌≡◌, ℕ, ◌+◌, ◌<◌, List, [], ◌∷◌, ◌++◌, length, map, drop, get_or, Result, Ok, sym, ap, ◌∙◌}
 use Rattle.std.proofs.lemmas.List.{drop_more}
 use Rattle.mds_text.specs.Fault.{Fault}
@@ -6,7 +6,7 @@ use Rattle.mds_text.specs.Fields.{each}
 use Rattle.mds_text.specs.Tree.{Json}
 use Rattle.mds_text.proofs.Lists.{with_front, with_front-push}
 
--- one turn of a loop over a list that reads its entries
+-- one iteration of a loop that reads the entries of a list
 pub read_turn : {X A : Type 0} (see : X → Json) (read : Json → Result A Fault) (xs : List X) (i : ℕ) (x : X) (done more : List A) (a : A) → i < length xs → x ≡ get_or xs i x → read (see x) ≡ Ok a → more ≡ done ++ a ∷ []
     → with_front more (each read (map see (drop (i + 1) xs))) ≡ with_front done (each read (map see (drop i xs)))
 read_turn see read xs i x done more a within here is grown =

@@ -1,4 +1,4 @@
--- What a number of a text passes over.
+-- How far a number of a text reaches.
 use Rattle.std.proofs.Common.{◌≡◌, ℕ, suc, ◌+◌, List, [], ◌∷◌, ◌++◌, Bool, true, false, cond, ◌||◌, ◌==◌, length, take, drop, Option, Some, None, option_and_then, refl, sym, ap, ◌∙◌, arith, inl, inr, ◌⊎◌, append_assoc}
 use Rattle.std.specs.Prelude.{⊤}
 use Rattle.std.proofs.lemmas.Bool.{false≢true, eqb-true, and_parts, or_cases, or_left}
@@ -13,7 +13,7 @@ use Rattle.json.specs.Print.{IsNumber}
 use Rattle.json.proofs.Printed.Numbers.{number_alone}
 use Rattle.mds_text.specs.Quoting.{begins_token, continues_token}
 
--- each byte goes on with a token
+-- each byte continues a token
 abbrev pub Continue : List ℕ → Type 0
 Continue [] = ⊤
 Continue (x ∷ xs) = (continues_token x ≡ true) × Continue xs
@@ -126,7 +126,7 @@ first_byte : (t : List ℕ) → Found (after_number t) → begins_token (head t)
 unfolding after_number
 first_byte t h = minus_first t (head t == 45) (found after_fraction _ (found after_exponent _ h))
 
--- ---- what a good word is
+-- ---- words that are numbers
 
 pub record IsNumberWord (t : List ℕ) : Type 0 where
   pub number : List ℕ

@@ -1,4 +1,4 @@
--- A member put among members that ascend by name.
+-- Inserting a member among members that ascend by name.
 use Rattle.std.proofs.Common.{◌≡◌, ℕ, ◌+◌, ◌<◌, List, [], ◌∷◌, ◌++◌, length, map, take, drop, get_or, insert, refl, sym, ap, ◌∙◌, subst, arith}
 use Rattle.std.proofs.lemmas.List.{drop_more, take_more, drop_all, take-map, drop-map, get_or-map, length-map, map-append}
 use Rattle.std.specs.Cmp.Lexicographic.{slice_cmp}
@@ -13,7 +13,7 @@ use Rattle.mds_reading.specs.Direct.{put}
 abbrev pub Pair : Type 0
 Pair = List ℕ × Json
 
--- members with more behind them
+-- these members, then those of `ms`
 abbrev before : List Pair → Members → Members
 before [] ms = ms
 before (x ∷ xs) ms = member x.0 x.1 (before xs ms)

@@ -1,4 +1,4 @@
--- Punctuation of turned lexemes.
+-- Punctuation of lexemes whose numbers are quoted.
 use Rattle.std.proofs.Common.{◌≡◌, ℕ, List, [], ◌∷◌, map, Bool, true, false, cond, ◌&&◌, refl, sym, ap, ◌∙◌}
 use Rattle.std.proofs.lemmas.Bool.{true≢false, false≢true, and_parts}
 use Rattle.json.specs.Token.{Token, begin_object, end_object, begin_array, end_array, key, string, number, boolean, null, bad}
@@ -13,7 +13,8 @@ begins_colon-turned (token t ∷ ls) = refl
 begins_colon-turned (comma ∷ ls) = refl
 begins_colon-turned (colon ∷ ls) = refl
 
--- a text before a colon is a key, so a number that is turned mustn't stand before one
+-- a string before a colon is a key, so a number that is turned into a string mustn't come before
+-- one
 no_colon_after : (ls : List Lexeme) → no_bad (punctuate after_value ls) ≡ true → begins_colon ls ≡ false
 unfolding punctuate
 no_colon_after [] h = refl

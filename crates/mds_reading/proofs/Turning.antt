@@ -1,4 +1,4 @@
--- What the tokens of a text are once its numbers that aren't plain are quoted.
+-- The tokens of a text once its numbers that aren't plain are quoted.
 use Rattle.std.specs.Prelude.{List, [], ◌∷◌, Bool, true, ◌&&◌, if◌then◌else◌}
 use Rattle.json.specs.Token.{Token}
 use Rattle.json.specs.Lex.{Lexeme, token, comma, colon}
@@ -6,7 +6,7 @@ use Rattle.json.specs.Align.{is_good}
 use Rattle.json.specs.Json as json
 use Rattle.mds_text.specs.Quoting.{is_quoted}
 
--- a number that isn't plain is a text
+-- a number that isn't plain becomes a string
 abbrev pub turned : Token → Token
 turned Token.begin_object = Token.begin_object
 turned Token.end_object = Token.end_object

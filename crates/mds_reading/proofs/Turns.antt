@@ -1,4 +1,4 @@
--- The grammar's loops, a turn at a time, under the conversion to data.
+-- The grammar's loops, one iteration at a time, under the conversion to data.
 use Rattle.std.proofs.Common.{◌≡◌, ℕ, zero, suc, ◌+◌, ◌-◌, ◌<◌, ◌≤◌, List, [], ◌∷◌, ◌++◌, length, Option, Some, None, option_map, option_and_then, refl, ap, arith, ◌∙◌}
 use Rattle.json.specs.Token.{Token}
 use Rattle.json.specs.Json as json
@@ -113,7 +113,7 @@ pub none_before : (r : Option (Items × List Token)) → r ≡ parse_map (λ a. 
 none_before None = refl
 none_before (Some p) = refl
 
--- ---- an entry at the front
+-- ---- the first entries
 
 pub front_read : (depth : ℕ) (d : Data) (ts r : List Token) → after_end_array ts ≡ None → length ts ≡ length r + 1 → converted tree_value (value depth ts) ≡ Some (d, r)
     → converted tree_items (items (value depth) (length ts) ts) ≡ parse_map (items_before (d ∷ [])) (converted tree_items (items (value depth) (length r) r))

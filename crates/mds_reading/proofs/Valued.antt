@@ -1,4 +1,4 @@
--- The value of turned tokens.
+-- The value of tokens whose numbers are quoted.
 use Rattle.std.proofs.Common.{◌≡◌, ℕ, zero, suc, List, [], ◌∷◌, Bool, true, false, cond, length, map, Option, Some, None, option_map, option_and_then, refl, sym, ap, ◌∙◌, subst}
 use Rattle.std.specs.Prelude.{⊤}
 use Rattle.json.specs.Token.{Token, begin_object, end_object, begin_array, end_array, key, string, number, boolean, null, bad}
@@ -112,7 +112,7 @@ value-turned (suc d) =
     (λ ts. ap (λ n. items (value d) n (map turned ts)) (same_length ts) ∙ items-turned (value d) (value-turned d) (length ts) ts)
     (λ ts. ap (λ n. members (value d) n (map turned ts)) (same_length ts) ∙ members-turned (value d) (value-turned d) (length ts) ts)
 
--- ---- what was read holds no fault
+-- ---- what was read has no fault
 
 abbrev Good : {A : Type 0} → Option (A × List Token) → List Token → Type 0
 Good None ts = ⊤

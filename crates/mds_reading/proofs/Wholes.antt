@@ -16,13 +16,13 @@ use Rattle.mds_reading.specs.Direct.{ok_of, tree_number, whole_number}
 own : IsNumeralModel (AllDigits 10) (digits_value 10)
 own = record { to = λ ds h. h; from = λ ds h. h; same = λ ds h. refl }
 
--- at most 18 digits that begin with no zero in vain are what is written of their number
+-- at most 18 digits without a leading zero are how their number is printed
 written : (ds : List ℕ) → AllDigits 10 ds → 0 < length ds → (get_or ds 0 0 ≡ 48 → length ds ≡ 1) → length ds ≤ 18 → (ds ≡ decimal (digits_value 10 ds)) × (digits_value 10 ds < 10 ^ 18)
 written ds h some alone few =
     let below = digits_value_short own ds 18 h few in
     (sym (decimal-digits_value own ds h some alone (omega (arith, below))), below)
 
--- digits that begin with another than zero, as they are parsed
+-- digits that begin with no zero, as they are parsed
 pub size_is : {E : Type 0} (bs : List ℕ) (r : Result ℕ E) (size : ℕ) → ParsesUnsigned 64 10 bs r → r ≡ Ok size → get_or bs 0 0 ≢ 43 → get_or bs 0 0 ≢ 48 → length bs ≤ 18
     → (bs ≡ decimal size) × (size < 10 ^ 18)
 size_is bs r size h is plus zero_first few =
@@ -31,7 +31,7 @@ size_is bs r size h is plus zero_first few =
     let found = written bs fact.0.0 fact.0.1 (λ e. absurd (zero_first e)) few in
     (found.0 ∙ ap decimal (sym fact.1), subst (λ n. n < 10 ^ 18) (sym fact.1) found.1)
 
--- zero by itself
+-- a zero alone
 pub zero_is : (bs : List ℕ) → slice_index bs 0 ≡ 48 → length bs ≡ 1 → bs ≡ decimal 0
 zero_is [] first one = absurd (omega (arith, one))
 zero_is (b ∷ []) first one = ap (λ c. c ∷ []) first ∙ (written (48 ∷ []) (omega arith, tt) (omega arith) (λ e. refl) (omega arith)).0
@@ -43,13 +43,13 @@ minus_is n h = omega (arith, ints, h)
 pub plus_is : (n : ℕ) → n < 10 ^ 18 → pos n ≡ to_z w64 n
 plus_is n h = sym (to_z_pos w64 n (omega (arith, h)))
 
--- zero, or a number that is greater
+-- zero or a positive number
 pub whole_number-decimal : (n : ℕ) → n < 10 ^ 18 → whole_number (decimal n) ≡ Some (pos n)
 whole_number-decimal n h =
     ap (option_and_then (λ m. ok_of (plain_int m))) (number_of-decimal n (omega (arith, h)))
     ∙ ap (λ b. ok_of (cond b (Ok (pos n)) (Err bad_json))) (lt-ltb n (10 ^ 18) h)
 
--- a number below zero
+-- a negative number
 pub whole_number-minus : (n : ℕ) → n ≢ 0 → n < 10 ^ 18 → whole_number (45 ∷ decimal n) ≡ Some (neg_ℤ (pos n))
 whole_number-minus zero some h = absurd (some refl)
 whole_number-minus (suc n) some h =

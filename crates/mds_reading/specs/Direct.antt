@@ -1,5 +1,5 @@
--- The tree of a value of json's grammar (RFC 8259): numbers that aren't plain are texts, names stand in byte order, and
--- of equal names the last is kept.
+-- The tree of a value of json's grammar (RFC 8259): numbers that aren't plain become strings, names are in byte order,
+-- and of equal names the last is kept.
 use Rattle.std.specs.Prelude.{ℕ, ℤ, ◌+◌, List, [], ◌∷◌, if◌then◌else◌, Option, Some, None, option_map, option_and_then, Result, Ok, Err}
 use Rattle.std.specs.Ordering.{nat_cmp, match_ordering}
 use Rattle.std.specs.Cmp.Lexicographic.{slice_cmp}
@@ -19,11 +19,11 @@ ok_of (Err e) = None
 abbrev pub whole_number : List ℕ → Option ℤ
 whole_number s = option_and_then (λ n. ok_of (plain_int n)) (number_of s)
 
--- a number: a text, where it isn't plain
+-- a number; one that isn't plain becomes a string
 abbrev pub tree_number : List ℕ → Option Json
 tree_number s = if is_quoted s then Some (text s) else option_map int (whole_number s)
 
--- a member among members that ascend by name: instead of the one of its name, or at its own place
+-- a member put among members that ascend by name: in place of the one of its name, or at its own place
 abbrev pub put : List ℕ → Json → Members → Members
 put k t no_members = member k t no_members
 put k t (member l u ms) = match_ordering (slice_cmp nat_cmp k l) (member k t (member l u ms)) (member l t ms) (member l u (put k t ms))

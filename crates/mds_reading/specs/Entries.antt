@@ -1,4 +1,4 @@
--- The entries of a list, as JSON, and what refuses a list by itself.
+-- The entries of a list, as JSON, and which errors a value that is no list has.
 use Rattle.std.specs.Prelude.{List, [], ◌∷◌, map, Result, Ok, Err}
 use Rattle.mds_text.specs.Fault.{Fault, IsCaused}
 use Rattle.mds_text.specs.Tree.{Json}
@@ -7,7 +7,7 @@ use Rattle.mds_reading.specs.Node.{node_view}
 use Rattle.mds_reading.specs.declared.entries.Entries.{Entries}
 use Rattle.mds_reading.specs.declared.node.Node.{Node}
 
--- those that were made, where there are any
+-- those that were built, where there are any, else those that are borrowed
 abbrev pub made_or_lent : List Node → List Node → List Node
 made_or_lent [] lent = lent
 made_or_lent (n ∷ made) lent = n ∷ made
@@ -15,8 +15,8 @@ made_or_lent (n ∷ made) lent = n ∷ made
 abbrev pub entries_view : Entries → List Json
 entries_view e = map node_view (made_or_lent e.made.items e.lent.now)
 
--- Where a definition refuses, so does the answer, for a reason that it names: that refusal is told before any memory is
--- asked for.
+-- Where the definition refuses, an error names a reason and isn't out of memory: the value is refused before anything
+-- is allocated.
 abbrev pub IsCausedWhere : {X Y : Type 0} → Result Y Fault → Result X TextFault → Type 0
 IsCausedWhere (Ok y) result = Unit {0}
 IsCausedWhere (Err fault) result = IsCaused result

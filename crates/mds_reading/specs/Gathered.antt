@@ -1,4 +1,4 @@
--- The entries that a list begins with.
+-- The first entries of a list.
 use Rattle.std.specs.Prelude.{List, [], ◌∷◌}
 use Rattle.mds_text.specs.Tree.{Json, Items, item, int, text}
 use Rattle.mds_reading.specs.declared.gathered.Gathered.{Gathered}
@@ -15,7 +15,7 @@ gathered Empty = []
 gathered (One a) = scalar_view a ∷ []
 gathered (Two a b) = scalar_view a ∷ scalar_view b ∷ []
 
--- entries, and others behind them
+-- these entries, then those of `rest`
 abbrev pub items_before : List Json → Items → Items
 items_before [] rest = rest
 items_before (v ∷ vs) rest = item v (items_before vs rest)

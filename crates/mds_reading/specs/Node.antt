@@ -6,11 +6,11 @@ use Rattle.mds_reading.specs.declared.node.Node.{Node, Node-F, fold-Node}
 use Rattle.mds_reading.specs.declared.node.Node.TheOpen.{NodeMember-F}
 use Rattle.mds_reading.specs.declared.node.NodeMember.{NodeMember}
 
--- a list of two texts
+-- a list of two strings
 abbrev pub pair_view : Bor (List ℕ) × Bor (List ℕ) → Json
 pair_view p = list (item (text p.0.now) (item (text p.1.now) no_items))
 
--- one level, with each value inside already seen as JSON
+-- one level of a tree, whose children are JSON values already
 abbrev pub node_step : Node-F Json (List ℕ × Json) → Json
 node_step Node-F.Null = null
 node_step (Node-F.Bool b) = boolean b
@@ -25,7 +25,7 @@ node_step (Node-F.Object v) = object (members_of v.items)
 abbrev pub member_step : NodeMember-F Json (List ℕ × Json) → List ℕ × Json
 member_step m = (m.name.now, m.value)
 
--- what a `Node` stands for
+-- the JSON value of a `Node`
 abbrev pub node_view : Node → Json
 node_view = fold-Node Json (List ℕ × Json) node_step member_step
 

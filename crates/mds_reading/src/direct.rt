@@ -1,4 +1,5 @@
-//! From a text to a tree that lends from it. Of a text that is unusual nothing is said.
+//! The fast reader: from the tokens of a text to a tree that borrows from it. A text with anything
+//! unusual about it is left to the general reader of `mds_text`.
 ghost use Rattle.std.specs.Prelude.{◌≡◌, ℕ, ◌+◌, ◌<◌, ◌≤◌, false, length, IfOk, IfSome, IsNone, OnOk, Ok, Some, None, map};
 ghost use Rattle.json.specs.Json.{value, items, members, parse_map, after_end_array};
 ghost use Rattle.json.specs.Print.{IsNumber};
@@ -23,10 +24,11 @@ use json::{Reader, Scratch, Token};
 use mds_text::is_quoted;
 use std::alloc::Global;
 
-/// The most levels of a text, as many as `serde_json` reads.
+/// The most levels of nesting, as many as `serde_json` reads.
 const MAX_DEPTH: usize = 127;
 
-/// The tree of a text that isn't unusual, and how many of its numbers weren't plain.
+/// The tree of a text, and how many of its numbers aren't plain. `Unusual` says nothing about the
+/// text: it may be valid or not.
 pub(crate) fn read_direct<'a>(
     alloc: Global,
     scratch: &'a mut Scratch<Global>,
@@ -84,7 +86,7 @@ fn read<'a>(
     }
 }
 
-/// The list that a bracket began. One of two texts takes no memory.
+/// The list after its opening bracket. A list of two strings allocates nothing.
 #[cycle(read)]
 #[inline(always)]
 fn read_list<'a>(
@@ -109,7 +111,8 @@ fn read_list<'a>(
     Ok(Node::List(read_items(alloc, text, reader, quoted, depth, found)?))
 }
 
-/// A list that begins with no number or text: pairs, where all of its entries are.
+/// A list that begins with neither a number nor a string: `Pairs` where all of its entries are
+/// pairs.
 #[cycle(read)]
 #[inline(never)]
 fn read_pairs<'a>(
@@ -137,7 +140,7 @@ fn read_pairs<'a>(
     Ok(Node::Pairs(pairs))
 }
 
-/// An entry of a list of lists.
+/// An entry of such a list.
 #[cycle(read)]
 #[inline(always)]
 fn read_entry<'a>(
@@ -160,7 +163,7 @@ fn read_entry<'a>(
     Ok(read_list(alloc, text, reader, quoted, depth - 1)?)
 }
 
-/// The numbers and texts that a list begins with, two at most.
+/// The numbers and strings that a list begins with, two at most.
 #[inline(always)]
 fn read_front<'a>(
     text: &[u8],
@@ -181,7 +184,7 @@ fn read_front<'a>(
     Ok(Gathered::Two(first, second))
 }
 
-/// The number or the text that comes next, where the text shows one.
+/// The next number or string, where the text's next byte begins one.
 #[inline(always)]
 fn next_scalar<'a>(
     text: &[u8],
@@ -210,7 +213,7 @@ fn next_scalar<'a>(
     }
 }
 
-/// The entries of a list behind those that were found.
+/// The entries of a list after those that were read already.
 #[cycle(read)]
 #[inline(never)]
 fn read_items<'a>(
@@ -254,7 +257,7 @@ fn read_members<'a>(
     Ok(found)
 }
 
-/// A number: a text, which is counted, where it isn't plain.
+/// A number; one that isn't plain becomes a string, and is counted.
 #[inline(always)]
 fn read_number<'a>(text: &'a str, quoted: &mut u64) -> Result<Scalar<'a>, Stop>
     requires { IsNumber text.now }

@@ -8,7 +8,8 @@ use crate::node::Node;
 use mds_text::{Field, TextFault};
 use std::alloc::{AllocError, Global};
 
-/// The entries of a list: those that are lent, or where there are any those that were made for it.
+/// The entries of a list: those that were built for it, where there are any, else those borrowed
+/// from its node.
 #[derive(Drop)]
 pub struct Entries<'t, 'a> {
     lent: &'t [Node<'a>],
@@ -28,8 +29,8 @@ impl<'t, 'a> Entries<'t, 'a> {
     }
 }
 
-/// The entries of a list. Any other value is a bad field of this name, which asks for no memory. For a list
-/// of two texts, and for one of such lists, memory is asked for.
+/// The entries of a list. Any other value is a bad field of this name, without an allocation. A
+/// list of two strings and a list of such lists have their entries allocated.
 pub fn entries_of<'t, 'a>(
     alloc: Global,
     value: &'t Node<'a>,
@@ -55,7 +56,7 @@ pub fn entries_of<'t, 'a>(
     }
 }
 
-/// Pairs, each a node of its own.
+/// Pairs, each as a node of its own.
 pub(crate) fn nodes_of<'a>(
     alloc: Global,
     pairs: &[(&'a str, &'a str)],

@@ -1,6 +1,6 @@
-//! The members of a document by their general readings. Each takes a document and a member's name.
-//! Absent and null members are `None`; a document that is no object, and a member of another kind,
-//! is a bad field of that name.
+//! The members of a document, each read as one kind of value. Each function takes a document and
+//! the name of a member. An absent member and one that is null are `None`; a document that is no
+//! object and a member of another kind are a bad field of that name.
 ghost use Rattle.std.specs.Prelude.{◌≡◌, option_map, map};
 ghost use Rattle.mds_text.specs.Fault.{Gives, IsCaused, text_cause};
 ghost use Rattle.mds_text.specs.Fields.{find_member, member_at, optional_at, required_at, required_member, object_of, document_of};
@@ -17,7 +17,7 @@ use std::alloc::Global;
 /// The greatest bound of a rule.
 const MOST_BOUND: i64 = 1_000_000_000;
 
-/// A document: an object. Anything else is the bad field `document`.
+/// A document, which must be an object. Anything else is the bad field `document`.
 pub fn document_of<'t, 'a>(tree: &'t Node<'a>) -> Result<&'t Node<'a>, TextFault>
     ensures value { Gives text_cause (λ t. node_view t.now) result (document_of (node_view tree.now)) }
     ensures memory { IsCaused result }
@@ -25,7 +25,7 @@ pub fn document_of<'t, 'a>(tree: &'t Node<'a>) -> Result<&'t Node<'a>, TextFault
     object_of(tree, Field::Document)
 }
 
-/// The value, which has to be an object. Anything else is a bad field of this name.
+/// The value, which must be an object. Anything else is a bad field of this name.
 pub fn object_of<'t, 'a>(tree: &'t Node<'a>, field: Field) -> Result<&'t Node<'a>, TextFault>
     ensures value { Gives text_cause (λ t. node_view t.now) result (object_of field (node_view tree.now)) }
     ensures memory { IsCaused result }
@@ -36,7 +36,7 @@ pub fn object_of<'t, 'a>(tree: &'t Node<'a>, field: Field) -> Result<&'t Node<'a
     }
 }
 
-/// The member of this name, if it is there and isn't null.
+/// The member of this name, where it is present and isn't null.
 pub fn member_at<'t, 'a>(
     document: &'t Node<'a>,
     field: Field,
@@ -64,7 +64,7 @@ fn find_member<'t, 'a>(members: &'t [NodeMember<'a>], name: &str) -> Option<&'t 
     None
 }
 
-/// A text.
+/// A string. Any other value is a bad field of this name.
 pub fn text_of<'a>(value: &Node<'a>, field: Field) -> Result<&'a str, TextFault>
     ensures value { Gives text_cause (λ s. s.now) result (text_of field (node_view value.now)) }
     ensures memory { IsCaused result }
@@ -75,7 +75,7 @@ pub fn text_of<'a>(value: &Node<'a>, field: Field) -> Result<&'a str, TextFault>
     }
 }
 
-/// A truth value.
+/// A boolean.
 fn bool_of(value: &Node<'_>, field: Field) -> Result<bool, TextFault>
     ensures value { Gives text_cause (λ b. b) result (bool_of field (node_view value.now)) }
     ensures memory { IsCaused result }
@@ -86,7 +86,7 @@ fn bool_of(value: &Node<'_>, field: Field) -> Result<bool, TextFault>
     }
 }
 
-/// An identifier (RFC 9562, section 4).
+/// An identifier: a UUID in any of its spellings (RFC 9562, section 4).
 fn id_of(value: &Node<'_>, field: Field) -> Result<Id, TextFault>
     ensures value { Gives text_cause (λ id. id) result (id_of field (node_view value.now)) }
     ensures memory { IsCaused result }
@@ -95,7 +95,7 @@ fn id_of(value: &Node<'_>, field: Field) -> Result<Id, TextFault>
     Id::read(text).ok_or(TextFault::BadField(field))
 }
 
-/// A word of the vocabulary.
+/// A token: a word of the vocabulary.
 fn token_of(value: &Node<'_>, field: Field) -> Result<Token, TextFault>
     ensures value { Gives text_cause (λ token. token) result (token_of field (node_view value.now)) }
     ensures memory { IsCaused result }
@@ -151,7 +151,7 @@ fn ids_of(alloc: Global, value: &Node<'_>, field: Field) -> Result<Vec<Id>, Text
     Ok(found)
 }
 
-/// A list of words of the vocabulary, read in order up to the first fault.
+/// A list of tokens, read in order up to the first fault.
 pub fn tokens_of(alloc: Global, value: &Node<'_>, field: Field) -> Result<Vec<Token>, TextFault>
     ensures value { Gives text_cause (λ v. v.items) result (list_each token_of field (node_view value.now)) }
     ensures memory { IsCausedWhere (list_of field (node_view value.now)) result }
@@ -165,7 +165,7 @@ pub fn tokens_of(alloc: Global, value: &Node<'_>, field: Field) -> Result<Vec<To
     Ok(found)
 }
 
-/// An optional text.
+/// An optional string.
 pub fn text_at<'a>(document: &Node<'a>, field: Field) -> Result<Option<&'a str>, TextFault>
     ensures value { Gives text_cause (option_map (λ s. s.now)) result (optional_at text_of (node_view document.now) field) }
     ensures memory { IsCaused result }
@@ -176,7 +176,7 @@ pub fn text_at<'a>(document: &Node<'a>, field: Field) -> Result<Option<&'a str>,
     }
 }
 
-/// An optional truth value.
+/// An optional boolean.
 pub fn bool_at(document: &Node<'_>, field: Field) -> Result<Option<bool>, TextFault>
     ensures value { Gives text_cause (option_map (λ b. b)) result (optional_at bool_of (node_view document.now) field) }
     ensures memory { IsCaused result }
@@ -198,7 +198,7 @@ pub fn id_at(document: &Node<'_>, field: Field) -> Result<Option<Id>, TextFault>
     }
 }
 
-/// An optional word of the vocabulary.
+/// An optional token.
 pub fn token_at(document: &Node<'_>, field: Field) -> Result<Option<Token>, TextFault>
     ensures value { Gives text_cause (option_map (λ token. token)) result (optional_at token_of (node_view document.now) field) }
     ensures memory { IsCaused result }
@@ -220,7 +220,7 @@ pub fn moment_at(document: &Node<'_>, field: Field) -> Result<Option<Moment>, Te
     }
 }
 
-/// An optional bound.
+/// An optional bound of a rule.
 pub fn bound_at(document: &Node<'_>, field: Field) -> Result<Option<u64>, TextFault>
     ensures value { Gives text_cause (option_map (λ bound. bound)) result (optional_at bound_of (node_view document.now) field) }
     ensures memory { IsCaused result }
@@ -261,7 +261,7 @@ pub fn ids_at(
     }
 }
 
-/// An optional list of words of the vocabulary.
+/// An optional list of tokens.
 pub fn tokens_at(
     alloc: Global,
     document: &Node<'_>,
@@ -276,7 +276,7 @@ pub fn tokens_at(
     }
 }
 
-/// A text that has to be there.
+/// A required string.
 pub fn required_text<'a>(document: &Node<'a>, field: Field) -> Result<&'a str, TextFault>
     ensures value { Gives text_cause (λ s. s.now) result (required_at text_of (node_view document.now) field) }
     ensures memory { IsCaused result }
@@ -284,7 +284,7 @@ pub fn required_text<'a>(document: &Node<'a>, field: Field) -> Result<&'a str, T
     text_at(document, field)?.ok_or(TextFault::BadField(field))
 }
 
-/// An identifier that has to be there.
+/// A required identifier.
 pub fn required_id(document: &Node<'_>, field: Field) -> Result<Id, TextFault>
     ensures value { Gives text_cause (λ id. id) result (required_at id_of (node_view document.now) field) }
     ensures memory { IsCaused result }
@@ -292,7 +292,7 @@ pub fn required_id(document: &Node<'_>, field: Field) -> Result<Id, TextFault>
     id_at(document, field)?.ok_or(TextFault::BadField(field))
 }
 
-/// A word of the vocabulary that has to be there.
+/// A required token.
 pub fn required_token(document: &Node<'_>, field: Field) -> Result<Token, TextFault>
     ensures value { Gives text_cause (λ token. token) result (required_at token_of (node_view document.now) field) }
     ensures memory { IsCaused result }
@@ -300,7 +300,7 @@ pub fn required_token(document: &Node<'_>, field: Field) -> Result<Token, TextFa
     token_at(document, field)?.ok_or(TextFault::BadField(field))
 }
 
-/// A moment that has to be there.
+/// A required moment.
 pub fn required_moment(document: &Node<'_>, field: Field) -> Result<Moment, TextFault>
     ensures value { Gives text_cause (λ moment. moment) result (required_at moment_of (node_view document.now) field) }
     ensures memory { IsCaused result }
@@ -308,7 +308,7 @@ pub fn required_moment(document: &Node<'_>, field: Field) -> Result<Moment, Text
     moment_at(document, field)?.ok_or(TextFault::BadField(field))
 }
 
-/// A list that has to be there.
+/// A required list.
 pub fn required_list<'t, 'a>(
     alloc: Global,
     document: &'t Node<'a>,
@@ -320,7 +320,7 @@ pub fn required_list<'t, 'a>(
     list_at(alloc, document, field)?.ok_or(TextFault::BadField(field))
 }
 
-/// A list of identifiers that has to be there.
+/// A required list of identifiers.
 pub fn required_ids(alloc: Global, document: &Node<'_>, field: Field) -> Result<Vec<Id>, TextFault>
     ensures value { Gives text_cause (λ v. v.items) result (required_at (list_each id_of) (node_view document.now) field) }
     ensures memory { IsCausedWhere (required_at list_of (node_view document.now) field) result }
@@ -328,7 +328,7 @@ pub fn required_ids(alloc: Global, document: &Node<'_>, field: Field) -> Result<
     ids_at(alloc, document, field)?.ok_or(TextFault::BadField(field))
 }
 
-/// A member that has to be there, and isn't null.
+/// A required member, of whatever kind; null counts as absent.
 pub fn required_member<'t, 'a>(
     document: &'t Node<'a>,
     field: Field,

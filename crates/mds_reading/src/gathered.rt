@@ -1,4 +1,5 @@
-//! What a list begins with, while it is read: a list of two texts takes no memory of its own.
+//! The first entries of a list while it is read: a list of two strings needs no allocation of its
+//! own.
 ghost use Rattle.std.specs.Prelude.{◌≡◌, IfOk, map};
 ghost use Rattle.mds_text.specs.Tree.{list, items_of};
 ghost use Rattle.mds_reading.specs.Node.{node_view};
@@ -7,7 +8,7 @@ ghost use Rattle.mds_reading.specs.Gathered.{gathered, scalar_view};
 use crate::node::Node;
 use std::alloc::{AllocError, Global};
 
-/// A plain whole number, or a text: that of a string, or of a number that isn't plain.
+/// A plain whole number or a string. A number that isn't plain is the string of its digits.
 #[derive(Clone, Copy)]
 pub(crate) enum Scalar<'a> {
     Int(i64),
@@ -15,7 +16,7 @@ pub(crate) enum Scalar<'a> {
 }
 
 impl<'a> Scalar<'a> {
-    /// The node of the number or the text.
+    /// The node of the number or the string.
     #[inline(always)]
     pub(crate) fn node(self) -> Node<'a>
         ensures { node_view result ≡ scalar_view self.entry }
@@ -27,7 +28,7 @@ impl<'a> Scalar<'a> {
     }
 }
 
-/// The numbers and texts that a list begins with, two at most.
+/// The numbers and strings that a list begins with, two at most.
 #[derive(Clone, Copy)]
 pub(crate) enum Gathered<'a> {
     Empty,
@@ -36,7 +37,7 @@ pub(crate) enum Gathered<'a> {
 }
 
 impl<'a> Gathered<'a> {
-    /// The list of these entries. One of two texts takes no memory.
+    /// The list of these entries. A list of two strings allocates nothing.
     #[inline(always)]
     pub(crate) fn list(self, alloc: Global) -> Result<Node<'a>, AllocError>
         ensures { IfOk result (λ node. node_view node ≡ list (items_of (gathered self.entry))) }
@@ -49,7 +50,7 @@ impl<'a> Gathered<'a> {
         }
     }
 
-    /// The entries in memory of their own.
+    /// The entries in a vector of their own.
     #[inline(never)]
     pub(crate) fn entries(self, alloc: Global) -> Result<Vec<Node<'a>>, AllocError>
         ensures { IfOk result (λ entries. map node_view entries.items ≡ gathered self.entry) }

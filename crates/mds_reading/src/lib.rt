@@ -1,4 +1,5 @@
-//! Texts read straight from their tokens, where nothing about them is unusual.
+//! JSON documents and their members, read straight from their tokens; an unusual text is read by
+//! way of a tree.
 #![tactic(auto)]
 
 mod direct;

@@ -1,4 +1,4 @@
-//! Members of an object, kept in the byte order of their names.
+//! Members of an object, in the byte order of their names.
 ghost use Rattle.std.specs.Prelude.{◌≡◌, ◌≤◌, IfSome, OnOk, insert, length, map};
 ghost use Rattle.mds_text.specs.Tree.{Json, members_of};
 ghost use Rattle.mds_reading.specs.Direct.{put};
@@ -8,10 +8,11 @@ use crate::node::{Node, NodeMember};
 use crate::stop::Stop;
 use std::cmp::Ordering;
 
-/// The most members of an object that are searched one after another for the place of the next.
+/// The most members among which the place of the next one is searched for linearly.
 const MOST_MEMBERS: usize = 64;
 
-/// Puts a member among others. Where one has its name, or there are very many, the object is unusual.
+/// Inserts a member. A name that is there already, and more than `MOST_MEMBERS` members, make the
+/// object unusual.
 pub(crate) fn put_member<'a>(
     members: &mut Vec<NodeMember<'a>>,
     name: &'a str,
@@ -32,7 +33,7 @@ pub(crate) fn put_member<'a>(
     }
 }
 
-/// Where a member of this name belongs; `None` where one has the name.
+/// The index at which a member of this name belongs; `None` where the name is taken.
 fn place_of(members: &[NodeMember<'_>], name: &str) -> Option<usize>
     ensures within { IfSome result (λ place. place ≤ length members.now) }
     ensures value { IfSome result (λ place. (value : Json) → put name.now value (members_of (map node_member_view members.now))

@@ -1,7 +1,7 @@
 use mds_text::Units7;
 
-/// A JSON text (RFC 8259) as a tree that lends its strings and its numbers that aren't plain: these are
-/// texts. `Degrees` stands in none that was read.
+/// A JSON value (RFC 8259) as a tree that borrows its strings from the text. Numbers that aren't
+/// plain are strings. `Degrees` occurs in no tree that was read.
 #[derive(Drop)]
 #[cycle(node)]
 pub enum Node<'a> {
@@ -10,7 +10,7 @@ pub enum Node<'a> {
     Int(i64),
     Text(&'a str),
     Degrees(Units7),
-    /// A list of two texts, such as the longitude and latitude of a position.
+    /// A list of two strings, such as the longitude and latitude of a position.
     Pair(&'a str, &'a str),
     /// A list of such pairs, such as the positions of a ring.
     Pairs(Vec<(&'a str, &'a str)>),

@@ -1,4 +1,4 @@
-//! Trees of their own from lent ones, and the other way round.
+//! Owned trees from borrowed ones, and the other way round.
 ghost use Rattle.std.specs.Prelude.{◌≡◌, IfOk, map};
 ghost use Rattle.mds_text.specs.Tree.{list, item, text, no_items};
 ghost use Rattle.mds_text.specs.View.{view, member_view};
@@ -8,7 +8,7 @@ use crate::node::{Node, NodeMember};
 use mds_text::{Member, Tree};
 use std::alloc::{AllocError, Global};
 
-/// A tree of its own.
+/// An owned copy of a tree.
 #[cycle(own)]
 pub(crate) fn own(alloc: Global, node: &Node<'_>) -> Result<Tree, AllocError>
     ensures { IfOk result (λ t. view t ≡ node_view node.now) }
@@ -26,7 +26,7 @@ pub(crate) fn own(alloc: Global, node: &Node<'_>) -> Result<Tree, AllocError>
     }
 }
 
-/// A list of two texts.
+/// A list of two strings.
 fn own_pair(alloc: Global, first: &str, second: &str) -> Result<Tree, AllocError>
     ensures { IfOk result (λ t. view t ≡ list (item (text first.now) (item (text second.now) no_items))) }
 {
@@ -69,7 +69,7 @@ fn own_members(alloc: Global, members: &[NodeMember<'_>]) -> Result<Vec<Member>,
     Ok(owned)
 }
 
-/// The tree, lent.
+/// A tree that borrows from an owned one.
 #[cycle(lend)]
 pub(crate) fn lend<'a>(alloc: Global, tree: &'a Tree) -> Result<Node<'a>, AllocError>
     ensures { IfOk result (λ n. node_view n ≡ view tree.now) }

@@ -1,9 +1,9 @@
-//! What numbers and texts look like.
+//! A quick test for numbers that aren't plain.
 ghost use Rattle.std.specs.Prelude.{◌≡◌, true, IsTrue};
 ghost use Rattle.json.specs.Print.{IsNumber};
 ghost use Rattle.mds_text.specs.Quoting.{is_quoted};
 
-/// Whether a point is one of the second to fifth bytes of a number, which isn't plain then.
+/// Whether one of the second to fifth bytes of a number is a decimal point, so that it isn't plain.
 #[inline(always)]
 pub(crate) fn has_point(number: &[u8]) -> bool
     requires { IsNumber number.now }
@@ -12,7 +12,7 @@ pub(crate) fn has_point(number: &[u8]) -> bool
     is_point(number, 2) || is_point(number, 3) || is_point(number, 1) || is_point(number, 4)
 }
 
-/// Whether a point stands at this place of a number, which isn't plain then.
+/// Whether the byte at this place of a number is a decimal point, so that it isn't plain.
 #[inline(always)]
 fn is_point(number: &[u8], place: usize) -> bool
     requires { IsNumber number.now }

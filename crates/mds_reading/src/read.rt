@@ -1,4 +1,4 @@
-//! From a text to its tree.
+//! Reads a JSON text into an owned tree.
 ghost use Rattle.std.specs.Prelude.{◌≡◌, IfOk};
 ghost use Rattle.mds_text.specs.Fault.{Gives, text_cause};
 ghost use Rattle.mds_text.specs.Quoting.{quoted_count};
@@ -12,8 +12,9 @@ use json::Scratch;
 use mds_text::{TextFault, Tree};
 use std::alloc::Global;
 
-/// Reads a JSON text (RFC 8259) of at most 127 levels. Numbers that aren't plain are read as texts. Of
-/// equal names in one object the last is kept. `BadJson` where the text is no such text or no UTF-8.
+/// Reads a JSON text (RFC 8259) of at most 127 levels. Numbers that aren't plain become strings; of
+/// equal names in one object the last is kept. `BadJson` where the text is not such a text, or not
+/// UTF-8.
 pub fn read_tree(alloc: Global, bytes: &[u8]) -> Result<Tree, TextFault>
     ensures { Gives text_cause view result (read_text bytes.now) }
 {
@@ -21,7 +22,7 @@ pub fn read_tree(alloc: Global, bytes: &[u8]) -> Result<Tree, TextFault>
     Ok(tree)
 }
 
-/// Reads a text as `read_tree` does, and says how many of its numbers weren't plain.
+/// Reads a text as `read_tree` does, and counts its numbers that aren't plain.
 pub fn read_counted(alloc: Global, bytes: &[u8]) -> Result<(Tree, u64), TextFault>
     ensures tree { Gives text_cause (λ r. view r.0) result (read_text bytes.now) }
     ensures quoted { IfOk result (λ r. r.1 ≡ quoted_count bytes.now) }

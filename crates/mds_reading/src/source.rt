@@ -12,8 +12,8 @@ use json::Scratch;
 use mds_text::{TextFault, Tree};
 use std::alloc::{AllocError, Global};
 
-/// What the nodes of a text lend from beside the text: its strings with escapes, and the tree of a text
-/// that is unusual.
+/// What the nodes of a text borrow from besides the text itself: the buffer for strings with
+/// escapes, and the owned tree of an unusual text.
 #[derive(Drop)]
 pub struct Source {
     scratch: Scratch<Global>,
@@ -21,7 +21,7 @@ pub struct Source {
 }
 
 impl Source {
-    /// A source of no text. It takes no memory.
+    /// A source of no text yet. Allocates nothing.
     pub fn new(alloc: Global) -> Source {
         Source {
             scratch: Scratch::new(alloc),
@@ -29,11 +29,12 @@ impl Source {
         }
     }
 
-    /// Reads a JSON text (RFC 8259) of at most 127 levels, as `read_tree` does, into a tree that lends.
+    /// Reads a JSON text (RFC 8259) of at most 127 levels, as `read_tree` does, into a tree that
+    /// borrows.
     ///
     /// # Errors
     ///
-    /// `BadJson` where the text is no such text or no UTF-8, or want of memory.
+    /// `BadJson` where the text is not such a text, or not UTF-8; or out of memory.
     pub fn read<'a>(&'a mut self, alloc: Global, bytes: &'a [u8]) -> Result<Node<'a>, TextFault>
         ensures { Gives text_cause (λ n. node_view n) result (read_text bytes.now) }
     {
@@ -41,11 +42,11 @@ impl Source {
         Ok(node)
     }
 
-    /// Reads a text as `read` does, and says how many of its numbers weren't plain.
+    /// Reads a text as `read` does, and counts its numbers that aren't plain.
     ///
     /// # Errors
     ///
-    /// As those of `read`.
+    /// Those of `read`.
     pub fn read_counted<'a>(
         &'a mut self,
         alloc: Global,
@@ -59,7 +60,8 @@ impl Source {
     }
 }
 
-/// Reads a text over a scratch, into a tree that lends from the text, the scratch and, where the text is unusual, `tree`.
+/// Reads a text into a tree that borrows from the text, the scratch and, where the text is unusual,
+/// from `tree`.
 fn read_over<'a>(
     alloc: Global,
     scratch: &'a mut Scratch<Global>,
@@ -80,26 +82,27 @@ fn read_over<'a>(
     }
 }
 
-/// What is kept from text to text, so that a short text is read without making an index of 16 KiB anew.
+/// A scratch buffer for many texts, so that a short text needs no new index of 16 KiB.
 #[derive(Drop)]
 pub struct KeptScratch {
     scratch: Option<Box<Scratch<Global>>>,
 }
 
 impl KeptScratch {
-    /// The most bytes of a text that is read by what is kept: a longer one would leave as much behind.
+    /// The most bytes of a text for which the buffer should be reused: a longer one would leave as
+    /// much allocated.
     pub const MOST_BYTES: usize = 4_096;
 
-    /// Nothing kept yet. Takes no memory.
+    /// Without a buffer yet. Allocates nothing.
     pub fn new() -> KeptScratch {
         KeptScratch { scratch: None }
     }
 
-    /// The scratch, made by the first call.
+    /// The buffer, allocated by the first call.
     ///
     /// # Errors
     ///
-    /// Memory ran out.
+    /// Out of memory.
     fn scratch(&mut self, alloc: Global) -> Result<&mut Scratch<Global>, AllocError> {
         if self.scratch.is_none() {
             self.scratch = Some(Box::new(alloc, Scratch::new(alloc))?);
@@ -110,12 +113,12 @@ impl KeptScratch {
         }
     }
 
-    /// Reads a text as `Source::read_counted` does, into a tree that lends from what is kept, and from `tree` where the text is
-    /// unusual.
+    /// Reads a text as `Source::read_counted` does, into a tree that borrows from the buffer and,
+    /// where the text is unusual, from `tree`.
     ///
     /// # Errors
     ///
-    /// As those of `Source::read`.
+    /// Those of `Source::read`.
     pub fn read_counted<'a>(
         &'a mut self,
         alloc: Global,

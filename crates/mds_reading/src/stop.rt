@@ -4,9 +4,9 @@ use std::alloc::{AllocError, AllocFailed};
 /// Why a text isn't read straight from its tokens.
 #[derive(Clone, Copy, Drop)]
 pub(crate) enum Stop {
-    /// The text is unusual, or no JSON.
+    /// The text is unusual, or not JSON.
     Unusual,
-    /// Memory ran out.
+    /// Out of memory.
     NoMemory,
 }
 

@@ -1,4 +1,4 @@
-//! Plain whole numbers, read from their digits.
+//! Parses plain whole numbers.
 ghost use Rattle.std.specs.Prelude.{◌≡◌, ◌<◌, ◌^◌, ◌∷◌, Some, IfSome, slice_index};
 ghost use Rattle.std.specs.Fmt.{decimal};
 ghost use Rattle.mds_reading.specs.Direct.{whole_number};
@@ -6,8 +6,9 @@ ghost use Rattle.mds_reading.specs.Direct.{whole_number};
 /// The most digits of a plain whole number.
 const MOST_DIGITS: usize = 18;
 
-/// The number that a text of 1 to 18 digits is, with a minus perhaps. `None` for any other text, also
-/// for one whose digits begin with a zero that doesn't stand alone, and for a zero behind a minus.
+/// The number that a text of 1 to 18 digits, after an optional minus, is. `None` for any other
+/// text, also for digits that begin with a zero that doesn't stand alone, and for a zero after a
+/// minus.
 pub(crate) fn whole_number(text: &[u8]) -> Option<i64>
     ensures { IfSome result (λ z. whole_number text.now ≡ Some z) }
 {
@@ -17,7 +18,7 @@ pub(crate) fn whole_number(text: &[u8]) -> Option<i64>
     }
 }
 
-/// The number below zero of these digits.
+/// The negative number of these digits.
 fn negative(digits: &[u8]) -> Option<i64>
     ensures { IfSome result (λ z. whole_number (45 ∷ digits.now) ≡ Some z) }
 {
@@ -28,7 +29,7 @@ fn negative(digits: &[u8]) -> Option<i64>
     Some(-(size as i64))
 }
 
-/// The number that these digits write.
+/// The number of these digits.
 fn size_of(digits: &[u8]) -> Option<u64>
     ensures written { IfSome result (λ n. digits.now ≡ decimal n) }
     ensures below { IfSome result (λ n. n < 10 ^ 18) }
@@ -49,7 +50,7 @@ fn size_of(digits: &[u8]) -> Option<u64>
     }
 }
 
-/// Zero, where the digit that begins them stands alone.
+/// Zero, where its digit stands alone.
 fn zero_of(digits: &[u8]) -> Option<u64>
     requires { slice_index digits.now 0 ≡ 48 }
     ensures written { IfSome result (λ n. digits.now ≡ decimal n) }

@@ -1,4 +1,4 @@
--- Which endings are told.
+-- How the ending of a file is decided.
 use Rattle.std.proofs.Common.{◌≡◌, ℕ, ◌<◌, ◌≤◌, Bool, true, false, cond, List, [], ◌∷◌, length, Option, Some, None, refl, arith}
 use Rattle.std.specs.Prelude.{nat_lt, ◌==◌}
 use Rattle.mds_records.specs.Marks.{furthest_said, first_moved}
@@ -7,7 +7,7 @@ use Rattle.mds_records.specs.declared.ending.Ending.{Ending}
 use Rattle.mds_records.specs.Openings.{refusal_of}
 use Rattle.mds_records.specs.declared.ending.Ending.TheVariants.{Whole, Torn, Unexplained, Foreign, Moved, Damaged}
 
--- behind whole records it is told by the marks
+-- after whole records the marks decide
 pub told_by_marks : (whole : ℕ) (behind : List ℕ) → 0 < whole → 0 < length behind → ending_of whole behind ≡ ending_by whole behind (furthest_said behind) (first_moved whole behind)
 told_by_marks whole [] w l = absurd (omega (arith, l))
 told_by_marks whole (byte ∷ bytes) w l =

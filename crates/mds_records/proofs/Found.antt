@@ -1,4 +1,4 @@
--- One record more.
+-- Lists of found records, with one more pushed.
 use Rattle.std.proofs.Common.{◌≡◌, ℕ, ◌+◌, List, [], ◌∷◌, ◌++◌, length, map, refl, sym, ap, ◌∙◌, append_assoc, arith}
 use Rattle.std.proofs.lemmas.List.{map_push}
 use Rattle.mds_records.specs.Sum.{sum_over, sums_over}
@@ -18,6 +18,6 @@ offsets_more start (first ∷ texts) text =
     ap (λ (ns : List ℕ). (start + 12) ∷ ns) (offsets_more (start + 12 + length first) texts text
     ∙ ap (λ (n : ℕ). offsets_from (start + 12 + length first) texts ++ n ∷ []) (omega arith))
 
--- what is kept of each, where one more was pushed
+-- the projection of each record, where one more was pushed
 pub mapped_more : {V W : Type 0} (of : V → W) (old new : List V) (v : V) → new ≡ old ++ v ∷ [] → map of new ≡ map of old ++ of v ∷ []
 mapped_more of old new v pushed = ap (map of) pushed ∙ map_push of old v

@@ -1,4 +1,4 @@
--- What is read of a file to which records were added, and of one that was cut behind its whole records.
+-- What is read from a file to which records were appended, and from one that was cut after its whole records.
 use Rattle.std.proofs.Common.{◌≡◌, ℕ, ◌+◌, ◌-◌, List, [], ◌∷◌, ◌++◌, length, take, refl, sym, ap, subst, ◌∙◌, append_assoc, arith}
 use Rattle.std.specs.List.{AllByRecursion}
 use Rattle.std.proofs.lemmas.List.{length-append, append-nil}
@@ -21,7 +21,7 @@ empty : (bytes : List ℕ) → length bytes ≡ 0 → bytes ≡ []
 empty [] e = refl
 empty (byte ∷ bytes) e = absurd (omega (arith, e))
 
--- what was added behind the whole records is read behind them
+-- what was appended after the whole records is read after them
 pub reads_more : (before : ℕ) (bytes : List ℕ) (texts more : List (List ℕ)) → Reads before bytes texts → length bytes ≡ extent texts → AllByRecursion Fits more
     → Reads before (bytes ++ written (sums_over before texts) more) (texts ++ more)
 reads_more before bytes [] more r ends fits =

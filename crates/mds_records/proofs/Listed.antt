@@ -1,4 +1,4 @@
--- What a log may be of, where a group is added.
+-- The lists that a log may hold, where a group is appended.
 use Rattle.std.proofs.Common.{◌≡◌, ℕ, ◌+◌, Bool, true, false, List, [], ◌∷◌, ◌++◌, length, take, refl, sym, ap, subst, ◌∙◌, arith}
 use Rattle.std.specs.Prelude.{◌&&◌, nat_lt, nat_le}
 use Rattle.std.specs.List.{AllByRecursion, filter, list_all}
@@ -52,7 +52,7 @@ group_listed position synced texts e = rw (mark_unlisted (position + 12) synced)
 group_fits : (position synced : ℕ) (texts : List (List ℕ)) → are_taken texts ≡ true → AllByRecursion Fits (group_of position synced texts)
 group_fits position synced texts e = (mark_fits (position + 12) synced, fit texts e)
 
--- behind a group that was written the log may be of the list with its texts
+-- after a group was written, the log may hold the list with its payloads
 pub may_be_more : {before after : List ℕ → Type 0} (is_broken : Bool) (position sum count synced : ℕ) (list texts : List (List ℕ)) (bytes : List ℕ) (size sum-after more : ℕ)
     → MayBeOf before is_broken position sum count list → is_broken ≡ false → are_taken texts ≡ true
     → bytes ≡ written sum (group_of position synced texts) → size ≡ length bytes → sum-after ≡ sums_over sum (group_of position synced texts) → more ≡ length texts
@@ -77,7 +77,7 @@ may_be_more is_broken position sum count synced list texts bytes size sum-after 
       );
     }
 
--- the same list, of a medium that holds what it held
+-- the same list, with storage that holds what it held
 pub may_be_still : {before after : List ℕ → Type 0} (is_broken : Bool) (position sum count : ℕ) (list : List (List ℕ))
     → MayBeOf before is_broken position sum count list → ((bytes : List ℕ) → before bytes → after bytes) → MayBeOf after is_broken position sum count list
 may_be_still is_broken position sum count list may still =
@@ -97,7 +97,7 @@ pub may_be_read : {holds : List ℕ → Type 0} (is_broken : Bool) (position sum
 may_be_read is_broken position sum count bytes texts held r whole ends summed counted =
     record { texts = texts; are_listed = refl; summed = summed; ends = ends; counted = counted; held = λ _. (bytes, held, r, whole) }
 
--- what stands in front is the log's, once the rest is cut
+-- the payloads at the start are the log's, once the rest is cut
 pub may_be_cut : {holds : List ℕ → Type 0} (is_broken : Bool) (position sum count : ℕ) (bytes : List ℕ) (texts : List (List ℕ))
     → holds (take (extent texts) bytes) → Reads 0 bytes texts → position ≡ extent texts → sum ≡ sums_over 0 texts → count ≡ length (listed texts)
     → MayBeOf holds is_broken position sum count (listed texts)

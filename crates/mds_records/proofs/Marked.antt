@@ -29,7 +29,7 @@ claim_again position synced p s =
     let same : (sum_over 0 (mark_head position synced) == sum_over 0 (mark_head position synced)) ≡ true = grind arith in
     rw same (ap (λ (n : ℕ). Some (n, from_be_bytes w64 (to_be_bytes w64 synced))) (from_be_bytes-to_be_bytes_8 position p) ∙ ap (λ (n : ℕ). Some (position, n)) (from_be_bytes-to_be_bytes_8 synced s))
 
--- a mark, of its head and its sum
+-- a mark, from its head and its checksum
 claim_of : (head sum rest : List ℕ) → length head ≡ 24 → length sum ≡ 8 → claim_at (head ++ (sum ++ rest)) ≡ claim_by head (from_be_bytes w64 sum)
 unfolding claim_at
 claim_of head sum rest long eight =
@@ -49,7 +49,7 @@ nothing_claimed : claim_at [] ≡ None
 unfolding claim_at
 nothing_claimed = refl
 
--- how far something says is known
+-- a position is given, and it is at least this
 abbrev pub IsAtLeast : ℕ → Option ℕ → Type 0
 IsAtLeast said o = (most : ℕ) × (o ≡ Some most) × (said ≤ most)
 
@@ -70,7 +70,7 @@ there_at_least said (Some one) (Some most) a =
     let same : most ≡ a.0 = some_same most a.0 a.1 in
     (max one most, refl, omega (arith, a.2, same, le-max_right one most))
 
--- what a mark says anywhere among the bytes is no more than the furthest
+-- what a mark anywhere among the bytes says is no more than the furthest
 pub said_within : (own said : ℕ) (front rest : List ℕ) → claim_at rest ≡ Some (own, said) → IsAtLeast said (furthest_said (front ++ rest))
 said_within own said [] [] e = let none = nothing_claimed in absurd cc
 said_within own said [] (byte ∷ rest) e =
@@ -92,7 +92,7 @@ found_here false place o e = absurd cc
 elsewhere : (own position : ℕ) → own ≢ position → not (own == position) ≡ true
 elsewhere own position ne = grind (arith, ne)
 
--- a mark that was written for another place is found, or one before it
+-- a mark that was written for another position is found, or one before it
 pub moved_found : (position own said : ℕ) (front rest : List ℕ) → claim_at rest ≡ Some (own, said) → own ≢ position + length front
     → IsFound (first_moved position (front ++ rest))
 moved_found position own said [] [] e ne = let none = nothing_claimed in absurd cc
@@ -140,7 +140,7 @@ passed_over : (b : Bool) (place : ℕ) (o : Option ℕ) → b ≡ false → o �
 passed_over true place o e f = absurd cc
 passed_over false place o e f = f
 
--- where each stands in its place, none was moved
+-- where each stands at its position, none was moved
 pub none_moved : (most position : ℕ) (bytes : List ℕ) → SayAtMost most position bytes → first_moved position bytes ≡ None
 none_moved most position [] each = refl
 none_moved most position (byte ∷ bytes) each =

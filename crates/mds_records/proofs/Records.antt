@@ -1,4 +1,4 @@
--- What is read of what was written.
+-- Written records are read.
 use Rattle.std.proofs.Common.{◌≡◌, ℕ, ◌+◌, ◌-◌, ◌%◌, ◌^◌, ◌<◌, ◌≤◌, Bool, true, false, cond, ltb, List, [], ◌∷◌, ◌++◌, length, take, drop, replicate, Option, Some, None, refl, sym, ap, ◌∙◌, append_assoc, arith, inl, inr}
 use Rattle.std.specs.Prelude.{◌&&◌, nat_lt, nat_le, ◌==◌}
 use Rattle.std.specs.Int.{w32, w64, from_be_bytes, to_be_bytes}
@@ -53,7 +53,7 @@ text_extent before size claimed bytes text behind e =
     let within : size ≤ length bytes = grind (arith, b.2) in
     rw (← text-is, ← behind-is) (omega (arith, length-take size bytes, filled, within), omega (arith, length-take size bytes, length-drop size bytes, within))
 
--- a text that is read stands in front, and is read whatever stands behind it
+-- a payload that is read stands at the start, and is read whatever stands after it
 text_front : (before size claimed : ℕ) (bytes text behind : List ℕ) → text_at before size claimed bytes ≡ Some (text, behind)
     → (bytes ≡ text ++ behind) × ((other : List ℕ) → text_at before size claimed (text ++ other) ≡ Some (text, other))
 unfolding text_at
@@ -71,7 +71,7 @@ text_front before size claimed bytes text behind e =
           rw (take_at text other size long, drop_at text other size long, b.0, b.1, there, same) refl,
     )
 
--- a record that is read takes its head and its text
+-- a record that is read takes its header and its payload
 pub first_extent : (before : ℕ) (bytes text behind : List ℕ) → first_at before bytes ≡ Some (text, behind)
     → length bytes ≡ 12 + length text + length behind
 unfolding first_at
@@ -81,7 +81,7 @@ first_extent before bytes text behind e =
     let t = text_extent before _ _ (drop 8 (drop 4 bytes)) text behind g.1 in
     grind (arith, long, t.1, length-drop 4 bytes, length-drop 8 (drop 4 bytes))
 
--- the head of a record, of four bytes and eight
+-- the header of a record, of four bytes and eight
 first_of : (before : ℕ) (size claimed rest : List ℕ) → length size ≡ 4 → length claimed ≡ 8
     → first_at before (size ++ (claimed ++ rest)) ≡ text_at before (from_be_bytes w32 size) (from_be_bytes w64 claimed) rest
 unfolding first_at
@@ -98,7 +98,7 @@ pub record IsFront (before : ℕ) (bytes text behind : List ℕ) : Type 0 where
   pub split : bytes ≡ front ++ behind
   pub again : (other : List ℕ) → first_at before (front ++ other) ≡ Some (text, other)
 
--- a record that is read stands in front, and is read whatever stands behind it
+-- a record that is read stands at the start, and is read whatever stands after it
 pub first_front : (before : ℕ) (bytes text behind : List ℕ) → first_at before bytes ≡ Some (text, behind) → IsFront before bytes text behind
 unfolding first_at
 first_front before bytes text behind e =
@@ -132,7 +132,7 @@ too_short true true d x = refl
 too_short true false d x = refl
 too_short false b d x = refl
 
--- less than the whole text is no text
+-- less than the whole payload is no payload
 cut_text : (before size claimed : ℕ) (bytes : List ℕ) → length bytes < size → text_at before size claimed bytes ≡ None
 unfolding text_at
 cut_text before size claimed bytes lt =
@@ -142,7 +142,7 @@ cut_text before size claimed bytes lt =
 length_read : (text : List ℕ) → Fits text → from_be_bytes w32 (to_be_bytes w32 (length text)) ≡ length text
 length_read text fits = from_be_bytes-to_be_bytes_4 (length text) (omega (arith, fits.short))
 
--- a record that was written is read, whatever stands behind it
+-- a record that was written is read, whatever stands after it
 pub first_again : (before : ℕ) (text rest : List ℕ) → Fits text → first_at before (record_of before text ++ rest) ≡ Some (text, rest)
 unfolding record_of
 first_again before text rest fits =
@@ -159,7 +159,7 @@ short_none before bytes lt =
     let yes : nat_lt (length bytes) 12 ≡ true = grind (arith, lt) in
     rw yes refl
 
--- a head, and a text that is longer than what is left of it
+-- a header whose payload is longer than the bytes left for it begins no record
 cut_of : (before left count : ℕ) (size claimed text rest : List ℕ) → length size ≡ 4 → length claimed ≡ 8 → from_be_bytes w32 size ≡ length text → count ≡ 12 + left → left < length text
     → first_at before (take count (size ++ (claimed ++ (text ++ rest)))) ≡ None
 cut_of before left count size claimed text rest four eight size-is is lt =
@@ -169,7 +169,7 @@ cut_of before left count size claimed text rest four eight size-is is lt =
     let short : length (take left (text ++ rest)) < from_be_bytes w32 size = rw size-is (omega (arith, length-take left (text ++ rest), lt)) in
     ap (first_at before) cut ∙ first_of before size claimed (take left (text ++ rest)) four eight ∙ cut_text before _ _ (take left (text ++ rest)) short
 
--- a record that was cut short isn't read
+-- a record that was truncated isn't read
 pub first_cut : (before count : ℕ) (text rest : List ℕ) → Fits text → count < 12 + length text → first_at before (take count (record_of before text ++ rest)) ≡ None
 unfolding record_of
 first_cut before count text rest fits lt =
@@ -193,7 +193,7 @@ empty_text : (before claimed : ℕ) (bytes : List ℕ) → text_at before 0 clai
 unfolding text_at
 empty_text before claimed bytes = refl
 
--- a head that begins with four zeros
+-- a header that begins with four zeros
 zero_head : (before : ℕ) (bytes : List ℕ) → 12 ≤ length bytes → from_be_bytes w32 (take 4 bytes) ≡ 0 → first_at before bytes ≡ None
 unfolding first_at
 zero_head before bytes le zero-is =

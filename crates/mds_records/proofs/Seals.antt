@@ -1,4 +1,4 @@
--- Lists and their seals.
+-- Lists and their log ends.
 use Rattle.std.proofs.Common.{◌≡◌, ℕ, ◌+◌, List, ◌++◌, length, sym, ap, ◌∙◌, arith}
 use Rattle.std.proofs.lemmas.List.{length-append}
 use Rattle.std.proofs.lemmas.List.Elements.{filter-append}
@@ -10,7 +10,7 @@ use Rattle.mds_records.specs.declared.seal.Seal.{Seal}
 use Rattle.mds_records.proofs.Written.{extent_joined}
 use Rattle.mds_records.proofs.Joined.{sums_joined}
 
--- what is read behind a seal ends with the seal behind it
+-- what is read after a log end ends with the next log end
 pub sealed_behind : (from to : Seal) (list texts : List (List ℕ)) → IsSealed from list → to.sum ≡ sums_over from.sum texts
     → to.position ≡ from.position + extent texts → to.count ≡ from.count + length (listed texts) → IsSealed to (list ++ listed texts)
 sealed_behind from to list texts s summed ends counted =

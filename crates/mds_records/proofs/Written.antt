@@ -1,4 +1,4 @@
--- What was written whole is read first.
+-- Records that were written whole are read first.
 use Rattle.std.proofs.Common.{◌≡◌, ℕ, ◌+◌, ◌≤◌, List, [], ◌∷◌, ◌++◌, Some, arith, refl, sym, ap, subst, ◌∙◌, append_assoc}
 use Rattle.std.specs.List.{AllByRecursion}
 use Rattle.mds_records.specs.Sum.{sum_over, sums_over}
@@ -6,7 +6,7 @@ use Rattle.mds_records.specs.Laws.{IsFrontOf, IsTornFrom}
 use Rattle.mds_records.specs.Records.{Reads, Fits, written, record_of, extent, first_at}
 use Rattle.mds_records.proofs.Records.{not_none, some_is, first_again}
 
--- where the first record reads so, what is read are its text and then what is read behind it
+-- where the first record reads so, its payload is read, and then what is read after it
 pub first_then : (before : ℕ) (bytes text rest read : List ℕ) (found : List (List ℕ)) → first_at before bytes ≡ Some (text, rest) → Reads before bytes (read ∷ found)
     → (read ≡ text) × Reads (sum_over before text) rest found
 first_then before bytes text rest read found first r =

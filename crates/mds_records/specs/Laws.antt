@@ -1,4 +1,4 @@
--- What is read of a file that was cut short, torn or filled with zeros, and how such a file ends.
+-- What is read from a file that was truncated, torn or filled with zeros, and how such a file ends.
 use Rattle.std.specs.Prelude.{◌≡◌, ◌≢◌, ℕ, ◌+◌, ◌^◌, ◌<◌, ◌≤◌, List, [], ◌∷◌, ◌++◌, length, take, drop, replicate, true, false, Some, None}
 use Rattle.std.specs.List.{AllByRecursion}
 use Rattle.mds_records.specs.Sum.{sum_over, sums_over}
@@ -11,69 +11,73 @@ use Rattle.mds_records.specs.declared.ending.Ending.TheVariants.{Damaged}
 abbrev pub IsFrontOf : List (List ℕ) → List (List ℕ) → Type 0
 IsFrontOf front texts = (rest : List (List ℕ)) × (texts ≡ front ++ rest)
 
--- Of a file cut short anywhere a front of its texts is read.
+-- Of a file truncated anywhere, a prefix of its payloads is read.
 abbrev pub ReadsAFront : Type 0
 ReadsAFront =
     (before size : ℕ) (texts found : List (List ℕ)) → AllByRecursion Fits texts
     → Reads before (take size (written before texts)) found → IsFrontOf found texts
 
--- Whatever stands behind them, all texts whose records are whole are read first, and then what is read of the bytes behind them.
+-- Whatever stands after them, all payloads whose records are whole are read first, and then what is read from the bytes
+-- after them.
 abbrev pub ReadsTheWritten : Type 0
 ReadsTheWritten =
     (before : ℕ) (texts found : List (List ℕ)) (tail : List ℕ) → AllByRecursion Fits texts
     → Reads before (written before texts ++ tail) found
     → (more : List (List ℕ)) × (found ≡ texts ++ more) × Reads (sums_over before texts) tail more
 
--- The premise on a torn tail, that no sum is met by chance: where a record is read, its text is the one that was being written there.
+-- The premise on a torn tail, that there is no checksum collision: where a record is read, its payload is the one that
+-- was being written there.
 abbrev pub IsTornFrom : ℕ → List (List ℕ) → List ℕ → Type 0
 IsTornFrom before [] tail = first_at before tail ≡ None
 IsTornFrom before (text ∷ texts) tail =
     (read behind : List ℕ) → first_at before tail ≡ Some (read, behind)
     → (read ≡ text) × IsTornFrom (sum_over before text) texts behind
 
--- Of such a file the texts that were synced are read, and a front of those that were being written.
+-- From such a file the synced payloads are read, and a prefix of those that were being written.
 abbrev pub ReadsWhatWasSynced : Type 0
 ReadsWhatWasSynced =
     (before : ℕ) (synced pending found : List (List ℕ)) (tail : List ℕ) → AllByRecursion Fits synced
     → IsTornFrom (sums_over before synced) pending tail → Reads before (written before synced ++ tail) found
     → (more : List (List ℕ)) × (found ≡ synced ++ more) × IsFrontOf more pending
 
--- In zeros no text is read.
+-- No payload is read from zeros.
 abbrev pub ReadsNoZeros : Type 0
 ReadsNoZeros = (before count : ℕ) (found : List (List ℕ)) → Reads before (replicate count 0) found → found ≡ []
 
--- Where what was synced stays, whatever else a crash left, it lies within the records that are read: what is cut lies behind it.
+-- Where the synced data is still there, whatever else a crash left, it lies within the records that are read: what is
+-- cut lies after it.
 abbrev pub CutsNothingSynced : Type 0
 CutsNothingSynced =
     (before : ℕ) (synced found : List (List ℕ)) (tail : List ℕ) → AllByRecursion Fits synced
     → Reads before (written before synced ++ tail) found → extent synced ≤ extent found
 
--- Wherever behind whole records a mark stands, whatever position it was written for, that says that the file was synced beyond them, the
--- file ends as damaged.
+-- Where a mark anywhere after the whole records, whatever position it was written for, says that the file was synced
+-- beyond them, the file ends as damaged.
 abbrev pub FindsDamage : Type 0
 FindsDamage =
     (whole own synced : ℕ) (front rest : List ℕ) → own < 2 ^ 64 → synced < 2 ^ 64 → 0 < whole → whole < synced
     → (said : ℕ) × (ending_of whole (front ++ (mark_of own synced ++ rest)) ≡ Damaged said) × (synced ≤ said)
 
--- Where a mark stands behind whole records that was written for another place, the file isn't opened.
+-- Where a mark after the whole records was written for another position, the file isn't opened.
 abbrev pub RefusesWhatWasMoved : Type 0
 RefusesWhatWasMoved =
     (whole own synced : ℕ) (front rest : List ℕ) → own < 2 ^ 64 → synced < 2 ^ 64 → 0 < whole → own ≢ whole + length front
     → is_opened (ending_of whole (front ++ (mark_of own synced ++ rest))) ≡ false
 
--- A file without a whole record is opened only if all of its bytes are the first of those with which each journal begins.
+-- A file without a whole record is opened only where its bytes are a prefix of those with which each journal begins.
 abbrev pub OpensNothingForeign : Type 0
 OpensNothingForeign =
     (bytes : List ℕ) → is_opened (ending_of 0 bytes) ≡ true → (rest : List ℕ) × (beginning ≡ bytes ++ rest)
 
--- each mark among these bytes, which stand at this position, was written for its place, and says at most this
+-- each mark among these bytes, which stand at this position, was written for its position, and says at most this
 abbrev pub SayAtMost : ℕ → ℕ → List ℕ → Type 0
 SayAtMost most position bytes =
     (front rest : List ℕ) (claim : ℕ × ℕ) → bytes ≡ front ++ rest → claim_at rest ≡ Some claim
     → (claim.0 ≡ position + length front) × (claim.1 ≤ most)
 
--- Where what was synced stays, with a text of ours at least, and each mark behind the whole records stands in its place and says no more
--- than that, the file is opened: as after each crash, whatever it left of what was being written.
+-- Where the synced data is still there, the whole records are more than that of the first mark, and each mark after the
+-- whole records stands at its position and says no more than that, the file is opened: as after each crash, whatever it
+-- left of what was being written.
 abbrev pub OpensWhatACrashLeaves : Type 0
 OpensWhatACrashLeaves =
     (before : ℕ) (synced found : List (List ℕ)) (tail : List ℕ) → AllByRecursion Fits synced

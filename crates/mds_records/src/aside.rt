@@ -1,29 +1,29 @@
-//! Where what is cut off a journal is kept.
+//! Where bytes that are cut off a journal are saved.
 ghost use Rattle.std.specs.Prelude.{◌≡◌};
 
 use crate::medium::MediumFault;
 
-/// Where what is cut off a journal is kept before it is cut: a file beside it, or memory in tests. The clause is that of
-/// what keeps what it is given; of a file nothing is known.
+/// Saves bytes before they are cut off a journal: to a separate file, or to memory in tests. The clause describes
+/// storage that keeps what it is given; nothing is known of a real file.
 pub trait Aside {
     ghost use Rattle.std.specs.Prelude.{ℕ, List, OnOk};
 
-    /// These bytes, which stood in the journal from this position on, are kept, as far as is known.
+    /// The bytes that stood in the journal from this position on have been saved, as far as is known.
     ghost has_kept: { Self → ℕ → List ℕ → Type 0 };
 
-    /// Keeps bytes that stand in the journal from a position on, and waits until they are on the disk.
+    /// Saves bytes that stand in the journal from a position on, and waits until they are on the disk.
     fn keep(&mut self, from: u64, bytes: &[u8]) -> Result<(), MediumFault>
         ensures { OnOk result (has_kept self.new from bytes.now) };
 }
 
-/// What was cut off a journal, kept in memory, for tests.
+/// An `Aside` in memory, for tests.
 #[derive(Debug, Drop)]
 pub struct MemoryAside {
-    /// Where it stood.
+    /// The position in the journal from which the bytes stood.
     pub from: u64,
-    /// Its bytes.
+    /// The saved bytes.
     pub bytes: Vec<u8>,
-    /// Whether anything is kept: else each call fails.
+    /// Whether calls succeed; each fails otherwise.
     pub is_answering: bool,
 }
 

@@ -1,4 +1,4 @@
-//! How a file ends behind its whole records.
+//! How a file ends after its whole records.
 ghost use Rattle.std.specs.Prelude.{◌≡◌, ◌+◌, ◌^◌, ◌<◌, ◌≤◌, length};
 ghost use Rattle.mds_records.specs.Endings.{is_torn_record, is_short_of, unexplained, without_records, ending_of, is_opened};
 
@@ -6,43 +6,42 @@ use crate::marks::{first_moved, furthest_said};
 use crate::record::{HEAD, MOST_TEXT};
 use crate::signature::{Signature, signature_of};
 
-/// What each journal begins with: the record of the mark of its first group.
+/// The bytes with which every journal begins: the record of its first group's mark.
 const BEGINNING: [u8; 44] = [
     0, 0, 0, 32, 130, 165, 51, 246, 22, 181, 93, 151, 255, 115, 121, 110, 99, 101, 100, 58, 0, 0,
     0, 0, 0, 0, 0, 12, 0, 0, 0, 0, 0, 0, 0, 0, 152, 3, 180, 189, 217, 174, 131, 34,
 ];
 
-/// How a file ends, behind its whole records.
+/// How a file ends, after its whole records.
 #[derive(Clone, Copy, Debug, PartialEq, Eq)]
 pub enum Ending {
-    /// Nothing stands behind them.
+    /// Nothing stands after them.
     Whole,
-    /// The beginning of one record, of which the end is missing: what a crash leaves of a group that was being written.
+    /// The beginning of one record whose end is missing: what a crash leaves of a group that was being written.
     Torn,
-    /// Bytes that such a crash doesn't leave, and no mark among them says that what was synced is lost. A loss of power
-    /// may leave them, where parts of what was being written came to the disk.
+    /// Bytes that such a crash doesn't leave, with no mark among them that says that synced data is lost. A loss of
+    /// power may leave them, where parts of what was being written reached the disk.
     Unexplained,
     /// The file doesn't begin as a journal does, but with this.
     Foreign(Signature),
-    /// At this byte a mark stands that was written for another place: bytes were put in or taken out, or are another
-    /// journal's.
+    /// At this byte stands a mark that was written for another position: bytes were inserted or removed, or belong to
+    /// another journal.
     Moved(u64),
-    /// A mark behind them says that the file was synced up to this position, which is beyond them: what was synced is
-    /// lost.
+    /// A mark after them says that the file was synced up to this position, which is beyond them: synced data is lost.
     Damaged(u64),
 }
 
-/// What was cut off a file.
+/// The bytes that were cut off a file.
 #[derive(Clone, Copy, Debug, PartialEq, Eq)]
 pub struct Cut {
-    /// The position from which on it stood.
+    /// The position of the first byte that was cut.
     pub from: u64,
-    /// How many bytes it had.
+    /// How many bytes were cut.
     pub count: u64,
 }
 
 impl Ending {
-    /// Whether a journal that ends so is opened: it is a journal, and nothing that was synced is known to be lost.
+    /// Whether a journal that ends so is opened: the file is a journal, and no synced data is known to be lost.
     pub fn is_opened(self) -> bool
         ensures { result ≡ is_opened self }
     {
@@ -53,7 +52,7 @@ impl Ending {
     }
 }
 
-/// Whether a record of a text of this size has more bytes than these.
+/// Whether a record with a payload of this size would have more bytes than these.
 fn is_short_of(size: usize, bytes: &[u8]) -> bool
     requires { size < 2 ^ 32 }
     ensures { result ≡ is_short_of size bytes.now }
@@ -61,7 +60,7 @@ fn is_short_of(size: usize, bytes: &[u8]) -> bool
     0 < size && size <= MOST_TEXT && bytes.len() < HEAD + size
 }
 
-/// Whether bytes are the beginning of one record, of which the end is missing.
+/// Whether the bytes are the beginning of one record whose end is missing.
 #[tactic(auto, unfolding(crate::specs::Endings::is_torn_record))]
 fn is_torn_record(bytes: &[u8]) -> bool
     ensures { result ≡ is_torn_record bytes.now }
@@ -85,7 +84,7 @@ fn unexplained(whole: u64, behind: &[u8]) -> Ending
     }
 }
 
-/// How a file ends that has no whole record, but these bytes.
+/// How a file of these bytes ends, which has no whole record.
 fn without_records(bytes: &[u8]) -> Ending
     ensures { result ≡ without_records bytes.now }
 {
@@ -96,7 +95,7 @@ fn without_records(bytes: &[u8]) -> Ending
     }
 }
 
-/// How a file ends whose whole records end at the position `whole`, with these bytes behind them.
+/// How a file ends whose whole records end at the position `whole`, with these bytes after them.
 pub fn ending_of(whole: u64, behind: &[u8]) -> Ending
     requires { whole + length behind.now < 2 ^ 64 }
     ensures { result ≡ ending_of whole behind.now }

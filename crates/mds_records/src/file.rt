@@ -1,18 +1,18 @@
-//! A medium in a file.
+//! Storage in a file.
 use crate::medium::{Medium, MediumFault, medium_fault};
 use std::alloc::Global;
 use std::fs::OpenFile;
 use std::io::{Read, Seek, SeekFrom, Write};
 
-/// A file. It is opened for reading and for writing, and nothing else writes to it. Of what it holds nothing is known
-/// in the proofs: that the disk keeps what it said it synced is a premise.
+/// Storage in a file, which is open for reading and for writing and to which nothing else writes. The proofs know
+/// nothing of its contents: that the disk keeps what it reported as synced is a premise.
 #[derive(Debug, Drop)]
 pub struct Stored<F: Read + Write + Seek + OpenFile + Drop> {
     file: F,
 }
 
 impl<F: Read + Write + Seek + OpenFile + Drop> Stored<F> {
-    /// The medium in this file.
+    /// Storage in this file.
     pub fn new(file: F) -> Stored<F> {
         Stored { file }
     }

@@ -1,4 +1,4 @@
-//! Groups of texts that are written at once.
+//! Groups of payloads that are written at once.
 ghost use Rattle.std.specs.Prelude.{◌≡◌, ◌+◌, ◌^◌, ◌<◌, map, true, IfOk};
 ghost use Rattle.mds_records.specs.Sum.{sums_over};
 ghost use Rattle.mds_records.specs.Records.{written};
@@ -9,7 +9,7 @@ use crate::marks::push_mark;
 use crate::record::{MOST_TEXT, push};
 use std::alloc::{AllocError, Global};
 
-/// The byte with which a mark begins, and no UTF-8 text.
+/// The first byte of a mark, which no UTF-8 text begins with.
 const MARKS_FIRST: u8 = 255;
 
 /// The records of a group.
@@ -17,11 +17,11 @@ const MARKS_FIRST: u8 = 255;
 pub struct Group {
     /// Their bytes, to be written at once.
     pub bytes: Vec<u8>,
-    /// The sum behind them.
+    /// The checksum after them.
     pub sum: u64,
 }
 
-/// Whether a text is no mark: it doesn't begin as one.
+/// Whether a payload is no mark: it doesn't begin as one.
 pub fn is_plain(text: &[u8]) -> bool
     ensures { result ≡ is_plain text.now }
 {
@@ -31,14 +31,14 @@ pub fn is_plain(text: &[u8]) -> bool
     }
 }
 
-/// Whether a log takes a text: it has a byte at least and at most [`MOST_TEXT`], and is no mark.
+/// Whether a log accepts a payload: it has at least one byte and at most [`MOST_TEXT`], and is no mark.
 fn is_taken(text: &[u8]) -> bool
     ensures { result ≡ is_taken text.now }
 {
     !text.is_empty() && text.len() <= MOST_TEXT && is_plain(text)
 }
 
-/// Whether a log takes each of these texts.
+/// Whether a log accepts each of these payloads.
 pub fn are_taken(texts: &[Vec<u8>]) -> bool
     ensures { result ≡ are_taken (map (λ v. v.items) texts.now) }
 {
@@ -50,12 +50,12 @@ pub fn are_taken(texts: &[Vec<u8>]) -> bool
     true
 }
 
-/// The records of a group of texts behind what has the sum `before`, which is to be written at this position of the
-/// file: first that of a mark which says that the file was synced up to `synced`, and then those of the texts.
+/// The records of a group, to be written at this position of the file after data with the checksum `before`: first the
+/// record of a mark that says that the file was synced up to `synced`, then the records of the payloads.
 ///
 /// # Errors
 ///
-/// Memory ran out.
+/// Out of memory.
 pub fn group_of(
     alloc: Global,
     before: u64,

@@ -23,53 +23,53 @@ const MOST_POSITION: u64 = 4_611_686_018_427_387_904;
 /// Why a journal isn't opened.
 #[derive(Clone, Copy, Debug, PartialEq, Eq)]
 pub enum OpenFault {
-    /// A mark behind the whole records says that the file was synced up to this position, which is beyond them: what
-    /// was synced is lost.
+    /// A mark after the whole records says that the file was synced up to this position, which is beyond them: synced
+    /// data is lost.
     Damaged(u64),
-    /// At this byte a mark stands that was written for another place: bytes were put in or taken out, or are another
-    /// journal's.
+    /// At this byte stands a mark that was written for another position: bytes were inserted or removed, or belong to
+    /// another journal.
     Moved(u64),
     /// The file doesn't begin as a journal does, but with this.
     Foreign(Signature),
-    /// Behind this position something stands that isn't whole, where there is nothing to keep it in.
+    /// Bytes that form no whole record stand from this position on, and there is nowhere to save them.
     Torn(u64),
-    /// What is to be cut couldn't be kept: nothing was cut.
+    /// The bytes to be cut couldn't be saved: nothing was cut.
     NotKept,
     /// The file is longer than a journal may be.
     TooLong,
-    /// The medium failed.
+    /// The storage failed.
     Failed,
-    /// Memory ran out.
+    /// Out of memory.
     NoMemory,
 }
 
-/// A log in one medium: the records of groups, each behind a mark.
+/// A log in one storage: groups of records, each after a mark.
 #[derive(Drop)]
 pub struct Journal<M: Medium> {
     alloc: Global,
     medium: M,
     /// Where the records end.
     position: u64,
-    /// The sum there.
+    /// The checksum there.
     sum: u64,
-    /// Up to which position the medium was synced.
+    /// Up to which position the storage was synced.
     synced: u64,
-    /// How many texts the list has.
+    /// How many payloads the list has.
     count: u64,
     /// Whether an append or a sync failed.
     is_broken: bool,
-    /// What was cut when it was opened.
+    /// What was cut when the journal was opened.
     cut: Option<Cut>,
 }
 
-/// What is whole of a journal's bytes.
+/// The whole records at the start of a journal's bytes.
 #[derive(Drop)]
 struct Front {
     /// Where the whole records end.
     whole: usize,
-    /// The sum there.
+    /// The checksum there.
     sum: u64,
-    /// How many texts they are that are no marks.
+    /// How many of their payloads are no marks.
     count: u64,
 }
 
@@ -97,7 +97,7 @@ impl From<MediumFault> for ReadFault {
     }
 }
 
-/// The texts of records that are no marks.
+/// The payloads of the records that are no marks.
 pub(crate) fn plain_texts(alloc: Global, records: &[Record<'_>]) -> Result<Vec<Vec<u8>>, AllocError>
     ensures { IfOk result (λ texts. map (λ v. v.items) texts.items ≡ listed (map (λ x. x.text.now) records.now)) }
 {
@@ -110,7 +110,7 @@ pub(crate) fn plain_texts(alloc: Global, records: &[Record<'_>]) -> Result<Vec<V
     Ok(texts)
 }
 
-/// How many records have texts that are no marks.
+/// How many records are no marks.
 fn plain_count(records: &[Record<'_>]) -> usize
     ensures { result ≡ length (listed (map (λ x. x.text.now) records.now)) }
 {
@@ -123,7 +123,7 @@ fn plain_count(records: &[Record<'_>]) -> usize
     count
 }
 
-/// What is whole of a journal's bytes.
+/// The whole records at the start of a journal's bytes.
 fn front_of(alloc: Global, bytes: &[u8]) -> Result<Front, AllocError>
     ensures { IfOk result (λ front. (texts : List (List ℕ)) × Reads 0 bytes.now texts × (front.whole ≡ extent texts)
         × (front.sum ≡ sums_over 0 texts) × (front.count ≡ length (listed texts)) × (front.whole ≤ length bytes.now)) }
@@ -136,7 +136,7 @@ fn front_of(alloc: Global, bytes: &[u8]) -> Result<Front, AllocError>
     })
 }
 
-/// Why a journal that ends so isn't opened.
+/// Why a journal that ends so isn't opened; none, where it is.
 fn refusal_of(ending: Ending) -> Option<OpenFault>
     ensures { result ≡ refusal_of ending }
 {
@@ -148,8 +148,8 @@ fn refusal_of(ending: Ending) -> Option<OpenFault>
     }
 }
 
-/// Keeps what stands behind the whole records, and cuts it then, where the file is a journal and isn't damaged. Tells
-/// what was cut.
+/// Saves and then cuts the bytes after the whole records, where the file is a journal and isn't damaged. Returns what
+/// was cut.
 fn cut_tail<M: Medium, A: Aside>(
     medium: &mut M,
     aside: &mut A,
@@ -184,7 +184,7 @@ fn cut_tail<M: Medium, A: Aside>(
     }))
 }
 
-/// All bytes of a medium.
+/// All bytes of the storage.
 fn bytes_in<M: Medium>(alloc: Global, medium: &mut M) -> Result<Vec<u8>, OpenFault>
     ensures bytes { IfOk result (λ v. M.holds medium.new v.items) }
     ensures before { IfOk result (λ v. M.holds medium.old v.items) }
@@ -198,13 +198,13 @@ fn bytes_in<M: Medium>(alloc: Global, medium: &mut M) -> Result<Vec<u8>, OpenFau
 }
 
 impl<M: Medium> Journal<M> {
-    /// Opens a journal: what stands behind the whole records is kept, and then cut. A file that is no journal, and one
-    /// that is damaged, is refused, and stays as it is.
+    /// Opens a journal: the bytes after its whole records are saved, and then cut. A file that is no journal, or is
+    /// damaged, is refused and stays as it is.
     ///
     /// # Errors
     ///
-    /// The file is no journal, damaged or too long, what is to be cut couldn't be kept, the medium failed, or memory ran
-    /// out.
+    /// The file is no journal, damaged or too long, the bytes to be cut couldn't be saved, the storage failed, or out
+    /// of memory.
     pub fn recover<A: Aside>(
         alloc: Global,
         medium: M,
@@ -224,7 +224,7 @@ impl<M: Medium> Journal<M> {
         Ok(Journal::of(alloc, medium, &front, cut))
     }
 
-    /// Opens a journal behind whose whole records nothing stands.
+    /// Opens a journal that has nothing after its whole records.
     ///
     /// # Errors
     ///
@@ -267,7 +267,7 @@ impl<M: Medium> Journal<M> {
         }
     }
 
-    /// What was cut when the journal was opened; none, where it was whole.
+    /// What was cut when the journal was opened; none, where nothing was.
     pub fn cut(&self) -> Option<Cut>
         ensures { result ≡ self.now.cut }
     {
@@ -276,7 +276,7 @@ impl<M: Medium> Journal<M> {
 }
 
 impl<M: Medium> Journal<M> {
-    /// The medium, of a journal that isn't used any more.
+    /// Returns the storage, once the journal isn't used any more.
     pub fn into_medium(self) -> M
         ensures { result ≡ self.medium }
     {

@@ -1,5 +1,4 @@
-//! A file of records: each with the length of its text and a sum over it and all texts before it, read up to the
-//! first place where no whole record stands.
+//! The journal's file format: records with chained checksums, read up to the first place where no whole record stands.
 #![tactic(auto)]
 
 mod aside;

@@ -1,4 +1,4 @@
-//! Marks: texts that say how far the file was synced, so that a torn tail can be told from damage.
+//! Marks: payloads that say how far the file was synced, to tell a torn tail from damage.
 ghost use Rattle.std.specs.Prelude.{◌≡◌, ◌+◌, ◌^◌, ◌<◌, ◌++◌, length, IfOk, OnOk, OnErr, option_map};
 ghost use Rattle.mds_records.specs.Sum.{sum_over};
 ghost use Rattle.mds_records.specs.Records.{record_of};
@@ -10,14 +10,14 @@ use crate::record::{HEAD, push};
 use crate::sum::sum_over;
 use std::alloc::{AllocError, Global};
 
-/// How many bytes a mark has: a word, the position at which it stands, the position up to which the file was synced,
-/// and the sum of these, eight bytes each.
+/// The size of a mark in bytes: a magic word, the position at which it stands, the position up to which the file was
+/// synced, and the checksum of these, eight bytes each.
 pub const MARK: usize = 32;
 
-/// The word with which a mark begins. No UTF-8 text has its first byte.
+/// The magic word with which a mark begins. No UTF-8 text has its first byte.
 const WORD: [u8; 8] = *b"\xffsynced:";
 
-/// What a mark's sum goes over: its word, where it stands, and how far the file was synced.
+/// What a mark's checksum covers: its magic word, its position, and how far the file was synced.
 #[tactic(auto, unfolding(crate::specs::Marks::mark_head))]
 fn mark_head(alloc: Global, position: u64, synced: u64) -> Result<Vec<u8>, AllocError>
     ensures { IfOk result (λ v. v.items ≡ mark_head position synced) }
@@ -39,13 +39,13 @@ fn mark(alloc: Global, position: u64, synced: u64) -> Result<Vec<u8>, AllocError
     Ok(out)
 }
 
-/// Adds the record of a mark to the bytes, behind what has the sum `before`, and gives its sum. The record is to stand
-/// at `position` in the file, and says that the file was synced up to `synced`. Each group of records that is written
-/// at once begins with one.
+/// Appends the record of a mark to the bytes, after data with the checksum `before`, and returns its checksum. The
+/// record is to stand at `position` in the file, and says that the file was synced up to `synced`. Each group of
+/// records that is written at once begins with one.
 ///
 /// # Errors
 ///
-/// Memory ran out; the bytes are as they were.
+/// Out of memory; the bytes are as they were.
 pub fn push_mark(
     alloc: Global,
     bytes: &mut Vec<u8>,
@@ -71,7 +71,7 @@ struct Claim {
     synced: u64,
 }
 
-/// What a mark of this head and of this sum says.
+/// What a mark with this head and this checksum says.
 #[tactic(auto, unfolding(crate::specs::Marks::claim_by))]
 fn claim_by(head: &[u8], claimed: u64) -> Option<Claim>
     requires { length head.now ≡ 24 }
@@ -88,7 +88,7 @@ fn claim_by(head: &[u8], claimed: u64) -> Option<Claim>
     })
 }
 
-/// What the mark in front of bytes says, wherever they stand.
+/// What the mark at the start of the bytes says, wherever they stand; none, where there is no mark.
 #[tactic(auto, unfolding(crate::specs::Marks::claim_at))]
 fn claim_at(bytes: &[u8]) -> Option<Claim>
     ensures { option_map (λ c. (c.position, c.synced)) result ≡ claim_at bytes.now }
@@ -101,7 +101,7 @@ fn claim_at(bytes: &[u8]) -> Option<Claim>
     claim_by(head, number(claimed))
 }
 
-/// How far the mark in front of bytes says that the file was synced.
+/// How far the mark at the start of the bytes says that the file was synced.
 fn said_at(bytes: &[u8]) -> Option<u64>
     ensures { result ≡ said_by (claim_at bytes.now) }
 {
@@ -111,7 +111,7 @@ fn said_at(bytes: &[u8]) -> Option<u64>
     }
 }
 
-/// Whether the mark in front of bytes at this position was written for another.
+/// Whether the mark at the start of the bytes, which stand at this position, was written for another position.
 fn is_moved(position: u64, bytes: &[u8]) -> bool
     ensures { result ≡ is_moved position (claim_at bytes.now) }
 {
@@ -121,7 +121,7 @@ fn is_moved(position: u64, bytes: &[u8]) -> bool
     }
 }
 
-/// The further of two places.
+/// The further of two positions.
 fn further(said: Option<u64>, other: Option<u64>) -> Option<u64>
     ensures { result ≡ further said other }
 {
@@ -132,7 +132,7 @@ fn further(said: Option<u64>, other: Option<u64>) -> Option<u64>
     }
 }
 
-/// The furthest that any mark among bytes says, at whatever place it stands; none without a mark.
+/// The furthest synced position that any mark among the bytes gives, wherever it stands; none without a mark.
 pub(crate) fn furthest_said(bytes: &[u8]) -> Option<u64>
     ensures { result ≡ furthest_said bytes.now }
 {
@@ -145,7 +145,7 @@ pub(crate) fn furthest_said(bytes: &[u8]) -> Option<u64>
     most
 }
 
-/// The first place among bytes at this position with a mark that was written for another.
+/// The first position among the bytes, which stand at `position`, with a mark that was written for another.
 pub(crate) fn first_moved(position: u64, bytes: &[u8]) -> Option<u64>
     requires { position + length bytes.now < 2 ^ 64 }
     ensures { result ≡ first_moved position bytes.now }

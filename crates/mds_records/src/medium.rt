@@ -1,15 +1,15 @@
-//! What keeps a journal's bytes.
+//! Storage of a journal's bytes.
 ghost use Rattle.std.specs.Prelude.{◌≡◌, ◌↔◌};
 
 use std::alloc::{AllocError, Global};
 use std::io::ErrorKind;
 
-/// Why a medium gave nothing, or isn't known to have kept what it was given.
+/// Why storage returned nothing, or isn't known to have stored what it was given.
 #[derive(Clone, Copy, Debug, PartialEq, Eq)]
 pub enum MediumFault {
     /// A read, a write or a sync failed.
     Failed,
-    /// Memory ran out.
+    /// Out of memory.
     NoMemory,
 }
 
@@ -19,7 +19,7 @@ impl From<AllocError> for MediumFault {
     }
 }
 
-/// Why a medium in a file gave nothing, by the kind of the file's error: memory ran out, or it failed.
+/// The fault for an error of a file, by its kind: out of memory, or failed.
 pub fn medium_fault(kind: ErrorKind) -> MediumFault
     ensures { (result ≡ MediumFault.NoMemory) ↔ (kind ≡ ErrorKind.OutOfMemory) }
 {
@@ -29,8 +29,8 @@ pub fn medium_fault(kind: ErrorKind) -> MediumFault
     }
 }
 
-/// What keeps a journal's bytes: a file, or memory in tests. The clauses are those of a medium that keeps what it is
-/// given; of a file nothing is known.
+/// Storage of a journal's bytes: a file, or memory in tests. The clauses describe storage that keeps what it is given;
+/// nothing is known of a real file.
 pub trait Medium: Drop {
     ghost use Rattle.std.specs.Prelude.{ℕ, List, ◌++◌, take, IfOk, OnOk};
 
@@ -46,11 +46,11 @@ pub trait Medium: Drop {
         ensures before { IfOk result (λ v. holds self.old v.items) }
         ensures unchanged { (bytes : List ℕ) → holds self.old bytes → holds self.new bytes };
 
-    /// Adds bytes at its end. After an error it is unknown what it holds.
+    /// Appends bytes at its end. After an error it is unknown what it holds.
     fn append(&mut self, bytes: &[u8]) -> Result<(), MediumFault>
         ensures { OnOk result ((before : List ℕ) → holds self.old before → holds self.new (before ++ bytes.now)) };
 
-    /// Cuts it to a length. After an error it is unknown what it holds.
+    /// Truncates it to a length. After an error it is unknown what it holds.
     fn cut(&mut self, len: u64) -> Result<(), MediumFault>
         ensures { OnOk result ((before : List ℕ) → holds self.old before → holds self.new (take len before)) };
 

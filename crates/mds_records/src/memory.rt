@@ -1,22 +1,22 @@
-//! A medium in memory, for tests.
+//! Storage in memory, for tests.
 ghost use Rattle.std.specs.Prelude.{◌≡◌, true};
 
 use crate::medium::{Medium, MediumFault};
 use std::alloc::Global;
 
-/// Bytes in memory. Each call is counted; when `calls_left` is 0 it fails, and so does each one after it.
+/// Bytes in memory. Each call is counted; once `calls_left` is 0, every call fails.
 #[derive(Debug, Drop)]
 pub struct Memory {
     /// The bytes.
     pub bytes: Vec<u8>,
-    /// How many calls are still answered.
+    /// How many more calls succeed.
     pub calls_left: u32,
-    /// Whether what it holds was synced.
+    /// Whether the contents were synced.
     pub is_synced: bool,
 }
 
 impl Memory {
-    /// Counts a call, and tells whether it is answered.
+    /// Counts a call, and returns whether it succeeds.
     fn is_answered(&mut self) -> bool
         ensures bytes { self.new.bytes ≡ self.old.bytes }
         ensures synced { self.new.is_synced ≡ self.old.is_synced }

@@ -1,8 +1,8 @@
-//! Numbers as bytes.
+//! Big-endian numbers.
 ghost use Rattle.std.specs.Prelude.{◌≡◌, length};
 ghost use Rattle.std.specs.Int.{w64, from_be_bytes};
 
-/// The number that these eight bytes are, the highest first.
+/// The big-endian number of eight bytes.
 pub(crate) fn number(bytes: &[u8]) -> u64
     requires { length bytes.now ≡ 8 }
     ensures { result ≡ from_be_bytes w64 bytes.now }

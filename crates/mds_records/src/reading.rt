@@ -1,4 +1,4 @@
-//! Records are read, up to the first place where no whole one stands.
+//! The record reader: reads up to the first place where no whole record stands.
 ghost use Rattle.std.specs.Prelude.{◌≡◌, ◌≤◌, ℕ, List, length, map, IfOk, option_map};
 ghost use Rattle.mds_records.specs.Sum.{sums_over};
 ghost use Rattle.mds_records.specs.Records.{Reads, first_at, text_at, extent, offsets_from};
@@ -11,24 +11,24 @@ use std::alloc::{AllocError, Global};
 /// A record that was read.
 #[derive(Clone, Copy, Debug)]
 pub struct Record<'a> {
-    /// Where its text begins in the bytes that were read.
+    /// Where its payload begins in the bytes that were read.
     pub offset: usize,
-    /// Its text.
+    /// Its payload.
     pub text: &'a [u8],
 }
 
-/// What was read of bytes.
+/// What was read from bytes.
 #[derive(Debug, Drop)]
 pub struct Reading<'a> {
-    /// The records in front, in order.
+    /// The records at the start, in order.
     pub records: Vec<Record<'a>>,
-    /// How many bytes these records take. No whole record stands behind them.
+    /// How many bytes these records take. No whole record stands after them.
     pub whole: usize,
-    /// The sum behind these records.
+    /// The checksum after these records.
     pub sum: u64,
 }
 
-/// The text of this length and of this sum at the front, and the bytes behind it.
+/// The payload with this length and this checksum at the start, and the bytes after it.
 #[tactic(auto, unfolding(crate::specs::Records::text_at))]
 fn text_in(before: u64, size: usize, claimed: u64, bytes: &[u8]) -> Option<(&[u8], &[u8])>
     ensures { option_map (λ x. (x.0.now, x.1.now)) result ≡ text_at before size claimed bytes.now }
@@ -44,7 +44,7 @@ fn text_in(before: u64, size: usize, claimed: u64, bytes: &[u8]) -> Option<(&[u8
     }
 }
 
-/// The text of the record at the front, and the bytes behind it.
+/// The payload of the record at the start, and the bytes after it.
 #[tactic(auto, unfolding(crate::specs::Records::first_at))]
 fn first(before: u64, bytes: &[u8]) -> Option<(&[u8], &[u8])>
     ensures { option_map (λ x. (x.0.now, x.1.now)) result ≡ first_at before bytes.now }
@@ -58,12 +58,12 @@ fn first(before: u64, bytes: &[u8]) -> Option<(&[u8], &[u8])>
     text_in(before, size as usize, number(claimed), bytes)
 }
 
-/// The records in front of the bytes, which stand behind what has the sum `before`. Where the bytes are a whole file,
-/// that is 0; to read on behind what was read, give the bytes from [`Reading::whole`] on, and [`Reading::sum`].
+/// Reads the records at the start of the bytes, which follow data with the checksum `before`: 0, where the bytes are a
+/// whole file. To continue a read, pass the bytes from [`Reading::whole`] on, and [`Reading::sum`].
 ///
 /// # Errors
 ///
-/// Memory ran out.
+/// Out of memory.
 pub fn read(alloc: Global, before: u64, bytes: &[u8]) -> Result<Reading<'_>, AllocError>
     ensures texts { IfOk result (λ found. Reads before bytes.now (map (λ x. x.text.now) found.records.items)) }
     ensures offsets { IfOk result (λ found.

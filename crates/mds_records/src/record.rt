@@ -1,4 +1,4 @@
-//! Records are written.
+//! The record writer.
 ghost use Rattle.std.specs.Prelude.{◌≡◌, ◌++◌, ◌&&◌, ◌↔◌, IfOk, OnOk, OnErr, IsTrue};
 ghost use Rattle.mds_records.specs.Sum.{sum_over};
 ghost use Rattle.mds_records.specs.Records.{Fits, record_of};
@@ -6,20 +6,21 @@ ghost use Rattle.mds_records.specs.Records.{Fits, record_of};
 use crate::sum::sum_over;
 use std::alloc::{AllocError, Global};
 
-/// How many bytes stand before a record's text: four of its length and eight of its sum.
+/// The size of a record's header, in bytes: four for the payload's length and eight for its
+/// checksum.
 pub const HEAD: usize = 12;
 
-/// The most bytes of a text.
+/// The most bytes of a payload.
 pub const MOST_TEXT: usize = 2_097_152;
 
-/// Whether a text has a record: it has a byte at least, and at most [`MOST_TEXT`].
+/// Whether a payload can have a record: it has at least one byte, and at most [`MOST_TEXT`].
 pub fn fits(text: &[u8]) -> bool
     ensures { IsTrue result ↔ Fits text.now }
 {
     !text.is_empty() && text.len() <= MOST_TEXT
 }
 
-/// The record of a text behind what has the sum `before`.
+/// The record of a payload, after data with the checksum `before`.
 #[tactic(auto, unfolding(crate::specs::Records::record_of))]
 fn record(alloc: Global, before: u64, text: &[u8]) -> Result<Vec<u8>, AllocError>
     requires { Fits text.now }
@@ -32,11 +33,12 @@ fn record(alloc: Global, before: u64, text: &[u8]) -> Result<Vec<u8>, AllocError
     Ok(out)
 }
 
-/// Adds the record of a text to the bytes, behind what has the sum `before`, and gives its sum.
+/// Appends the record of a payload to the bytes, after data with the checksum `before`, and returns
+/// its checksum.
 ///
 /// # Errors
 ///
-/// Memory ran out; the bytes are as they were.
+/// Out of memory; the bytes are as they were.
 pub fn push(alloc: Global, bytes: &mut Vec<u8>, before: u64, text: &[u8]) -> Result<u64, AllocError>
     requires { Fits text.now }
     ensures sum { IfOk result (λ sum. sum ≡ sum_over before text.now) }

@@ -1,4 +1,4 @@
-//! Where a log's list ends in its file, and the texts of a part of the file that ends so.
+//! Log ends: where a log's list ends in its file, and the payloads between two such ends.
 ghost use Rattle.std.specs.Prelude.{◌≡◌, ◌++◌, [], ℕ, List, map, IfOk};
 ghost use Rattle.mds_records.specs.Seals.{IsSealed};
 
@@ -7,20 +7,20 @@ use crate::log::{Log, ReadFault};
 use crate::reading::read;
 use std::alloc::Global;
 
-/// Where a log's list ends in its file. Of two lists with the same seal it is taken that they are one, as of a file: that no
-/// sum is met by chance.
+/// A log end: where a log's list ends in its file. Two lists with the same log end are taken to be one, as with a file:
+/// assuming no checksum collision.
 #[derive(Clone, Copy, Debug, PartialEq, Eq)]
 pub struct Seal {
     /// Where the records end, in bytes.
     pub position: u64,
-    /// The sum there.
+    /// The checksum there.
     pub sum: u64,
-    /// How many texts the list has.
+    /// How many payloads the list has.
     pub count: u64,
 }
 
 impl Seal {
-    /// The seal of a list without texts, in an empty file.
+    /// The log end of an empty list, in an empty file.
     pub fn of_nothing() -> Seal
         ensures { IsSealed result [] }
     {
@@ -32,21 +32,21 @@ impl Seal {
     }
 }
 
-/// A log that tells where its list ends in its file.
+/// A log that reports its log end.
 pub trait Sealed: Log {
     ghost use Rattle.std.specs.Prelude.{ℕ, List};
     ghost use Rattle.mds_records.specs.Seals.{IsSealed};
 
-    /// Where the list ends.
+    /// Where the list ends in its file.
     fn seal(&self) -> Seal
         ensures { (list : List (List ℕ)) → Self.may_be self.now list → IsSealed result list };
 }
 
-/// The texts behind those of one seal, up to those of another, in the bytes of the file between the two positions.
+/// The payloads from one log end up to another, in the bytes of the file between the two positions.
 ///
 /// # Errors
 ///
-/// `Damaged` where the bytes are other than the second seal says, `NoMemory`.
+/// `Damaged` where the bytes differ from what the second log end says, `NoMemory`.
 pub fn texts_between(
     alloc: Global,
     from: Seal,

@@ -1,23 +1,23 @@
-//! What stands where a journal's records would begin.
+//! What a file begins with where a journal's records would begin.
 ghost use Rattle.std.specs.Prelude.{◌≡◌, ◌==◌, ◌≤◌, length, take};
 ghost use Rattle.std.specs.List.{list_all};
 ghost use Rattle.mds_records.specs.Endings.{is_written, is_ordered, signature_of};
 
 use crate::marks::furthest_said;
 
-/// How many bytes a text is told by.
+/// How many bytes are looked at to recognize a text.
 const SAMPLE: usize = 16;
 
-/// What stands where a journal's records would begin, as far as its bytes tell it.
+/// What stands where a journal's records would begin, as far as its bytes show.
 #[derive(Clone, Copy, Debug, PartialEq, Eq)]
 pub enum Signature {
     /// Data that was compressed with gzip.
     Gzip,
-    /// A byte order mark of UTF-8 or UTF-16, as editors put before a text.
+    /// A byte order mark of UTF-8 or UTF-16, as editors put at the start of a text.
     ByteOrderMark,
     /// Zeros, and nothing else.
     Zeros,
-    /// Bytes among which a mark of a journal stands: a journal whose beginning is changed or missing.
+    /// Bytes with a journal's mark among them: a journal whose beginning is changed or missing.
     Records,
     /// A text.
     Text,
@@ -25,7 +25,7 @@ pub enum Signature {
     Unknown,
 }
 
-/// Whether a byte stands in a text in ASCII.
+/// Whether a byte occurs in ASCII text.
 fn is_written(byte: u8) -> bool
     ensures { result ≡ is_written byte }
 {
@@ -36,7 +36,7 @@ fn is_written(byte: u8) -> bool
     }
 }
 
-/// Whether bytes begin with a byte order mark.
+/// Whether the bytes begin with a byte order mark.
 fn is_ordered(bytes: &[u8]) -> bool
     ensures { result ≡ is_ordered bytes.now }
 {

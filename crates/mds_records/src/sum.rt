@@ -1,11 +1,11 @@
-//! The sum of a record.
+//! The checksum of a record.
 ghost use Rattle.std.specs.Prelude.{◌≡◌};
 ghost use Rattle.mds_records.specs.Sum.{sum_over};
 
 use std::hash::{DefaultHasher, Hasher};
 
-/// The sum of a text behind what has the sum `before`, which is 0 at the beginning of a file: SipHash-1-3 with both
-/// keys 0. It guards against torn and stray writes, not against someone who means to deceive.
+/// The checksum of a payload after data with the checksum `before`, which is 0 at the beginning of a file: SipHash-1-3
+/// with both keys 0. It detects torn and stray writes, not deliberate forgery.
 #[tactic(auto, unfolding(crate::specs::Sum::sum_over))]
 pub fn sum_over(before: u64, text: &[u8]) -> u64
     ensures { result ≡ sum_over before text.now }

@@ -35,7 +35,7 @@ fn texts(alloc: Global, text: &[u8]) -> Result<Vec<Vec<u8>>, AllocError> {
     Ok(texts)
 }
 
-/// Changes the lowest bit of a byte.
+/// Flips the lowest bit of a byte.
 fn flip(bytes: &mut Vec<u8>, place: usize) {
     if let Some(byte) = bytes.get_mut(place) {
         *byte ^= 1;
@@ -97,7 +97,7 @@ fn endings_are_told(rt: HostRuntime) {
     assert!(rt; ending_of(59, b"\0") == Ending::Torn);
     assert!(rt; ending_of(59, b"other") == Ending::Unexplained);
     assert!(rt; ending_of(44, b"other") == Ending::Foreign(Signature::Text));
-    // The first record is whole, and its sum is another behind other records.
+    // The first record is whole, and its checksum is another after other records.
     assert!(rt; ending_of(59, FIRST) == Ending::Unexplained);
 }
 
@@ -125,7 +125,7 @@ fn aside(alloc: Global, is_answering: bool) -> MemoryAside {
     }
 }
 
-/// A journal of two groups, of which the first was synced before the second; so many calls are answered.
+/// A journal of two groups, of which the first was synced before the second was appended; so many calls succeed.
 fn journal_of_two(alloc: Global, calls_left: u32) -> Option<Journal<Memory>> {
     let medium = Memory {
         bytes: Vec::new(alloc),
@@ -165,7 +165,7 @@ fn torn_journals_are_cut(rt: HostRuntime) {
     let mut medium = journal_of_two(rt.alloc(), 10)
         .expect(&rt, "a journal")
         .into_medium();
-    // The first group has 59 bytes, the mark of the second 44, its text 16, of which one is lost.
+    // The first group has 59 bytes, the mark of the second 44, its payload's record 16, of which one byte is lost.
     medium.bytes.truncate(118);
     let behind = medium.bytes.get(103..).unwrap_or_default();
     let behind = Vec::from_slice(rt.alloc(), behind).expect(&rt, "memory");
@@ -210,7 +210,7 @@ fn shortened_journals_are_refused(rt: HostRuntime) {
         .expect(&rt, "a journal")
         .into_medium();
     assert!(rt; medium.bytes.len() > 57);
-    // Of the first text one byte is taken out, so that the mark of the second group stands elsewhere.
+    // One byte of the first payload is removed, so that the mark of the second group stands elsewhere.
     if medium.bytes.len() > 57 {
         let _ = medium.bytes.remove(57);
     }

@@ -1,4 +1,4 @@
--- New rooms and desks that answered entries again.
+-- New rooms and desks that replayed entries.
 use Rattle.std.proofs.Common.{◌≡◌, ℕ, List, ◌++◌, length, take, ap, subst, ◌∙◌}
 use Rattle.std.proofs.Math.Seq.{take-append_seam}
 use Rattle.mds_request.specs.Configuration.{Configuration}

@@ -1,4 +1,4 @@
--- Entries that were answered again are turns of the room and of each desk.
+-- Entries that were replayed are turns of the room and of each desk.
 use mathlib.Core.List.{IsPrefix}
 use Rattle.std.proofs.Common.{◌≡◌, ℕ, Bool, true, false, cond, List, [], ◌∷◌, ◌++◌, length, Option, Some, None, inl, inr, refl, sym, ap, subst, ◌∙◌, arith}
 use Rattle.std.specs.Prelude.{nat_eq, bytes_eq, option_map, option_to_list, position, slice_get}

@@ -1,4 +1,4 @@
--- Fronts of what is kept of lists.
+-- Prefixes of filtered and mapped lists.
 use Rattle.std.proofs.Common.{◌≡◌, ℕ, Bool, true, false, cond, List, [], ◌∷◌, ◌++◌, map, drop, get_or, Option, Some, None, refl, sym, ap, ◌∙◌}
 use Rattle.std.specs.List.{filter}
 use Rattle.std.specs.Prelude.{slice_get}
@@ -24,7 +24,7 @@ others_are a b xs ys e = ap (λ l. drop 1 l) e
 no_first : {X : Type 0} (a : X) (xs : List X) → a ∷ xs ≡ [] → ⊥
 no_first a xs e = absurd cc
 
--- a front of what is mapped is what a front is mapped to
+-- a prefix of a mapped list is the map of a prefix
 abbrev MapsFront : {X Y : Type 0} → (X → Y) → List X → List Y → Type 0
 MapsFront {X} f xs front = (before : List X) × (later : List X) × (xs ≡ before ++ later) × (front ≡ map f before)
 
@@ -36,7 +36,7 @@ maps_front f (x ∷ xs) (a ∷ front) rest e =
     let first : a ≡ f x = first_is a (f x) (front ++ rest) (map f xs) e in
     (x ∷ on.0, on.1, ap (λ l. x ∷ l) on.2, ap (λ y. y ∷ front) first ∙ ap (λ l. f x ∷ l) on.3)
 
--- a front of what is kept is what is kept of a front
+-- a prefix of a filtered list is the filter of a prefix
 abbrev KeepsFront : {X : Type 0} → (X → Bool) → List X → List X → Type 0
 KeepsFront {X} p xs front = (before : List X) × (later : List X) × (xs ≡ before ++ later) × (filter p before ≡ front)
 
@@ -74,7 +74,7 @@ authors_front c history front rest e =
     let all = keeps_front (λ (x : Exchange). is_authors c x.request) history own.0 own.1 own.2 in
     (all.0, all.1, all.2, asked.3 ∙ ap room_requests_in (sym own.3) ∙ ap (λ (h : List Exchange). room_requests_in (kept c h)) (sym all.3))
 
--- where no operator is, no turn is taken
+-- where there is no operator, no turn is taken
 abbrev TurnsFront : Configuration → Option Operator → List Turn → List Request → Type 0
 TurnsFront c found turns front =
     (before : List Turn) × (later : List Turn) × (turns ≡ before ++ later)

@@ -34,9 +34,9 @@ none_true : (a b : Bool) → (a || b) ≡ false → (a ≡ false) × (b ≡ fals
 none_true true b e = absurd cc
 none_true false b e = (refl, e)
 
--- ---- who asks by an entry
+-- ---- the client of an entry
 
--- the first operator of an identifier is the only one
+-- the first operator with an identifier is the only one
 id_apart : (id : List ℕ) (operators : List Operator) (place : ℕ) (o : Operator) → list_any (bytes_eq id) (ids operators) ≡ false
     → slice_get operators place ≡ Some o → bytes_eq id o.id ≡ false
 id_apart id [] place o none is = absurd (none_some o is)
@@ -111,7 +111,7 @@ other_more c actor entries entry other =
     requests_of_both c actor entries (entry ∷ []) ∙ ap (λ (rs : List Request). requests_by c actor entries ++ rs) (first_other c actor entry [] other)
     ∙ append-nil (requests_by c actor entries)
 
--- ---- one more that is kept, or isn't
+-- ---- one more that is persisted, or isn't
 
 kept_more : {X : Type 0} (p : X → Bool) (xs : List X) (x : X) → p x ≡ true → filter p (xs ++ x ∷ []) ≡ filter p xs ++ x ∷ []
 kept_more p xs x is = filter-append p xs (x ∷ []) ∙ ap (λ (b : Bool). filter p xs ++ cond b (x ∷ []) []) is

@@ -77,7 +77,7 @@ one_more_item : {E : Type 0} (items : List E) (i : ℕ) (item : E) → i < lengt
 one_more_item items i item within here =
     ap (λ n. take n items) (add-one i) ∙ take-suc items i item within ∙ ap (λ a. take i items ++ a ∷ []) (sym here)
 
--- a turn of a loop that answers one entry after another
+-- a turn of a loop that replays one entry after another
 pub entry_more : {E : Type 0} (of : E → Entry) (c : Configuration) (entries : List E) (i : ℕ) (e : E) (s b next : Server) → i < length entries
     → e ≡ get_or entries i e → AreAnswered c (map of (take i entries)) s b → IsAnsweredAgain c (of e) b next → AreAnswered c (map of (take (i + 1) entries)) s next
 entry_more of c entries i e s b next within here are again =

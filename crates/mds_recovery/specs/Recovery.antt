@@ -1,4 +1,4 @@
--- How a room and desks are recovered from entries: each is answered again.
+-- How a room and desks are recovered from entries: each is replayed.
 use Rattle.std.specs.Prelude.{◌≡◌, ◌≢◌, ◌⊎◌, ◌≤◌, ℕ, List, [], ◌∷◌, length, map, take, Option, Some, None, slice_get, slice_set}
 use Rattle.mds_catalog.specs.Publication.{Publication}
 use Rattle.mds_request.specs.Configuration.{Configuration}
@@ -41,7 +41,7 @@ pub record RoomAnswers (request : Request) (reply : Reply) (s next : Server) : T
   pub turn : TakesRoomTurn s.room request reply note next.room
   pub learnt : AllLearn note s.desks next.desks
 
--- The desk at a place answers a request. The room and the other desks stay.
+-- The desk at an index answers a request. The room and the other desks stay.
 pub record DeskAnswers (place : ℕ) (request : Request) (reply : Reply) (s next : Server) : Type 0 where
   pub before : DeskState
   pub after : DeskState
@@ -56,17 +56,17 @@ Answers Author request reply s next = RoomAnswers request reply s next
 Answers (OperatorAt place) request reply s next = DeskAnswers place request reply s next
 Answers Nobody request reply s next = ⊥
 
--- An entry is answered, at its own moment, with its asker's access token of the configuration.
+-- An entry is answered, at its own moment, with its client's access token in the configuration.
 abbrev pub IsAnswered : Configuration → Entry → Reply → Server → Server → Type 0
 IsAnswered configuration e reply s next =
     (request : Request) × (request_by configuration e ≡ Some request)
     × Answers (actor_by configuration e.asker) request reply s next
 
--- an entry is answered again: with success
+-- an entry is replayed: answered with success
 abbrev pub IsAnsweredAgain : Configuration → Entry → Server → Server → Type 0
 IsAnsweredAgain configuration e s next = (reply : Reply) × (reply.status ≡ 200) × IsAnswered configuration e reply s next
 
--- entries are answered again, one after another
+-- entries are replayed, one after another
 abbrev pub AreAnswered : Configuration → List Entry → Server → Server → Type 0
 AreAnswered configuration [] s next = next ≡ s
 AreAnswered configuration (e ∷ entries) s next =
@@ -77,17 +77,17 @@ HasNoDesk Author s = ⊥
 HasNoDesk (OperatorAt place) s = length s.desks ≤ place
 HasNoDesk Nobody s = Unit {0}
 
--- the configuration has no access token for the entry's asker, or the asker has no desk
+-- the configuration has no access token for the entry's client, or the client has no desk
 abbrev pub IsWithoutDesk : Configuration → Entry → Server → Type 0
 IsWithoutDesk configuration e s = (request_by configuration e ≡ None) ⊎ HasNoDesk (actor_by configuration e.asker) s
 
--- why an entry isn't answered again
+-- why an entry isn't replayed
 abbrev pub IsRefused : Configuration → Entry → Cause → Server → Server → Type 0
 IsRefused configuration e NoDesk s next = IsWithoutDesk configuration e s × (next ≡ s)
 IsRefused configuration e (Refused status) s next =
     (reply : Reply) × (reply.status ≡ status) × (status ≢ 200) × IsAnswered configuration e reply s next
 
--- The entries before the one that the fault names are answered again, and that one isn't.
+-- The entries before the one that the fault names are replayed, and that one isn't.
 pub record IsStopped (configuration : Configuration) (entries : List Entry) (fault : Fault) (s next : Server) : Type 0 where
   pub before : Server
   pub answered : AreAnswered configuration (take fault.entry entries) s before

@@ -1,4 +1,4 @@
-//! From a journal's entries to a server that goes on: each entry is answered again, in order, at its own moment.
+//! Replay of a journal at a start: each entry is answered again, in order, at its own moment.
 #![tactic(auto)]
 
 mod fault;

@@ -1,12 +1,12 @@
-//! How far a recovery has come.
+//! How far a replay has come.
 
-/// What is told while entries are answered again: for a program that shows how far it has come.
+/// Reports the progress of a replay, for a program that shows it.
 pub trait Progress {
-    /// Called after each entry that was answered again, with how many were so far.
+    /// Called after each entry that was replayed, with how many were so far.
     fn answered(&mut self, entries: usize);
 }
 
-/// Tells nothing.
+/// Reports nothing.
 #[derive(Clone, Copy, Debug)]
 pub struct Silent;
 

@@ -1,4 +1,4 @@
-//! Entries are answered again.
+//! The replay of entries.
 ghost use Rattle.std.specs.Prelude.{◌≡◌, ◌<◌, length, map, Some, IfErr, MatchOption, OnOk};
 ghost use Rattle.mds_request.specs.Configuration.{configuration};
 ghost use Rattle.mds_request.specs.Request.{request_of};
@@ -54,7 +54,7 @@ fn room_answers<K: Naming, R: Wait>(
     answer
 }
 
-/// The desk at a place answers its operator's request.
+/// The desk at an index answers its operator's request.
 fn desk_answers<K: Naming>(desks: &mut [Desk<K>], place: usize, request: &Request<'_>) -> Answer
     requires { place < length desks.old }
     ensures { (room : RoomState) → DeskAnswers place (request_of request.now) result
@@ -63,8 +63,8 @@ fn desk_answers<K: Naming>(desks: &mut [Desk<K>], place: usize, request: &Reques
     desks[place].answer(request, &mut OpenGate, &Plain)
 }
 
-/// Answers a request where its asker is answered, the author at the room and an operator at its desk, and gives the
-/// status; `None` where no such desk is.
+/// Answers a client's request, the author's at the room and an operator's at its desk, and returns the status; `None`
+/// where there is no such desk.
 fn answered<K: Naming, R: Wait>(
     rt: &R,
     room: &mut AuthorRoom<K>,
@@ -90,7 +90,7 @@ fn answered<K: Naming, R: Wait>(
     }
 }
 
-/// Answers an entry again.
+/// Replays an entry.
 ///
 /// # Errors
 ///
@@ -118,17 +118,17 @@ fn answer_again<'a, K: Naming, R: Wait>(
     }
 }
 
-/// Answers entries again, one after another, each at its own moment and with its asker's access token of the
-/// configuration: the author's at the room, an operator's at its desk; and every desk learns what is published.
+/// Replays entries, one after another, each at its own moment and with its client's access token in the configuration:
+/// the author's at the room, an operator's at its desk; and every desk learns what is published.
 ///
-/// The configuration is the room's and the desks'. What the room and the desks are then, `laws` says: where they were
-/// new and the entries are a journal of what a server did, they are what this had left, and go on as one server. A
-/// journal may be answered by parts, each by a call.
+/// The configuration is the room's and the desks'. The `laws` say what the room and the desks are afterwards: where
+/// they were new and the entries are the journal of what a server did, they are as this server left them, and continue
+/// as one server with it. A journal may be replayed in parts, by one call each.
 ///
 /// # Errors
 ///
-/// The first entry that wasn't answered with success. The room and the desks have answered those before it, and are
-/// not to be used.
+/// The first entry that wasn't answered with success. The room and the desks have answered those before it, and must
+/// not be used.
 pub fn recover<'a, K: Naming, R: Wait, P: Progress>(
     rt: &R,
     config: &'a Config,

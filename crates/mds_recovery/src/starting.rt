@@ -1,4 +1,4 @@
-//! A server starts again.
+//! The restart of a server from its journal.
 ghost use Rattle.std.specs.Prelude.{◌≡◌, map, IfErr, IfOk, OnOk};
 ghost use Rattle.mds_request.specs.Configuration.{configuration};
 ghost use Rattle.mds_snapshot.specs.Opening.{book_of};
@@ -18,12 +18,12 @@ use mds_snapshot::{Blank, Naming, OpenFault};
 use std::alloc::Global;
 use std::sync::Wait;
 
-/// A room and desks of the room's configuration answer entries again.
+/// Replays entries at a room and desks of the room's configuration.
 ///
 /// # Errors
 ///
-/// `Opening` where no share of the configuration could be made, `Stopped` at the first entry that wasn't answered with
-/// success.
+/// `Opening` where no reference to the configuration could be made, `Stopped` at the first entry that wasn't answered
+/// with success.
 fn answered_all<K: Naming, R: Wait, P: Progress>(
     rt: &R,
     room: &mut AuthorRoom<K>,
@@ -45,15 +45,15 @@ fn answered_all<K: Naming, R: Wait, P: Progress>(
 }
 
 /// The author's room, and the desk of each operator in the configuration's order, as the server left them whose journal
-/// has these entries: new ones, of the one opening that the blank is, answer them again. K names the opening.
+/// has these entries: new ones, of the one opening that the blank is, replay them. K names the opening.
 ///
-/// What that server told and what is done from here on are what one server did. That holds for a journal that was
+/// What that server answered and what is done from here on are what one server did. That holds for a journal that was
 /// written with this configuration.
 ///
 /// # Errors
 ///
-/// `Opening` where memory or readers' places ran out as the room and the desks were made; `Stopped` at the first entry
-/// that wasn't answered with success.
+/// `Opening` where out of memory or of readers' places as the room and the desks were made; `Stopped` at the first
+/// entry that wasn't answered with success.
 pub fn start_again<K: Naming, R: Wait, P: Progress>(
     rt: &R,
     alloc: Global,

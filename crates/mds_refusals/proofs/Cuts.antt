@@ -1,4 +1,4 @@
--- Where a path is cut.
+-- Where a path is split.
 use Rattle.std.proofs.Common.{◌≡◌, ◌≢◌, ◌<◌, ℕ, Bool, true, false, cond, List, [], ◌∷◌, length, Option, None, refl, ap, sym, ◌∙◌, arith, rules}
 use Rattle.std.specs.List.{list_any, onto_first, position_or_len, before_first, after_first, slice_split}
 use Rattle.std.specs.Str.{IsUtf8}
@@ -9,7 +9,7 @@ use Rattle.std.proofs.lemmas.Str.{is_utf8-from_IsUtf8}
 use Rattle.mds_request.specs.Call.{all_some, behind_slash, is_empty, is_slash, segments_in}
 use Rattle.mds_refusals.specs.Methods.{methods_at}
 
--- the methods of a path whose segments are these
+-- the methods of a path with these segments
 abbrev at : List (List ℕ) → Option (List ℕ)
 at segments = methods_at (all_some segments)
 

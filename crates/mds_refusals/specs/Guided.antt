@@ -1,4 +1,4 @@
--- A response with what its refusal has to name.
+-- A response with the header field that its refusal needs.
 use Rattle.std.specs.Prelude.{◌≡◌, ◌==◌, ℕ, List, codes, if◌then◌else◌, IfOk, Option, Some, None, Result, Ok, Err}
 use Rattle.std.specs.Option.{is_some}
 use Rattle.std.specs.declared.alloc.AllocError.{AllocError}
@@ -14,8 +14,8 @@ use Rattle.mds_refusals.specs.declared.methods.Methods.{Methods}
 abbrev pub with_missing : List ℕ → List ℕ → Entries FieldValue → Entries FieldValue
 with_missing name text headers = if is_some (get headers name) then headers else insert headers name (plain_value text)
 
--- the fields of a response with this status, where a refusal has these methods to name: 401 names the scheme of
--- credentials (RFC 9110, section 11.6.1), and 405 the methods (section 10.2.1)
+-- the fields of a response with this status, for a refusal with these methods: a 401 has the scheme of credentials (RFC
+-- 9110, section 11.6.1), and a 405 the methods (section 10.2.1)
 abbrev pub guided_fields : Option Methods → ℕ → Entries FieldValue → Entries FieldValue
 guided_fields None status headers =
     if status == 401 then with_missing (codes "www-authenticate") (codes "Bearer") headers else headers
@@ -36,12 +36,12 @@ pub record HasFields (fields : Entries FieldValue) (plain response : Plain) : Ty
 abbrev pub IsNamed : List ℕ → List ℕ → Plain → Plain → Type 0
 IsNamed name text plain response = HasFields (with_missing name text (head_of plain).headers) plain response
 
--- The response is the plain one, with what a refusal has to name.
+-- The response is the plain one, with the field that a refusal needs.
 abbrev pub IsGuided : Option Methods → Plain → Plain → Type 0
 IsGuided methods plain response =
     HasFields (guided_fields methods (head_of plain).status (head_of plain).headers) plain response
 
--- What is told follows what was given: the same response, guided, or that there was no memory for it.
+-- The result follows the other one: the same response with its field, or out of memory.
 abbrev pub Follows : Option Methods → Result Plain AllocError → Result Plain AllocError → Type 0
 Follows methods (Ok plain) told = IfOk told (IsGuided methods plain)
 Follows methods (Err fault) told = told ≡ Err fault

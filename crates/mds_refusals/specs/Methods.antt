@@ -6,7 +6,7 @@ use Rattle.mds_request.specs.declared.request.Verb.TheVariants.{Get, Put, Post, 
 use Rattle.mds_refusals.specs.declared.methods.Methods.{Methods}
 use Rattle.mds_refusals.specs.declared.methods.Methods.TheVariants as methods
 
--- what people ask beside the protocol, by method and path
+-- the calls outside the protocol's, by method and path
 abbrev pub beside : List Row
 beside =
     row Post (word "app" ∷ word "fleet" ∷ word "events" ∷ []) None None
@@ -29,17 +29,17 @@ listed [] = []
 listed (name ∷ []) = name
 listed (name ∷ next ∷ names) = name ++ codes ", " ++ listed (next ∷ names)
 
--- the methods of some rows; nothing, where there are none
+-- the methods of some rows; none, where there are no rows
 abbrev pub methods_in : List Row → Option (List ℕ)
 methods_in [] = None
 methods_in (found ∷ rows) = Some (listed (map (λ r. name_of r.verb) (found ∷ rows)))
 
--- The methods at a path with these segments, of the protocol's calls and of those beside it, as `allow` lists them
+-- The methods at a path with these segments, of the protocol's calls and of those next to it, as `allow` lists them
 -- (RFC 9110, section 10.2.1).
 abbrev pub methods_at : List (List ℕ) → Option (List ℕ)
 methods_at segments = methods_in (filter (λ r. fits r.path segments) (table ++ beside))
 
--- what is listed for one of the sets of methods
+-- the list for one of the sets of methods
 abbrev pub text_of : Methods → List ℕ
 text_of methods.Get = codes "GET"
 text_of methods.Post = codes "POST"

@@ -1,19 +1,21 @@
-//! What a request's refusal has to name.
+//! What the refusal of a request names.
 ghost use Rattle.std.specs.Prelude.{◌≡◌, option_map};
 ghost use Rattle.mds_request.specs.Call.{segments_in};
 ghost use Rattle.mds_refusals.specs.Methods.{methods_at, text_of};
 
 use crate::methods::{Methods, methods_of};
 
-/// What a refusal of a request names.
+/// What the refusal of a request names.
 #[derive(Clone, Copy, Debug, PartialEq, Eq)]
 pub struct Guide {
-    /// The methods of the request's path; none, where no call has the path or the request isn't refused by its method.
+    /// The methods of the request's path; none, where no call has the path or the request isn't
+    /// refused by its method.
     pub methods: Option<Methods>,
 }
 
 impl Guide {
-    /// The guide for requests with this path, without its query, that the table of calls refuses by their method.
+    /// For requests with this path, without its query, that the table of calls refuses by their
+    /// method.
     pub fn of(path: &str) -> Guide
         ensures { option_map text_of result.methods ≡ methods_at (segments_in path.now) }
     {
@@ -22,7 +24,7 @@ impl Guide {
         }
     }
 
-    /// The guide for all other requests, whatever their path is: their refusals name no methods.
+    /// For all other requests, whatever their path is: their refusals name no methods.
     pub fn without_methods() -> Guide
         ensures { result.methods ≡ None }
     {

@@ -1,4 +1,5 @@
-//! What a refusal names for who asked: a 401 the scheme of its credentials, and a 405 the methods of its target.
+//! Header fields of a refusal: of a 401 the scheme of its credentials, of a 405 the methods of its
+//! target.
 #![tactic(auto)]
 
 mod guide;

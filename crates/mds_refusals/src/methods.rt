@@ -99,7 +99,7 @@ fn at_three(first: &str, second: &str, third: &str) -> Option<Methods>
     }
 }
 
-/// The methods of a path of three segments or more, two of them and what stands behind their slash.
+/// The methods of a path of three segments or more: two of them, and the rest after their slash.
 fn behind_two(first: &str, second: &str, rest: &str) -> Option<Methods>
     ensures { option_map text_of result
         ≡ methods_at (all_some (first.now ∷ second.now ∷ slice_split is_slash rest.now)) }
@@ -110,7 +110,7 @@ fn behind_two(first: &str, second: &str, rest: &str) -> Option<Methods>
     }
 }
 
-/// The methods of a path of two segments or more, the first of them and what stands behind its slash.
+/// The methods of a path of two segments or more: the first of them, and the rest after its slash.
 fn behind_one(first: &str, rest: &str) -> Option<Methods>
     ensures { option_map text_of result ≡ methods_at (all_some (first.now ∷ slice_split is_slash rest.now)) }
 {
@@ -120,7 +120,7 @@ fn behind_one(first: &str, rest: &str) -> Option<Methods>
     }
 }
 
-/// The methods of a path by what stands behind its first slash.
+/// The methods of a path, by what follows its first slash.
 fn behind_slash(rest: &str) -> Option<Methods>
     ensures { option_map text_of result ≡ methods_at (all_some (slice_split is_slash rest.now)) }
 {
@@ -130,8 +130,8 @@ fn behind_slash(rest: &str) -> Option<Methods>
     }
 }
 
-/// The methods of a path, without its query: those of the protocol's calls, and of what people ask beside it. None,
-/// where no call has the path.
+/// The methods of a path, without its query: those of the protocol's calls, and of the calls next
+/// to it. None, where no call has the path.
 pub fn methods_of(path: &str) -> Option<Methods>
     ensures { option_map text_of result ≡ methods_at (segments_in path.now) }
 {

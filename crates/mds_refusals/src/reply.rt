@@ -1,4 +1,4 @@
-//! A reply whose refusals name what they have to.
+//! A pending response that gets the header field of its refusal.
 ghost use Rattle.std.specs.Prelude.{◌≡◌};
 ghost use Rattle.mds_refusals.specs.Guided.{Follows};
 
@@ -8,7 +8,7 @@ use futures::Future;
 use futures::task::{Context, Poll};
 use mds_responses::HttpResult;
 
-/// A reply on its way, whose response names what its refusal has to.
+/// A pending response that gets the header field of its refusal.
 #[derive(Drop)]
 pub struct GuidedReply<F> {
     reply: F,
@@ -16,7 +16,7 @@ pub struct GuidedReply<F> {
 }
 
 impl<F: Future> GuidedReply<F> {
-    /// This reply, to a request with that guide.
+    /// This pending response, to a request with that guide.
     pub fn new(reply: F, guide: Guide) -> GuidedReply<F>
         ensures reply { result.reply ≡ reply }
         ensures guide { result.guide ≡ guide }
@@ -32,7 +32,7 @@ impl<F: Future<Output = HttpResult>> Future for GuidedReply<F> {
 
     ghost needs = { λ s source. F.needs s.reply source };
 
-    // What the reply gives, guided.
+    // The response that comes, with its field.
     ghost gives = { λ s told. (given : _) × F.gives s.reply given × Follows s.guide.methods given told };
 
     fn poll(&mut self, cx: &mut Context<'_>) -> Poll<HttpResult> {

@@ -1,4 +1,4 @@
-//! A refusal with what it has to name.
+//! A refusal with its header field.
 ghost use Rattle.std.specs.Prelude.{◌≡◌, IfOk, IsTrue};
 ghost use Rattle.std.specs.Option.{is_some};
 ghost use Rattle.http_header.specs.FieldValue.{is_visible_text};
@@ -12,7 +12,7 @@ use http::{HeaderMap, HeaderName, HeaderValue, Response};
 use http_body_util::Full;
 use mds_responses::{HttpResult, with_field};
 
-/// The status of a request whose credentials are none (RFC 9110, section 15.5.2).
+/// The status of a request without valid credentials (RFC 9110, section 15.5.2).
 const UNAUTHORIZED: u16 = 401;
 
 /// The status of a request whose target hasn't its method (RFC 9110, section 15.5.6).
@@ -36,13 +36,13 @@ fn with_missing(response: Response<Full<Bytes>>, name: HeaderName, text: &'stati
     with_field(response, name, HeaderValue::from_static(text))
 }
 
-/// The same response; one with status 401 has `www-authenticate: Bearer` (RFC 9110, section 11.6.1), and one with
-/// status 405 has `allow` with the methods of the guide, if it has any (RFC 9110, section 10.2.1). A response that has
-/// the field keeps it as it is.
+/// The same response; one with status 401 has `www-authenticate: Bearer` (RFC 9110, section
+/// 11.6.1), and one with status 405 has `allow` with the methods of the guide, if it has any (RFC
+/// 9110, section 10.2.1). A response that has the field already keeps it as it is.
 ///
 /// # Errors
 ///
-/// Memory ran out.
+/// Out of memory.
 pub fn guided(response: Response<Full<Bytes>>, guide: Guide) -> HttpResult
     ensures { IfOk result (IsGuided guide.methods response) }
 {

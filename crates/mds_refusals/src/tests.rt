@@ -1,4 +1,4 @@
-//! Refusals as they are told.
+//! Tests of refusals and their header fields.
 use crate::guide::Guide;
 use crate::methods::{Methods, methods_of};
 use crate::reply::GuidedReply;

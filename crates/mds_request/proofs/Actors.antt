@@ -1,4 +1,4 @@
--- Whose access token it is.
+-- The client that an access token belongs to.
 use Rattle.std.proofs.Common.{◌≡◌, ℕ, false, cond, bytes_eq, string_bytes, List, map, ap, ◌∙◌, sym, Option, position}
 use Rattle.mds_request.specs.declared.config.Operator.{Operator as Named}
 use Rattle.mds_request.specs.declared.config.Actor.TheVariants.{Author}

@@ -1,11 +1,11 @@
--- Things that stand twice among operators.
+-- Duplicates among operators.
 use Rattle.std.proofs.Common.{◌≡◌, ℕ, Bool, true, false, ◌||◌, bytes_eq, string_bytes, List, ◌∷◌, map, ap, ◌∙◌, sym}
 use Rattle.std.specs.List.{list_any}
 use Rattle.mds_request.specs.declared.config.Operator.{Operator as Named}
 use Rattle.mds_request.specs.Configuration.{Operator, operator, repeats, ids, tokens}
 use Rattle.mds_request.proofs.Lists.{list_any-map}
 
--- a search among the operators is a search among what they show
+-- a search among the operators is a search among their values
 among : (p : List ℕ → Bool) (key : Operator → List ℕ) (operators : List Named) → list_any p (map key (map operator operators)) ≡ list_any (λ o. p (key (operator o))) operators
 among p key operators =
     list_any-map p key (map operator operators) ∙ list_any-map (λ o. p (key o)) operator operators

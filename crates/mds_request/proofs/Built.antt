@@ -1,4 +1,4 @@
--- What each insert of a route makes of the router.
+-- What each insertion of a route makes of the router.
 use Rattle.std.proofs.Common.{◌≡◌, List, ℕ, [], codes, ap, sym, ◌∙◌, subst, Ok}
 use Rattle.matchit.proofs.OnLiterals.{matchit_on_literals}
 use Rattle.matchit.specs.Order.{placed}
@@ -64,7 +64,7 @@ publish_added : (old new : Table) → Adds (codes "/publish") Publish old new �
 unfolding matchit_on_literals
 publish_added old new h = h.1
 
--- the table of all of them
+-- the table after all insertions
 pub built : (r0 r1 r2 r3 r4 r5 r6 r7 r8 r9 r10 r11 r12 : Table) → r0 ≡ [] → Adds (codes "/policies") Policies r0 r1 → Adds (codes "/policies/{id}") Policy r1 r2 → Adds (codes "/geographies") Geographies r2 r3 → Adds (codes "/geographies/{id}") Geography r3 r4 → Adds (codes "/fleet/events") FleetEvents r4 r5 → Adds (codes "/fleet/vehicles") FleetVehicles r5 r6 → Adds (codes "/fleet/vehicles/{id}") FleetVehicle r6 r7 → Adds (codes "/compliance") Compliance r7 r8 → Adds (codes "/compliance/{id}") PolicyCompliance r8 r9 → Adds (codes "/drafts/policies/{id}") PolicyDraft r9 r10 → Adds (codes "/drafts/geographies/{id}") GeographyDraft r10 r11 → Adds (codes "/publish") Publish r11 r12 → ∥ AllLead r12 ∥₁
 built r0 r1 r2 r3 r4 r5 r6 r7 r8 r9 r10 r11 r12 h0 h1 h2 h3 h4 h5 h6 h7 h8 h9 h10 h11 h12 =
     let e1 : r1 ≡ placed (fixed Policies) ([]) = policies_added r0 r1 h1 ∙ ap (placed (fixed Policies)) h0 in

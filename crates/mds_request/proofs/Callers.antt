@@ -1,4 +1,4 @@
--- Who makes a call.
+-- Which client makes a call.
 use Rattle.std.proofs.Common.{◌≡◌, ◌≤◌, ℕ, Bool, true, false, cond, List, [], ◌∷◌, length, nat_lt, refl, sym, ap, Option, Some, None, option_map, Result, Ok, Err}
 use Rattle.std.proofs.lemmas.Bool.{ltb-false}
 use Rattle.mds_request.specs.Call.{Row, made, call_with, id_in, is_verb, call_among, rows_at, called_at, segments_of, call_of}
@@ -15,7 +15,7 @@ use Rattle.mds_request.specs.declared.config.Actor.{Actor}
 use Rattle.mds_request.specs.declared.config.Actor.TheVariants.{Author, Operator, Nobody}
 use Rattle.mds_request.specs.declared.request.Verb.{Verb}
 
--- whose call it is
+-- the client that makes a call
 abbrev pub caller : Call → Actor
 caller (call.Author what) = Author
 caller (call.Operator place what) = Operator place
@@ -58,12 +58,12 @@ not_refused true code answer given e = cc
 not_refused false code answer given e = (refl, e)
 
 module _ (c : Configuration) (r : Request) where
-  -- a call is made by the one whose token the request carries
+  -- a call is made by the client whose token the request has
   pub call_of-caller : (given : Call) → call_of c r ≡ Ok given → actor_of c r.token ≡ caller given
   call_of-caller given e =
       sym (called_at_caller (actor_of c r.token) r.verb (segments_of r.target) given (not_refused (nat_lt MOST_BODY (length r.body)) _ _ given e).1)
 
-  -- and its body isn't too large
+  -- the body of a call isn't too large
   pub call_of-body : (given : Call) → call_of c r ≡ Ok given → length r.body ≤ MOST_BODY
   call_of-body given e = ltb-false _ _ (not_refused (nat_lt MOST_BODY (length r.body)) _ _ given e).0
 
@@ -73,7 +73,7 @@ module _ (c : Configuration) (r : Request) where
   pub operator_asks : (place : ℕ) (what : OperatorCall) → call_of c r ≡ Ok (call.Operator place what) → actor_of c r.token ≡ Operator place
   operator_asks place what e = call_of-caller (call.Operator place what) e
 
-  -- a token of an operator makes no call of the author, and none of another operator
+  -- an operator's token makes no call of the author, and none of another operator
   pub never_author : (place : ℕ) (what : AuthorCall) → actor_of c r.token ≡ Operator place → call_of c r ≡ Ok (call.Author what) → ⊥
   never_author place what a e = let h = author_asks what e in cc
 

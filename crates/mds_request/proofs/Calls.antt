@@ -1,4 +1,4 @@
--- What the table makes of the program's routes.
+-- The table at the program's routes.
 use Rattle.std.proofs.Common.{◌≡◌, ◌≤◌, ℕ, List, length, cond, refl, ◌∙◌, sym, ap, Result, Err}
 use Rattle.std.proofs.lemmas.Bool.{le-ltb}
 use Rattle.mds_request.specs.Call.{call_among, rows_at, called_at, segments_of, call_of}
@@ -39,7 +39,7 @@ pub operator_other : (place : ℕ) (route : Route) (id : List ℕ) (verb : Verb)
 operator_other place route id verb e =
     by_other (Operator place) route id ∙ ap (λ v. called_at (Operator place) v (spelled route id)) (sym e)
 
--- the call at the place that a target names
+-- the call at the route that a target leads to
 pub answered : (c : Configuration) (r : Request) (actor : Actor) (route : Route) (id : List ℕ) (found : Result Call Code) → length r.body ≤ MOST_BODY → actor ≡ actor_of c r.token → spelled route id ≡ segments_of r.target → found ≡ called_at actor r.verb (spelled route id)
     → found ≡ call_of c r
 answered c r actor route id found small a s e =

@@ -1,4 +1,4 @@
--- What is found by a router whose routes lead where the table says.
+-- The result of a router whose routes lead where the table says.
 use Rattle.std.proofs.Common.{◌≡◌, ℕ, List, [], length, codes, Option, Some, None, unwrap_or, MatchOption, ap, sym, ◌∙◌, subst}
 use Rattle.std.proofs.Math.Logic.{∥∥₁_elim}
 use Rattle.std.proofs.Props.{props}
@@ -18,7 +18,7 @@ segments_prop a b = hlevel props
 number_prop : (a b : ℕ) → IsProp (a ≡ b)
 number_prop a b = hlevel props
 
--- what `get` lends, or no text, is what is named
+-- the parameter that `get` borrows, or the empty text, is the named one
 got_named : (got : Option (Bor (List ℕ))) (none : Bor (List ℕ)) (wanted : Option (List ℕ)) → none.now ≡ [] → MatchOption got (wanted ≡ None) (λ v. wanted ≡ Some v.now) → unwrap_or wanted [] ≡ (unwrap_or got none).now
 got_named None none wanted e h = ap (λ w. unwrap_or w []) h ∙ sym e
 got_named (Some v) none wanted e h = ap (λ w. unwrap_or w []) h

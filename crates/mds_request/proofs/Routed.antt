@@ -18,12 +18,12 @@ use Rattle.mds_request.specs.declared.routes.Route.{Route}
 use Rattle.mds_request.specs.declared.routes.Route.TheVariants.{Policies, Policy, Geographies, Geography, FleetEvents, FleetVehicles, FleetVehicle, Compliance, PolicyCompliance, PolicyDraft, GeographyDraft, Publish}
 use Rattle.mds_request.proofs.Seeking.{agrees, AreEnded, found, missing}
 
--- segments, each behind a slash
+-- segments, each after a slash
 abbrev pub join : List (List ℕ) → List ℕ
 join [] = []
 join (s ∷ ss) = 47 ∷ (s ++ join ss)
 
--- what stands before the identifier
+-- the path before the identifier
 abbrev pub front : Route → List ℕ
 front route = join (spelled route [])
 
@@ -34,7 +34,7 @@ abbrev pub by_id : Route → List ℕ × RouteOf Route
 by_id route =
     (front route ++ 256 ∷ [], record { pattern = front route ++ 256 ∷ []; text = front route ++ codes "{id}"; names = (length (front route) + 1, length (front route) + 3) ∷ []; value = route })
 
--- the routes, in a router's order
+-- the routes, in the router's order
 abbrev pub rows : RowsOf (RouteOf Route)
 rows =
     by_id PolicyCompliance ∷ fixed Compliance ∷ by_id GeographyDraft ∷ by_id PolicyDraft ∷ fixed FleetEvents
@@ -59,7 +59,7 @@ id_ascii (suc (suc i)) = omega arith
 id_text : IsUtf8 (codes "id")
 id_text = IsUtf8-from_ascii (codes "id") id_ascii
 
--- a path that agrees with bytes, and what follows
+-- a path that agrees with bytes, and the rest
 agrees-front : (w t path : List ℕ) → ascii w ≡ true → agrees (w ++ t) path ≡ true → (rest : List ℕ) × (path ≡ w ++ rest) × (agrees t rest ≡ true)
 agrees-front [] t path h a = (path, refl, a)
 agrees-front (x ∷ w) t [] h a = cc
@@ -148,13 +148,13 @@ front_start w len h l =
     let same : 0 + length w ≡ length w = omega arith in
     wild_from-front w len 0 0 h (omega arith) ∙ ap (λ n. (n, n)) same
 
--- what the parameter takes
+-- what the parameter matches
 walk-id : (w text rest : List ℕ) (from to : ℕ) → ascii w ≡ true → walk (w ++ 256 ∷ []) text (w ++ rest) ((from, to) ∷ []) 0 0 ≡ (part_of text from to, rest) ∷ []
 walk-id w text rest from to h =
     let whole : length (w ++ rest) ≡ length w + length rest = length-append w rest in
     rw (front_start w (length (w ++ rest)) h (omega (arith, whole)), stop_at w (w ++ rest) (length w), part_of-back w rest) refl
 
--- a route with one
+-- a route with an identifier
 by_id_leads : (route : Route) → ascii (front route) ≡ true
     → ((rest : List ℕ) → slice_split is_slash rest ≡ rest ∷ [] → slice_split is_slash (front route ++ rest) ≡ [] ∷ spelled route rest)
     → ((rest : List ℕ) → is_empty rest ≡ false → list_any is_empty (spelled route rest) ≡ false)
@@ -304,7 +304,7 @@ segments_no_fit part parts path h u d =
     ap (fits (part ∷ parts)) (in_text path (slice_split is_slash path) u refl)
     ∙ behind_slash_no_fit part parts (slice_split is_slash path) path h d (pieces_slashless path) (pieces_joined path)
 
--- what is found leads there
+-- the route that is found leads there
 some_leads : (path : List ℕ) (route : RouteOf Route) → IsUtf8 path → first rows path ≡ Some route → Leads path (Some route)
 some_leads path route u f =
     found (λ r. Leads path (Some r)) route path rows are_ended

@@ -1,4 +1,4 @@
--- Which paths a router finds whose routes end where they have a parameter.
+-- Which paths a router finds whose routes can have a parameter only at their end.
 use Rattle.std.proofs.Common.{◌≡◌, ℕ, zero, suc, ◌-◌, Bool, true, false, not, ◌&&◌, ◌==◌, cond, ltb, List, [], ◌∷◌, length, Option, Some, None, refl, ap, sym, ◌∙◌, subst, arith}
 use Rattle.std.proofs.lemmas.Bool.{and_parts, and_from, and_right, eqb-true}
 use Rattle.matchit.specs.Rows.{RowsOf}
@@ -8,12 +8,12 @@ abbrev pub nil : List ℕ → Bool
 nil [] = true
 nil (x ∷ xs) = false
 
--- a pattern has a parameter at its end alone, and no catch-all
+-- a pattern has a parameter only at its end, and no catch-all
 abbrev pub ended : List ℕ → Bool
 ended [] = true
 ended (x ∷ t) = cond (ltb x 256) (ended t) ((x == 256) && nil t)
 
--- a path is the pattern's, a parameter being the rest of it, which has no slash
+-- a path agrees with the pattern, where a parameter is the rest of the path, without a slash
 abbrev pub agrees : List ℕ → List ℕ → Bool
 agrees [] [] = true
 agrees [] (b ∷ path) = false
@@ -125,7 +125,7 @@ module _ {K : Type 0} where
   seek-skip rows [] = refl
   seek-skip rows (b ∷ path) = seek-skip rows path
 
-  -- a parameter at the end takes the rest, where that has no slash
+  -- a parameter at the end matches the rest, where that has no slash
   after_slash : (rows : RowsOf K) (b : ℕ) (path : List ℕ) (slash : Bool) → seek ((cond {A = ℕ × RowsOf K} slash (0, []) (length (b ∷ path), rows)).0 - 1) (cond {A = ℕ × RowsOf K} slash (0, []) (length (b ∷ path), rows)).1 path ≡ cond slash None (own rows)
   after_slash rows b path true = seek-none _ path
   after_slash rows b path false = rw (one_less (length path)) (seek-skip rows path)
@@ -172,7 +172,7 @@ module _ {K : Type 0} where
   slash-found Q e o true f h = cc
   slash-found Q e o false f h = f refl h
 
-  -- what is found is a row with which the path agrees
+  -- what is found is a row that the path agrees with
   pub found : (Q : K → Type 0) (e : K) (path : List ℕ) (rows : RowsOf K) → AreEnded rows → Each (λ t k. agrees t path ≡ true → Q k) rows → seek 0 rows path ≡ Some e → Q e
   unfolding seek
   found Q e [] rows h g f = own-found Q e rows g f

@@ -1,4 +1,4 @@
--- What a request calls for, or the first refusal.
+-- The call of a request, or the first refusal.
 use Prim.Native.String.{String}
 use Rattle.std.specs.Prelude.{ℕ, List, [], ◌∷◌, Bool, true, false, ◌&&◌, ◌==◌, nat_lt, bytes_eq, codes, length, filter, if◌then◌else◌, Option, Some, None, option_map, Result, Ok, Err}
 use Rattle.std.specs.List.{list_any, before_first, slice_split}
@@ -26,7 +26,8 @@ pub data Part : Type 0 where
   word : (text : String) → Part
   id : Part
 
--- one row of the table: a method and a path, and what each of the two calls for there, by the identifier in the path
+-- one row of the table: a method and a path, and the calls there of the author and of an operator, given the identifier
+-- in the path
 pub record Row : Type 0 where
   pub verb : Verb
   pub path : List Part
@@ -64,14 +65,14 @@ table =
 abbrev pub is_query_mark : ℕ → Bool
 is_query_mark b = b == 63
 
--- The path is what stands before the first `?` of the target (RFC 3986, section 3.4).
+-- The path is the part of the target before the first `?` (RFC 3986, section 3.4).
 abbrev pub path_of : List ℕ → List ℕ
 path_of target = before_first is_query_mark target
 
 abbrev pub is_slash : ℕ → Bool
 is_slash b = b == 47
 
--- no byte
+-- whether there are no bytes
 abbrev pub is_empty : List ℕ → Bool
 is_empty [] = true
 is_empty (b ∷ bs) = false
@@ -80,7 +81,7 @@ is_empty (b ∷ bs) = false
 abbrev pub all_some : List (List ℕ) → List (List ℕ)
 all_some segments = if list_any is_empty segments then [] else segments
 
--- the segments stand behind a path's first slash, with which it begins (RFC 3986, section 3.3); any other path has none
+-- the segments come after a path's first slash, with which it begins (RFC 3986, section 3.3); any other path has none
 abbrev pub behind_slash : List (List ℕ) → List (List ℕ)
 behind_slash ([] ∷ segments) = all_some segments
 behind_slash pieces = []
@@ -106,7 +107,7 @@ id_in (id ∷ parts) (segment ∷ segments) = parsed segment
 id_in (word w ∷ parts) (segment ∷ segments) = id_in parts segments
 id_in parts segments = Some []
 
--- what a row makes for the one who asks
+-- the call of a row for this client
 abbrev pub made : Actor → Row → Option (List ℕ → Call)
 made Author found = option_map (λ f. λ i. call.Author (f i)) found.author
 made (Operator place) found = option_map (λ f. λ i. call.Operator place (f i)) found.operator
@@ -124,14 +125,14 @@ is_verb Post Post = true
 is_verb Delete Delete = true
 is_verb _ _ = false
 
--- the call of the first of these rows that has the method, or this refusal where there are none
+-- the call of the first of these rows with the method, or this refusal where there are no rows
 abbrev pub call_among : Actor → Verb → List (List ℕ) → Code → List Row → Result Call Code
 call_among actor verb segments refusal [] = Err refusal
 call_among actor verb segments refusal (row ∷ rows) =
     if is_verb verb row.verb then call_with (made actor row) (id_in row.path segments)
     else call_among actor verb segments Method rows
 
--- the rows of the table that have the path
+-- the rows of the table with this path
 abbrev pub rows_at : List (List ℕ) → List Row
 rows_at segments = filter (λ row. fits row.path segments) table
 
@@ -139,8 +140,8 @@ abbrev pub called_at : Actor → Verb → List (List ℕ) → Result Call Code
 called_at Nobody verb segments = Err Token
 called_at actor verb segments = call_among actor verb segments NoRoute (rows_at segments)
 
--- The call, or the first refusal in this order: the body is too large, the token is nobody's, no row has the path, no
--- row with the path has the method, the row makes no call for the one who asks, and the identifier is none.
+-- The call, or the first refusal in this order: the body is too large, the token is unknown, no row has the path, no
+-- row with the path has the method, the row has no call for this client, the identifier is no UUID.
 abbrev pub call_of : Configuration → Request → Result Call Code
 call_of configuration request =
     if nat_lt MOST_BODY (length request.body) then Err TooLarge

@@ -3,7 +3,7 @@ use Rattle.std.specs.Prelude.{ℕ, List, ◌++◌, codes}
 use Rattle.mds_request.specs.declared.code.Code.{Code}
 use Rattle.mds_request.specs.declared.code.Code.TheVariants.{BadLine, Clock, BadBody, NoSnapshot, TooLarge, Token, NoRoute, Method, Role, BadId, BadJson, Decimal, BadField, BadNumber, OutOfRange, TooManyRules, TooManyPoints, RingShort, RingOpen, IdMismatch, Future, Stale, FleetFull, DraftsFull, NoDraft, NotFound, Empty, Published, NoGeography, NoPredecessor, NotPublished, CatalogFull, Busy, NoRoom, NoMemory}
 
--- the status and the name of each refusal
+-- the status and the code's name in the body
 abbrev pub told : Code → ℕ × List ℕ
 told BadLine = (400, codes "bad_line")
 told Clock = (503, codes "clock")

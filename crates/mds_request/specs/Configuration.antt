@@ -1,4 +1,4 @@
--- Who may ask, and how much each operator may hold.
+-- A configuration: which clients there are, and how many vehicles each operator may have.
 use Rattle.std.specs.Prelude.{ℕ, ℤ, pos, negsuc, List, [], ◌∷◌, Bool, false, ◌||◌, ◌&&◌, nat_le, ◌==◌, length, map, bytes_eq, if◌then◌else◌, Option, Some, None, Result, Ok, Err, position, string_bytes}
 use Rattle.std.specs.List.{list_all, list_any}
 use Rattle.mds_text.specs.Fault.{Fault, bad_field, out_of_range, too_many_operators, alike, ◌>>=◌}
@@ -16,7 +16,7 @@ use Rattle.mds_request.specs.declared.config.TheConstants.{MOST_OPERATORS, MOST_
 use Rattle.mds_request.specs.declared.config.Actor.{Actor}
 use Rattle.mds_request.specs.declared.config.Actor.TheVariants.{Author, Operator as OperatorAt, Nobody}
 
--- an operator's identifier, the most vehicles that it may hold, and its access token
+-- an operator's identifier, the most vehicles that it may have, and its access token
 pub record Operator : Type 0 where
   pub id : List ℕ
   pub limit : ℕ
@@ -36,7 +36,7 @@ abbrev pub configuration : Config → Configuration
 configuration c =
     record { author = string_bytes c.author; operators = map operator c.operators.items; zone = c.zone }
 
--- some text stands in the list twice
+-- some text is in the list twice
 abbrev pub repeats : List (List ℕ) → Bool
 repeats [] = false
 repeats (x ∷ xs) = list_any (bytes_eq x) xs || repeats xs
@@ -47,7 +47,7 @@ ids operators = map (λ o. o.id) operators
 abbrev pub tokens : List Operator → List (List ℕ)
 tokens operators = map (λ o. o.token) operators
 
--- two operators have one identifier, or two of all access tokens are equal
+-- two operators have the same identifier, or two of all access tokens are equal
 abbrev pub has_alike : Configuration → Bool
 has_alike configuration =
     repeats (ids configuration.operators) || repeats (configuration.author ∷ tokens configuration.operators)
@@ -59,7 +59,7 @@ abbrev pub operator_at : Option ℕ → Actor
 operator_at None = Nobody
 operator_at (Some place) = OperatorAt place
 
--- whose token it is
+-- the client that a token belongs to
 abbrev pub actor_of : Configuration → List ℕ → Actor
 actor_of configuration token =
     if bytes_eq configuration.author token then Author
@@ -80,7 +80,7 @@ access_of field value = text_of field value >>= λ s. if is_access_token s then 
 abbrev pub access_at : Json → Field → Result (List ℕ) Fault
 access_at document field = required_member document field >>= access_of field
 
--- the most vehicles that an operator may hold: 1 to 200,000
+-- the most vehicles that an operator may have: 1 to 200,000
 abbrev pub in_limits : ℤ → Result ℕ Fault
 in_limits (pos n) = if nat_le 1 n && nat_le n MOST_VEHICLES then Ok n else Err out_of_range
 in_limits (negsuc n) = Err out_of_range
@@ -97,7 +97,7 @@ operator_of value = do
   token ← access_at entry Token
   Ok (record { id = id; limit = limit; token = token })
 
--- the operators, in their order; more than 64 are too many, whatever they are
+-- the operators in order; more than 64 are too many, whatever they are
 abbrev pub operators_of : List Json → Result (List Operator) Fault
 operators_of values = if nat_le (length values) MOST_OPERATORS then each operator_of values else Err too_many_operators
 
@@ -107,7 +107,7 @@ operators_at document = required_at list_of document Operators >>= operators_of
 abbrev pub zone_at : Json → Result Zone Fault
 zone_at document = required_at text_of document ZoneName >>= zone_of
 
--- a configuration without two things alike
+-- a configuration without duplicates
 abbrev pub unlike : Configuration → Result Configuration Fault
 unlike configuration = if has_alike configuration then Err alike else Ok configuration
 
@@ -120,6 +120,6 @@ configuration_of value = do
   zone ← zone_at document
   unlike (record { author = author; operators = operators; zone = zone })
 
--- the configuration that a text is
+-- reading a text as a configuration
 abbrev pub read_configuration : List ℕ → Result Configuration Fault
 read_configuration bytes = read_text bytes >>= configuration_of

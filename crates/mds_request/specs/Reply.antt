@@ -1,4 +1,4 @@
--- The answer to a request: a status and one line.
+-- The reply to a request: a status and one line.
 use Rattle.std.specs.Prelude.{ℕ, List, Bool, IsTrue, not, ◌==◌}
 use Rattle.std.specs.List.{list_all}
 use Rattle.mds_request.specs.declared.code.Code.{Code}
@@ -14,7 +14,7 @@ pub record Reply : Type 0 where
 abbrev pub is_line : List ℕ → Bool
 is_line body = list_all (λ b. not (b == 10)) body
 
--- what was asked is done, with this body
+-- a success with this body
 abbrev pub success : List ℕ → Reply
 success body = record { status = 200; body = body }
 
@@ -22,7 +22,7 @@ success body = record { status = 200; body = body }
 abbrev pub refused : Code → Reply
 refused code = record { status = status_of code; body = body_of code }
 
--- the answer that a `Reply` stands for
+-- the value of a `Reply`
 abbrev pub answer_of : Content → Reply
 answer_of (Success body) = success body.items
 answer_of (Refused code) = refused code

@@ -20,7 +20,7 @@ pub record Request : Type 0 where
   pub target : List ℕ
   pub body : List ℕ
 
--- the request that a `Request` stands for
+-- the value of a `Request`
 abbrev pub request_of : Lent → Request
 request_of r =
     record { at = r.at; token = r.token.now; verb = r.verb; target = r.target.now; body = r.body.now }

@@ -1,4 +1,4 @@
--- Where the program's routes lead.
+-- Where the program's router leads.
 use Rattle.std.specs.Prelude.{◌≡◌, ℕ, List, [], ◌∷◌, length, codes, Option, Some, None, unwrap_or, Result, Ok, Err}
 use denote.Ref.{Bor}
 use Rattle.std.specs.Str.{IsUtf8}
@@ -12,7 +12,7 @@ use Rattle.mds_request.specs.declared.code.Code.TheVariants.{NoRoute}
 use Rattle.mds_request.specs.declared.routes.Route.{Route}
 use Rattle.mds_request.specs.declared.routes.Route.TheVariants.{Policies, Policy, Geographies, Geography, FleetEvents, FleetVehicles, FleetVehicle, Compliance, PolicyCompliance, PolicyDraft, GeographyDraft, Publish}
 
--- the segments of a route's path with this identifier
+-- the segments of a route's path, with this identifier
 abbrev pub spelled : Route → List ℕ → List (List ℕ)
 spelled Policies id = codes "policies" ∷ []
 spelled Policy id = codes "policies" ∷ id ∷ []
@@ -27,7 +27,7 @@ spelled PolicyDraft id = codes "drafts" ∷ codes "policies" ∷ id ∷ []
 spelled GeographyDraft id = codes "drafts" ∷ codes "geographies" ∷ id ∷ []
 spelled Publish id = codes "publish" ∷ []
 
--- what the parameters of a route take of a path
+-- what the parameters of a route match in a path
 abbrev pub taken : RouteOf Route → List ℕ → List (List ℕ × List ℕ)
 taken route path = walk route.pattern route.text path route.names 0 0
 
@@ -41,7 +41,7 @@ Leads path (Some route) =
 abbrev pub AllLead : RowsOf (RouteOf Route) → Type 0
 AllLead routes = (path : List ℕ) → IsUtf8 path → Leads path (first routes path)
 
--- the same of what is answered
+-- the same of the result
 abbrev pub Finds : List (List ℕ) → Result (Route × Bor (List ℕ)) Code → Type 0
 Finds segments (Ok found) = spelled found.0 found.1.now ≡ segments
 Finds segments (Err code) = (code ≡ NoRoute) × (length (rows_at segments) ≡ 0)

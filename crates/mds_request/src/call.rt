@@ -1,4 +1,4 @@
-//! From a request to its call.
+//! From a request to its call: what the client asks for.
 ghost use Rattle.std.specs.Prelude.{◌≡◌, Some, None, IfOk, IfErr};
 ghost use Rattle.uuid.specs.Text.{parsed};
 ghost use Rattle.mds_request.specs.Call.{call_of, called_at};
@@ -18,7 +18,7 @@ use mds_text::{DraftKind, Id};
 /// The most bytes of a request's body.
 pub const MOST_BODY: usize = 1_048_576;
 
-/// What the author calls for.
+/// A call of the author.
 #[derive(Clone, Copy, PartialEq, Eq)]
 pub enum AuthorCall {
     /// All published policies.
@@ -29,54 +29,55 @@ pub enum AuthorCall {
     Geographies,
     /// A published geography.
     Geography(Id),
-    /// To keep the body as a draft, in place of one under this identifier.
+    /// Stores the body as a draft; it replaces one with this identifier.
     PutDraft(DraftKind, Id),
     /// A draft.
     Draft(DraftKind, Id),
-    /// To drop a draft.
+    /// Drops a draft.
     DropDraft(DraftKind, Id),
-    /// To publish the drafts that the body names, and to withdraw the published policies that it names.
+    /// Publishes the drafts that the body names, and withdraws the published policies that it names.
     Publish,
 }
 
-/// What an operator calls for.
+/// A call of an operator.
 #[derive(Clone, Copy, PartialEq, Eq)]
 pub enum OperatorCall {
-    /// The published policies that are meant for it.
+    /// The published policies that are meant for the operator.
     Policies,
-    /// A published policy that is meant for it.
+    /// A published policy that is meant for the operator.
     Policy(Id),
     /// All published geographies.
     Geographies,
     /// A published geography.
     Geography(Id),
-    /// To take the body as a report of a vehicle.
+    /// Takes the body as a report of a vehicle.
     Report,
-    /// Its vehicles.
+    /// The operator's vehicles.
     Vehicles,
-    /// To forget one of its vehicles.
+    /// Removes one of the operator's vehicles.
     RemoveVehicle(Id),
-    /// How its vehicles stand to all policies in force for it.
+    /// The compliance of the operator's vehicles with all policies in force for it.
     Compliance,
-    /// How they stand to one of these.
+    /// Their compliance with one of these.
     PolicyCompliance(Id),
 }
 
-/// What a request calls for, by who asks.
+/// A call, with the client that makes it.
 #[derive(Clone, Copy, PartialEq, Eq)]
 pub enum Call {
+    /// A call of the author.
     Author(AuthorCall),
-    /// By the operator at this place of the configuration.
+    /// A call of the operator at this index of the configuration.
     Operator(usize, OperatorCall),
 }
 
-/// What a request calls for.
+/// The call of a request.
 ///
 /// # Errors
 ///
-/// The first of these refusals: the body is over its limit (`TooLarge`), the access token is
-/// nobody's (`Token`), no call has the path (`NoRoute`), none there has the method (`Method`), the
-/// call isn't for the one who asks (`Role`), the identifier in the path is none (`BadId`).
+/// The first of these refusals: the body is over its limit (`TooLarge`), the access token is unknown (`Token`), no call
+/// has the path (`NoRoute`), none with the path has the method (`Method`), the call isn't for this client (`Role`), the
+/// identifier in the path is no UUID (`BadId`).
 pub fn read_call(routes: &Routes, config: &Config, request: &Request) -> Result<Call, Code>
     ensures { result ≡ call_of (configuration config.now) (request_of request.now) }
 {
@@ -216,7 +217,7 @@ fn operator_delete(place: usize, route: Route, id: &str) -> Result<Call, Code>
     }
 }
 
-/// The identifier in a path, a UUID (RFC 9562, section 4).
+/// Reads the identifier in a path, a UUID (RFC 9562, section 4).
 fn read_id(segment: &str) -> Result<Id, Code>
     ensures read { IfOk result (λ id. parsed segment.now ≡ Some id) }
     ensures refused { IfErr result (λ code. (code ≡ BadId) × (parsed segment.now ≡ None)) }

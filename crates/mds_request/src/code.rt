@@ -1,33 +1,34 @@
+//! The codes of refusals.
 /// Why a request is refused.
 #[derive(Clone, Copy, Debug, PartialEq, Eq)]
 pub enum Code {
     /// A line of a replay is no request.
     BadLine,
-    /// The machine's clock gives no moment: for a server that reads one.
+    /// The machine's clock gives no moment: of a server that reads one.
     Clock,
-    /// The body broke off: for a server that takes it from a connection.
+    /// The body broke off: of a server that reads it from a connection.
     BadBody,
-    /// The published catalogue can't be looked at: for a server that shares it.
+    /// There is no snapshot of the published catalogue: of a server that shares it.
     NoSnapshot,
     /// The body is over its limit.
     TooLarge,
-    /// The access token is nobody's, or not the one that is served here.
+    /// The access token is unknown, or isn't the one that is served here.
     Token,
     /// No route has this path.
     NoRoute,
-    /// The route hasn't this method.
+    /// The path has no route with this method.
     Method,
-    /// The method isn't for the one who asks.
+    /// The call isn't for this client.
     Role,
     /// The identifier in the path is no UUID (RFC 9562).
     BadId,
-    /// The body is no JSON (RFC 8259) or no UTF-8.
+    /// The body is no JSON (RFC 8259) or not UTF-8.
     BadJson,
-    /// A policy has a number that isn't a plain whole one.
+    /// A number of a policy isn't a plain whole number.
     Decimal,
-    /// A member is missing, or of another kind than it has to be.
+    /// A member is missing, or isn't of the kind that it has to be.
     BadField,
-    /// A text where a number has to be is no number.
+    /// A text in the place of a number is no number.
     BadNumber,
     /// A number is too small or too large.
     OutOfRange,
@@ -39,37 +40,37 @@ pub enum Code {
     RingShort,
     /// A ring's last position isn't its first (RFC 7946, section 3.1.6).
     RingOpen,
-    /// A draft's own identifier isn't the path's.
+    /// A draft's own identifier isn't the one in the path.
     IdMismatch,
     /// A report's timestamp is after the request's moment.
     Future,
-    /// The device is held with a later timestamp.
+    /// The device's row has a later timestamp.
     Stale,
-    /// The device isn't held, and the operator holds as many as it may.
+    /// The device has no row, and the operator has as many vehicles as its limit.
     FleetFull,
-    /// The draft isn't held, and as many of its kind are as may be.
+    /// The draft is new, and there are as many of its kind as the limit.
     DraftsFull,
-    /// There is no draft under this identifier.
+    /// There is no draft with this identifier.
     NoDraft,
-    /// There is no such document, device or policy in force for the one who asks.
+    /// There is no such document, device or policy in force for this client.
     NotFound,
     /// A publish request names nothing: no draft, and no policy to withdraw.
     Empty,
-    /// A document under this identifier is published already.
+    /// A document with this identifier is already published.
     Published,
     /// A geography of a rule is missing.
     NoGeography,
-    /// A policy that is to be replaced isn't published.
+    /// A policy to replace isn't published.
     NoPredecessor,
-    /// A policy that is to be withdrawn isn't published.
+    /// A policy to withdraw isn't published.
     NotPublished,
-    /// The batch doesn't fit the limits of the catalogue.
+    /// The batch would pass a limit of the catalogue.
     CatalogFull,
-    /// Too much of the one who asks waits: for a server that lets requests wait.
+    /// Too much of this client's waits: of a server that lets requests wait.
     Busy,
-    /// The disk has no room for a record of the request: for a server that keeps a journal.
+    /// There is no disk space for a record of the request: of a server with a journal.
     NoRoom,
-    /// Memory ran out, and nothing has changed.
+    /// Out of memory, and nothing has changed.
     NoMemory,
 }
 

@@ -1,3 +1,4 @@
+//! Why a text is no configuration.
 use mds_match::ZoneFault;
 use mds_text::TextFault;
 use std::alloc::{AllocError, AllocFailed};
@@ -7,16 +8,16 @@ use std::fmt;
 /// Why a text is no configuration.
 #[derive(Clone, Copy, Debug)]
 pub enum ConfigFault {
-    /// The text is no JSON, or a member isn't what it has to be. Never `NoMemory` where a
-    /// configuration was read.
+    /// The text is no JSON, or a member isn't what it has to be. Never `NoMemory` where
+    /// `Config::read` returned it.
     Text(TextFault),
     /// There are more than 64 operators.
     TooManyOperators,
-    /// The text of the time zone names none.
+    /// The text of `zone` is no time zone.
     BadZone,
-    /// Two operators have one identifier, or two access tokens are equal.
+    /// Two operators have the same identifier, or two access tokens are equal.
     Alike,
-    /// Memory ran out.
+    /// Out of memory.
     NoMemory,
 }
 
@@ -80,7 +81,8 @@ impl ConfigFault {
     ghost use Rattle.std.specs.Prelude.{◌≡◌};
     ghost use Rattle.mds_request.specs.Fault.{config_cause, IsApart};
 
-    /// The same fault, with want of memory told by itself.
+    /// The same fault, with out of memory as `ConfigFault::NoMemory` instead of a fault of the
+    /// text.
     pub(crate) fn apart(self) -> ConfigFault
         ensures cause { config_cause result ≡ config_cause self }
         ensures apart { IsApart result }

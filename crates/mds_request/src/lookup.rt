@@ -1,4 +1,4 @@
-//! Operators by their access tokens, and whether a configuration names one thing twice.
+//! Looks operators up by access token, and finds duplicates in a configuration.
 ghost use Rattle.std.specs.Prelude.{◌≡◌, ◌∷◌, ◌||◌, map, position, bytes_eq};
 ghost use Rattle.std.specs.List.{list_any};
 ghost use Rattle.mds_request.specs.Configuration.{operator, has_token, ids, tokens, repeats};
@@ -6,7 +6,7 @@ ghost use Rattle.mds_request.specs.Configuration.{operator, has_token, ids, toke
 use crate::config::Operator;
 use mds_text::Id;
 
-/// The place of the first operator with this access token.
+/// The index of the first operator with this access token.
 pub(crate) fn place_of(operators: &[Operator], token: &[u8]) -> Option<usize>
     ensures { result ≡ position (λ o. has_token token.now (operator o)) operators.now }
 {
@@ -15,7 +15,7 @@ pub(crate) fn place_of(operators: &[Operator], token: &[u8]) -> Option<usize>
         .position(|operator| operator.token.as_bytes() == token)
 }
 
-/// Whether two operators have one identifier, or two of all access tokens are equal.
+/// Whether two operators have the same identifier, or two of all access tokens are equal.
 pub(crate) fn are_alike(author: &str, operators: &[Operator]) -> bool
     ensures { result ≡ repeats (ids (map operator operators.now)) || repeats (author.now ∷ tokens (map operator operators.now)) }
 {

@@ -1,4 +1,4 @@
-//! The members of a configuration.
+//! Reading the members of a configuration.
 ghost use Rattle.std.specs.Prelude.{◌≡◌, ◌≤◌, map, vec_len, length, IfOk};
 ghost use Rattle.std.specs.List.{list_all};
 ghost use Rattle.mds_text.specs.Fault.{Gives, text_cause};
@@ -20,7 +20,7 @@ use mds_reading::{
 use mds_text::{Field, TextFault};
 use std::alloc::Global;
 
-/// The configuration that a text is. Want of memory may be told as a fault of the text.
+/// Reads a configuration. Out of memory may be reported as a fault of the text.
 pub(crate) fn config_from(alloc: Global, text: &[u8]) -> Result<Config, ConfigFault>
     ensures { Gives config_cause configuration result (read_configuration text.now) }
 {
@@ -47,14 +47,14 @@ fn config_of(alloc: Global, tree: &Node<'_>) -> Result<Config, ConfigFault>
     })
 }
 
-/// An access token that has to be there.
+/// A required member that is an access token.
 fn access_at<'a>(document: &Node<'a>, field: Field) -> Result<&'a str, TextFault>
     ensures { Gives text_cause (λ s. s.now) result (access_at (node_view document.now) field) }
 {
     access_of(required_member(document, field)?, field)
 }
 
-/// 1 to 64 letters, digits, `-` and `_`.
+/// An access token: 1 to 64 letters, digits, `-` and `_`.
 fn access_of<'a>(value: &Node<'a>, field: Field) -> Result<&'a str, TextFault>
     ensures { Gives text_cause (λ s. s.now) result (access_of field (node_view value.now)) }
 {
@@ -84,7 +84,7 @@ fn is_access_byte(byte: u8) -> bool
     byte.is_ascii_alphanumeric() || byte == b'-' || byte == b'_'
 }
 
-/// The operators that have to be there.
+/// The required member `operators`.
 fn operators_at(alloc: Global, document: &Node<'_>) -> Result<Vec<Operator>, ConfigFault>
     ensures reading { Gives config_cause (λ v. map operator v.items) result (operators_at (node_view document.now)) }
     ensures few { IfOk result (λ v. vec_len v ≤ MOST_OPERATORS) }
@@ -98,7 +98,7 @@ fn operators_at(alloc: Global, document: &Node<'_>) -> Result<Vec<Operator>, Con
     Ok(operators)
 }
 
-/// Each operator in its order, up to the first fault.
+/// The operators in order, up to the first fault.
 fn operators_of(alloc: Global, entries: &[Node<'_>]) -> Result<Vec<Operator>, TextFault>
     ensures reading { Gives text_cause (λ v. map operator v.items) result (each operator_of (map node_view entries.now)) }
     ensures count { IfOk result (λ v. vec_len v ≡ length entries.now) }
@@ -121,7 +121,7 @@ fn operator_of(alloc: Global, value: &Node<'_>) -> Result<Operator, TextFault>
     Ok(Operator { id, limit, token })
 }
 
-/// From 1 to `MOST_VEHICLES`.
+/// The member `limit`, from 1 to `MOST_VEHICLES`.
 fn limit_at(entry: &Node<'_>) -> Result<usize, TextFault>
     ensures reading { Gives text_cause (λ n. n) result (limit_at (node_view entry.now)) }
     ensures least { IfOk result (λ n. 1 ≤ n) }
@@ -144,7 +144,7 @@ fn in_limits(limit: i64) -> Result<usize, TextFault>
     }
 }
 
-/// The time zone that has to be there.
+/// The required member `zone`.
 fn zone_at(document: &Node<'_>) -> Result<Zone, ConfigFault>
     ensures { Gives config_cause (λ z. z) result (zone_at (node_view document.now)) }
 {

@@ -1,15 +1,18 @@
+//! The reply to a request.
 use crate::code::Code;
 use std::alloc::{AllocError, Global};
 use std::marker::Model;
 
-/// What a reply says.
+/// The content of a reply.
 #[derive(Drop)]
 enum Content {
+    /// Status 200 with this body.
     Success(Vec<u8>),
+    /// The status and the body of this refusal.
     Refused(Code),
 }
 
-/// The answer to a request: a status and a body, which is one line of JSON. Contracts see the two.
+/// The reply to a request: a status and a body, which is one line of JSON. Contracts see the two.
 #[derive(Drop)]
 pub struct Reply {
     content: Content,
@@ -29,7 +32,7 @@ impl Reply {
     ghost use Rattle.std.specs.Prelude.{◌≡◌, IfOk, IsTrue};
     ghost use Rattle.mds_request.specs.Reply.{is_line, success};
 
-    /// What was asked is done: status 200 with this body, which has no line feed.
+    /// A success: status 200 with this body, which has no line feed.
     pub fn ok(body: Vec<u8>) -> Reply
         requires { IsTrue (is_line body.items) }
         ensures { result ≡ success body.items }
@@ -49,7 +52,7 @@ impl Reply {
         }
     }
 
-    /// The body: one line, without its end.
+    /// The body: one line, without the line feed.
     pub fn body(&self) -> &[u8]
         ensures body { result.now ≡ self.now.body }
         ensures line { IsTrue (is_line result.now) }
@@ -60,11 +63,11 @@ impl Reply {
         }
     }
 
-    /// The body itself: that of a success isn't copied.
+    /// The body, owned: that of a success isn't copied.
     ///
     /// # Errors
     ///
-    /// There was no memory for the body of a refusal.
+    /// Out of memory for the body of a refusal.
     pub fn into_body(self, alloc: Global) -> Result<Vec<u8>, AllocError>
         ensures { IfOk result (λ body. body.items ≡ self.body) }
     {

@@ -1,4 +1,4 @@
-//! The route that a target names.
+//! The table of routes, and the route of a target.
 ghost use Rattle.std.specs.Prelude.{◌≡◌, ◌<◌, length, position, IfOk, IfSome, Ok};
 ghost use Rattle.matchit.specs.Route.{parse_route};
 ghost use Rattle.matchit.specs.Router.{InsertsRead};
@@ -10,7 +10,7 @@ use matchit::Router;
 use std::alloc::{AllocError, Global};
 use std::str;
 
-/// What a path names. `{id}` stands for one segment, which isn't empty.
+/// A route: the path of a call. `{id}` stands for one segment, which isn't empty.
 #[derive(Clone, Copy)]
 pub(crate) enum Route {
     /// `/policies`
@@ -39,7 +39,7 @@ pub(crate) enum Route {
     Publish,
 }
 
-/// The table of routes.
+/// The router with all routes.
 #[derive(Drop)]
 pub struct Routes {
     router: Router<Route>,
@@ -47,11 +47,11 @@ pub struct Routes {
 }
 
 impl Routes {
-    /// All routes of the server.
+    /// The router with all routes of the server.
     ///
     /// # Errors
     ///
-    /// Where memory runs out.
+    /// Out of memory.
     pub fn new(alloc: Global) -> Result<Routes, AllocError> {
         let mut router = Router::new(alloc);
         add(&mut router, "/policies", Route::Policies)?;
@@ -73,8 +73,8 @@ impl Routes {
         Ok(Routes { router })
     }
 
-    /// What a target names, with the identifier in its path, which is empty where the route has
-    /// none. The query behind the first `?` is ignored.
+    /// The route of a target, with the identifier in its path, which is empty where the route has
+    /// none. The query after the first `?` is ignored.
     pub(crate) fn find<'a>(&self, target: &'a [u8]) -> Result<(Route, &'a str), Code>
         ensures { Finds (segments_of target.now) result }
     {
@@ -103,7 +103,7 @@ fn add(router: &mut Router<Route>, path: &str, route: Route) -> Result<(), Alloc
     }
 }
 
-/// The path: what stands before the first `?` (RFC 3986, section 3.4).
+/// The path of a target: the bytes before the first `?` (RFC 3986, section 3.4).
 fn path_of(target: &[u8]) -> &[u8]
     ensures { result.now ≡ path_of target.now }
 {

@@ -1,4 +1,4 @@
--- A response with a field more.
+-- A response with one more header field.
 use Rattle.std.specs.Prelude.{◌≡◌, ℕ, List}
 use Rattle.http_header.specs.FieldValue.{FieldValue}
 use Rattle.http_header.specs.HeaderMap.{insert}

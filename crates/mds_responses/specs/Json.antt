@@ -5,7 +5,8 @@ use Rattle.http.specs.Response.{head_of, body_of}
 use Rattle.http.specs.declared.response.Response.{Response}
 use Rattle.http_body_util.specs.declared.full.Full.{Full}
 
--- It has this status and body, and its only field says that the body is JSON (RFC 9110, section 8.3; RFC 8259, section 11).
+-- it has this status and body, and its only field says that the body is JSON (RFC 9110, section 8.3; RFC 8259, section
+-- 11)
 pub record IsJson (code : ℕ) (text : List ℕ) (response : Response (Full (List ℕ))) : Type 0 where
   pub status : (head_of response).status ≡ code
   pub body : (body_of response).buf ≡ (if length text == 0 then None else Some text)

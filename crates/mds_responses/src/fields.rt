@@ -1,4 +1,4 @@
-//! Fields of responses.
+//! Header fields of responses.
 ghost use Rattle.std.specs.Prelude.{◌≡◌, IfOk, OnErr, OnOk};
 ghost use Rattle.http_header.specs.HeaderMap.{insert};
 ghost use Rattle.mds_responses.specs.Field.{HasField};
@@ -8,14 +8,14 @@ use http::{HeaderMap, HeaderName, HeaderValue, Response};
 use http_body_util::Full;
 use std::alloc::AllocError;
 
-/// A response whose body is there as one piece, or that there was no memory for it.
+/// A response with its whole body, or out of memory.
 pub type HttpResult = Result<Response<Full<Bytes>>, AllocError>;
 
-/// Sets a field to a value, in place of all that it had (RFC 9110, section 5).
+/// Sets a field to a value, in place of all its former values (RFC 9110, section 5).
 ///
 /// # Errors
 ///
-/// Memory ran out, and the fields are as they were.
+/// Out of memory: the fields are as they were.
 pub fn set_field(
     headers: &mut HeaderMap,
     name: HeaderName,
@@ -34,7 +34,7 @@ pub fn set_field(
 ///
 /// # Errors
 ///
-/// Memory ran out.
+/// Out of memory.
 pub fn with_field(
     response: Response<Full<Bytes>>,
     name: HeaderName,

@@ -13,7 +13,7 @@ use std::alloc::Global;
 ///
 /// # Errors
 ///
-/// Memory ran out.
+/// Out of memory.
 pub fn json_response(alloc: Global, status: StatusCode, body: Bytes) -> HttpResult
     ensures { IfOk result (IsJson status body) }
 {

@@ -1,4 +1,4 @@
-//! What responses are made of: a field more, and a status with a body of JSON.
+//! HTTP responses: one more header field, and a status with a body of JSON.
 #![tactic(auto)]
 
 mod fields;

@@ -1,4 +1,4 @@
--- What isn't kept may_change nothing; runs of what is kept.
+-- Exchanges that aren't persisted change nothing; runs of those that are.
 use Rattle.std.proofs.Common.{◌≡◌, ◌≢◌, ℕ, zero, suc, Bool, true, false, cond, List, [], ◌∷◌, ◌++◌, set, get_or, drop}
 use Rattle.std.proofs.Common.{Option, Some, None, Result, Ok, Err, ◌⊎◌, inl, inr, refl, sym, ap, subst, ◌∙◌, arith}
 use Rattle.std.specs.Prelude.{◌&&◌, ◌==◌}
@@ -43,7 +43,7 @@ operator_step w place found held call request =
 abbrev lifted : State → ℕ → Result (Reply × Rows) Code → Reply × State
 lifted w place own = settled w (own >>= λ after. Ok (after.0, with_rows w place after.1))
 
--- ---- what leaves the state
+-- ---- what leaves the state unchanged
 
 set_same : (fleets : List Rows) (place : ℕ) (rows : Rows) → slice_get fleets place ≡ Some rows → set fleets place rows ≡ fleets
 set_same [] place rows is = refl
@@ -252,9 +252,9 @@ changes_apart configuration operator publications others rows request (Ok (call.
 changes_apart configuration operator publications others rows request (Ok (call.Operator place own)) is =
     ap (settled rows) (own_apart configuration.zone operator publications others rows place own request is)
 
--- ---- fronts
+-- ---- prefixes
 
--- a front of a history of which just this is kept
+-- a prefix of a history of which just this is persisted
 abbrev StopsAt : Configuration → List Exchange → List Exchange → Type 0
 StopsAt configuration history front =
     (before : List Exchange) × (later : List Exchange) × (history ≡ before ++ later) × (kept configuration before ≡ front)

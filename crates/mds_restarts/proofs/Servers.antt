@@ -1,4 +1,4 @@
--- Turns that are kept, answered again.
+-- Replays of a desk's persisted turns.
 use mathlib.Core.List.{IsPrefix}
 use Rattle.std.proofs.Common.{◌≡◌, ◌≢◌, ℕ, Bool, true, false, cond, List, [], ◌∷◌, ◌++◌, get_or, drop, Result, Ok, Err, ◌⊎◌, inl, inr, refl, sym, ap, subst, ◌∙◌, arith}
 use Rattle.std.specs.Prelude.{◌&&◌, ◌==◌}
@@ -92,7 +92,7 @@ module _ (configuration : Configuration) (place : ℕ) (operator : Operator) whe
   both_true true b e = (refl, e)
   both_true false b e = absurd cc
 
-  -- a turn that isn't kept leaves the rows
+  -- a turn that isn't persisted leaves the rows unchanged
   turn_left : (known : List Publication) (rows after : Rows) (turn : Turn) → IsTurn configuration place operator known rows turn after
       → is_kept configuration (record { request = turn.request; reply = turn.reply }) ≡ false → after ≡ rows
   turn_left known rows after turn t isnt = elim t.answer [

@@ -1,4 +1,5 @@
--- What journals of the author's room and of desks are good for, and the one server that goes on over a restart.
+-- What replay of a journal recovers of the author's room and of desks, and the one server that continues over a
+-- restart.
 use mathlib.Core.List.{IsPrefix}
 use Rattle.std.specs.Prelude.{◌≡◌, ℕ, List, [], ◌++◌, filter, Some, slice_get}
 use Rattle.std.specs.List.{AllByRecursion}
@@ -13,19 +14,19 @@ use Rattle.mds_fronts.specs.OneHistory.{HasServed}
 use Rattle.mds_fronts.specs.Room.{AreRoomTurns, authors_in}
 use Rattle.mds_restarts.specs.Kept.{is_kept, AreAnsweredAgain}
 
--- what is kept of a desk's turns: their requests and replies decide, and not their fronts
+-- a desk's turns that are persisted: their requests and replies decide, not their fronts
 abbrev pub kept_turns : Configuration → List Turn → List Turn
 kept_turns configuration turns = filter (λ turn. is_kept configuration (record { request = turn.request; reply = turn.reply })) turns
 
 abbrev pub AreServed : List Turn → Type 0
 AreServed turns = AllByRecursion (λ turn. turn.reply.status ≡ 200) turns
 
--- these turns are what is kept requests answered again, each with success
+-- these turns are a replay of the persisted requests, each with success
 abbrev pub AreTurnsAgain : Configuration → List Turn → List Turn → Type 0
 AreTurnsAgain configuration turns again = AreServed again × (requests_in again ≡ requests_in (kept_turns configuration turns))
 
--- What is kept of a desk's turns, answered again with success from the same rows, at whatever fronts, has the same replies, and
--- leads to the same rows.
+-- The persisted requests of a desk's turns, replayed with success from the same rows, at whatever fronts, have the same
+-- replies, and lead to the same rows.
 abbrev pub DeskIsRecovered : Type 0
 DeskIsRecovered =
     (configuration : Configuration) (place : ℕ) (operator : Operator) (known other : List Publication) (rows after recovered : Rows) (turns again : List Turn)
@@ -34,7 +35,7 @@ DeskIsRecovered =
     → AreTurnsAgain configuration turns again
     → (replies_in again ≡ replies_in (kept_turns configuration turns)) × (recovered ≡ after)
 
--- The turns before a restart, and those of the recovered desk, which knows at least what the last front before was, are turns
+-- The turns before a restart, and those of the recovered desk, which knows at least the last front before it, are turns
 -- of one desk.
 abbrev pub DeskGoesOn : Type 0
 DeskGoesOn =
@@ -46,7 +47,7 @@ DeskGoesOn =
     → AreTurns configuration place operator other recovered later after
     → AreTurns configuration place operator known rows (told ++ later) after
 
--- What is kept of the author's exchanges, answered again with success at a new room, leads to the same drafts and
+-- The persisted requests of the author's exchanges, replayed with success at a new room, lead to the same drafts and
 -- publications, with the same moments.
 abbrev pub RoomIsRecovered : Type 0
 RoomIsRecovered =
@@ -56,7 +57,8 @@ RoomIsRecovered =
     → AreAnsweredAgain configuration (authors_in configuration history) (authors_in configuration again)
     → (drafts_again ≡ drafts) × (publications_again ≡ publications)
 
--- What a desk does after a restart: it knows at least its last front, has the rows that were left, and ends at what is published.
+-- What a desk does after a restart: it knows at least its last front before it, has the rows that were left, and its
+-- last front is a prefix of what is published.
 abbrev pub DeskServesOn : Configuration → ℕ → Operator → List Turn → Rows → List Turn → List Publication → Type 0
 DeskServesOn configuration place operator told left later publications =
     (known : List Publication) × (after : Rows)
@@ -64,8 +66,8 @@ DeskServesOn configuration place operator told left later publications =
     × AreTurns configuration place operator known left later after
     × IsPrefix (last_front known later) publications
 
--- Over a restart there is one server. Take what a server did and told, and what was done from the drafts, publications and rows
--- that this left: together it is what one server did.
+-- Over a restart there is one server. What a server did and answered, and what was done from the drafts, publications
+-- and rows that this left, is together what one server did.
 abbrev pub IsOneServer : Type 0
 IsOneServer =
     (configuration : Configuration) (told later : List Exchange) (before publications : List Publication) (told_turns later_turns : ℕ → List Turn) (drafts : Drafts)

@@ -1,4 +1,4 @@
-//! Laws of a journal of accepted requests, and of the server that starts again from it.
+//! Laws of a journal of accepted requests, and of the server that replays it.
 #![tactic(auto)]
 
 pub mod laws;

@@ -1,4 +1,4 @@
--- What leads to the same leads there with more behind it, and on from there.
+-- Equivalent lists stay equivalent with more after both, and equivalence is transitive.
 use Rattle.std.proofs.Common.{◌≡◌, ℕ, List, [], ◌∷◌, ◌++◌, map, refl, sym, ap, subst, ◌∙◌, append_assoc}
 use Rattle.mds_rolling.specs.Leading.{LeadsBeside, LeadsBy, Leads}
 

@@ -1,4 +1,4 @@
--- What becomes of a log whose file may be a shorter one, at each step.
+-- What becomes of a log whose file may be a compacted one, at each step.
 use Rattle.std.proofs.Common.{◌≡◌, ℕ, ◌+◌, Bool, true, false, List, [], ◌∷◌, ◌++◌, length, refl, sym, ap, subst, ◌∙◌, append_assoc, inl, inr, arith}
 use Rattle.std.proofs.lemmas.List.{length-append, append-nil}
 use Rattle.mds_records.specs.Seals.{IsSealed}
@@ -14,7 +14,7 @@ pub rolled_new : (same : List (List ℕ) → List (List ℕ) → Type 0) (may : 
 rolled_new same may exchanged keeping seal at since list m sealed none =
     record { held = list; may = m; leads = ([], refl); counted = (sealed list m).counted; own = λ e. refl; behind = λ e. absurd cc }
 
--- texts were appended to the file, and are kept where those before are
+-- payloads were appended to the file, and copies of them are kept where those before are
 pub rolled_more : (same : List (List ℕ) → List (List ℕ) → Type 0) (before after : List (List ℕ) → Type 0) (exchanged keeping keeping-after : Bool) (seal seal-after : Seal)
     (since since-after texts : List (List ℕ)) (count more : ℕ) (list : List (List ℕ))
     → IsRolled same before exchanged keeping seal since count list → ((held : List (List ℕ)) → before held → after (held ++ texts)) → more ≡ length texts
@@ -36,7 +36,7 @@ rolled_more same before after exchanged keeping keeping-after seal seal-after si
           );
     }
 
--- the same file, with no texts kept
+-- the same file, with no copies kept
 pub rolled_still : (same : List (List ℕ) → List (List ℕ) → Type 0) (before after : List (List ℕ) → Type 0) (exchanged keeping keeping-after : Bool) (seal seal-after : Seal)
     (since since-after : List (List ℕ)) (count : ℕ) (list : List (List ℕ))
     → IsRolled same before exchanged keeping seal since count list → ((held : List (List ℕ)) → before held → after held)
@@ -55,7 +55,7 @@ rolled_still same before after exchanged keeping keeping-after seal seal-after s
           (b.0, b.1 ∙ ap (λ (s : List (List ℕ)). b.0 ++ s) (sym k.2), subst (λ (s : Seal). IsSealed s b.0) (sym k.1) b.2);
     }
 
--- what is appended behind this seal is kept from here on
+-- copies of what is appended after this log end are kept from here on
 pub rolled_begun : (same : List (List ℕ) → List (List ℕ) → Type 0) (may : List (List ℕ) → Type 0) (exchanged keeping keeping-after : Bool) (seal at seal-after : Seal)
     (since since-after : List (List ℕ)) (count : ℕ) (list : List (List ℕ))
     → IsRolled same may exchanged keeping seal since count list → ((held : List (List ℕ)) → may held → IsSealed at held) → seal-after ≡ at → since-after ≡ []
@@ -71,7 +71,7 @@ rolled_begun same may exchanged keeping keeping-after seal at seal-after since s
           (r.held, sym (append-nil r.held) ∙ ap (λ (s : List (List ℕ)). r.held ++ s) (sym nothing), subst (λ (s : Seal). IsSealed s r.held) (sym is-at) (sealed r.held r.may));
     }
 
--- a shorter log that has what is kept leads to where the file does, and takes its place
+-- a compacted log with the kept copies is equivalent to the file, and takes its place
 pub rolled_exchanged : (same : List (List ℕ) → List (List ℕ) → Type 0) (before after : List (List ℕ) → Type 0) (exchanged exchanged-after keeping keeping-after : Bool) (seal seal-after : Seal)
     (since since-after : List (List ℕ)) (count : ℕ) (list : List (List ℕ))
     → IsRolled same before exchanged keeping seal since count list → keeping ≡ true → IsCaughtUp same after seal since → exchanged-after ≡ true → keeping-after ≡ false
@@ -90,7 +90,7 @@ rolled_exchanged same before after exchanged exchanged-after keeping keeping-aft
       behind = λ e. absurd cc;
     }
 
--- a shorter log leads to where the other did, also with more behind both
+-- a compacted log is equivalent to the other, also with more after both
 pub caught_up : (same : List (List ℕ) → List (List ℕ) → Type 0) (before after : List (List ℕ) → Type 0) (seal seal-after : Seal) (since : List (List ℕ))
     → IsShorter same before seal → ((l : List (List ℕ)) → before l → after (l ++ since)) → seal-after ≡ seal → IsCaughtUp same after seal-after since
 caught_up same before after seal seal-after since s appended is-at =
@@ -102,7 +102,7 @@ caught_up same before after seal seal-after since s appended is-at =
       sealed = subst (λ (k : Seal). IsSealed k (s.before ++ s.rest)) (sym is-at) s.sealed;
     }
 
--- a shorter log that is brought up to a later seal
+-- a compacted log that is brought up to a later log end
 pub shorter_more : (same : List (List ℕ) → List (List ℕ) → Type 0) (before after synced : List (List ℕ) → Type 0) (seal to : Seal) (texts : List (List ℕ))
     → IsShorter same before seal → ((l : List (List ℕ)) → before l → after (l ++ texts)) → ((l : List (List ℕ)) → after l → synced l)
     → ((l : List (List ℕ)) → IsSealed seal l → IsSealed to (l ++ texts)) → IsShorter same synced to
@@ -116,7 +116,7 @@ shorter_more same before after synced seal to texts s appended still sealed =
       sealed = subst (λ (l : List (List ℕ)). IsSealed to l) (append_assoc s.before s.rest texts) (sealed (s.before ++ s.rest) s.sealed);
     }
 
--- a log that was found to lead to where a list of this seal does
+-- a log that was found equivalent to a list with this log end
 pub shorter_new : (same : List (List ℕ) → List (List ℕ) → Type 0) (may : List (List ℕ) → Type 0) (seal : Seal) (front before : List (List ℕ))
     → may front → same front before → IsSealed seal before → IsShorter same may seal
 shorter_new same may seal front before m found sealed =

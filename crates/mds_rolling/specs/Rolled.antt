@@ -1,15 +1,16 @@
--- A log whose file may be a shorter one that leads to the same.
+-- A log whose file may be a compacted one with the same effect.
 use Rattle.std.specs.Prelude.{◌≡◌, ℕ, Bool, true, false, List, ◌++◌, length}
 use Rattle.mds_records.specs.Seals.{IsSealed}
 use Rattle.mds_records.specs.declared.seal.Seal.{Seal}
 use Rattle.mds_rolling.specs.Leading.{Leads}
 
--- these are the texts behind what has the seal
+-- these are the payloads after the log end
 abbrev pub AreBehind : Seal → (since held : List (List ℕ)) → Type 0
 AreBehind seal since held = (part : List (List ℕ)) × (held ≡ part ++ since) × IsSealed seal part
 
--- All that was appended is this list: its file's log may be of one that leads to where this does, and that is this one itself where no other
--- took its place; and where the texts behind a seal are kept, they are those of the file.
+-- All that was appended is this list. The log of its file may hold one that is equivalent to it, which is this list
+-- itself where no other log took its place; and where copies of the payloads after a log end are kept, they are those
+-- of the file.
 pub record IsRolled (same : List (List ℕ) → List (List ℕ) → Type 0) (may_be : List (List ℕ) → Type 0) (is_exchanged is_keeping : Bool) (seal : Seal)
     (since : List (List ℕ)) (count : ℕ) (list : List (List ℕ)) : Type 0 where
   pub held : List (List ℕ)
@@ -19,7 +20,8 @@ pub record IsRolled (same : List (List ℕ) → List (List ℕ) → Type 0) (may
   pub own : is_exchanged ≡ false → held ≡ list
   pub behind : is_keeping ≡ true → AreBehind seal since held
 
--- The log may be of a list that leads to where one does that has the seal, and both end with the same texts.
+-- The log may hold a list that is equivalent to one with this log end followed by these payloads: it ends with the same
+-- ones.
 pub record IsCaughtUp (same : List (List ℕ) → List (List ℕ) → Type 0) (may_be : List (List ℕ) → Type 0) (seal : Seal) (since : List (List ℕ)) : Type 0 where
   pub front : List (List ℕ)
   pub before : List (List ℕ)

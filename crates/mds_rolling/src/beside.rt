@@ -1,26 +1,27 @@
-//! What stands beside a log whose file is exchanged.
+//! The compaction side of a log whose file is replaced.
 
 use crate::finding::Finding;
 use crate::shorter::Shorter;
 use mds_records::{Seal, Sealed};
 
-/// That it isn't known which file stands in the log's place.
+/// It isn't known which file stands in the log's place.
 #[derive(Clone, Copy, Debug, PartialEq, Eq)]
 pub struct NotReplaced;
 
-/// What stands beside a log: where shorter ones come from, and the place in which one stands.
+/// The compaction side of a log: where compacted logs come from, and the file that one replaces.
 pub trait Beside<L: Sealed, P: Finding>: Drop {
-    /// A shorter log that is ready to take this one's place, if there is one. It is given once.
+    /// The compacted log that is ready to replace this one, if there is one. It is returned once.
     fn ready(&mut self) -> Option<Shorter<L, P>>;
 
-    /// Puts the shorter log's file into the place at once, and waits until the disk has it so. After an error either file
-    /// may stand there.
+    /// Puts the compacted log's file in the log's place atomically, and waits until the disk has it so. After an error
+    /// either file may stand there.
     fn replace(&mut self, log: &L) -> Result<(), NotReplaced>
         requires { L.is_synced log.now };
 
-    /// A shorter log was ready, and took the place or didn't; the log has so many bytes now.
+    /// A compacted log was ready, and took the log's place or didn't; the log has so many bytes now.
     fn ended(&mut self, is_exchanged: bool, bytes: u64);
 
-    /// The log was synced up to this seal. True where what is appended from here on is to be kept for a shorter one.
+    /// The log was synced up to this log end. Returns whether copies of what is appended from here on are to be kept
+    /// for a compacted log.
     fn synced(&mut self, seal: Seal) -> bool;
 }

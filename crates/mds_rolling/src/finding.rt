@@ -1,10 +1,10 @@
-//! What it is that one list leads to where another does.
+//! The evidence that one list is equivalent to another.
 
-/// How it is found that one list leads to where another does: of a city, that servers which are started from either answer
-/// alike. It exists in proofs alone.
+/// The evidence that one list is equivalent to another, leading to where the other does: for a city, that servers
+/// started from either answer alike. It exists in proofs alone.
 pub trait Finding {
     ghost use Rattle.std.specs.Prelude.{ℕ, List};
 
-    /// The first list was found to lead to where the second does.
+    /// The first list was found equivalent to the second.
     ghost same: { List (List ℕ) → List (List ℕ) → Type 0 };
 }

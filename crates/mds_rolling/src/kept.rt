@@ -1,14 +1,14 @@
-//! What was appended behind a seal, kept for a log that is to take the place.
+//! Copies of the payloads appended after a log end, for a compacted log that is to take the log's place.
 ghost use Rattle.std.specs.Prelude.{◌≡◌, ◌&&◌, ◌++◌, [], ℕ, List, map, true, false, OnOk};
 ghost use Rattle.mds_records.specs.declared.seal.Seal.{Seal as Known};
 
 use mds_records::Seal;
 use std::alloc::{AllocError, Global};
 
-/// The most bytes of texts that are kept.
+/// The most bytes of payloads of which copies are kept.
 const MOST_KEPT: u64 = 8_388_608;
 
-/// What was appended behind a seal, where it is kept.
+/// Copies of the payloads appended after a log end, while they are kept.
 #[derive(Drop)]
 pub(crate) struct Kept {
     pub(crate) is_keeping: bool,
@@ -18,7 +18,7 @@ pub(crate) struct Kept {
 }
 
 impl Kept {
-    /// Nothing is kept.
+    /// No copies are kept.
     pub(crate) fn nothing(alloc: Global) -> Kept
         ensures { result.is_keeping ≡ false }
     {
@@ -30,14 +30,14 @@ impl Kept {
         }
     }
 
-    /// Whether what is appended behind this seal is kept.
+    /// Whether copies are kept of what is appended after this log end.
     pub(crate) fn is_behind(&self, seal: Seal) -> bool
         ensures { result ≡ true → (self.now.is_keeping ≡ true) × (self.now.seal ≡ seal) }
     {
         self.is_keeping && self.seal == seal
     }
 
-    /// Keeps nothing any more.
+    /// Drops the copies, and keeps none any more.
     pub(crate) fn forget(&mut self)
         ensures { self.new.is_keeping ≡ false }
     {
@@ -46,7 +46,7 @@ impl Kept {
         self.bytes = 0;
     }
 
-    /// Keeps what is appended behind this seal, from now on.
+    /// Keeps copies of what is appended after this log end, from now on.
     pub(crate) fn begin(&mut self, seal: Seal)
         ensures seal { self.new.seal ≡ seal }
         ensures nothing { self.new.texts.items ≡ [] }
@@ -57,7 +57,7 @@ impl Kept {
         self.bytes = 0;
     }
 
-    /// Copies texts behind those that are kept.
+    /// Appends copies of the payloads.
     fn copy(&mut self, alloc: Global, texts: &[Vec<u8>]) -> Result<(), AllocError>
         ensures copied { OnOk result (map (λ v. v.items) self.new.texts.items ≡ map (λ v. v.items) self.old.texts.items ++ map (λ v. v.items) texts.now) }
         ensures keeping { self.new.is_keeping ≡ self.old.is_keeping }
@@ -70,8 +70,8 @@ impl Kept {
         Ok(())
     }
 
-    /// Keeps texts that were appended, where those before are kept. Where they are too many, or memory runs out, nothing is kept
-    /// any more.
+    /// Keeps copies of payloads that were appended, where those before are kept. Where they are too many, or out of
+    /// memory, none are kept any more.
     pub(crate) fn add(&mut self, alloc: Global, texts: &[Vec<u8>])
         ensures { self.new.is_keeping ≡ true → (self.old.is_keeping ≡ true) × (self.new.seal ≡ self.old.seal)
             × (map (λ v. v.items) self.new.texts.items ≡ map (λ v. v.items) self.old.texts.items ++ map (λ v. v.items) texts.now) }

@@ -1,4 +1,4 @@
-//! A log whose file is exchanged while it is appended to, for a shorter one that was found to lead to the same.
+//! A log whose file is replaced by a compacted one while it is appended to, and when that is due.
 #![tactic(auto)]
 
 mod beside;

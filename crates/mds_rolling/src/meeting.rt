@@ -1,4 +1,4 @@
-//! Where a log and who makes shorter ones of it meet.
+//! The hand-over between a log and the thread that compacts it.
 
 use crate::finding::Finding;
 use crate::pace::Pace;
@@ -7,14 +7,15 @@ use mds_records::{Seal, Sealed};
 use std::mem;
 use std::sync::{Condvar, Mutex, Wait};
 
-/// How far a shorter log is.
+/// How far a compacted log is.
 #[derive(Drop)]
 enum Stage<L: Sealed, P: Finding> {
-    /// None is made.
+    /// None is being made.
     Quiet,
-    /// One is to be made, or brought up to another seal: the log says where it is synced next.
+    /// One is to be made, or brought up to a later log end: the log reports where it is synced next.
     Wanted,
-    /// The log is synced up to this seal, and keeps what is appended behind it where one is brought up.
+    /// The log is synced up to this log end, and keeps copies of what is appended after it where a compacted log is
+    /// being brought up.
     Sealed(Seal),
     /// One is being made, or tried in the log's place.
     Busy,
@@ -22,18 +23,18 @@ enum Stage<L: Sealed, P: Finding> {
     Ready(Shorter<L, P>),
 }
 
-/// What both see of each other.
+/// The state that both threads share.
 #[derive(Drop)]
 struct Seen<L: Sealed, P: Finding> {
     stage: Stage<L, P>,
     pace: Pace,
-    /// Whether the last one that was offered took the place.
+    /// Whether the last one that was offered took the log's place.
     is_exchanged: bool,
     /// Whether no further one is made.
     is_closed: bool,
 }
 
-/// Where a log and who makes shorter ones of it meet: two threads.
+/// The hand-over between two threads: the log's, and the one that makes compacted logs of it.
 #[derive(Drop)]
 pub struct Meeting<L: Sealed, P: Finding> {
     seen: Mutex<Seen<L, P>>,
@@ -41,7 +42,7 @@ pub struct Meeting<L: Sealed, P: Finding> {
 }
 
 impl<L: Sealed, P: Finding> Meeting<L, P> {
-    /// No shorter log is made yet.
+    /// No compacted log is being made yet.
     pub fn new(pace: Pace) -> Meeting<L, P> {
         Meeting {
             seen: Mutex::new(Seen {
@@ -54,7 +55,8 @@ impl<L: Sealed, P: Finding> Meeting<L, P> {
         }
     }
 
-    /// Waits until a shorter log is to be made, or brought up, and gives the seal up to which; none, once no further one is.
+    /// Waits until a compacted log is to be made, or brought up, and returns the log end up to which; none, once no
+    /// further one is made.
     pub fn next<R: Wait>(&self, rt: &R) -> Option<Seal> {
         let mut seen = self.changed.wait_while(rt, self.seen.lock(rt), |seen| {
             !seen.is_closed && !matches!(seen.stage, Stage::Sealed(_))
@@ -68,17 +70,17 @@ impl<L: Sealed, P: Finding> Meeting<L, P> {
         }
     }
 
-    /// Asks for the next seal up to which the log is synced, for [`Meeting::next`].
+    /// Asks for the next log end up to which the log is synced, which [`Meeting::next`] returns.
     pub fn want<R: Wait>(&self, rt: &R) {
         self.seen.lock(rt).stage = Stage::Wanted;
     }
 
-    /// A shorter log is ready.
+    /// Offers a compacted log that is ready.
     pub fn offer<R: Wait>(&self, rt: &R, shorter: Shorter<L, P>) {
         self.seen.lock(rt).stage = Stage::Ready(shorter);
     }
 
-    /// The shorter log that is ready, if one is.
+    /// Takes the compacted log that is ready, if there is one.
     pub fn take<R: Wait>(&self, rt: &R) -> Option<Shorter<L, P>> {
         let mut seen = self.seen.lock(rt);
         if !matches!(seen.stage, Stage::Ready(_)) {
@@ -90,8 +92,9 @@ impl<L: Sealed, P: Finding> Meeting<L, P> {
         }
     }
 
-    /// Waits until the shorter log that was offered took the place or came to nothing, and says whether it took it. One that
-    /// isn't tried yet is withdrawn once no further one is made, which is told as none: it never takes the place then.
+    /// Waits until the compacted log that was offered has taken the log's place or failed to, and returns whether it
+    /// took it. Once no further one is made, an offer that hasn't been tried is withdrawn, which returns none: it never
+    /// takes the place then.
     pub fn settled<R: Wait>(&self, rt: &R) -> Option<bool> {
         let mut seen = self.changed.wait_while(rt, self.seen.lock(rt), |seen| {
             match seen.stage {
@@ -107,7 +110,7 @@ impl<L: Sealed, P: Finding> Meeting<L, P> {
         Some(seen.is_exchanged)
     }
 
-    /// A shorter log took the place, or it came to nothing; the log has so many bytes.
+    /// A compacted log took the log's place, or failed to; the log has so many bytes.
     pub fn end<R: Wait>(&self, rt: &R, is_exchanged: bool, bytes: u64) {
         let mut seen = self.seen.lock(rt);
         seen.stage = Stage::Quiet;
@@ -116,8 +119,8 @@ impl<L: Sealed, P: Finding> Meeting<L, P> {
         self.changed.notify_all();
     }
 
-    /// The log is synced up to this seal. True where what is appended behind it is to be kept: where a shorter log is waited
-    /// for that is to be brought up to it.
+    /// The log is synced up to this log end. Returns whether copies of what is appended after it are to be kept: where
+    /// a compacted log waits to be brought up to it.
     pub fn seal<R: Wait>(&self, rt: &R, seal: Seal) -> bool {
         let mut seen = self.seen.lock(rt);
         let is_brought_up = matches!(seen.stage, Stage::Wanted);
@@ -130,7 +133,7 @@ impl<L: Sealed, P: Finding> Meeting<L, P> {
         is_brought_up
     }
 
-    /// No further one is made.
+    /// Makes no further compacted log.
     pub fn close<R: Wait>(&self, rt: &R) {
         self.seen.lock(rt).is_closed = true;
         self.changed.notify_all();

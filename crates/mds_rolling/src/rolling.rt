@@ -1,4 +1,4 @@
-//! A log whose file is exchanged for a shorter one while it is appended to.
+//! A log whose file is replaced by a compacted one while it is appended to.
 ghost use Rattle.std.specs.Prelude.{◌≡◌, ◌++◌, ℕ, List, map, true, false, IfOk, OnOk, OnErr, IsErrOf};
 ghost use Rattle.mds_records.specs.Groups.{are_taken};
 ghost use Rattle.mds_rolling.specs.Rolled.{IsRolled, IsCaughtUp};
@@ -11,28 +11,28 @@ use mds_records::{AppendFault, Log, NotSynced, ReadFault, Sealed};
 use std::alloc::Global;
 use std::marker::PhantomData;
 
-/// The most texts that a list has before more are appended: 2^62.
+/// The most payloads that the list may have before an append: 2^62.
 const MOST_COUNT: u64 = 4_611_686_018_427_387_904;
 
-/// A log whose list is all that was appended, and whose file's log is of that list, or of one that leads to where it does. What
-/// stands beside it has shorter logs, one of which takes the place in [`Log::sync`].
+/// A log whose list is all that was appended, and whose file holds that list or one with the same effect. The
+/// compaction side (`beside`) supplies compacted logs, one of which takes the place in [`Log::sync`].
 #[derive(Drop)]
 pub struct Rolling<L: Sealed, P: Finding, B: Beside<L, P>> {
     alloc: Global,
     log: L,
     beside: B,
-    /// How many texts the list has.
+    /// How many payloads the list has.
     count: u64,
-    /// What was appended behind a seal.
+    /// Copies of the payloads appended after a log end.
     kept: Kept,
-    /// Whether another log took the place.
+    /// Whether a compacted log took this one's place.
     is_exchanged: bool,
-    /// Whether it isn't known which log has the place.
+    /// Whether it isn't known which file stands in the log's place.
     is_broken: bool,
     of: PhantomData<P>,
 }
 
-/// Appends texts to a log, wherever it ends.
+/// Appends payloads to a log, wherever it ends.
 ///
 /// # Errors
 ///
@@ -51,11 +51,11 @@ fn append_to<L: Sealed>(log: &mut L, texts: &[Vec<u8>]) -> Result<(), AppendFaul
     }
 }
 
-/// A shorter log with the texts that are kept behind its seal, synced.
+/// Appends the copies that are kept after its log end to a compacted log, and syncs it.
 ///
 /// # Errors
 ///
-/// `NotKept` where they aren't, `NotWritten` or `NoMemory` where they can't be appended or synced.
+/// `NotKept` where they aren't kept, `NotWritten` or `NoMemory` where they can't be appended or synced.
 fn caught_up<L: Sealed, P: Finding>(shorter: Shorter<L, P>, kept: &Kept) -> Result<L, CatchFault>
     ensures synced { IfOk result (λ log. L.is_synced log) }
     ensures kept { OnOk result (kept.now.is_keeping ≡ true) }
@@ -71,7 +71,7 @@ fn caught_up<L: Sealed, P: Finding>(shorter: Shorter<L, P>, kept: &Kept) -> Resu
 }
 
 impl<L: Sealed, P: Finding, B: Beside<L, P>> Rolling<L, P, B> {
-    /// A log whose file is exchanged from now on by what stands beside it.
+    /// A log whose file may be replaced from now on, by compacted logs of this compaction side.
     pub fn new(alloc: Global, log: L, beside: B) -> Rolling<L, P, B>
         ensures { (list : List (List ℕ)) → L.may_be log list
             → IsRolled P.same (L.may_be result.log) result.is_exchanged result.kept.is_keeping result.kept.seal
@@ -90,7 +90,8 @@ impl<L: Sealed, P: Finding, B: Beside<L, P>> Rolling<L, P, B> {
         }
     }
 
-    /// Puts a shorter log into the place, where what it lacks is kept; else the log stays. Says whether it has the place.
+    /// Puts a compacted log in the log's place, where copies of what it lacks are kept; else the log stays. Returns
+    /// whether it took the place.
     ///
     /// # Errors
     ///
@@ -121,8 +122,8 @@ impl<L: Sealed, P: Finding, B: Beside<L, P>> Rolling<L, P, B> {
         Ok(true)
     }
 
-    /// Puts a shorter log that is ready into the place, which is synced then; where none is, or what it lacks isn't kept, the
-    /// log is synced.
+    /// Puts a compacted log that is ready in the log's place, caught up and synced; where there is none, or copies of
+    /// what it lacks aren't kept, syncs the log.
     ///
     /// # Errors
     ///

@@ -1,4 +1,4 @@
-//! A shorter log that may take another's place.
+//! A compacted log that may take another's place.
 ghost use Rattle.std.specs.Prelude.{◌≡◌, ◌++◌, ℕ, List, map, length, IfOk};
 ghost use Rattle.mds_records.specs.Seals.{IsSealed};
 ghost use Rattle.mds_rolling.specs.Shorter.{IsShorter, numbers_of};
@@ -8,21 +8,20 @@ use mds_records::{AppendFault, NotSynced, ReadFault, Seal, Sealed, texts_between
 use std::alloc::Global;
 use std::marker::{Model, PhantomData};
 
-/// Why a shorter log isn't brought up to another seal.
+/// Why a compacted log isn't brought up to another log end.
 #[derive(Clone, Copy, Debug, PartialEq, Eq)]
 pub enum CatchFault {
-    /// The bytes aren't those up to the seal.
+    /// The bytes aren't those up to the log end.
     Damaged,
     /// The log couldn't be written or synced.
     NotWritten,
-    /// What it lacks isn't kept any more.
+    /// Copies of what it lacks aren't kept any more.
     NotKept,
-    /// Memory ran out.
+    /// Out of memory.
     NoMemory,
 }
 
-/// A log that leads to where another did when that one had this seal.
-/// Contracts see the seal's numbers.
+/// A compacted log with the same effect as another had at this log end. Contracts see the log end's numbers.
 #[derive(Drop)]
 pub struct Shorter<L: Sealed, P: Finding> {
     log: L,
@@ -68,7 +67,7 @@ impl From<NotSynced> for CatchFault {
 }
 
 impl<L: Sealed, P: Finding> Shorter<L, P> {
-    /// A log that was found to lead to where a list of this seal does.
+    /// A log that was found equivalent to a list with this log end.
     pub fn new(log: L, seal: Seal) -> Shorter<L, P>
         requires { (front : List (List ℕ)) × (before : List (List ℕ)) × L.may_be log front × P.same front before × IsSealed seal before }
         ensures { result ≡ numbers_of seal }
@@ -80,14 +79,14 @@ impl<L: Sealed, P: Finding> Shorter<L, P> {
         }
     }
 
-    /// How far it is brought up.
+    /// The log end up to which it is brought.
     pub fn seal(&self) -> Seal
         ensures { numbers_of result ≡ self.now }
     {
         self.seal
     }
 
-    /// The log, and the seal of the list to which it leads.
+    /// The log, and the log end of the list to which it is equivalent.
     pub(crate) fn into_parts(self) -> (L, Seal)
         ensures { IsShorter P.same (L.may_be result.0) result.1 }
     {
@@ -99,11 +98,11 @@ impl<L: Sealed, P: Finding> Shorter<L, P> {
         (log, seal)
     }
 
-    /// Brings it up to a later seal of the other log, by the bytes of that one's file between the two, and syncs it.
+    /// Brings it up to a later log end of the other log, by the bytes of that one's file between the two, and syncs it.
     ///
     /// # Errors
     ///
-    /// See [`CatchFault`]. It is of no use then.
+    /// See [`CatchFault`]. The compacted log can't be used then.
     pub fn caught_up(
         self,
         alloc: Global,

@@ -1,4 +1,4 @@
--- No two of the tables have one path.
+-- No two of the tables share a path.
 use Rattle.std.proofs.Common.{◌≡◌, ◌++◌, ◌∷◌, [], List, ℕ, Bool, true, false, cond, codes, take, drop, bytes_eq, if◌then◌else◌, IsSome, Option, Some, None, refl, sym, ap, subst, ◌∙◌}
 use Rattle.std.specs.Prelude.{find}
 use Rattle.std.specs.List.{list_any, slice_split}
@@ -17,16 +17,16 @@ use Rattle.mds_routes.specs.Endpoint.{TablesAreApart}
 use Rattle.mds_routes.specs.declared.app.AppCall.TheVariants.{Events, Told}
 use Rattle.mds_routes.specs.declared.app.Question.TheVariants.{Whoami, Withdrawals, Drafts}
 
--- the table of calls has no row for it
+-- the table of calls has no row for this path
 abbrev NoRow : List ℕ → Type 0
 NoRow path = rows_at (segments_in path) ≡ []
 
--- nothing is called there
+-- there is no call at this path
 record IsUncalled (path : List ℕ) : Type 0 where
   app : call_at path ≡ None
   protocol : NoRow path
 
--- nor is anything there that everyone may read
+-- nor is there a public document
 record IsUnread (path : List ℕ) : Type 0 where
   public : asked_by path ≡ None
   uncalled : IsUncalled path
@@ -40,7 +40,7 @@ some : (has_none : Bool) (segments : List (List ℕ)) → rows_at segments ≡ [
 some true segments none = refl
 some false segments none = none
 
--- a path none of whose segments is a row's
+-- a path whose segments are no row's
 none_at : (path : List ℕ) → rows_at (behind_slash (slice_split is_slash path)) ≡ [] → NoRow path
 none_at path none = chosen (is_utf8 path) (behind_slash (slice_split is_slash path)) none
 
@@ -65,7 +65,7 @@ at_file SettingsJson = unread (path_of SettingsJson) refl refl refl
 at_file StateJs = unread (path_of StateJs) refl refl refl
 at_file ZoneJs = unread (path_of ZoneJs) refl refl refl
 
--- what is found at a path has it
+-- what is found at a path is at that path
 found_at : (path : List ℕ) (b : Bool) (file : File) (others : List File) → bytes_eq (path_of file) path ≡ b
     → (IsSome (find (λ f. bytes_eq (path_of f) path) others) → IsUnread path)
     → IsSome (cond b (Some file) (find (λ f. bytes_eq (path_of f) path) others)) → IsUnread path
@@ -79,12 +79,12 @@ among path (file ∷ others) some = found_at path (bytes_eq (path_of file) path)
 by_file : (path : List ℕ) → IsSome (file_at path) → IsUnread path
 by_file path = among path files
 
--- one of two that may be there is
+-- where one of two is there, the goal holds if either gives it
 either : {A : Type 0} (o others : Option A) (Goal : Type 0) → (IsSome o → Goal) → (IsSome others → Goal) → IsSome (option_or o others) → Goal
 either None others Goal here there is = there is
 either (Some a) others Goal here there is = here is
 
--- a test holds, or another is there
+-- a test holds, or another one is there
 tested : {A : Type 0} (b : Bool) (found : A) (others : Option A) (Goal : Type 0) → (b ≡ true → Goal) → (IsSome others → Goal) → IsSome (cond b (Some found) others) → Goal
 tested true found others Goal hit miss is = hit refl
 tested false found others Goal hit miss is = miss is
@@ -93,12 +93,12 @@ tested false found others Goal hit miss is = miss is
 at_path : (P : List ℕ → Type 0) (path here : List ℕ) → P here → bytes_eq path here ≡ true → P path
 at_path P path here none is = subst P (sym ((bytes_eq-Decides path here).0 is)) none
 
--- behind a front
+-- at the paths with a prefix
 behind : (P : List ℕ → Type 0) (n : ℕ) (path front : List ℕ) → ((rest : List ℕ) → P (front ++ rest)) → bytes_eq (take n path) front ≡ true → P path
 behind P n path front none is =
     subst P (ap (λ f. f ++ drop n path) (sym ((bytes_eq-Decides (take n path) front).0 is)) ∙ take-append-drop n path) (none (drop n path))
 
--- no row, and no call beside the protocol's, begins as the paths do of what everyone may read
+-- no row, and no call outside the protocol's, begins as the paths of public documents do
 in_mds : (rest : List ℕ) → IsUncalled (codes "/mds/2.0/" ++ rest)
 in_mds rest =
     let path = codes "/mds/2.0/" ++ rest in
@@ -124,7 +124,7 @@ by_public : (path : List ℕ) → IsSome (asked_by path) → IsUncalled path
 by_public path =
     either (list_at path) _ (IsUncalled path) (by_list path) (either (policy_at path) (geography_at path) (IsUncalled path) (by_policy path) (by_geography path))
 
--- the calls beside the protocol's
+-- the calls outside the protocol's
 events : NoRow events_path
 events = none_at events_path refl
 

@@ -1,4 +1,4 @@
--- The calls that stand beside the protocol's, at paths that no route has.
+-- The calls outside the protocol's, at paths that no route has.
 use Rattle.std.specs.Prelude.{ℕ, List, bytes_eq, codes, if◌then◌else◌, Option, Some, None, option_map, Result, Ok, Err}
 use Rattle.mds_request.specs.Call.{is_verb, path_of}
 use Rattle.mds_request.specs.Request.{Request}
@@ -10,7 +10,7 @@ use Rattle.mds_routes.specs.declared.app.AppCall.{AppCall}
 use Rattle.mds_routes.specs.declared.app.AppCall.TheVariants.{Events, Told}
 use Rattle.mds_routes.specs.declared.app.Question.TheVariants.{Whoami, Withdrawals, Drafts}
 
--- where each call is asked for
+-- the paths of these calls
 abbrev pub events_path : List ℕ
 events_path = codes "/app/fleet/events"
 
@@ -23,7 +23,7 @@ withdrawals_path = codes "/app/withdrawals"
 abbrev pub drafts_path : List ℕ
 drafts_path = codes "/app/drafts"
 
--- the call at this path; nothing at the paths of the protocol
+-- the call at this path; none at the paths of the protocol
 abbrev pub call_at : List ℕ → Option AppCall
 call_at path =
     if bytes_eq path events_path then Some Events
@@ -32,7 +32,7 @@ call_at path =
     else if bytes_eq path drafts_path then Some (Told Drafts)
     else None
 
--- many reports are sent by POST, and all else is read
+-- many reports are sent by POST, and all else is read by GET
 abbrev pub verb_for : AppCall → Verb
 verb_for Events = Post
 verb_for (Told question) = Get

@@ -1,4 +1,5 @@
--- What a path asks for: the tables in the order in which they are looked at. The first that has the path has the request.
+-- The endpoint of a path: the tables in the order in which they are looked at. The first that has the path has the
+-- request.
 use Rattle.std.specs.Prelude.{◌≡◌, ℕ, List, [], Bool, IsSome, Option, Some, None, if◌then◌else◌}
 use Rattle.http.specs.declared.request.Parts.{Parts}
 use Rattle.http_uri.specs.Uri.{uri_path}
@@ -9,15 +10,15 @@ use Rattle.mds_public.specs.declared.asked.Asked.{Asked}
 use Rattle.mds_request.specs.Call.{rows_at, segments_in}
 use Rattle.mds_routes.specs.App.{call_at}
 
--- what everyone may read, where the configuration has it so
+-- the public documents, where the configuration turns them on
 abbrev pub public_at : Bool → List ℕ → Option Asked
 public_at is_public path = if is_public then asked_by path else None
 
--- it asks for this file of the page
+-- the head asks for this file of the page
 abbrev pub AsksFile : Parts → File → Type 0
 AsksFile parts file = file_at (uri_path parts.uri) ≡ Some file
 
--- it asks for this, which everyone may read
+-- it asks for this public document
 pub record AsksPublic (is_public : Bool) (parts : Parts) (asked : Asked) : Type 0 where
   pub no_file : file_at (uri_path parts.uri) ≡ None
   pub is_it : public_at is_public (uri_path parts.uri) ≡ Some asked
@@ -27,8 +28,9 @@ pub record AsksState (is_public : Bool) (parts : Parts) : Type 0 where
   pub no_file : file_at (uri_path parts.uri) ≡ None
   pub not_public : public_at is_public (uri_path parts.uri) ≡ None
 
--- No two of the tables have one path, so their order decides nothing: at a file's path nothing else is read or called, and at a path of what
--- everyone may read nothing is called; and the table of calls has no row for a path of a call beside it.
+-- No two of the tables share a path, so their order decides nothing: at a file's path there is no public document and
+-- no call, and at a public document's path no call; and the table of calls has no row for the path of a call next to
+-- it.
 pub record TablesAreApart (path : List ℕ) : Type 0 where
   pub file_and_public : IsSome (file_at path) → asked_by path ≡ None
   pub file_and_app : IsSome (file_at path) → call_at path ≡ None

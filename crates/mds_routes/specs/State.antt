@@ -1,4 +1,4 @@
--- What is asked of the city's state: a call of the protocol, or one beside it.
+-- What a head asks of the city's state: a call of the protocol, or one next to it.
 use Rattle.std.specs.Prelude.{ℕ, List, option_map, unwrap_or, Result, Ok, Err}
 use Rattle.mds_limits.specs.Cost.{cost_of}
 use Rattle.mds_limits.specs.declared.cost.Cost.{Cost}
@@ -17,7 +17,7 @@ use Rattle.mds_routes.specs.declared.app.Question.TheVariants.{Whoami, Drafts}
 use Rattle.mds_routes.specs.declared.state.StateCall.{StateCall}
 use Rattle.mds_routes.specs.declared.state.StateCall.TheVariants.{Call as OfProtocol, Reports, AuthorAsks, OperatorAsks}
 
--- A call beside the protocol's, by who asks. Reports are an operator's to send, and drafts the author's to see.
+-- A call outside the protocol's, by its client. Only an operator sends reports, and only the author sees drafts.
 abbrev pub app_call : Actor → Result AppCall Code → Result StateCall Code
 app_call Nobody found = Err Token
 app_call Author (Err code) = Err code
@@ -38,7 +38,8 @@ abbrev pub state_call : Actor → Verb → List ℕ → Result StateCall Code
 state_call actor verb target =
     unwrap_or (option_map (app_call actor) (app_at verb (path_of target))) (own_call (called_at actor verb (segments_of target)))
 
--- A refusal and who asks are said at once. What a call of the protocol takes is said with it; many reports may take long.
+-- A refusal and `Whoami` take nothing of the queue. A call of the protocol has its own cost; many reports may take
+-- long.
 abbrev pub state_cost : Result StateCall Code → ℕ → Cost
 state_cost (Err code) length = Free
 state_cost (Ok (OfProtocol call)) length = cost_of call length

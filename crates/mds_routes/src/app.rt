@@ -1,14 +1,14 @@
-//! The calls that stand beside the protocol's.
+//! The calls outside the protocol's.
 ghost use Rattle.std.specs.Prelude.{◌≡◌, ◌<◌, IfSome, length, position};
 ghost use Rattle.mds_request.specs.Call.{is_query_mark, is_verb, path_of};
 ghost use Rattle.mds_routes.specs.App.{app_at, by_verb, call_at, verb_for};
 
 use mds_request::{Code, Verb};
 
-/// What people ask, beside the protocol.
+/// A question of people, outside the protocol.
 #[derive(Clone, Copy, Debug, PartialEq, Eq)]
 pub enum Question {
-    /// Who asks.
+    /// Who the client is.
     Whoami,
     /// Which policies are withdrawn.
     Withdrawals,
@@ -16,16 +16,16 @@ pub enum Question {
     Drafts,
 }
 
-/// A call that stands beside the protocol's, at a path that no route has.
+/// A call outside the protocol's, at a path that no route has.
 #[derive(Clone, Copy, Debug, PartialEq, Eq)]
 pub enum AppCall {
     /// Many reports of an operator in one body, one a line.
     Events,
-    /// What is told, and changes nothing.
+    /// A question, which changes nothing.
     Told(Question),
 }
 
-/// Where the first question mark stands.
+/// The index of the first question mark.
 fn query_mark(target: &[u8]) -> Option<usize>
     ensures value { result ≡ position is_query_mark target.now }
     ensures within { IfSome result (λ end. end < length target.now) }
@@ -60,7 +60,7 @@ fn call_at(path: &[u8]) -> Option<AppCall>
     }
 }
 
-/// Whether a call is asked for by this method: many reports by POST, all else by GET.
+/// Whether this is the method of a call: POST of many reports, GET of all else.
 fn has_verb(call: AppCall, verb: Verb) -> bool
     ensures { result ≡ is_verb (verb_for call) verb }
 {
@@ -70,7 +70,7 @@ fn has_verb(call: AppCall, verb: Verb) -> bool
     }
 }
 
-/// The call, where it is asked for by its method.
+/// The call, where this is its method.
 ///
 /// # Errors
 ///
@@ -85,7 +85,8 @@ fn by_verb(verb: Verb, call: AppCall) -> Result<AppCall, Code>
     }
 }
 
-/// The call by this method at this path, or `Method` where the path hasn't the method. None where the path is the protocol's.
+/// The call by this method at this path, or `Method` where the path hasn't the method. None where
+/// the path is the protocol's.
 pub fn app_at(verb: Verb, path: &[u8]) -> Option<Result<AppCall, Code>>
     ensures { result ≡ app_at verb path.now }
 {

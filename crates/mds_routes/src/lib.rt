@@ -1,5 +1,5 @@
-//! What a head asks for, by one table: the files of the page, what everyone may read, the calls beside the protocol's, and
-//! the protocol's own.
+//! The one table of routes: which client asks by a head, and for what: a file of the page, a public
+//! document, a call outside the protocol or of it.
 #![tactic(auto)]
 
 mod app;

@@ -20,25 +20,25 @@ use mds_page::File;
 use mds_public::Asked;
 use mds_request::{Actor, Code, Verb};
 
-/// A head, and what it asks for: found once, before its body is taken in.
+/// A head, and what it asks for: resolved once, before its body is read.
 #[derive(Drop)]
 pub enum Resolved<K: Named> {
     /// A file of the page.
     Asset(Parts, File),
-    /// What everyone may read of what is published (MDS 2.0 Policy and Geography).
+    /// A public document (MDS 2.0 Policy and Geography).
     Public(Parts, Asked),
     /// Anything else, which is asked of the city's state.
     State(ResolvedState<K>),
 }
 
-/// What everyone may read at a path, where the configuration has it so.
+/// The public document at a path, where the configuration turns these on.
 fn public_at(is_public: bool, path: &[u8]) -> Option<Asked>
     ensures { result ≡ public_at is_public path.now }
 {
     if is_public { Asked::by(path) } else { None }
 }
 
-/// Who asks, and for which call of the city's state.
+/// The client of a head, and its call of the city's state.
 fn state_of<K: Named>(hall: &Hall<K>, parts: &Parts) -> (Actor, Result<StateCall, Code>)
     ensures asks { result.0 ≡ actor_of K.configuration (token_of parts.now.headers) }
     ensures calls { result.1 ≡ state_call result.0 (verb_of parts.now.method) (target_of parts.now.uri) }
@@ -57,8 +57,8 @@ fn state_of<K: Named>(hall: &Hall<K>, parts: &Parts) -> (Actor, Result<StateCall
     }
 }
 
-/// Resolves a head: the first table that has its path has the request. Who asks is looked up once, where the city's state
-/// is asked.
+/// Resolves a head: the first table that has its path has the request. The client is looked up only
+/// where the city's state is asked.
 pub fn resolve<K: Named>(hall: &Hall<K>, is_public: bool, parts: Parts) -> Resolved<K>
     ensures { elim result [
       | Asset own file ↦ (own ≡ parts) × AsksFile parts file
@@ -78,7 +78,8 @@ pub fn resolve<K: Named>(hall: &Hall<K>, is_public: bool, parts: Parts) -> Resol
 }
 
 impl<K: Named> Resolved<K> {
-    /// Who asks. A file, and what everyone may read, is told to all alike: their access token isn't looked at.
+    /// The client. Files and public documents are the same for all: their access token isn't looked
+    /// at.
     pub fn actor(&self) -> Actor
         ensures { elim self.now [
           | Asset parts file ↦ result ≡ Nobody
@@ -92,7 +93,7 @@ impl<K: Named> Resolved<K> {
         }
     }
 
-    /// What the answer takes of its asker's queue, where the body has so many bytes.
+    /// What the answer takes of its client's queue, where the body has so many bytes.
     pub fn cost(&self, length: usize) -> Cost
         ensures { elim self.now [
           | Asset parts file ↦ result ≡ Free

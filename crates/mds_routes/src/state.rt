@@ -1,4 +1,4 @@
-//! What is asked of the city's state.
+//! The calls of the city's state.
 ghost use Rattle.std.specs.Prelude.{◌≡◌};
 ghost use Rattle.mds_request.specs.Configuration.{actor_of};
 ghost use Rattle.mds_request.specs.Request.{verb_of};
@@ -12,20 +12,21 @@ use mds_limits::{Cost, cost_of};
 use mds_request::{Actor, Call, Code};
 use std::marker::PhantomData;
 
-/// A call of who asks, at the city's state.
+/// A client's call of the city's state.
 #[derive(Clone, Copy)]
 pub enum StateCall {
     /// One of the protocol.
     Call(Call),
-    /// Many reports of the operator at this place in one body, one a line.
+    /// Many reports of the operator at this index in one body, one a line.
     Reports(usize),
-    /// What the author asks beside the protocol.
+    /// A question of the author outside the protocol.
     AuthorAsks(Question),
-    /// What the operator at this place asks beside the protocol.
+    /// A question of the operator at this index outside the protocol.
     OperatorAsks(usize, Question),
 }
 
-/// A head that asks for something of the city's state: who asks, and for which call, or the first refusal of the table.
+/// A head that asks for something of the city's state: its client, and its call or the first
+/// refusal of the table.
 #[derive(Drop)]
 pub struct ResolvedState<K: Named> {
     parts: Parts,
@@ -36,11 +37,12 @@ pub struct ResolvedState<K: Named> {
     ghost calls: { call ≡ state_call actor (verb_of parts.method) (target_of parts.uri) },
 }
 
-/// What who asks may call for beside the protocol. Reports are an operator's to send, and drafts the author's to see.
+/// A call outside the protocol's, by its client. Only an operator sends reports, and only the
+/// author sees drafts.
 ///
 /// # Errors
 ///
-/// `Token` for nobody, else the refusal that was found, else `Role`.
+/// `Token` for an anonymous client, else the refusal that was found, else `Role`.
 pub(crate) fn app_call(actor: Actor, found: Result<AppCall, Code>) -> Result<StateCall, Code>
     ensures { result ≡ app_call actor found }
 {
@@ -57,7 +59,7 @@ pub(crate) fn app_call(actor: Actor, found: Result<AppCall, Code>) -> Result<Sta
     }
 }
 
-/// A call of the protocol, as one at the city's state.
+/// A call of the protocol, as one of the city's state.
 pub(crate) fn own_call(call: &Result<Call, Code>) -> Result<StateCall, Code>
     ensures { result ≡ own_call call.now }
 {
@@ -67,7 +69,7 @@ pub(crate) fn own_call(call: &Result<Call, Code>) -> Result<StateCall, Code>
     }
 }
 
-/// What the answer takes of its asker's queue, where the body has so many bytes.
+/// What the answer takes of its client's queue, where the body has so many bytes.
 fn cost(call: &Result<StateCall, Code>, length: usize) -> Cost
     ensures { result ≡ state_cost call.now length }
 {
@@ -82,7 +84,7 @@ fn cost(call: &Result<StateCall, Code>, length: usize) -> Cost
 }
 
 impl<K: Named> ResolvedState<K> {
-    /// A head that was resolved so.
+    /// A head with its client and its call, or its refusal.
     pub(crate) fn new(parts: Parts, actor: Actor, call: Result<StateCall, Code>) -> ResolvedState<K>
         requires asks { actor ≡ actor_of K.configuration (token_of parts.headers) }
         requires calls { call ≡ state_call actor (verb_of parts.method) (target_of parts.uri) }
@@ -103,26 +105,28 @@ impl<K: Named> ResolvedState<K> {
         &self.parts
     }
 
-    /// Who asks.
+    /// The client.
     pub fn actor(&self) -> Actor
         ensures { result ≡ self.now.actor }
     {
         self.actor
     }
 
-    /// What for.
+    /// The call.
     ///
     /// # Errors
     ///
-    /// The first refusal of the table: the access token is nobody's (`Token`), no call has the path (`NoRoute`), none there
-    /// has the method (`Method`), the call isn't for the one who asks (`Role`), the identifier in the path is none (`BadId`).
+    /// The first refusal of the table: no client has the access token (`Token`), no call has the
+    /// path (`NoRoute`), none there has the method (`Method`), the call isn't this client's to make
+    /// (`Role`), the identifier in the path isn't one (`BadId`).
     pub fn call(&self) -> Result<StateCall, Code>
         ensures { result ≡ self.now.call }
     {
         self.call
     }
 
-    /// What the answer takes of its asker's queue, where the body has so many bytes. A refusal of the table takes nothing.
+    /// What the answer takes of its client's queue, where the body has so many bytes. A refusal of
+    /// the table takes nothing.
     pub fn cost(&self, length: usize) -> Cost
         ensures { result ≡ state_cost self.now.call length }
     {

@@ -1,4 +1,4 @@
-//! What the program is asked to do.
+//! The arguments of the program.
 
 use mds_start::ServeFault;
 use std::alloc::AllocGlobal;
@@ -14,7 +14,7 @@ pub struct Arguments<'a> {
     pub connections: Option<usize>,
 }
 
-/// The words behind the program's name.
+/// The words after the program's name.
 ///
 /// # Errors
 ///

@@ -1,4 +1,4 @@
-//! The configuration that comes in on standard input.
+//! The configuration on standard input.
 
 use crate::ending::Ending;
 use mds_diagnosis::Detail;
@@ -8,12 +8,12 @@ use mds_start::ServeFault;
 use std::alloc::Global;
 use std::io::{BufRead, ErrorKind, Read};
 
-/// Reads the configuration that the first line is.
+/// Reads the configuration in the first line.
 ///
 /// # Errors
 ///
-/// The line can't be read, is longer than the limit, or is no configuration (`BadConfig`, with which of these or
-/// what is wrong), or there was no memory (`NotOpened`).
+/// The line can't be read, is longer than the limit, or is no configuration (`BadConfig`, with
+/// which of these or what is wrong), or there was no memory (`NotOpened`).
 pub fn read_configuration<S: BufRead + Drop>(alloc: Global, source: S) -> Result<Config, Ending> {
     let mut line = Vec::new(alloc);
     let mut front = source.take(LINE_LIMIT as u64 + 2);

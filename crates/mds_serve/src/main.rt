@@ -1,5 +1,5 @@
-//! Serves one city over HTTP: a configuration line comes in on standard input, and then each connection's
-//! requests are answered until so many connections are over.
+//! Serves one city over HTTP from memory: a configuration line comes in on standard input, then
+//! connections are answered. It ends once so many connections are over, where a number is given.
 #![tactic(auto)]
 
 mod arguments;
@@ -12,9 +12,10 @@ use mds_start::{ServeFault, USAGE};
 use running::run;
 use std::process::ExitCode;
 
-/// Serves, and ends with the status 0; 1 where nothing can be listened to, 2 for a bad use or a bad
-/// configuration, 3 where the server couldn't be opened. After a fault standard error says why, and of a bad use
-/// or configuration a second line says how the program is called or what is wrong.
+/// Serves, and ends with the status 0; 1 where nothing can be listened to, 2 for wrong arguments or
+/// a bad configuration, 3 where the server couldn't be opened. After a fault standard error says
+/// why, and for wrong arguments or a bad configuration a second line says how the program is called
+/// or what is wrong.
 fn main(rt: HostRuntime) -> ExitCode {
     match run(&rt) {
         Ok(()) => ExitCode::SUCCESS,

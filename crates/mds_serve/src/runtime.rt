@@ -1,4 +1,4 @@
-//! What the program runs by, as bounds of two names.
+//! The bounds of the program's runtime, as two traits.
 
 use std::alloc::AllocGlobal;
 use std::io::Print;
@@ -13,7 +13,7 @@ pub trait Host: Clock + RandomSource + AllocGlobal + Print + Sync + Send + Copy 
 
 impl Host for HostRuntime {}
 
-/// What a server runs by: the host, with sockets, and with leave to start threads and to wait.
+/// The runtime of a server: the host, with sockets, threads and blocking waits.
 pub trait ServerRuntime: Host + Wait + Threads + Net {}
 
 impl<R: Host + Wait + Threads + Net> ServerRuntime for R {}

@@ -1,4 +1,4 @@
--- What the first operator's desk does to its rows, which aren't computed.
+-- Turns of the first operator's desk, whose rows aren't computed.
 use Rattle.std.proofs.Common.{◌≡◌, ℕ, List, [], codes, Ok, inl, refl, sym, ap}
 use Rattle.std.specs.FinMap.{get-empty}
 use Rattle.mds_fleet.specs.Books.{device_cmp}
@@ -20,7 +20,7 @@ use Rattle.mds_examples.specs.Requests.{alfa, configuration, request}
 use Rattle.mds_examples.specs.Vehicles.{first_report, in_the_square, one_row}
 use Rattle.mds_server_examples.specs.Turns.{first_front, reported, counted, nothing_in_force, three_turns, two_turns, seen_by_three}
 
--- any text that reads as the report
+-- for any text that is read as the report
 report_at : (target body : List ℕ) → call_of configuration (request 2000 (codes "alfa") Post target body) ≡ Ok (report_call 0) →
     read_report body ≡ Ok (first_report 2000) →
     desk_does configuration 0 alfa [] no_rows (request 2000 (codes "alfa") Post target body) ≡ (done (codes "new"), one_row)
@@ -44,7 +44,7 @@ first_turn = record { begins = ([], refl); answer = inl (ap (λ s. s.0) (sym rep
 pub second_turn : IsTurn configuration 0 alfa [] one_row counted one_row
 second_turn = record { begins = (first_front, refl); answer = inl (ap (λ s. s.0) (sym counts), ap (λ s. s.1) (sym counts)) }
 
--- the same at a desk that knew the publication before
+-- the second turn at a desk that knew the publication before
 pub known_turn : IsTurn configuration 0 alfa first_front one_row counted one_row
 known_turn = record { begins = ([], refl); answer = inl (ap (λ s. s.0) (sym counts), ap (λ s. s.1) (sym counts)) }
 

@@ -1,4 +1,4 @@
--- Turns of the first operator's desk as a call gives them.
+-- Turns of the first operator's desk as contracts of calls state them.
 use Rattle.std.proofs.Common.{◌≡◌, [], Some, inl, inr, refl, sym, ap, subst}
 use Rattle.std.specs.Prelude.{unwrap_or, slice_get}
 use Rattle.mds_request.specs.Configuration.{Operator}
@@ -12,7 +12,7 @@ use Rattle.mds_server_examples.specs.Held.{desk}
 use Rattle.mds_server_examples.specs.Turns.{first_front, reported, counted}
 use Rattle.mds_server_examples.proofs.AtDesk.{reports, counts, first_turn, second_turn, known_turn}
 
--- the operator at the first place is the first
+-- the operator at index 0 is alfa
 first : {operator : Operator} → slice_get configuration.operators 0 ≡ Some operator → alfa ≡ operator
 first found = ap (λ o. unwrap_or o alfa) found
 

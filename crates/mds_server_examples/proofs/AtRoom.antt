@@ -1,4 +1,4 @@
--- What the author's room does to the drafts, which aren't computed.
+-- Turns of the author's room, whose drafts aren't computed.
 use Rattle.std.proofs.Common.{◌≡◌, ℕ, List, [], codes, Ok, inl, refl, sym, ap}
 use Rattle.mds_geography.specs.Reading.{read_geography}
 use Rattle.mds_policy.specs.Reading.{read_policy}

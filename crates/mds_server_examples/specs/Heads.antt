@@ -42,7 +42,7 @@ host_alone host =
       authority_alone = λ none host e. refl;
     }
 
--- header fields with none of the name `authorization`, and with these in their order
+-- header fields without `authorization`, and with these values of it in their order
 abbrev pub anonymous : Entries FieldValue
 anonymous = (codes "host", plain_value (codes "mds.example.org") ∷ []) ∷ []
 
@@ -55,7 +55,7 @@ with_credentials credentials =
 abbrev pub head : List ℕ → Uri → Entries FieldValue → Parts
 head method uri headers = record { method = method; uri = uri; version = HTTP_11; headers = headers }
 
--- a question at a path, by the first operator and by nobody
+-- a GET request for a path by the first operator, and a compliance question without credentials
 abbrev pub by_alfa : List ℕ → Parts
 by_alfa path = head (codes "GET") (origin path) (with_credentials (codes "Bearer alfa" ∷ []))
 
@@ -69,7 +69,7 @@ json_response status body =
     let answered : ResponseHead = record { status = status; version = HTTP_11; headers = fields } in
     record { head = answered; body = record { buf = Some body } }
 
--- the response of the same status and body that says nothing of what it is
+-- a response of this status and body without a content type
 abbrev pub plain_response : ℕ → List ℕ → Response (Full (List ℕ))
 plain_response status body =
     let answered : ResponseHead = record { status = status; version = HTTP_11; headers = [] } in

@@ -18,37 +18,37 @@ turn request front reply = record { request = request; front = front; reply = re
 abbrev pub first_front : List Publication
 first_front = first_publication ∷ []
 
--- a vehicle in the square, before anything is published
+-- a report of a vehicle in the square, before anything is published
 abbrev pub reported : Turn
 reported = turn (report 2000 (codes "401")) [] (done (codes "new"))
 
--- it counts, once the cap is published
+-- a question once the cap is published, for which the vehicle counts
 abbrev pub counted : Turn
 counted = turn question first_front answer
 
--- the cap is withdrawn
+-- a question once the cap is withdrawn
 abbrev pub nothing_in_force : Turn
 nothing_in_force = turn (ask 3000 (codes "alfa")) then_withdrawn (compliance (codes "3000") [] (codes "2"))
 
 abbrev pub three_turns : List Turn
 three_turns = reported ∷ counted ∷ nothing_in_force ∷ []
 
--- the same turn, but for want of memory
+-- the same turn, refused with `no_memory`
 abbrev pub without_memory : Turn → Turn
 without_memory t = record t { reply = error 503 (codes "no_memory") }
 
--- and for want of a snapshot, at what was known
+-- the same turn, refused with `no_snapshot` at what was known
 abbrev pub without_snapshot : Turn → Turn
 without_snapshot t = record t { reply = error 503 (codes "no_snapshot") }
 
--- another operator's request, and a path that isn't there
+-- another operator's request, and a request for an unknown path
 abbrev pub by_another : Turn
 by_another = turn (ask 2000 (codes "bravo")) first_front (error 401 (codes "token"))
 
 abbrev pub without_route : Turn
 without_route = turn (record question { target = codes "/nowhere" }) first_front (error 404 (codes "no_route"))
 
--- the view that the three turns continue the empty one to
+-- the empty view, continued by the three turns
 abbrev pub seen_by_three : List Seen
 seen_by_three =
     asked (report 2000 (codes "401")) ∷ published first_publication ∷ asked question
@@ -58,7 +58,8 @@ seen_by_three =
 abbrev pub at_the_room : List Exchange
 at_the_room = square_put ∷ cap_put ∷ both_published ∷ []
 
--- the first operator's two exchanges, put among the author's
+-- the first operator's two turns, as exchanges too, and the history where these are put among the
+-- author's
 abbrev pub two_turns : List Turn
 two_turns = reported ∷ counted ∷ []
 
@@ -70,7 +71,7 @@ whole =
     square_put ∷ exchange (report 2000 (codes "401")) (done (codes "new")) ∷ cap_put ∷ both_published
     ∷ exchange question answer ∷ []
 
--- no operator but the first is asked anything
+-- the turns of the operator at an index: only the first has any
 abbrev pub turns_of : ℕ → List Turn
 turns_of zero = two_turns
 turns_of (suc place) = []

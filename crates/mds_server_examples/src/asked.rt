@@ -1,4 +1,4 @@
-//! Which request the head and the body of an HTTP request are.
+//! The protocol's request that the head and the body of an HTTP request stand for.
 #![tactic(auto)]
 
 ghost use Rattle.std.specs.Prelude.{◌≡◌, ◌∷◌, [], codes};
@@ -9,8 +9,8 @@ ghost use Rattle.mds_examples.specs.Machine.{ask};
 ghost use Rattle.mds_examples.specs.Requests.{request};
 ghost use Rattle.mds_server_examples.specs.Heads.{origin, with_scheme, host_alone, anonymous, with_credentials, head, by_alfa};
 
-/// Credentials carry an access token by the scheme `Bearer`, in any letter case, behind one space. The first is
-/// the example of RFC 6750, section 2.1.
+/// Credentials carry an access token by the scheme `Bearer`, in any letter case, after one space. The first is the
+/// example of RFC 6750, section 2.1.
 pub fn bearer()
     ensures standard { token_in (codes "Bearer mF_9.B5f-4.1JqM") ≡ codes "mF_9.B5f-4.1JqM" }
     ensures lower_case { token_in (codes "bearer mF_9.B5f-4.1JqM") ≡ codes "mF_9.B5f-4.1JqM" }
@@ -18,8 +18,8 @@ pub fn bearer()
     ensures second_space { token_in (codes "Bearer  alfa") ≡ codes " alfa" }
 {}
 
-/// Credentials of another form carry no byte: another scheme (the example of RFC 7617, section 2), none, the scheme
-/// alone, no space or a tab behind it.
+/// Credentials of another form carry an empty access token: another scheme (the example of RFC 7617, section 2),
+/// none, the scheme alone, no space or a tab after it.
 pub fn not_bearer()
     ensures basic { token_in (codes "Basic QWxhZGRpbjpvcGVuIHNlc2FtZQ==") ≡ [] }
     ensures nothing { token_in [] ≡ [] }
@@ -30,7 +30,8 @@ pub fn not_bearer()
     ensures token_alone { token_in (codes "alfa") ≡ [] }
 {}
 
-/// Only the one field `authorization` of a head counts: none and two carry no byte, also where both say the same.
+/// A head's access token is in its only field `authorization`: with none or two the token is empty, also where both
+/// are equal.
 pub fn fields()
     ensures one { token_of (with_credentials (codes "Bearer alfa" ∷ [])) ≡ codes "alfa" }
     ensures none { token_of anonymous ≡ [] }
@@ -39,8 +40,8 @@ pub fn fields()
     ensures second_scheme { token_of (with_credentials (codes "Basic QWxhZGRpbjpvcGVuIHNlc2FtZQ==" ∷ codes "Bearer alfa" ∷ [])) ≡ [] }
 {}
 
-/// The target is the path with its query; an empty path is `/`, and an authority alone is none. The first, the
-/// second, the fourth and the fifth are the examples of RFC 9112, section 3.2.
+/// The target is the path with its query; an empty path is `/`, and an authority alone has an empty target. The
+/// first, the second, the fourth and the fifth are the examples of RFC 9112, section 3.2.
 pub fn targets()
     ensures origin_form { target_of (origin (codes "/where?q=now")) ≡ codes "/where?q=now" }
     ensures absolute_form { target_of (with_scheme (codes "www.example.org") (codes "/pub/WWW/TheProject.html")) ≡ codes "/pub/WWW/TheProject.html" }
@@ -49,7 +50,7 @@ pub fn targets()
     ensures asterisk_form { target_of (origin (codes "*")) ≡ codes "*" }
 {}
 
-/// Names of methods are in capitals; one that isn't the server's is another.
+/// Names of methods are in capitals; a method that the server doesn't have is `Other`.
 pub fn methods()
     ensures post { verb_of (codes "POST") ≡ Post }
     ensures lower_case { verb_of (codes "post") ≡ Other }
@@ -57,7 +58,7 @@ pub fn methods()
     ensures head { verb_of (codes "HEAD") ≡ Other }
 {}
 
-/// The request of a whole head and a body at a moment.
+/// The request of a whole head, with a body and at a moment.
 pub fn requests()
     ensures question { request_in (by_alfa (codes "/compliance")) [] 2000 ≡ ask 2000 (codes "alfa") }
     ensures query { request_in (head (codes "GET") (with_scheme (codes "mds.example.org") (codes "/policies?a=b")) (with_credentials (codes "bearer city" ∷ []))) (codes "{}") 5 ≡ request 5 (codes "city") Get (codes "/policies?a=b") (codes "{}") }

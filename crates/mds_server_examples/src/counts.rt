@@ -1,10 +1,10 @@
-//! A number of connections as a word.
+//! A number of connections as an argument.
 #![tactic(auto)]
 
 ghost use Rattle.std.specs.Prelude.{◌≡◌, codes, Some, None};
 ghost use Rattle.mds_start.specs.Input.{count_in};
 
-/// One to nine decimal digits name a number; zeros in front change nothing.
+/// One to nine decimal digits are a number; leading zeros change nothing.
 pub fn counts()
     ensures one_digit { count_in (codes "8") ≡ Some 8 }
     ensures zero { count_in (codes "0") ≡ Some 0 }
@@ -12,7 +12,7 @@ pub fn counts()
     ensures nine_digits { count_in (codes "999999999") ≡ Some 999999999 }
 {}
 
-/// Any other word names none: it is empty, too long, signed, or has a byte that is no digit.
+/// Any other argument is none: it is empty, too long, signed, or has a byte that is no digit.
 pub fn no_counts()
     ensures nothing { count_in (codes "") ≡ None }
     ensures ten_digits { count_in (codes "0000000064") ≡ None }

@@ -1,4 +1,4 @@
-//! What an operator's desk does.
+//! Turns of an operator's desk.
 #![tactic(auto, unfolding(mds_examples::specs::Computed::documents))]
 
 ghost use Rattle.std.specs.Prelude.{◌≡◌, [], codes, Ok, Err};
@@ -16,8 +16,9 @@ ghost use Rattle.mds_examples.specs.Vehicles.{one_row};
 ghost use Rattle.mds_fronts.specs.Fronts.{requests_in, replies_in};
 ghost use Rattle.mds_server_examples.specs.Turns.{turn, first_front, reported, counted, three_turns, seen_by_three, without_memory, without_snapshot, by_another};
 
-/// A report is taken at a desk that knows of no publication, and a question answered at a front that the desk
-/// didn't know before. Want of memory and of a snapshot leave the rows, and another's request is refused.
+/// A report is accepted at a desk that knows of no publication, and a question is answered at a front that the desk
+/// didn't know before. A `no_memory` and a `no_snapshot` leave the rows unchanged, and another client's request is
+/// refused.
 pub fn turns()
     ensures report { IsTurn configuration 0 alfa [] empty reported one_row }
     ensures question { IsTurn configuration 0 alfa [] one_row counted one_row }
@@ -26,8 +27,8 @@ pub fn turns()
     ensures of_another { IsTurn configuration 0 alfa [] one_row by_another one_row }
 {}
 
-/// A front older than what the desk knew is none of a turn. No turn is a report that is answered 503 and taken,
-/// nor one that is answered with a success and lost, nor a 401 to the operator's own question.
+/// No turn is at a front older than what the desk knew. No turn is a report that is answered 503 and accepted, nor
+/// one that is answered with a success and lost, nor a 401 to the operator's own question.
 pub fn no_turns()
     ensures older { ¬ (IsTurn configuration 0 alfa then_withdrawn one_row counted one_row) }
     ensures taken { ¬ (IsTurn configuration 0 alfa [] empty (without_memory reported) one_row) }
@@ -35,7 +36,7 @@ pub fn no_turns()
     ensures turned_away { ¬ (IsTurn configuration 0 alfa [] one_row (turn (ask 3000 (codes "alfa")) then_withdrawn (error 401 (codes "token"))) one_row) }
 {}
 
-/// Another's request is refused as too large where it is, and else for its access token, whatever it calls for.
+/// Another client's request is refused as too large where it is, and else for its access token, whatever its call.
 pub fn refusals()
     ensures of_another { desk_does configuration 0 alfa first_front one_row (ask 2000 (codes "bravo")) ≡ (error 401 (codes "token"), one_row) }
     ensures of_the_author { desk_does configuration 0 alfa first_front one_row (ask 2000 (codes "city")) ≡ (error 401 (codes "token"), one_row) }

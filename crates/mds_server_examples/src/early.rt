@@ -1,4 +1,4 @@
-//! What is refused before a desk or the author's room is asked, in its order.
+//! Requests that are refused before a desk or the author's room is reached, in the order of the refusals.
 #![tactic(auto)]
 
 ghost use Rattle.std.specs.Prelude.{◌≡◌, ◌∷◌, [], codes, replicate, Some, None};
@@ -13,8 +13,8 @@ ghost use Rattle.mds_examples.specs.Machine.{error, done};
 ghost use Rattle.mds_examples.specs.Requests.{configuration};
 ghost use Rattle.mds_server_examples.specs.Heads.{origin, with_credentials, head, by_alfa, by_nobody, json_response, plain_response};
 
-/// A request without a moment is refused first, then one without a body within its limit, then one whose access
-/// token is nobody's.
+/// A request without a moment is refused first, then one without a body within its limit, then one without a known
+/// access token.
 pub fn order()
     ensures clock { early configuration by_nobody TooLong None ≡ Some code.Clock }
     ensures clock_alone { early configuration (by_alfa (codes "/compliance")) (Whole []) None ≡ Some code.Clock }
@@ -31,14 +31,14 @@ pub fn bodies()
     ensures one_more { early configuration by_nobody (Whole (replicate 1048577 0)) (Some 2000) ≡ Some code.TooLarge }
 {}
 
-/// Nothing else is refused early: a path that isn't there and a body that is no JSON are the desk's to refuse.
+/// Nothing else is refused early: an unknown path and a body that is no JSON are refused as a desk or the room does.
 pub fn let_in()
     ensures operator { early configuration (by_alfa (codes "/compliance")) (Whole []) (Some 2000) ≡ None }
     ensures author { early configuration (head (codes "POST") (origin (codes "/publish")) (with_credentials (codes "Bearer city" ∷ []))) (Whole (codes "{")) (Some 0) ≡ None }
     ensures no_route { early configuration (by_alfa (codes "/nowhere")) (Whole []) (Some 2000) ≡ None }
 {}
 
-/// A response says a reply by its status, its body and its only header field, and by nothing else.
+/// A response carries a reply by its status, its body and its only header field, and by nothing else.
 pub fn responses()
     ensures says { Says (json_response 200 (codes "{\"result\":\"new\"}")) (done (codes "new")) }
     ensures other_status { ¬ (Says (json_response 200 (codes "{\"error\":\"token\"}")) (error 401 (codes "token"))) }
@@ -46,14 +46,14 @@ pub fn responses()
     ensures no_type { ¬ (Says (plain_response 401 (codes "{\"error\":\"token\"}")) (error 401 (codes "token"))) }
 {}
 
-/// An early refusal is said, and no later one.
+/// The response is the early refusal, and no later one.
 pub fn responded()
     ensures token { Responds configuration by_nobody (Whole []) (Some 2000) (json_response 401 (codes "{\"error\":\"token\"}")) }
     ensures clock { Responds configuration by_nobody (Whole []) None (json_response 503 (codes "{\"error\":\"clock\"}")) }
     ensures not_the_second { ¬ (Responds configuration by_nobody (Whole []) None (json_response 401 (codes "{\"error\":\"token\"}"))) }
 {}
 
-/// Of two operators the places are 0 and 1.
+/// Of two operators the indices are 0 and 1. The author and anonymous clients are within any count.
 pub fn askers()
     ensures second { IsWithin 2 (Operator 1) }
     ensures third { ¬ (IsWithin 2 (Operator 2)) }

@@ -11,7 +11,7 @@ ghost use Rattle.mds_examples.specs.Publications.{first_publication, withdrawal,
 ghost use Rattle.mds_examples.specs.Requests.{alfa, configuration};
 ghost use Rattle.mds_server_examples.specs.Turns.{first_front, reported, counted, nothing_in_force, three_turns, two_turns, seen_by_three, without_memory, without_snapshot, by_another, without_route};
 
-/// Each front begins with the one before it, and may be the same. The last one is that of the last turn.
+/// Each front begins with the one before it, and may be the same. The last front is that of the last turn.
 pub fn rising()
     ensures longer { AreRising [] three_turns }
     ensures same { AreRising first_front (counted ∷ counted ∷ []) }
@@ -19,23 +19,23 @@ pub fn rising()
     ensures no_turn { last_front first_front [] ≡ first_front }
 {}
 
-/// A front that is shorter than the one before, or than what was known, doesn't rise, nor does one that has
-/// what was known, but not first.
+/// Fronts don't rise where one is shorter than the one before or than what was known, nor where one has what was
+/// known, but not as its prefix.
 pub fn not_rising()
     ensures shorter { ¬ (AreRising [] (nothing_in_force ∷ counted ∷ [])) }
     ensures forgotten { ¬ (AreRising first_front (reported ∷ [])) }
     ensures not_first { ¬ (AreRising (withdrawal 3000 cap_id ∷ []) (nothing_in_force ∷ [])) }
 {}
 
-/// A view is followed by what it doesn't show yet of a front.
+/// A view is extended by what it doesn't show yet of a front.
 pub fn followed_views()
     ensures both { followed [] then_withdrawn ≡ published first_publication ∷ published (withdrawal 3000 cap_id) ∷ [] }
     ensures one_more { followed (published first_publication ∷ []) then_withdrawn ≡ published first_publication ∷ published (withdrawal 3000 cap_id) ∷ [] }
     ensures shown_before { followed (published first_publication ∷ []) first_front ≡ published first_publication ∷ [] }
 {}
 
-/// A view is continued by each turn's front and then its request. A publication stands in it once, before the
-/// first request that is answered at it.
+/// A view is continued by each turn's front and then its request. A publication is in it once, before the first
+/// request that is answered at it.
 pub fn continued_views()
     ensures by_three { continued [] three_turns ≡ seen_by_three }
     ensures in_two_parts { continued (continued [] two_turns) (nothing_in_force ∷ []) ≡ seen_by_three }
@@ -55,7 +55,7 @@ pub fn served_turns()
     ensures among { served_in configuration 0 (without_memory reported ∷ reported ∷ by_another ∷ counted ∷ []) ≡ two_turns }
 {}
 
-/// Each reply of the three turns is the answer in the empty view, continued up to its request.
+/// Each reply of the three turns is the answer in the empty view continued up to its request.
 pub fn answers()
     ensures of_three { AreAnswers configuration alfa [] three_turns }
 {}

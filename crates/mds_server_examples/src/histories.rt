@@ -10,8 +10,8 @@ ghost use Rattle.mds_examples.specs.Machine.{ask, error};
 ghost use Rattle.mds_examples.specs.Requests.{configuration};
 ghost use Rattle.mds_server_examples.specs.Turns.{first_front, two_turns, turns_of, at_the_room, own_exchanges, whole};
 
-/// What is an operator's in a history, what isn't, and what is no operator's: the author's, and a stranger's,
-/// which isn't the author's.
+/// The exchanges of an operator in a history, those of others, and those of no operator, which are the author's here.
+/// An anonymous client's isn't the author's.
 pub fn parts()
     ensures of_turns { exchanges_in two_turns ≡ own_exchanges }
     ensures own { exchanges_of configuration 0 whole ≡ own_exchanges }
@@ -28,7 +28,7 @@ pub fn put_in()
     ensures part { HasPart configuration 0 two_turns whole }
 {}
 
-/// The room's exchanges and the desks' turns are what a server did.
+/// A server has served the room's exchanges and the desks' turns.
 pub fn served()
     ensures server { HasServed configuration at_the_room first_front turns_of }
 {}

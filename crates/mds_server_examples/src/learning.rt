@@ -1,4 +1,4 @@
-//! What a desk and the author's room hold, and what becomes of it.
+//! What a desk and the author's room hold, and how it changes.
 #![tactic(auto, unfolding(mds_examples::specs::Computed::documents))]
 
 ghost use Rattle.std.specs.Prelude.{◌≡◌, ℕ, List, ◌∷◌, [], codes, Ok, Err, Some, None};
@@ -15,26 +15,27 @@ ghost use Rattle.mds_server_examples.specs.Heads.{json_response};
 ghost use Rattle.mds_server_examples.specs.Held.{desk, second_desk};
 ghost use Rattle.mds_server_examples.specs.Turns.{first_front};
 
-/// A new desk for each operator knows of nothing and has no row.
+/// Each operator has a new desk, which knows of no publication and has no row.
 pub fn new()
     ensures desks { new_desks configuration ≡ desk [] empty ∷ second_desk ∷ [] }
 {}
 
-/// A desk that is told of a longer list knows it; told of a shorter one, it knows what it knew. Its rows stay.
+/// A desk that learns a longer list knows it; one that learns a shorter list knows what it knew. Its rows stay.
+/// Without a note nothing changes.
 pub fn learning()
     ensures longer { Learns (desk first_front one_row) then_withdrawn (desk then_withdrawn one_row) }
     ensures shorter { Learns (desk then_withdrawn one_row) first_front (desk then_withdrawn one_row) }
     ensures nothing { IsTold (desk [] one_row) None (desk [] one_row) }
 {}
 
-/// No desk learns a list by forgetting what it knew, by leaving it out, or as another operator's.
+/// No desk learns a list by forgetting what it knew, by not knowing it afterwards, or by becoming another operator's.
 pub fn not_learning()
     ensures forgotten { ¬ (Learns (desk then_withdrawn one_row) first_front (desk first_front one_row)) }
     ensures left_out { ¬ (Learns (desk [] one_row) first_front (desk [] one_row)) }
     ensures of_another { ¬ (Learns (desk [] empty) [] second_desk) }
 {}
 
-/// A note is of the list with one publication more; where there is none the list stays.
+/// A note is of the list with one more publication; without a note the list stays.
 pub fn notes()
     ensures one_more { IsNoted first_front (Some then_withdrawn) then_withdrawn }
     ensures nothing { IsNoted first_front None first_front }
@@ -43,15 +44,15 @@ pub fn notes()
     ensures untold { ¬ (IsNoted first_front None then_withdrawn) }
 {}
 
-/// A desk takes a turn at the front that it knows afterwards, and none by forgetting one.
+/// A desk takes a turn at the front that it knows afterwards, and never by forgetting one.
 pub fn turns()
     ensures report { TakesTurn (desk [] empty) (report 2000 (codes "401")) (done (codes "new")) (desk [] one_row) }
     ensures question { TakesTurn (desk [] one_row) question answer (desk first_front one_row) }
     ensures forgotten { ¬ (TakesTurn (desk then_withdrawn one_row) question answer (desk first_front one_row)) }
 {}
 
-/// A desk that is told of the first publication answers at it, and the response says the answer; where there is
-/// no memory for the response the turn was taken all the same.
+/// A desk that is given the note of the first publication answers at it, and the response carries the answer; where
+/// there is no memory for the response the turn was taken all the same.
 pub fn answers()
     ensures told { Answers {E = List ℕ} (desk [] one_row) (Some first_front) question (Ok (json_response 200 answer.body)) (desk first_front one_row) }
     ensures no_memory { Answers {E = List ℕ} (desk [] one_row) (Some first_front) question (Err []) (desk first_front one_row) }

@@ -1,6 +1,5 @@
-//! The definitions of running desks and of the server tried on worked examples, as `mds_examples` tries those
-//! below. Each function's contract is an example, or a few of one kind, and each clause is named by what it
-//! shows. The functions themselves do nothing.
+//! The definitions of running desks and of HTTP tried on worked examples. Each function's contract is an example, or
+//! a few of one kind, and each clause is named by what it shows. The functions themselves do nothing.
 #![tactic(auto)]
 
 pub mod asked;

@@ -1,4 +1,4 @@
-//! The limits of a replay and of an opening are numbers.
+//! The limits of a replay and of an opening as numbers.
 #![tactic(auto)]
 
 ghost use Rattle.std.specs.Prelude.{◌≡◌};

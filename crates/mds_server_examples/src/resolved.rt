@@ -1,4 +1,4 @@
-//! What heads are resolved to, and what their answers take of the queue of who asks.
+//! What heads are resolved to, and what their answers take of the client's queue.
 #![tactic(auto, unfolding(mds_examples::specs::Computed::documents))]
 
 ghost use Rattle.std.specs.Prelude.{◌≡◌, ◌∷◌, [], codes, Ok, Err};
@@ -11,14 +11,14 @@ ghost use Rattle.mds_request.specs.declared.code.Code.TheVariants.{Token, NoRout
 ghost use Rattle.mds_examples.specs.Requests.{configuration};
 ghost use Rattle.mds_server_examples.specs.Heads.{origin, with_credentials, head, by_alfa, by_nobody};
 
-/// A head calls for something by its access token, its method and its path. Its query doesn't count.
+/// The call of a head is found by its access token, its method and its path. Its query doesn't count.
 pub fn calls()
     ensures author { call_in configuration (head (codes "POST") (origin (codes "/publish")) (with_credentials (codes "Bearer city" ∷ []))) ≡ Ok (call.Author author.Publish) }
     ensures operator { call_in configuration (by_alfa (codes "/compliance?at=5")) ≡ Ok (call.Operator 0 operator.Compliance) }
     ensures second { call_in configuration (head (codes "GET") (origin (codes "/fleet/vehicles")) (with_credentials (codes "Bearer bravo" ∷ []))) ≡ Ok (call.Operator 1 operator.Vehicles) }
 {}
 
-/// What the table of calls refuses: an access token that is nobody's, a path, a method, a role and an identifier.
+/// What the table of calls refuses: an unknown access token, a path, a method, a role and an identifier.
 pub fn refusals()
     ensures token { call_in configuration by_nobody ≡ Err Token }
     ensures path { call_in configuration (by_alfa (codes "/nowhere")) ≡ Err NoRoute }
@@ -27,8 +27,9 @@ pub fn refusals()
     ensures identifier { call_in configuration (by_alfa (codes "/compliance/x")) ≡ Err BadId }
 {}
 
-/// What is published is told beside other short answers, as a report of at most 16 KiB is taken. What is judged takes a turn
-/// of its own, and a refusal takes none.
+/// The answer to a request for what is published runs concurrently with other short ones, and so does that to a
+/// report of at most 16 KiB. A larger report and a compliance question take a turn of their own, and a refusal takes
+/// none.
 pub fn costs()
     ensures published { cost_in (call_in configuration (by_alfa (codes "/policies"))) 0 ≡ Shared }
     ensures small { cost_in (Ok (call.Operator 0 operator.Report)) 16384 ≡ Shared }

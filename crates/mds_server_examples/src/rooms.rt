@@ -1,4 +1,4 @@
-//! What the author's room does.
+//! Turns of the author's room.
 #![tactic(auto, unfolding(mds_examples::specs::Computed::documents))]
 
 ghost use Rattle.std.specs.Prelude.{[], codes};
@@ -8,15 +8,15 @@ ghost use Rattle.mds_examples.specs.Machine.{ask, done, error, put_square, squar
 ghost use Rattle.mds_examples.specs.Requests.{configuration};
 ghost use Rattle.mds_server_examples.specs.Turns.{first_front, at_the_room};
 
-/// The author's geography is put, or there is no memory for it; an operator's request is refused.
+/// The author's geography is put as a draft, or memory runs out; an operator's request is refused.
 pub fn turns()
     ensures put { IsRoomTurn configuration (no_drafts, []) put_square (done (codes "new")) (square_drafted, []) }
     ensures memory { IsRoomTurn configuration (no_drafts, []) put_square (error 503 (codes "no_memory")) (no_drafts, []) }
     ensures of_an_operator { IsRoomTurn configuration (square_drafted, []) (ask 2000 (codes "alfa")) (error 401 (codes "token")) (square_drafted, []) }
 {}
 
-/// No turn of the room is want of memory that leaves a draft, a success that leaves none, or want of memory for
-/// an operator.
+/// No turn of the room is a `no_memory` that leaves a draft, a success that leaves none, or a `no_memory` to an
+/// operator.
 pub fn no_turns()
     ensures kept { ¬ (IsRoomTurn configuration (no_drafts, []) put_square (error 503 (codes "no_memory")) (square_drafted, [])) }
     ensures lost { ¬ (IsRoomTurn configuration (no_drafts, []) put_square (done (codes "new")) (no_drafts, [])) }

@@ -1,4 +1,4 @@
-//! A city's configuration and documents, for desks and halls.
+//! A city's configuration and documents, for tests of desks and halls.
 
 /// A city of two operators.
 pub(crate) const CONFIGURATION: &[u8] =
@@ -12,9 +12,9 @@ pub(crate) const SQUARE: &str =
 pub(crate) const CAP: &str =
     r#"{"policy_id":"00000000-0000-4000-8000-000000000201","name":"cap","start_date":1000,"rules":[{"rule_id":"00000000-0000-4000-8000-000000000301","name":"cap","rule_type":"count","geographies":["00000000-0000-4000-8000-000000000101"],"maximum":1}]}"#;
 
-/// The list that publishes both.
+/// The publish request for both.
 pub(crate) const BOTH: &str =
     r#"{"geographies":["00000000-0000-4000-8000-000000000101"],"policies":["00000000-0000-4000-8000-000000000201"]}"#;
 
-/// What is answered where something is put or reported for the first time.
+/// The answer where something is put or reported for the first time.
 pub(crate) const NEW: &str = r#"{"result":"new"}"#;

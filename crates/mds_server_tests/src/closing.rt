@@ -1,4 +1,4 @@
-//! A server over loopback that is ended while a connection rests.
+//! A server over loopback that shuts down while a connection is idle.
 ghost use Rattle.std.specs.Prelude.{IfOk, IsSome};
 
 use bytes::Bytes;
@@ -23,10 +23,10 @@ const REQUEST: &[u8] = b"GET /policies HTTP/1.1\r\nhost: localhost\r\n\r\n";
 
 const ANSWER: &[u8] = b"as ever";
 
-/// The most reads of one answer.
+/// The most reads for one answer.
 const MOST_READS: u32 = 1000;
 
-/// Answers the author with the same text, whatever is asked.
+/// A service that takes every request as the author's, and gives each the same answer.
 #[derive(Drop)]
 struct Parrot {
     alloc: Global,
@@ -57,7 +57,7 @@ impl Answers for Parrot {
     }
 }
 
-/// Asks over a connection that may stay, and says whether the answer came.
+/// Sends a request over a connection that may stay open, and returns whether the answer came.
 fn is_answered(stream: &mut TcpStream, alloc: Global) -> io::Result<bool> {
     stream.write_all(REQUEST)?;
     let mut answer = Vec::new(alloc);
@@ -72,7 +72,8 @@ fn is_answered(stream: &mut TcpStream, alloc: Global) -> io::Result<bool> {
     Ok(answer.ends_with(ANSWER))
 }
 
-/// Asks, ends the server, and says whether the connection is ended then, with nothing more said over it.
+/// Sends a request, shuts the server down, and returns whether the answer came and the connection then closed with no
+/// further byte.
 fn is_ended(mut stream: TcpStream, closing: &Closing, alloc: Global) -> io::Result<bool> {
     let is_answered = is_answered(&mut stream, alloc);
     closing.close();
@@ -81,7 +82,7 @@ fn is_ended(mut stream: TcpStream, closing: &Closing, alloc: Global) -> io::Resu
     Ok(is_answered? && rest.is_empty())
 }
 
-/// A connection that rests is ended with its server, and what answered comes back.
+/// An idle connection closes when its server shuts down, and the service is returned.
 #[test]
 fn ends_with_a_connection_that_rests(rt: HostRuntime) -> Result<(), Fail> {
     let alloc = rt.alloc();

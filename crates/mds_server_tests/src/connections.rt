@@ -1,4 +1,4 @@
-//! Who may have a connection, what may wait, and what a last reply says.
+//! Slots of connections, requests that may wait, and the field `connection` of a last response.
 use bytes::Bytes;
 use futures::executor::block_on;
 use http::header::CONNECTION;
@@ -12,13 +12,13 @@ use std::sync::Arc;
 use std::sync::atomic::{AtomicU64, Ordering};
 use std::test::Fail;
 
-/// A stranger's connection enters.
+/// Gives an anonymous connection a slot, and returns its key; `None` where there is no slot for it.
 fn entered(register: &mut Register, alloc: Global) -> Result<Option<usize>, AllocError> {
     let seat = Arc::new(alloc, Seat::new(alloc)?)?;
     Ok(register.enter(seat))
 }
 
-/// Strangers' connections are as many as may be; one more is let in for the oldest idle one.
+/// Anonymous connections have as many slots as they may have; one more gets in for the oldest idle one.
 #[test]
 fn strangers_have_half_of_the_seats(rt: HostRuntime) -> Result<(), Fail> {
     let alloc = rt.alloc();
@@ -34,7 +34,7 @@ fn strangers_have_half_of_the_seats(rt: HostRuntime) -> Result<(), Fail> {
     Ok(())
 }
 
-/// So many requests of one who asks wait. One more may once one of them is answered.
+/// At most `MOST_WAITING` requests of one client wait. One more may once one of them is answered.
 #[test]
 fn so_many_requests_wait(rt: HostRuntime) -> Result<(), Fail> {
     let alloc = rt.alloc();
@@ -52,7 +52,7 @@ fn so_many_requests_wait(rt: HostRuntime) -> Result<(), Fail> {
     Ok(())
 }
 
-/// One who asks has so many connections, none of them idle.
+/// A client has at most `MOST_OF_ASKER` connections where none of them is idle.
 #[test]
 fn one_has_so_many_seats(rt: HostRuntime) -> Result<(), Fail> {
     let alloc = rt.alloc();
@@ -70,7 +70,7 @@ fn one_has_so_many_seats(rt: HostRuntime) -> Result<(), Fail> {
     Ok(())
 }
 
-/// Into a closed register no connection gets, and no request.
+/// A closed table of connections lets in no connection and no request.
 #[test]
 fn a_closed_register_lets_nothing_in(rt: HostRuntime) -> Result<(), Fail> {
     let alloc = rt.alloc();
@@ -82,7 +82,7 @@ fn a_closed_register_lets_nothing_in(rt: HostRuntime) -> Result<(), Fail> {
     Ok(())
 }
 
-/// A connection hears that the server ends, as one that is to leave and as one that has a last reply to send.
+/// Each connection is notified that the server shuts down: that it is to close, and that a response is its last one.
 #[test]
 fn each_connection_is_told(rt: HostRuntime) -> Result<(), Fail> {
     let alloc = rt.alloc();
@@ -96,7 +96,7 @@ fn each_connection_is_told(rt: HostRuntime) -> Result<(), Fail> {
     Ok(())
 }
 
-/// A busy server says so, and that it closes.
+/// The response of a busy server is 503, and says that the connection closes.
 #[test]
 fn busy_says_so(rt: HostRuntime) -> Result<(), Fail> {
     let response = busy(rt.alloc())?;
@@ -106,7 +106,7 @@ fn busy_says_so(rt: HostRuntime) -> Result<(), Fail> {
     Ok(())
 }
 
-/// Behind a body that was too long the reply says that the connection is closed; behind a whole one it doesn't.
+/// After a body that was too long the response says that the connection closes; after a whole one it doesn't.
 #[test]
 fn a_last_reply_says_so(rt: HostRuntime) -> Result<(), Fail> {
     let alloc = rt.alloc();
@@ -119,7 +119,7 @@ fn a_last_reply_says_so(rt: HostRuntime) -> Result<(), Fail> {
     Ok(())
 }
 
-/// A number tells how many connections are open, from when it is given on.
+/// A counter holds the number of open connections, from the moment it is passed on.
 #[test]
 fn tells_how_many_are_open(rt: HostRuntime) -> Result<(), Fail> {
     let alloc = rt.alloc();

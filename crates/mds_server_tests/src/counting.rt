@@ -1,4 +1,4 @@
-//! An evaluator that counts how often it is asked.
+//! An evaluator that counts its calls.
 use mds_match::{Local, Places, Vehicle};
 use mds_policy::Policy;
 use mds_text::Moment;
@@ -6,21 +6,21 @@ use mds_verdict::{Evaluator, Plain, RuleVerdict};
 use std::alloc::{AllocError, Global};
 use std::sync::atomic::{AtomicU64, Ordering};
 
-/// Judges as `Plain` does, and counts the policies of which it is asked.
+/// Evaluates as `Plain` does, and counts the policies that it is given.
 #[derive(Drop)]
 pub(crate) struct Counting {
     policies: AtomicU64,
 }
 
 impl Counting {
-    /// One that wasn't asked yet.
+    /// An evaluator that wasn't called yet.
     pub(crate) fn new() -> Counting {
         Counting {
             policies: AtomicU64::new(0),
         }
     }
 
-    /// How many policies it was asked of.
+    /// How many policies it was given.
     pub(crate) fn policies(&self) -> u64 {
         self.policies.load(Ordering::SeqCst)
     }

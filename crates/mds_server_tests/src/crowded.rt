@@ -1,4 +1,4 @@
-//! A server over loopback whose answerer says a few times that who asks is crowded.
+//! A server over loopback whose service says a few times that a client is crowded.
 ghost use Rattle.std.specs.Prelude.{IfOk, IsSome};
 
 use bytes::Bytes;
@@ -25,10 +25,11 @@ const REQUEST: &[u8] =
 
 const BODY: &[u8] = b"as ever";
 
-/// How often a request is asked in vain.
+/// How often the service says that the client is crowded.
 const CROWDED: u64 = 3;
 
-/// Answers the author with what the author says, once it was asked so often in vain.
+/// A service that takes every request as the author's and answers with its body, after it said so
+/// often that the client is crowded.
 #[derive(Drop)]
 struct Echo {
     alloc: Global,
@@ -68,7 +69,7 @@ impl Answers for Echo {
     }
 }
 
-/// Asks over a connection that is closed behind the request, and gives what is told.
+/// Sends a request over a connection that closes after it, and returns the response.
 fn ask(stream: &mut TcpStream, alloc: Global) -> io::Result<Vec<u8>> {
     stream.write_all(REQUEST)?;
     let mut told = Vec::new(alloc);
@@ -76,14 +77,15 @@ fn ask(stream: &mut TcpStream, alloc: Global) -> io::Result<Vec<u8>> {
     Ok(told)
 }
 
-/// Asks, ends the server, and gives what was told.
+/// Sends a request, shuts the server down, and returns the response.
 fn ask_and_end(mut stream: TcpStream, closing: &Closing, alloc: Global) -> io::Result<Vec<u8>> {
     let told = ask(&mut stream, alloc);
     closing.close();
     told
 }
 
-/// A request that is crowded is asked again with its body, until it is answered.
+/// A request of a crowded client is passed to the service again, with its body, until it is
+/// answered.
 #[test]
 fn asks_a_crowded_request_again(rt: HostRuntime) -> Result<(), Fail> {
     let alloc = rt.alloc();

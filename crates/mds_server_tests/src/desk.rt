@@ -1,5 +1,5 @@
-//! Scenes for a room and two desks: worked scripts, looks about a publication, and the same with one
-//! growth refused wherever it is.
+//! A room and two desks: worked scripts, looks around a publication, threads that overlap, and the same with one
+//! allocation refused.
 ghost use Rattle.std.specs.Prelude.{◌≡◌};
 ghost use Rattle.mds_snapshot.specs.Opening.{book_of};
 
@@ -25,7 +25,7 @@ const NO_MEMORY: &str = r#"{"error":"no_memory"}"#;
 
 const NO_SNAPSHOT: &str = r#"{"error":"no_snapshot"}"#;
 
-/// A request at a moment, and the body of its success.
+/// A request at a moment, and the body of its success, status 200.
 #[derive(Clone, Copy)]
 struct Exchange {
     at: i64,
@@ -54,7 +54,7 @@ const PUT_CAP: &Exchange = &Exchange {
     success: NEW,
 };
 
-/// Both documents are put.
+/// Both documents are put as drafts.
 const DRAFTS: &[&Exchange] = &[PUT_SQUARE, PUT_CAP];
 
 const PUBLISH: &Exchange = &Exchange {
@@ -102,10 +102,10 @@ const EXCEEDED: &Exchange = &Exchange {
     success: r#"{"at":2001,"policies":[{"policy_id":"00000000-0000-4000-8000-000000000201","rules":[{"devices":["00000000-0000-4000-8000-000000000401","00000000-0000-4000-8000-000000000402"],"measure":2,"rule_id":"00000000-0000-4000-8000-000000000301","status":"violated"}]}],"revision":1,"version":2}"#,
 };
 
-/// One vehicle is reported, and then another.
+/// One vehicle is reported, and then another, with a compliance question after each.
 const LINES: &[&Exchange; 4] = &[REPORT_FIRST, WITHIN, REPORT_SECOND, EXCEEDED];
 
-/// What is answered where no vehicle is counted, at 2000.
+/// The answer at 2000 where no vehicle is counted.
 const NONE_COUNTED: &str =
     r#"{"at":2000,"policies":[{"policy_id":"00000000-0000-4000-8000-000000000201","rules":[{"measure":0,"rule_id":"00000000-0000-4000-8000-000000000301","status":"ok"}]}],"revision":1,"version":2}"#;
 
@@ -127,7 +127,7 @@ const NONE_FOR_BRAVO: &Exchange = &Exchange {
     success: NONE_COUNTED,
 };
 
-/// What is answered where nothing is published, at 2000.
+/// The answer at 2000 where nothing is published.
 const NOTHING_PUBLISHED: &str = r#"{"at":2000,"policies":[],"revision":0,"version":2}"#;
 
 const NOTHING_FOR_ALFA: &Exchange = &Exchange {
@@ -166,14 +166,14 @@ const POLICY: &Exchange = &Exchange {
     success: r#"{"policy":{"name":"cap","policy_id":"00000000-0000-4000-8000-000000000201","published_date":1000,"rules":[{"geographies":["00000000-0000-4000-8000-000000000101"],"maximum":1,"name":"cap","rule_id":"00000000-0000-4000-8000-000000000301","rule_type":"count"}],"start_date":1000},"revision":1}"#,
 };
 
-/// What is done with a room and the desks of two operators, none of which has heard of anything.
+/// A test of a room and the desks of two operators, none of which has learnt of a publication.
 trait Scene {
     ghost use Rattle.std.specs.Prelude.{⊤};
 
-    /// What it takes to play it.
+    /// The condition under which it may be run.
     ghost may_play: { Type 0 } = { ⊤ };
 
-    /// Says whether it was played to its end: not so where memory ran out.
+    /// Runs the test, and returns whether it came to its end; it doesn't where memory ran out.
     fn play<K: Naming, R: Wait + Abort>(
         &self,
         rt: &R,
@@ -185,7 +185,7 @@ trait Scene {
         requires ready { may_play };
 }
 
-/// Plays a scene on what is furnished for the configuration.
+/// Runs a test on a room and desks that are furnished for the configuration; false where memory ran out.
 fn stage<S: Scene, R: Wait + Abort>(rt: &R, alloc: Global, scene: &S) -> Result<bool, Fail>
     requires { S.may_play }
 {
@@ -206,7 +206,7 @@ fn two<K: Naming>(rt: &impl Abort, mut desks: Vec<Desk<K>>) -> (Desk<K>, Desk<K>
     (alfa, bravo)
 }
 
-/// Plays a scene, and ends the room: a desk has nothing to show then.
+/// Runs a test, and finishes the room: a desk has no snapshot to show then.
 fn furnished<K: Naming, S: Scene, R: Wait + Abort>(
     rt: &R,
     alloc: Global,
@@ -233,7 +233,7 @@ fn furnished<K: Naming, S: Scene, R: Wait + Abort>(
     }
 }
 
-/// The room of this desk is ended.
+/// Checks that the room of this desk is finished.
 fn assert_ended<K: Naming>(rt: &impl Abort, desk: &mut Desk<K>) {
     let reply = asked(rt, desk, NOTHING_FOR_ALFA);
     assert_refused(rt, &reply, 503, NO_SNAPSHOT);
@@ -263,24 +263,24 @@ fn is_reply(reply: &Answer, status: u16, body: &str) -> bool {
     reply.status() == status && reply.body() == body.as_bytes()
 }
 
-/// This is the exchange's reply.
+/// Checks that this is the exchange's reply.
 fn assert_success(rt: &impl Abort, reply: &Answer, exchange: &Exchange) {
     let is_success = is_reply(reply, 200, exchange.success);
     assert!(rt; is_success, "no {} at {}", exchange.success, exchange.at);
 }
 
-/// This reply is no success, and says so.
+/// Checks that this reply is a refusal with this status and body.
 fn assert_refused(rt: &impl Abort, reply: &Answer, status: u16, body: &str) {
     assert!(rt; is_reply(reply, status, body), "no {body}");
 }
 
-/// The desk gives the exchange's reply.
+/// Checks that the desk gives the exchange's reply.
 fn assert_answers<K: Naming>(rt: &impl Abort, desk: &mut Desk<K>, exchange: &Exchange) {
     let reply = asked(rt, desk, exchange);
     assert_success(rt, &reply, exchange);
 }
 
-/// The desk gives the reply of each exchange.
+/// Checks that the desk gives the reply of each exchange.
 fn assert_answers_each<K: Naming>(rt: &impl Abort, desk: &mut Desk<K>, exchanges: &[&Exchange]) {
     for exchange in exchanges {
         assert_answers(rt, desk, exchange);
@@ -296,7 +296,7 @@ fn two_requests<'a>(rt: &impl Abort, exchanges: &'a [&'a Exchange; 2]) -> [Reque
     ]
 }
 
-/// These are the exchanges' replies.
+/// Checks that these are the exchanges' replies.
 fn assert_successes(rt: &impl Abort, replies: &[Answer], exchanges: &[&Exchange]) {
     assert!(rt; replies.len() == exchanges.len());
     for (reply, exchange) in replies.iter().zip(exchanges) {
@@ -304,7 +304,7 @@ fn assert_successes(rt: &impl Abort, replies: &[Answer], exchanges: &[&Exchange]
     }
 }
 
-/// What the author's room answers to an exchange's request.
+/// The reply of the author's room to an exchange's request, and its note, if any.
 fn room_turn<K: Naming, R: Wait + Abort>(
     rt: &R,
     room: &mut AuthorRoom<K>,
@@ -313,7 +313,7 @@ fn room_turn<K: Naming, R: Wait + Abort>(
     room.answer(rt, &request(moment(rt, exchange), exchange))
 }
 
-/// The room gives the exchange's reply, and perhaps a note.
+/// Checks that the room gives the exchange's reply, and returns its note, if any.
 fn room_answers<K: Naming, R: Wait + Abort>(
     rt: &R,
     room: &mut AuthorRoom<K>,
@@ -324,7 +324,7 @@ fn room_answers<K: Naming, R: Wait + Abort>(
     note
 }
 
-/// What the room gave is a refusal, without a note.
+/// Checks that the room gave a refusal with this status and body, and no note.
 fn assert_unnoted<K: Naming>(
     rt: &impl Abort,
     given: &(Answer, Option<Note<K>>),
@@ -335,7 +335,7 @@ fn assert_unnoted<K: Naming>(
     assert!(rt; given.1.is_none());
 }
 
-/// Puts both documents, of which no note comes.
+/// Puts both documents as drafts, which gives no note.
 fn draft<K: Naming, R: Wait + Abort>(rt: &R, room: &mut AuthorRoom<K>) {
     for exchange in DRAFTS {
         assert!(rt; room_answers(rt, room, exchange).is_none());
@@ -348,7 +348,7 @@ pub(crate) fn set_up<K: Naming, R: Wait + Abort>(rt: &R, room: &mut AuthorRoom<K
     room_answers(rt, room, PUBLISH).expect(rt, "a note")
 }
 
-/// The same, of which a desk learns.
+/// Puts both documents and publishes them, and has a desk learn of it.
 fn set_up_for<K: Naming, R: Wait + Abort>(rt: &R, room: &mut AuthorRoom<K>, desk: &mut Desk<K>) {
     desk.learn(&set_up(rt, room));
 }

@@ -1,4 +1,4 @@
-//! Halls of two operators.
+//! Halls with two operators.
 ghost use Rattle.std.specs.Prelude.{◌≡◌};
 ghost use Rattle.mds_request.specs.Configuration.{configuration};
 ghost use Rattle.mds_snapshot.specs.Opening.{book_of};
@@ -28,7 +28,7 @@ mod overlapping;
 mod resolving;
 mod session;
 
-/// A status, and a body that is JSON.
+/// The status of an answer, and its body, which is JSON.
 struct Answer {
     status: u16,
     body: &'static str,
@@ -44,7 +44,7 @@ const PUBLISHED: &Answer = &Answer {
     body: r#"{"published_date":1000,"revision":1}"#,
 };
 
-/// No vehicle is counted, at 2000.
+/// The answer at 2000 where no vehicle is counted.
 const NONE_COUNTED: &Answer = &Answer {
     status: 200,
     body: r#"{"at":2000,"policies":[{"policy_id":"00000000-0000-4000-8000-000000000201","rules":[{"measure":0,"rule_id":"00000000-0000-4000-8000-000000000301","status":"ok"}]}],"revision":1,"version":2}"#,
@@ -74,7 +74,7 @@ struct Exchange {
     answer: &'static Answer,
 }
 
-/// What is put before it is published.
+/// The drafts that are put before they are published.
 const DRAFTS: &[Exchange] = &[
     Exchange {
         at: 1000,
@@ -100,7 +100,7 @@ const PUBLISH: &Exchange = &Exchange {
     answer: PUBLISHED,
 };
 
-/// Bravo's question, who has no vehicle.
+/// A question by bravo, who has no vehicle.
 const ASKED_BY_BRAVO: &Exchange = &Exchange {
     at: 2000,
     credentials: Some(BRAVO),
@@ -109,12 +109,12 @@ const ASKED_BY_BRAVO: &Exchange = &Exchange {
     answer: NONE_COUNTED,
 };
 
-/// What tests ask of the runtime, besides that threads may share it.
+/// What tests need of the runtime, besides that threads may share it.
 trait Host: Wait + Threads + RandomSource + AllocGlobal + Abort + Copy {}
 
 impl<R: Wait + Threads + RandomSource + AllocGlobal + Abort + Copy> Host for R {}
 
-/// What is done in a hall.
+/// The test that is run on a hall.
 #[derive(Clone, Copy)]
 enum Visit {
     OwnQuestions,
@@ -161,12 +161,12 @@ fn opened<K: Named + Send + Sync, R: Host + Sync>(
         Visit::LargeReport => resolving::large_report(rt, alloc, &hall),
     }
     hall.finish(rt);
-    // A room that isn't ended keeps its share.
+    // A room that isn't finished keeps its `Arc`.
     assert!(rt; Arc::strong_count(&config) == 1);
     Ok(())
 }
 
-/// Puts credentials into a head's fields, and says whether there was memory for that.
+/// Puts credentials into a head's fields, and returns whether there was memory for that.
 fn is_signed(alloc: Global, fields: &mut HeaderMap, credentials: &str) -> bool {
     match HeaderValue::from_str(alloc, credentials) {
         Ok(value) => fields.insert(AUTHORIZATION, value).is_ok(),
@@ -214,7 +214,7 @@ fn body_of<R: Host>(rt: &R, response: Response<Full<Bytes>>) -> Option<Bytes> {
     }
 }
 
-/// Whether the response has this status, and says that it is JSON.
+/// Whether the response has this status and the content type of JSON.
 fn is_headed(response: &Response<Full<Bytes>>, status: u16) -> bool {
     match response.headers().get(CONTENT_TYPE) {
         Some(kind) => kind.as_bytes() == JSON && response.status().as_u16() == status,
@@ -238,8 +238,8 @@ fn is_answer<R: Host>(
     }
 }
 
-/// Whether the hall, whose vehicles are judged by several threads, gives this answer to a head, if there is
-/// one, and to what arrived with it.
+/// Whether the hall gives this answer to a head, if there is one, with this body. Vehicles are evaluated by several
+/// threads.
 fn gives<K: Named, R: Host + Sync>(
     rt: &R,
     hall: &Hall<K>,
@@ -269,7 +269,7 @@ fn answers<K: Named, R: Host + Sync>(
     gives(rt, hall, parts, body, at, exchange.answer)
 }
 
-/// The hall gives the exchange's answer to its request with this method.
+/// Checks that the hall gives the exchange's answer to its request with this method.
 fn assert_answers<K: Named, R: Host + Sync>(
     rt: &R,
     alloc: Global,
@@ -281,7 +281,7 @@ fn assert_answers<K: Named, R: Host + Sync>(
     assert!(rt; is_answered, "no {}", exchange.answer.body);
 }
 
-/// The author's requests that publish the policy and its square at 1000.
+/// Puts the policy and its square as drafts and publishes them, at 1000.
 fn set_up<K: Named, R: Host + Sync>(rt: &R, alloc: Global, hall: &Hall<K>) {
     for exchange in DRAFTS {
         assert_answers(rt, alloc, hall, Method::PUT, exchange);

@@ -1,5 +1,5 @@
-//! Tests of what is shown to threads, and of connections: snapshots, desks, halls, a server over loopback. They use public items
-//! alone, and stand here so that their proof doesn't prove those crates again.
+//! Tests of snapshots, desks and halls, and of connections over loopback. They use public items alone, and are a
+//! crate of their own, so that proving them doesn't prove the tested crates again.
 #![tactic(auto)]
 
 #[cfg(test)]

@@ -1,4 +1,4 @@
-//! Connections over loopback, at a clock that stands.
+//! Connections over loopback, with a fixed clock.
 ghost use Rattle.std.specs.Prelude.{◌≡◌};
 ghost use Rattle.mds_request.specs.Configuration.{configuration};
 ghost use Rattle.mds_snapshot.specs.Opening.{book_of};
@@ -67,7 +67,8 @@ const EXCHANGES: &[Exchange] = &[
     },
 ];
 
-/// What is answered where the clock gives no moment, before the token is looked at.
+/// Requests and their answers where the clock gives no moment, which is found before the access
+/// token is read.
 const AT_NO_MOMENT: &[Exchange] = &[
     Exchange {
         line: "GET /policies",
@@ -95,7 +96,7 @@ impl Moments for Standing {
     }
 }
 
-/// What is asked, and at which clock.
+/// Requests, and the clock at which they come.
 #[derive(Clone, Copy)]
 enum Script {
     Published,
@@ -118,7 +119,7 @@ impl Script {
     }
 }
 
-/// A connection, what is sent over it, and what must come back.
+/// A connection, the request to send over it, and what its response must begin and end with.
 #[derive(Drop)]
 struct Asked {
     stream: TcpStream,
@@ -127,7 +128,7 @@ struct Asked {
     answer: String,
 }
 
-/// A connection of its own for an exchange.
+/// Opens a connection for an exchange.
 fn connected<R: Net<Stream = TcpStream> + AllocGlobal>(
     rt: &R,
     address: SocketAddr,
@@ -148,7 +149,7 @@ fn connected<R: Net<Stream = TcpStream> + AllocGlobal>(
     })
 }
 
-/// Asks, and says whether the answer is the one that is wanted.
+/// Sends the request, and returns whether the response is the expected one.
 fn is_answered(alloc: Global, asked: &mut Asked) -> io::Result<bool> {
     asked.stream.write_all(asked.request.as_bytes())?;
     let mut answer = Vec::new(alloc);
@@ -156,7 +157,8 @@ fn is_answered(alloc: Global, asked: &mut Asked) -> io::Result<bool> {
     Ok(answer.starts_with(asked.status.as_bytes()) && answer.ends_with(asked.answer.as_bytes()))
 }
 
-/// Asks one after the other, each once the one before is answered.
+/// Sends requests one after another, each once the one before is answered. Returns whether all
+/// responses are the expected ones.
 fn are_answered(alloc: Global, mut clients: Vec<Asked>) -> bool {
     let mut wanted = true;
     for asked in &mut clients {
@@ -165,7 +167,7 @@ fn are_answered(alloc: Global, mut clients: Vec<Asked>) -> bool {
     wanted
 }
 
-/// A connection for each exchange.
+/// Opens a connection for each exchange.
 fn clients_of<R: Net<Stream = TcpStream> + AllocGlobal>(
     rt: &R,
     address: SocketAddr,
@@ -178,7 +180,7 @@ fn clients_of<R: Net<Stream = TcpStream> + AllocGlobal>(
     Ok(clients)
 }
 
-/// What waits for events, where the server listens, and who asks there.
+/// The runtime, the listener of the server, and its clients.
 #[derive(Drop)]
 struct Scene {
     runtime: Runtime,
@@ -211,7 +213,8 @@ where
     })
 }
 
-/// A hall is made once all else is there, so that what fails before has none to end.
+/// Serves one of the scripts. The hall is made once all else is there, so that no earlier failure
+/// leaves one to finish.
 fn served<K: Named + Send + Sync, R>(
     rt: &R,
     config: Config,
@@ -242,7 +245,7 @@ where
     Ok(())
 }
 
-/// Asks, and serves meanwhile.
+/// Sends the requests, and serves concurrently.
 fn both<K: Named + Send + Sync, R>(
     rt: &R,
     scene: Scene,
@@ -276,7 +279,7 @@ where
     )
 }
 
-/// Plays one of the scripts.
+/// Runs one of the scripts.
 fn played<R>(rt: &R, script: Script) -> Result<(), Fail>
 where
     R: Wait
@@ -302,7 +305,7 @@ fn answers_over_loopback(rt: HostRuntime) -> Result<(), Fail> {
     played(&rt, Script::Published)
 }
 
-/// Without a moment each request has the server's own answer.
+/// Without a moment each request is answered with `clock`.
 #[test]
 fn has_no_moment_over_loopback(rt: HostRuntime) -> Result<(), Fail> {
     played(&rt, Script::NoMoment)

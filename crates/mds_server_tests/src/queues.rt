@@ -1,4 +1,4 @@
-//! Turns in the queue of one who asks.
+//! Turns in the queue of one client.
 ghost use Rattle.std.specs.Prelude.{IfSome};
 ghost use Rattle.futures.specs.Task.{Keeps};
 ghost use Rattle.mds_connections.specs.Turn.{IsWaiting};
@@ -17,7 +17,7 @@ const CONFIGURATION: &[u8] =
 
 const ALFA: Actor = Actor::Operator(0);
 
-/// What a turn holds that is had at once; none, where it has to wait and where it is over.
+/// The permits of a turn that gets them at once; `None` where it has to wait, and where it is over.
 fn permits(turn: &mut Option<Turn>, cx: &mut Context<'_>) -> Option<Permits>
     requires { IfSome turn.old IsWaiting }
     ensures waits { IfSome turn.new IsWaiting }
@@ -35,14 +35,14 @@ fn permits(turn: &mut Option<Turn>, cx: &mut Context<'_>) -> Option<Permits>
     }
 }
 
-/// What happens in the queue of alfa, who is asked for nothing else.
+/// A future that tries turns in the queue of alfa, where nothing else waits.
 #[derive(Drop)]
 struct Alfa<'a> {
     queues: &'a Queues,
     scene: Scene,
 }
 
-/// Who waits.
+/// The answers that wait.
 #[derive(Clone, Copy)]
 enum Scene {
     /// Two short answers.
@@ -52,14 +52,14 @@ enum Scene {
 }
 
 impl Alfa<'_> {
-    /// A turn of alfa.
+    /// A turn in alfa's queue.
     fn turn(&self, cost: Cost) -> Option<Turn>
         ensures { IfSome result IsWaiting }
     {
         self.queues.turn(ALFA, cost)
     }
 
-    /// Whether two short answers are given side by side.
+    /// Whether two short answers run concurrently.
     fn are_side_by_side(&self, cx: &mut Context<'_>) -> bool
         ensures { Keeps cx.old cx.new }
     {
@@ -68,8 +68,8 @@ impl Alfa<'_> {
         first.is_some() && second.is_some()
     }
 
-    /// Whether a short answer is next behind the long one that is given, before two long ones that waited first, and another
-    /// short one behind the next of these.
+    /// Whether a short answer is next after the long one that runs, before two long ones that waited first, and
+    /// another short one after the next of these.
     fn are_in_order(&self, cx: &mut Context<'_>) -> bool
         ensures { Keeps cx.old cx.new }
     {
@@ -113,7 +113,7 @@ impl Future for Alfa<'_> {
     }
 }
 
-/// Short answers to one who asks are given side by side.
+/// Short answers to one client run concurrently.
 #[test]
 fn short_answers_are_given_side_by_side(rt: HostRuntime) -> Result<(), Fail> {
     let alloc = rt.alloc();
@@ -133,7 +133,7 @@ fn a_short_answer_waits_for_one_long(rt: HostRuntime) -> Result<(), Fail> {
     Ok(())
 }
 
-/// What takes nothing of a queue has no turn, nor has what is told to who has no known access token.
+/// An answer that takes nothing of a queue has no turn, nor has an answer to an anonymous client.
 #[test]
 fn what_is_free_takes_no_turn(rt: HostRuntime) -> Result<(), Fail> {
     let alloc = rt.alloc();

@@ -1,3 +1,4 @@
+//! A publisher, its panes and its notes.
 ghost use Rattle.std.specs.Prelude.{◌≡◌};
 ghost use Rattle.mds_snapshot.specs.Opening.{book_of};
 
@@ -18,7 +19,7 @@ const P1: &str = "00000000-0000-4000-8000-000000000201";
 
 const P2: &str = "00000000-0000-4000-8000-000000000202";
 
-/// A policy on the square, and another that takes its place.
+/// A policy on the square, and `NEXT`, another that supersedes it.
 const CAP: &[u8] =
     br#"{"policy_id":"00000000-0000-4000-8000-000000000201","name":"cap","start_date":1000,"rules":[{"rule_id":"00000000-0000-4000-8000-000000000301","name":"cap","rule_type":"count","geographies":["00000000-0000-4000-8000-000000000101"],"maximum":1}]}"#;
 
@@ -32,21 +33,21 @@ fn id(rt: &impl Abort, text: &str) -> Id {
     Id::read(text).expect(rt, "an identifier")
 }
 
-/// The square alone; none, memory ran out.
+/// The square alone; `None` where memory ran out.
 fn geographies(alloc: Global) -> Option<Vec<Arc<Geography>>> {
     let square = Geography::read(alloc, SQUARE).ok()?;
     let square = Arc::new(alloc, square).ok()?;
     vec![in alloc; square].ok()
 }
 
-/// The policy of this text alone; none, memory ran out.
+/// The policy of this text alone; `None` where memory ran out.
 fn policies(alloc: Global, text: &[u8]) -> Option<Vec<Arc<Policy>>> {
     let policy = Policy::read(alloc, text).ok()?;
     let policy = Arc::new(alloc, policy).ok()?;
     vec![in alloc; policy].ok()
 }
 
-/// A batch of these documents; none, memory ran out.
+/// A batch of these documents; `None` where memory ran out.
 fn batch(
     alloc: Global,
     at: Moment,
@@ -57,14 +58,14 @@ fn batch(
     Arc::new(alloc, batch).ok()
 }
 
-/// The first policy with the square; none, memory ran out.
+/// A batch of the first policy with the square; `None` where memory ran out.
 fn first(alloc: Global) -> Option<Arc<Batch>> {
     let at = Moment::new(1000)?;
     let policies = policies(alloc, CAP)?;
     batch(alloc, at, geographies(alloc)?, policies)
 }
 
-/// The policy that takes its place, a second later; none, memory ran out.
+/// A batch of the policy that supersedes it, a second later; `None` where memory ran out.
 fn second(alloc: Global) -> Option<Arc<Batch>> {
     let at = Moment::new(2000)?;
     let policies = policies(alloc, NEXT)?;
@@ -75,7 +76,7 @@ fn both(alloc: Global) -> Option<(Arc<Batch>, Arc<Batch>)> {
     Some((first(alloc)?, second(alloc)?))
 }
 
-/// Publishes a batch that has to be lawful.
+/// Publishes a batch, once it is checked to be lawful.
 fn publish<K: Naming, R: Wait + Abort>(
     rt: &R,
     publisher: &mut Publisher<K>,
@@ -85,7 +86,7 @@ fn publish<K: Naming, R: Wait + Abort>(
     publisher.publish(rt, Arc::try_clone(batch)?)
 }
 
-/// Publishes a batch that has to be lawful, which takes no memory.
+/// Publishes a batch, once it is checked to be lawful. Publishing needs no memory.
 fn published<K: Naming, R: Wait + Abort>(
     rt: &R,
     publisher: &mut Publisher<K>,
@@ -94,7 +95,7 @@ fn published<K: Naming, R: Wait + Abort>(
     publish(rt, publisher, batch).expect(rt, "a note")
 }
 
-/// Shows the first so many batches: the square and the first policy, then the other policy.
+/// Checks that a catalogue has the first so many batches: the square and the first policy, then the other policy.
 fn assert_front(rt: &impl Abort, catalogue: &Catalogue, length: u64) {
     assert!(rt; catalogue.revision() == length);
     assert!(rt; catalogue.geography(id(rt, G1)).is_some() == (length >= 1));
@@ -102,7 +103,7 @@ fn assert_front(rt: &impl Abort, catalogue: &Catalogue, length: u64) {
     assert!(rt; catalogue.policy(id(rt, P2)).is_some() == (length >= 2));
 }
 
-/// Looks, and leaves: so many batches have to be shown.
+/// Takes a look and leaves it, and checks that it shows so many batches.
 fn shown<K: Naming>(rt: &impl Abort, pane: Pane<K>, length: u64) -> Pane<K> {
     match pane.look() {
         Ok(look) => {
@@ -113,7 +114,7 @@ fn shown<K: Naming>(rt: &impl Abort, pane: Pane<K>, length: u64) -> Pane<K> {
     }
 }
 
-/// Learns of so many batches: they have to be shown.
+/// Learns a note, and checks that the next look shows so many batches.
 fn told<K: Naming>(rt: &impl Abort, mut pane: Pane<K>, note: &Note<K>, length: u64) -> Pane<K> {
     pane.learn(note);
     shown(rt, pane, length)
@@ -136,7 +137,7 @@ fn opened<K: Naming, R: Wait + Abort>(rt: &R, alloc: Global, blank: Blank) -> Re
     Ok(())
 }
 
-/// A pane's first look: nothing is published.
+/// A pane after its first look, which shows nothing published.
 fn fresh<K: Naming>(rt: &impl Abort, panes: &mut Vec<Pane<K>>) -> Pane<K> {
     shown(rt, panes.pop().expect(rt, "a pane"), 0)
 }
@@ -157,7 +158,7 @@ fn in_turn<K: Naming, R: Wait + Abort>(
     shown(rt, right, 2)
 }
 
-/// An older note takes nothing away from what a pane learnt.
+/// Checks that an older note takes nothing away from what a pane learnt.
 fn told_late<K: Naming, R: Wait + Abort>(
     rt: &R,
     publisher: &mut Publisher<K>,
@@ -170,8 +171,8 @@ fn told_late<K: Naming, R: Wait + Abort>(
     assert_front(rt, publisher.catalogue(), 2);
 }
 
-/// With one growth refused, wherever it is: what isn't opened wants memory; publications, notes, what is
-/// learnt and looks take none.
+/// With one allocation refused, whichever it is: opening may run out of memory; publications, notes, learning and
+/// looks need none.
 #[test]
 fn survives_want_of_memory(rt: HostRuntime) -> Result<(), Fail> {
     let alloc = rt.alloc();
@@ -182,7 +183,7 @@ fn survives_want_of_memory(rt: HostRuntime) -> Result<(), Fail> {
     prepared(&rt, alloc, &batches)
 }
 
-/// Prepares, at the first or the second try, and opens that.
+/// Prepares a blank, at the second try at the latest, and opens it.
 fn prepared<R: Wait + Abort>(
     rt: &R,
     alloc: Global,
@@ -215,7 +216,7 @@ fn wanting<K: Naming, R: Wait + Abort>(
     }
 }
 
-/// Publishes a batch, of which each pane learns. It gives one of them back.
+/// Publishes a batch, has each pane learn of it, and returns one of the panes.
 fn at_each_place<K: Naming, R: Wait + Abort>(
     rt: &R,
     publisher: &mut Publisher<K>,
@@ -232,7 +233,7 @@ fn at_each_place<K: Naming, R: Wait + Abort>(
     kept
 }
 
-/// A publisher that is closed refuses every batch, and keeps its list and its catalogue.
+/// Checks that a closed publisher refuses every batch, and keeps its list and its catalogue.
 fn refused<K: Naming, R: Wait + Abort>(
     rt: &R,
     closed: &mut Publisher<K>,

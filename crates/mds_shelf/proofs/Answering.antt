@@ -1,4 +1,4 @@
--- What lies ready answers the calls for it.
+-- A cached body answers the calls with its key.
 use Rattle.std.proofs.Common.{◌≡◌, ℕ, Bool, true, false, cond, List, [], ◌∷◌, map, filter, length, Option, Some, None, Result, Ok, Err, refl, ap, sym, subst, ◌∙◌}
 use Rattle.std.specs.Prelude.{codes, ◌&&◌, ◌||◌, ◌==◌, is_some}
 use Rattle.std.specs.List.{list_all}
@@ -38,7 +38,7 @@ narrowed weak strong on (x ∷ xs) all = one strong x (filter weak xs) (filter s
 meant : (id : List ℕ) (p : Published Policy) → is_everyones p ≡ true → is_meant_for id p.document ≡ true
 meant id p is = ap (λ b. b || is_among p.document.providers id) is
 
--- an operator for whom no policy is meant by name is shown everyone's
+-- an operator for whom no policy is meant by name sees everyone's policies
 one_list : (ps : List Publication) (id : List ℕ) → list_all is_everyones (policies_for ps (Some id)) ≡ true → policies_for ps (Some id) ≡ filter is_everyones (published_policies ps)
 one_list ps id all = narrowed (λ p. is_meant_for id p.document) is_everyones (meant id) (published_policies ps) all
 
@@ -60,7 +60,7 @@ module _ (ps : List Publication) where
     does = λ zone o rows request same. ap (λ i. listed (policies_for ps (Some i)) rows) same ∙ ap (λ l. listed l rows) (one_list ps id all);
   }
 
-  -- one policy, told to a reader
+  -- the reply with one policy
   abbrev of_policy : Published Policy → Reply
   of_policy p = told (revised_json (codes "policy") (policy_json p) (length ps))
 

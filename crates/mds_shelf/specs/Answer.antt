@@ -1,4 +1,4 @@
--- The answer that a made reply, or a body that lay ready, stands for.
+-- The reply of an answer: one that was made, or a success with a cached body.
 use Rattle.mds_request.specs.Reply.{Reply, success}
 use Rattle.mds_shelf.specs.declared.answer.Source.{Source}
 use Rattle.mds_shelf.specs.declared.answer.Source.TheVariants.{Made, Ready}

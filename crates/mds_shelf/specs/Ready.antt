@@ -1,5 +1,5 @@
--- What lies ready: the replies that tell what is published, which are the same for all who may ask (MDS 2.0 Policy and
--- Geography).
+-- What is cached: the replies about what is published, which are the same for all clients that may ask for them (MDS
+-- 2.0 Policy and Geography).
 use Rattle.std.specs.Prelude.{◌≡◌, ℕ, List, map, filter, length, codes, Bool, ◌==◌, Option, Some, None, Result, Ok}
 use Rattle.mds_match.specs.declared.zone.Zone.{Zone}
 use Rattle.mds_catalog.specs.Publication.{Publication, Published, published_policies}
@@ -29,7 +29,7 @@ abbrev pub everyones_reply : List Publication → Reply
 everyones_reply publications =
     told (revised_json (codes "policies") (list_json (map policy_json (filter is_everyones (published_policies publications)))) (length publications))
 
--- the reply to each of them; the author is shown every policy
+-- the reply for each key; every policy is visible to the author
 abbrev pub reply_at : List Publication → Ready → Result Reply Code
 reply_at publications AllPolicies = Ok (policies_reply publications None)
 reply_at publications EveryonesPolicies = Ok (everyones_reply publications)
@@ -38,11 +38,11 @@ reply_at publications (PolicyAt id) = policy_answer publications None id
 reply_at publications Geographies = Ok (geographies_reply publications)
 reply_at publications (GeographyAt id) = geography_answer publications id
 
--- the reply is a success with this body
+-- the reply for the key is a success with this body
 abbrev pub IsBodyOf : List Publication → Ready → List ℕ → Type 0
 IsBodyOf publications key body = reply_at publications key ≡ Ok (success body)
 
--- it is the body of what was asked, if anything was
+-- it is the body for the key, if there is a key
 abbrev pub IsFound : List Publication → Option Ready → List ℕ → Type 0
 IsFound publications asked body = (key : Ready) × (asked ≡ Some key) × IsBodyOf publications key body
 
@@ -50,15 +50,16 @@ IsFound publications asked body = (key : Ready) × (asked ≡ Some key) × IsBod
 abbrev pub IsReplyTo : List Publication → Ready → Reply → Type 0
 IsReplyTo publications key reply = reply.status ≡ 200 → IsBodyOf publications key reply.body
 
--- It answers an operator's call with success and leaves the rows, whatever they are, and whatever the zone, the moment and
--- else the request says.
+-- The key's body answers an operator's call with success and leaves the rows, whatever they are, and whatever the zone,
+-- the moment and the rest of the request are.
 pub record AnswersOperator (publications : List Publication) (id : List ℕ) (call : OperatorCall) (key : Ready) : Type 0 where
   pub body : List ℕ
   pub is_its : IsBodyOf publications key body
   pub does : (zone : Zone) (operator : Operator) (rows : Rows) (request : Request) → operator.id ≡ id
       → operator_does zone operator publications rows call request ≡ Ok (success body, rows)
 
--- It answers the author's call with success and leaves the drafts and the publications, whatever the request says.
+-- The key's body answers the author's call with success and leaves the drafts and the publications, whatever the
+-- request is.
 pub record AnswersAuthor (publications : List Publication) (call : AuthorCall) (key : Ready) : Type 0 where
   pub body : List ℕ
   pub is_its : IsBodyOf publications key body

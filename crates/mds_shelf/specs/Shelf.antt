@@ -1,4 +1,4 @@
--- What lies on a shelf.
+-- The entries of the response cache.
 use Rattle.std.specs.Prelude.{List}
 use Rattle.std.specs.List.{All}
 use Rattle.mds_catalog.specs.Publication.{Publication}

@@ -1,18 +1,20 @@
-//! What a desk or the author's room answers.
+//! The answer of a desk or of the author's room.
 use bytes::Bytes;
 use mds_request::{Code, Reply};
 use std::alloc::{AllocError, Global};
 use std::marker::Model;
 
-/// How an answer was come by.
+/// Where an answer comes from.
 #[derive(Drop)]
 enum Source {
+    /// A reply that was made for the request.
     Made(Reply),
+    /// The cached body of a success.
     Ready(Bytes),
 }
 
-/// The answer to a request: a reply that was made for it, or a success whose body lay ready. Contracts see
-/// its status and its body.
+/// The answer to a request: a reply that was made for it, or a success with a cached body. Contracts see its status and
+/// its body.
 #[derive(Drop)]
 pub struct Answer {
     source: Source,
@@ -32,7 +34,7 @@ impl Answer {
     ghost use Rattle.std.specs.Prelude.{◌≡◌, IfOk};
     ghost use Rattle.mds_request.specs.Reply.{success};
 
-    /// What was asked is done: status 200 with this body, which isn't copied.
+    /// A success: status 200 with this body, which isn't copied.
     pub fn ready(body: Bytes) -> Answer
         ensures { result ≡ success body }
     {
@@ -51,7 +53,7 @@ impl Answer {
         }
     }
 
-    /// The body: one line, without its end.
+    /// The body: one line, without the line feed.
     pub fn body(&self) -> &[u8]
         ensures { result.now ≡ self.now.body }
     {
@@ -61,11 +63,11 @@ impl Answer {
         }
     }
 
-    /// The body itself, as bytes that can be shared. That of a success isn't copied.
+    /// The body, owned, as bytes that can be shared. That of a success isn't copied.
     ///
     /// # Errors
     ///
-    /// There was no memory for the body of a refusal, or to share the body of a reply that was made.
+    /// Out of memory for the body of a refusal, or for sharing the body of a reply that was made.
     pub fn into_bytes(self, alloc: Global) -> Result<Bytes, AllocError>
         ensures { IfOk result (λ body. body ≡ self.body) }
     {

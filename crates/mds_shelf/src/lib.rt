@@ -1,4 +1,5 @@
-//! What is published, ready as bytes that all replies to it share.
+//! A response cache: bodies of what is published, as bytes that the author's room and all desks
+//! share.
 #![tactic(auto)]
 
 mod answer;

@@ -1,4 +1,4 @@
-//! What can be asked of the published documents, and which call asks for it.
+//! The keys of the response cache, and which call has which key.
 ghost use Rattle.std.specs.Prelude.{◌≡◌, false, IfSome};
 ghost use Rattle.std.specs.List.{list_all};
 ghost use Rattle.std.specs.Option.{option_map_or};
@@ -14,8 +14,8 @@ use mds_request::{AuthorCall, OperatorCall};
 use mds_text::Id;
 use std::alloc::Global;
 
-/// What can be asked of the documents that are published at one front: whoever asks for it is told the
-/// same, whatever the moment.
+/// The key of a cached body: a question about the documents that are published at one front, whose answer depends
+/// neither on the client nor on the moment.
 #[derive(Clone, Copy, PartialEq, Eq)]
 pub enum Ready {
     /// All policies, as the author sees them.
@@ -24,11 +24,11 @@ pub enum Ready {
     EveryonesPolicies,
     /// The policies that are meant for this operator.
     PoliciesFor(Id),
-    /// The policy of this identifier.
+    /// The policy with this identifier.
     Policy(Id),
     /// All geographies.
     Geographies,
-    /// The geography of this identifier.
+    /// The geography with this identifier.
     Geography(Id),
 }
 
@@ -39,15 +39,15 @@ fn is_everyones(policy: &Published<'_, Policy>) -> bool
     policy.document.providers().is_empty()
 }
 
-/// Whether each of these policies is.
+/// Whether all of these policies are meant for everyone.
 fn are_everyones(policies: &[Published<'_, Policy>]) -> bool
     ensures { result ≡ list_all (λ p. is_everyones (lent_policy p)) policies.now }
 {
     policies.iter().all(|policy| is_everyones(policy))
 }
 
-/// The policies that an operator is shown: everyone's, where none is meant for it by name. None, where
-/// there is no memory to look through them.
+/// The key for the policies that are visible to an operator: everyone's, where none is meant for it by name. `None`
+/// where memory runs out.
 fn policies_for(alloc: Global, catalogue: &Catalogue, operator: Id) -> Option<Ready>
     ensures { IfSome result (AnswersOperator (publications_of catalogue.now) operator called.Policies) }
 {
@@ -61,8 +61,8 @@ fn policies_for(alloc: Global, catalogue: &Catalogue, operator: Id) -> Option<Re
     }
 }
 
-/// Whether the policy of this identifier is published, and shown to an operator, or to the author, who is
-/// none and is shown any.
+/// Whether the policy with this identifier is published and visible to an operator, or to the author where no operator
+/// is given; the author sees any policy.
 fn is_policy_shown(catalogue: &Catalogue, operator: Option<Id>, id: Id) -> bool
     ensures { result ≡ option_map_or (is_shown operator) (find_policy (publications_of catalogue.now) id) false }
 {
@@ -73,16 +73,16 @@ fn is_policy_shown(catalogue: &Catalogue, operator: Option<Id>, id: Id) -> bool
     }
 }
 
-/// Whether the geography of this identifier is published.
+/// Whether the geography with this identifier is published.
 fn is_geography_shown(catalogue: &Catalogue, id: Id) -> bool
     ensures { result ≡ is_geography_published (publications_of catalogue.now) id }
 {
     catalogue.geography(id).is_some()
 }
 
-/// What answers this call of an operator, by its identifier, over the published catalogue: the documents
-/// that are meant for it. None for any other call, for a document that isn't published or isn't meant for
-/// the operator, and where there is no memory to look through the policies.
+/// The key of the success to this call of an operator, by its identifier, over the published catalogue: of the
+/// documents that are meant for it. `None` for any other call, for a document that isn't published or isn't meant for
+/// the operator, and where memory runs out.
 pub fn ready_for_operator(
     alloc: Global,
     catalogue: &Catalogue,
@@ -104,8 +104,8 @@ pub fn ready_for_operator(
     }
 }
 
-/// What answers this call of the author over the published catalogue: its published documents. None for any
-/// other call, and for a document that isn't published.
+/// The key of the success to this call of the author, over the published catalogue. `None` for any other call, and for
+/// a document that isn't published.
 pub fn ready_for_author(catalogue: &Catalogue, call: &AuthorCall) -> Option<Ready>
     ensures { IfSome result (AnswersAuthor (publications_of catalogue.now) call.now) }
 {

@@ -1,4 +1,4 @@
-//! One shelf for all desks of a server and its author's room.
+//! The response cache that all desks of a server and its author's room share.
 ghost use Rattle.std.specs.Prelude.{◌≡◌, ◌⊎◌, IfSome, IsSome};
 ghost use Rattle.mds_request.specs.Reply.{refused};
 ghost use Rattle.mds_request.specs.declared.code.Code.TheVariants.{NoMemory};
@@ -15,12 +15,12 @@ use std::marker::Model;
 use std::sync::{Arc, Mutex, MutexGuard};
 use std::thread::yield_now;
 
-/// How often a shelf that is taken is tried, and another thread let run, before it is passed by.
+/// How many times a locked cache is tried, yielding to other threads after each try, before it is skipped.
 const TRIES: usize = 4;
 
-/// A share of one shelf, which lies behind a lock. The lock is held only while a body is looked for or laid
-/// down, never while one is made, and nobody waits for it: a shelf that stays taken is passed by. Contracts
-/// see nothing of what lies there.
+/// A reference to one response cache behind a lock. The lock is held only for a look-up or an insertion, never while a
+/// body is made, and nobody waits for it: a cache that stays locked is skipped. Contracts see nothing of what is
+/// cached.
 #[derive(Drop)]
 pub struct SharedShelf<K: Naming> {
     shelf: Arc<Mutex<Shelf<K>>>,
@@ -33,27 +33,27 @@ impl<K: Naming> Model for SharedShelf<K> {
 }
 
 impl<K: Naming> SharedShelf<K> {
-    /// An empty shelf, of the note's front.
+    /// An empty cache for the note's front.
     ///
     /// # Errors
     ///
-    /// Memory ran out.
+    /// Out of memory.
     pub fn new(alloc: Global, note: Note<K>) -> Result<SharedShelf<K>, AllocError> {
         let shelf = Arc::new(alloc, Mutex::new(Shelf::new(alloc, note)))?;
         Ok(SharedShelf { shelf })
     }
 
-    /// Another share of the shelf.
+    /// Another reference to the cache.
     ///
     /// # Errors
     ///
-    /// No further share could be made.
+    /// No further reference could be made.
     pub fn share(&self) -> Result<SharedShelf<K>, AllocError> {
         let shelf = Arc::try_clone(&self.shelf)?;
         Ok(SharedShelf { shelf })
     }
 
-    /// The shelf, where it isn't taken.
+    /// The locked cache; `None` where another thread holds the lock at each try.
     fn taken(&self) -> Option<MutexGuard<'_, Shelf<K>>> {
         for _ in 0..TRIES {
             if let Some(shelf) = self.shelf.try_lock() {
@@ -64,8 +64,7 @@ impl<K: Naming> SharedShelf<K> {
         None
     }
 
-    /// The body that lies ready for what is asked at the note's front, if any does. None, too, where the shelf
-    /// stays taken.
+    /// The cached body for a key at the note's front, if there is one. `None` also where the cache stays locked.
     pub fn find(&self, asked: &Option<Ready>, note: &Note<K>) -> Option<Bytes>
         ensures { IfSome result (IsFound note.now asked.now) }
     {
@@ -76,17 +75,17 @@ impl<K: Naming> SharedShelf<K> {
         shelf.find(key, note)
     }
 
-    /// Empties the shelf for a later front, where it isn't taken.
+    /// Empties the cache for a later front, unless it stays locked.
     pub fn turn_to(&self, note: &Note<K>) {
         if let Some(mut shelf) = self.taken() {
             shelf.turn_to(note);
         }
     }
 
-    /// The answer that a reply is. A success lies ready from then on for what was asked at the note's front,
-    /// where the shelf isn't taken.
+    /// The answer with this reply. The body of a success to a call with a key is cached for the note's front, unless
+    /// the cache stays locked.
     ///
-    /// Where there is no memory to share its body, the answer is 503 `no_memory`.
+    /// Where memory for sharing the body is refused, the answer is 503 `no_memory`.
     pub fn answer(
         &self,
         alloc: Global,
@@ -103,7 +102,7 @@ impl<K: Naming> SharedShelf<K> {
         }
     }
 
-    /// The answer that a success is, whose body lies ready from then on.
+    /// The answer with this success, whose body is cached.
     fn laid_down(&self, alloc: Global, key: Ready, note: &Note<K>, reply: Reply) -> Answer
         requires success { reply.status ≡ 200 }
         requires body { IsBodyOf note.now key reply.body }
@@ -118,7 +117,7 @@ impl<K: Naming> SharedShelf<K> {
         Answer::ready(body)
     }
 
-    /// Keeps a body of the note's front, where the shelf isn't taken.
+    /// Caches a body of the note's front, unless the cache stays locked.
     fn keep(&self, note: &Note<K>, key: Ready, body: Bytes)
         requires { IsBodyOf note.now key body }
     {

@@ -1,4 +1,4 @@
-//! The bodies that lie ready, all of one front.
+//! The response cache: bodies of one front.
 ghost use Rattle.std.specs.Prelude.{◌≡◌, ◌⊎◌, IfSome};
 ghost use mathlib.Core.List.{IsPrefix};
 ghost use Rattle.mds_shelf.specs.Ready.{IsBodyOf};
@@ -9,15 +9,14 @@ use mds_snapshot::{Naming, Note};
 use std::alloc::Global;
 use std::marker::Model;
 
-/// A body, and what it is the body of.
+/// A cached body with its key.
 #[derive(Drop)]
 pub(crate) struct Entry {
     key: Ready,
     body: Bytes,
 }
 
-/// Bodies that lie ready, of one front of what is published, one of each key at most. Contracts see the
-/// front.
+/// A response cache: bodies of one front of what is published, at most one for each key. Contracts see the front.
 #[derive(Drop)]
 pub struct Shelf<K: Naming> {
     note: Note<K>,
@@ -41,7 +40,7 @@ impl<K: Naming> Model for Shelf<K> {
 }
 
 impl<K: Naming> Shelf<K> {
-    /// An empty shelf, of the note's front.
+    /// An empty cache for the note's front.
     pub fn new(alloc: Global, note: Note<K>) -> Shelf<K>
         ensures { result ≡ note }
     {
@@ -51,8 +50,8 @@ impl<K: Naming> Shelf<K> {
         }
     }
 
-    /// A share of the body that lies ready under a key, where the shelf is of the note's front. None, too,
-    /// where no share could be made.
+    /// A reference to the body cached under a key, where the cache is for the note's front. `None` also where no
+    /// further reference could be made.
     pub fn find(&self, key: &Ready, note: &Note<K>) -> Option<Bytes>
         ensures { IfSome result (IsBodyOf note.now key.now) }
     {
@@ -67,7 +66,7 @@ impl<K: Naming> Shelf<K> {
         None
     }
 
-    /// Empties the shelf for a later front; one that the shelf's own front covers changes nothing.
+    /// Empties the cache for a later front; a front that the cache's own front covers changes nothing.
     pub fn turn_to(&mut self, note: &Note<K>)
         ensures kept { IsPrefix self.old self.new }
         ensures told { IsPrefix note.now self.new }
@@ -79,8 +78,8 @@ impl<K: Naming> Shelf<K> {
         }
     }
 
-    /// Keeps a body of the note's front: a later front empties the shelf first, and a body of an earlier one
-    /// isn't kept, nor a second one under a key. Where there is no memory for it, it isn't kept either.
+    /// Caches a body of the note's front: a later front empties the cache first, and a body of an earlier one isn't
+    /// cached, nor a second one under a key. Where memory for it is refused, it isn't cached either.
     pub fn keep(&mut self, note: &Note<K>, key: Ready, body: Bytes)
         requires { IsBodyOf note.now key body }
         ensures kept { IsPrefix self.old self.new }
@@ -93,7 +92,7 @@ impl<K: Naming> Shelf<K> {
         }
     }
 
-    /// Whether a body lies ready under a key.
+    /// Whether a body is cached under a key.
     fn has(&self, key: &Ready) -> bool {
         self.entries.iter().any(|entry| entry.key == *key)
     }

@@ -1,4 +1,5 @@
--- A site may be shared by threads, where the handle and what judges may be, and where room for records may be passed to another thread.
+-- A site may be shared by threads, where its runtime handle and its evaluator may be, and where the space for records
+-- may be passed to another thread.
 use denote.RattleType.{RattleType}
 use denote.Ref.{NamedLft}
 use denote.Param.Send.{IsSend, IsSync, sendable}

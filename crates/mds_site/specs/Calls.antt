@@ -13,7 +13,8 @@ use Rattle.mds_restarts.specs.Kept.{may_change}
 use Rattle.mds_routes.specs.declared.state.StateCall.{StateCall}
 use Rattle.mds_routes.specs.declared.state.StateCall.TheVariants.{Call as OfProtocol, Reports, AuthorAsks, OperatorAsks}
 
--- a call of the protocol: the author's call to publish, what may change what is kept, or what reads
+-- a call of the protocol: the author's call to publish, what may change the persisted state, or
+-- what reads
 abbrev pub kind_of_own : Call → Kind
 kind_of_own (Author author.Publish) = Publish
 kind_of_own call = if may_change (Ok call) then Change else Read

@@ -43,8 +43,8 @@ use std::time::Clock;
 /// A response that is there at once.
 pub type AtOnce = Ready<HttpResult>;
 
-/// A response of the city: it waits until all that it shows is synced, its refusal names what it has to, and it is counted as
-/// it leaves.
+/// A pending response of the city: it waits until all that it shows is synced, gets the header
+/// field of its refusal, and is counted as it leaves.
 pub type CityReply<'a, N, L, S, R> = GuidedReply<MeteredReply<'a, Leaving<N, L, S>, R>>;
 
 /// A response of a site.
@@ -60,7 +60,7 @@ impl<'a, K: Named, N: Naming, L: Log, S: Space, R: Wait, E> Site<'a, K, N, L, S,
             .respond(self.state.alloc, file, method, &parts.headers)
     }
 
-    /// The response to a request for what everyone may read.
+    /// The response to a request for a public document.
     fn respond_to_everyone(&self, parts: &Parts, asked: Asked) -> HttpResult
         ensures { IfOk result (IsTold K.configuration asked parts.now) }
     {
@@ -80,11 +80,11 @@ where
     R: Wait + Clock + Copy + Drop,
     E: Evaluator<Catalogue> + Drop,
 {
-    /// The response of the city, on its way.
+    /// The pending response of the city.
     ///
     /// # Errors
     ///
-    /// The share of who asks is used up: nothing was carried out.
+    /// The client's share is used up: nothing was carried out.
     fn answer_by_city(
         &self,
         head: &ResolvedState<K>,
@@ -119,7 +119,7 @@ where
 
     ghost may_answer = { E.may_judge };
 
-    /// What everyone may read is asked for only where there is a window.
+    /// Public documents have paths only where there is a `Window`.
     fn resolve(&self, parts: Parts) -> Resolved<K>
         ensures { elim result [
           | Asset own file ↦ (own ≡ parts) × AsksFile parts file
@@ -150,11 +150,11 @@ where
         head.cost(length)
     }
 
-    /// A file, and what everyone may read, is told at once.
+    /// Files and public documents are answered at once.
     ///
     /// # Errors
     ///
-    /// The city is asked, and the share of who asks is used up.
+    /// The city is asked, and the client's share is used up.
     fn answer(
         &self,
         head: &Resolved<K>,

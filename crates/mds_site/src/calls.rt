@@ -20,8 +20,8 @@ fn kind_of_own(call: &Call) -> Kind
     }
 }
 
-/// The kind as which a call of the city's state is counted: the author's call to publish, what may change what is kept, and all
-/// else, a refusal of the table of calls too.
+/// The kind as which a call of the city's state is counted: the author's call to publish, what may
+/// change the persisted state, or all else, which includes a refusal of the table of calls.
 pub fn kind_of(call: &Result<StateCall, Code>) -> Kind
     ensures { result ≡ kind_of call.now }
 {
@@ -32,8 +32,8 @@ pub fn kind_of(call: &Result<StateCall, Code>) -> Kind
     }
 }
 
-/// What the refusal of a call names: the methods of the request's path, given without its query, where the table of calls
-/// refuses the call by its method (RFC 9110, section 10.2.1); else none.
+/// What the refusal of a call names: the methods of the request's path, given without its query,
+/// where the table of calls refuses the call by its method (RFC 9110, section 10.2.1); else none.
 pub fn guide_for(call: &Result<StateCall, Code>, path: &str) -> Guide
     ensures { option_map text_of result.methods ≡ methods_for call.now path.now }
 {

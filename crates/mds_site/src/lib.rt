@@ -1,4 +1,5 @@
-//! What answers the requests of a server: the page, what everyone may read, or the city, by what a head was resolved to.
+//! The service of `ruffletuff`: the page, the public documents or the city, by what a head was
+//! resolved to.
 #![tactic(auto)]
 
 mod answers;

@@ -1,4 +1,4 @@
-//! A site: all that it takes to answer requests.
+//! A site: all that answers the requests of a server.
 ghost use Rattle.std.specs.Prelude.{◌≡◌, is_some, IfOk};
 ghost use Rattle.mds_public_answers.specs.Configured.{is_public};
 
@@ -15,16 +15,16 @@ use mds_snapshot::Note;
 use std::alloc::{AllocError, AllocGlobal};
 use std::sync::Wait;
 
-/// All that it takes to answer the requests of a server.
+/// All that answers the requests of a server.
 #[derive(Drop)]
 pub struct Site<'a, K: Named, N: Naming, L: Log, S: Space, R, E> {
     /// The files of the page.
     pub page: Page,
-    /// What everyone may read of what is published; none, where the configuration doesn't have it so.
+    /// The public documents; none, where the configuration doesn't turn them on.
     pub window: Option<Window<K>>,
-    /// The city, at the moments of the machine's clock, with what judges its vehicles.
+    /// The city, at the moments of the machine's clock, with the evaluator of its vehicles.
     pub state: CityReception<K, N, R, E, MachineClock<R>, L, S>,
-    /// What counts the replies of the city.
+    /// Counts the responses of the city.
     pub counters: &'a Counters,
 }
 
@@ -37,12 +37,13 @@ where
     R: Wait + AllocGlobal + Copy + Drop,
     E: Drop,
 {
-    /// The site of a city: the page is made, and what everyone may read, where the text of the configuration has it so. The
-    /// city's replies are counted by these counters, and its vehicles judged by this evaluator.
+    /// The site of a city: with the page, and with the public documents where the text of the
+    /// configuration turns them on. These counters count the city's responses, and this evaluator
+    /// judges its vehicles.
     ///
     /// # Errors
     ///
-    /// Memory ran out.
+    /// Out of memory.
     pub fn open(
         rt: &R,
         city: City<K, N, L, S>,

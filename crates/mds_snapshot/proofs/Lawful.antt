@@ -7,7 +7,7 @@ pub lawful_none : AreLawful []
 lawful_none [] rest p is = absurd (cc is)
 lawful_none (b ∷ bs) rest p is = absurd (cc is)
 
--- what stands in a list before its end: the last one, or one of the others
+-- an element of a list with one more at its end: that last one, or one of the others
 pub cut : {A : Type 0} (xs : List A) (x : A) (before rest : List A) (y : A) → xs ++ x ∷ [] ≡ before ++ y ∷ rest
     → ((before ≡ xs) × (y ≡ x)) ⊎ ((others : List A) × (xs ≡ before ++ y ∷ others))
 cut [] x [] rest y is = inl (refl, cc is)
@@ -18,7 +18,7 @@ cut (z ∷ zs) x (b ∷ bs) rest y is =
     let heads : b ≡ z = cc is in
     ⊎_elim (λ (t : (bs ≡ zs) × (y ≡ x)). inl (cc (heads, t.0), t.1)) (λ (t : (others : List _) × (zs ≡ bs ++ y ∷ others)). inr (t.0, cc (heads, t.1))) (cut zs x bs rest y (cc is))
 
--- one lawful publication more
+-- one more lawful publication
 pub lawful_more : (ps : List Publication) (p : Publication) → AreLawful ps → is_lawful ps p ≡ true → AreLawful (ps ++ p ∷ [])
 lawful_more ps p all more before rest q is =
     ⊎_elim (λ (t : (before ≡ ps) × (q ≡ p)). ap (λ b. is_lawful b q) t.0 ∙ ap (λ r. is_lawful ps r) t.1 ∙ more)

@@ -1,4 +1,4 @@
--- The steps on the two copies keep the rule.
+-- The steps on the two copies keep the invariant.
 use Rattle.std.proofs.Common.{◌≡◌, ℕ, ◌≢◌, List, [], ◌∷◌, ◌++◌, true, fold, refl, subst, ⊎_elim, ap, sym, ◌∙◌}
 use mathlib.Core.Option.{some}
 use mathlib.Core.List.{IsPrefix}
@@ -26,7 +26,7 @@ admits book x views h = (
   (λ seat v at. ⊎_elim (h.1 seat v) (λ (e : [] ≡ v). subst (λ (z : List Publication). IsPrefix z (publications_of x.catalogue)) e (publications_of x.catalogue, refl)) (at_snoc views [] v seat at)),
 )
 
--- a step after which a longer front is shown keeps the rule, and sees it
+-- a step after which a longer front is visible keeps the invariant, and that front is seen
 pub sees : (book : Book) (seat : ℕ) (v : List Publication) (x y : Shown) → IsPrefix (publications_of x.catalogue) (publications_of y.catalogue) → (IsFrontOf book x → IsFrontOf book y)
     → TurnsAt (IsKeptAt book) seat v x y (Sees book)
 sees book seat v x y on tied views h at =
@@ -40,7 +40,7 @@ sees book seat v x y on tied views h at =
       (tied h.0, h.1 seat v at, refl),
     )
 
--- one lawful publication more, with the front that ends with it
+-- one more lawful publication, with the front that ends with it
 pub publishes : (book : Book) (seat : ℕ) (v : List Publication) (x y : Shown) (ops : List Operation) (batch : Arc Batch Global) (t : Trail)
     → ops ≡ Publish batch t ∷ []
     → ◌≡◌ {A = List Publication × Trail} (publications_of y.catalogue, y.trail) (fold applied (publications_of x.catalogue, x.trail) ops)
@@ -61,7 +61,7 @@ publishes book seat v x y ops batch t one made lawful log named =
       subst AreLawful (sym all) (lawful_more (publications_of x.catalogue) p h.2 lawful),
     ))
 
--- what is shown stays
+-- a step that changes nothing
 pub stays : (book : Book) (seat : ℕ) (v : List Publication) (x y : Shown) (ops : List Operation)
     → ops ≡ Rest ∷ []
     → ◌≡◌ {A = List Publication × Trail} (publications_of y.catalogue, y.trail) (fold applied (publications_of x.catalogue, x.trail) ops)

@@ -1,5 +1,5 @@
--- Codes of the documents and publications, by which proofs tell values of them apart: each is stored as a tree
--- of numbers that gives it back.
+-- Codes of documents and publications, which proofs use to tell their values apart: each value is encoded as a tree of
+-- numbers, from which it can be decoded.
 use Rattle.std.specs.Prelude.{ℕ, zero, suc, ℤ, Bool, true, false, ◌≡◌, List, [], ◌∷◌, Option, refl}
 use Rattle.std.proofs.Common.{ap}
 use Rattle.std.specs.Coded.{Coded, code_by, coded×, coded_ℕ, coded_ℤ, coded_bool, coded_list, coded_option}

@@ -1,5 +1,5 @@
--- The history of what is published, which exists in proofs alone: the rule of its book, and what its one step,
--- which adds a publication, tells.
+-- The history of what is published, which exists only in proofs: the invariant of its book, and the effect of its one
+-- step, which appends a publication.
 use Rattle.std.specs.Prelude.{ℕ, ◌≡◌, ◌==◌, true, List, [], ◌∷◌, ◌++◌, length, MatchBool}
 use Rattle.logbook.specs.Pages.{Cell, Step, View, Book, Named}
 use Rattle.mds_catalog.specs.Publication.{Publication}
@@ -12,6 +12,6 @@ pub record IsKept (cells : List Cell) (log : List Publication) : Type 0 where
 abbrev pub head_of : Book → Named
 head_of b = record { tracked = true; key = 0; book = b }
 
--- the publication was put behind all that had been seen; or the history was longer, and was seen
+-- the publication was appended to all that had been seen; or the history was longer, and was then seen
 abbrev pub Adds : Step Publication → View Publication ℕ → ℕ → View Publication ℕ → Type 0
 Adds s v found w = MatchBool (found == s.old) (w.0 ≡ v.0 ++ s.ask ∷ []) (length w.0 ≡ found)

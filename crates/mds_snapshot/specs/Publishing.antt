@@ -1,4 +1,4 @@
--- What a publisher has published, and whether it may publish more; lists that begin longer ones.
+-- What a publisher has published, and whether it may publish more; prefixes of longer lists.
 use mathlib.Core.List.{IsPrefix}
 use Rattle.std.specs.Prelude.{◌<◌, List, Bool, length, refl}
 use Rattle.std.specs.Coded.{Coded, code_by, coded×, coded_bool}
@@ -14,6 +14,6 @@ coded_publishing =
     code_by (List Publication × Bool) (coded× coded_publications coded_bool) (λ p. (p.publications, p.is_open)) (λ t. record { publications = t.0; is_open = t.1 })
     (λ _. refl)
 
--- a list begins another, which is longer
+-- a list is a prefix of another, which is longer
 abbrev pub IsShorterFront : List Publication → List Publication → Type 0
 IsShorterFront front list = IsPrefix front list × (length front < length list)

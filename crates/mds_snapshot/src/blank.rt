@@ -1,3 +1,4 @@
+//! The memory for an opening, allocated before it.
 ghost use Rattle.std.specs.Prelude.{◌≡◌, [], IfErr};
 ghost use Rattle.mds_catalog.specs.Catalogue.{publications_of};
 ghost use Rattle.std.specs.Coded.{Coded-set};
@@ -9,7 +10,7 @@ use crate::opening::OpenFault;
 use mds_catalog::Catalogue;
 use std::alloc::Global;
 
-/// Two copies of an empty catalogue, the publisher's own and an empty history, which have no name yet.
+/// Two copies of an empty catalogue, the publisher's own one and an empty history, not yet opened under a name.
 #[derive(Drop)]
 pub struct Blank {
     pub(crate) start: Start,
@@ -21,11 +22,11 @@ pub struct Blank {
     ghost own_is: { publications_of own ≡ [] } by { Coded-set coded_publications (publications_of own) [] },
 }
 
-/// Makes what an opening takes: three empty catalogues with room for all publications.
+/// Allocates what `open` takes: three empty catalogues with room for all publications.
 ///
 /// # Errors
 ///
-/// Memory ran out.
+/// Out of memory.
 pub fn prepare(alloc: Global) -> Result<Blank, OpenFault>
     ensures { IfErr result (λ fault. fault ≡ NoMemory) }
 {

@@ -1,4 +1,4 @@
-//! The history of what is published. It exists in the proofs alone: what threads share is a word, its length.
+//! The history of what is published. It exists only in the proofs: what threads share is one word, its length.
 ghost use Rattle.std.specs.Prelude.{◌≡◌, ◌+◌, ◌<◌, ◌^◌, ◌++◌, ◌∷◌, [], length, MatchBool};
 ghost use mathlib.Core.List.{IsPrefix};
 ghost use Rattle.mds_catalog.specs.Publication.{publication_of};
@@ -9,7 +9,7 @@ use logbook::{Gain, Offer, Plain, Play, Rule, Seen, Word};
 use mds_catalog::Batch;
 use std::marker::{Brand, Model, PhantomData};
 
-/// A batch, which contracts see as its publication. No value of it is made.
+/// A batch, which contracts see as its publication. No value of this type exists at run time.
 pub struct Listed {
     batch: Batch,
 }
@@ -25,7 +25,7 @@ impl Model for Listed {
     ghost view = { λ l. publication_of l.batch };
 }
 
-/// The rule of the book.
+/// The invariant of the book in which the history is recorded.
 pub struct Law;
 
 impl Rule<Listed, u64> for Law {
@@ -46,7 +46,7 @@ impl Rule<Listed, u64> for Law {
     ghost moves = { λ ask before after answer. Unit {0} };
 }
 
-/// Callers trade nothing.
+/// Callers trade nothing in a step.
 pub struct Nothing;
 
 impl Gain<Listed, u64> for Nothing {
@@ -55,7 +55,7 @@ impl Gain<Listed, u64> for Nothing {
     ghost after = { λ names about answer. ftrue };
 }
 
-/// The step that adds a publication.
+/// The step that appends a publication.
 pub struct Add;
 
 impl Play<Listed, u64> for Add {
@@ -73,8 +73,8 @@ impl Plain<Batch, Listed, u64> for Add {
     ghost state = { λ batch. None };
 }
 
-/// Which opening a publisher, a pane, a look or a note is of. A program hands what it opens to a function
-/// that is generic over it, which it calls with `Brand`; the proof of that call picks the `Blank`'s book.
+/// Says to which opening a publisher, a pane, a look or a note belongs. A program passes what it opens to a function
+/// that is generic over this trait, and calls it with `Brand`; the proof of that call picks the book of the `Blank`.
 pub trait Naming {
     ghost use Rattle.logbook.specs.Pages.{Book};
 
@@ -85,11 +85,12 @@ impl Naming for Brand {
     ghost book = { record { number = 0; log_name = 0; cells_name = 0 } };
 }
 
-/// An empty history, which has no name yet.
+/// An empty history, not yet under a name.
 #[derive(Drop)]
 pub struct Start {
     head: Word<Listed, u64, Law>,
     pub seen: Seen<Listed, u64, Law>,
+    /// What was seen of the history: nothing yet.
     pub ghost empty: { seen.log ≡ [] },
     pub ghost head_is: { head ≡ head_of seen.book },
 }
@@ -104,7 +105,7 @@ impl Start {
         }
     }
 
-    /// Names it: its word, and the front that has nothing.
+    /// Puts it under a name: the word that has its length, and the empty front.
     pub fn named<K: Naming>(self) -> (Ledger<K>, Front<K>)
         requires { self.seen.book ≡ K.book }
         ensures { result.1 ≡ [] }
@@ -123,7 +124,7 @@ impl Start {
     }
 }
 
-/// The word: the length of the history.
+/// The shared word: the length of the history.
 #[derive(Drop)]
 pub struct Ledger<K: Naming> {
     head: Word<Listed, u64, Law>,
@@ -131,10 +132,11 @@ pub struct Ledger<K: Naming> {
     ghost head_is: { head ≡ head_of K.book },
 }
 
-/// A front of some history that was reached, with its length. It has no name yet.
+/// A front of some history that was reached, and its length, without a name.
 #[derive(Drop)]
 pub struct Trail {
     count: u64,
+    /// What was seen of the history: the front.
     pub seen: Seen<Listed, u64, Law>,
     ghost counted: { count ≡ length seen.log },
 }
@@ -194,14 +196,14 @@ impl<K: Naming> Front<K> {
         }
     }
 
-    /// Its trail, for the copies, which have no name.
+    /// The front's trail, for the copies, which have no name.
     pub fn trail(&self) -> Trail
         ensures { (result.seen.log ≡ self.now) × (result.seen.book ≡ K.book) }
     {
         self.trail.again()
     }
 
-    /// Whether the other begins this front; else this one begins the other, which is longer.
+    /// Whether the other front is a prefix of this one; else this one is a prefix of the other, which is longer.
     pub fn covers(&self, other: &Front<K>) -> bool
         ensures { MatchBool result (IsPrefix other.now self.now) (IsShorterFront self.now other.now) }
     {
@@ -210,7 +212,7 @@ impl<K: Naming> Front<K> {
         other.trail.count <= self.trail.count
     }
 
-    /// Adds a batch to all that was seen, and says whether it did.
+    /// Tries to append a batch after all that was seen, and returns whether it did.
     pub fn extend(&mut self, ledger: &Ledger<K>, batch: &Batch) -> bool
         requires room { length self.old < 2 ^ 62 }
         ensures { MatchBool result (self.new ≡ self.old ++ publication_of batch.now ∷ []) (IsPrefix self.old self.new) }

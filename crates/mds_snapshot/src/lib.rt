@@ -1,5 +1,4 @@
-//! The published documents in two copies, which readers look at without waiting, and notes of what was
-//! published.
+//! The published documents in two copies that readers look at without waiting, and notes of what was published.
 #![tactic(auto)]
 
 mod blank;

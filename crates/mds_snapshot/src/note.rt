@@ -1,3 +1,4 @@
+//! A note: a version of what is published.
 ghost use Rattle.std.specs.Prelude.{◌≡◌, ◌≢◌, MatchBool};
 ghost use mathlib.Core.List.{IsPrefix};
 ghost use Rattle.mds_snapshot.specs.Publishing.{IsShorterFront};
@@ -5,7 +6,7 @@ ghost use Rattle.mds_snapshot.specs.Publishing.{IsShorterFront};
 use crate::history::{Front, Naming};
 use std::marker::Model;
 
-/// What was published, for a pane to learn. Contracts see its list.
+/// A version of what is published, for a pane to learn. Contracts see its list of publications.
 #[derive(Drop)]
 pub struct Note<K: Naming> {
     front: Front<K>,
@@ -39,15 +40,15 @@ impl<K: Naming> Note<K> {
         }
     }
 
-    /// Whether the other's list begins this one's; if not, this one's begins the other's, which is longer.
-    /// Both are of one opening. Takes no memory.
+    /// Whether the other's list is a prefix of this one's; if not, this one's is a prefix of the other's, which is
+    /// longer. Both are of one opening. Allocates nothing.
     pub fn covers(&self, other: &Note<K>) -> bool
         ensures { MatchBool result (IsPrefix other.now self.now) (IsShorterFront self.now other.now) }
     {
         self.front.covers(&other.front)
     }
 
-    /// Whether both are of one list. Takes no memory.
+    /// Whether both notes are of the same list. Allocates nothing.
     #[tactic(auto, using(crate::proofs::Fronts::one_list, crate::proofs::Fronts::longer))]
     pub fn is_of_list(&self, other: &Note<K>) -> bool
         ensures { MatchBool result (self.now ≡ other.now) (self.now ≢ other.now) }

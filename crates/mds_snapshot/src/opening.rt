@@ -1,4 +1,4 @@
-//! Opening: both copies, the publisher and its panes.
+//! Opening: makes the two copies, the publisher and its panes.
 ghost use Rattle.std.specs.Prelude.{◌≡◌, ◌≤◌, [], replicate, true, IfOk};
 ghost use Rattle.mds_snapshot.specs.declared.opening.TheConstants.{READER_PLACES};
 ghost use Rattle.mds_snapshot.specs.Opening.{book_of};
@@ -14,16 +14,16 @@ use std::sync::Wait;
 /// The most panes of one opening.
 pub const READER_PLACES: usize = 64;
 
-/// Why nothing was opened.
+/// Why the opening failed.
 #[derive(Clone, Copy, Debug, PartialEq, Eq)]
 pub enum OpenFault {
-    /// Memory ran out.
+    /// Out of memory.
     NoMemory,
-    /// No place for a reader was given.
+    /// There is no slot for a further reader.
     NoPlace,
 }
 
-/// A publisher of an empty list.
+/// A publisher of the empty list.
 #[tactic(auto, using(crate::proofs::Lawful::lawful_none))]
 fn publisher<K: Naming>(alloc: Global, blank: Blank) -> Result<Publisher<K>, OpenFault>
     requires name { book_of blank ≡ K.book }
@@ -51,7 +51,7 @@ fn publisher<K: Naming>(alloc: Global, blank: Blank) -> Result<Publisher<K>, Ope
     }
 }
 
-/// So many panes that have seen nothing.
+/// `n` panes that have seen nothing.
 fn panes<K: Naming>(
     alloc: Global,
     publisher: &Publisher<K>,
@@ -72,12 +72,11 @@ fn panes<K: Naming>(
     Ok(panes)
 }
 
-/// Opens what was prepared, under the name K: a publisher of an empty list, and panes that have seen
-/// nothing.
+/// Opens what `prepare` made, under the name K: a publisher of the empty list, and `n` panes that have seen nothing.
 ///
 /// # Errors
 ///
-/// Memory ran out, or no place for a reader was given.
+/// Out of memory, or there is no slot for a further reader.
 pub fn open<K: Naming, R: Wait>(
     rt: &R,
     alloc: Global,

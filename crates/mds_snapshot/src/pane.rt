@@ -1,4 +1,4 @@
-//! What looks at the published documents without waiting.
+//! Panes and looks: snapshot readers, and the snapshots that they take.
 ghost use Rattle.std.specs.Prelude.{◌≡◌, ◌⊎◌, MatchResult};
 ghost use mathlib.Core.List.{IsPrefix};
 ghost use Rattle.mds_catalog.specs.Catalogue.{publications_of};
@@ -12,8 +12,8 @@ use left_right::reader::{Reader, Reading};
 use mds_catalog::Catalogue;
 use std::marker::Model;
 
-/// One reader's seat, and what it knows to be published. Contracts see the longest front that was seen or
-/// learnt.
+/// A snapshot reader: one reader's slot, and what it knows to be published. Contracts see the longest front that was
+/// seen or learnt.
 #[derive(Drop)]
 pub struct Pane<K: Naming> {
     reader: Reader<Shown, [Listed; 0], Fronts<K>>,
@@ -32,8 +32,8 @@ impl<K: Naming> Model for Pane<K> {
     ghost view = { λ p. p.known };
 }
 
-/// One front that is shown, held until it is left. A look that is dropped takes its pane with it.
-/// Contracts see the front.
+/// A snapshot: one front of what is published, held until it is left. Dropping a look also drops its pane. Contracts
+/// see the front.
 pub struct Look<K: Naming> {
     reading: Reading<Shown, [Listed; 0], Fronts<K>>,
     front: Front<K>,
@@ -55,10 +55,10 @@ impl<K: Naming> Model for Look<K> {
     ghost invariant = { λ l. (publications_of l.reading.part.value.catalogue ≡ l.front) × AreLawful l.front };
 }
 
-/// Nothing is shown: the publisher is finished. The pane comes back as it was.
+/// There is nothing to look at: the publisher is finished. The pane is unchanged.
 #[derive(Drop)]
 pub struct NotShown<K: Naming> {
-    /// The pane.
+    /// The pane, for further use.
     pub pane: Pane<K>,
 }
 
@@ -75,11 +75,11 @@ impl<K: Naming> Pane<K> {
         self.known.again()
     }
 
-    /// Looks at what is published: a list of publications that begins with all that was seen and learnt.
+    /// Takes a snapshot of what is published: a list of publications with all that was seen and learnt as a prefix.
     ///
     /// # Errors
     ///
-    /// Nothing is shown; the pane comes back as it was.
+    /// There is no snapshot; the pane is returned unchanged.
     pub fn look(self) -> Result<Look<K>, NotShown<K>>
         ensures { MatchResult result (λ l. IsPrefix self l) (λ n. n.pane ≡ self) }
     {
@@ -102,7 +102,7 @@ impl<K: Naming> Pane<K> {
         }
     }
 
-    /// Learns what was published: later looks begin with the note's list too.
+    /// Learns what was published: later looks have the note's list as a prefix too.
     pub fn learn(&mut self, note: &Note<K>)
         ensures kept { IsPrefix self.old self.new }
         ensures told { IsPrefix note.now self.new }
@@ -116,7 +116,7 @@ impl<K: Naming> Pane<K> {
 }
 
 impl<K: Naming> Look<K> {
-    /// The fold of the front.
+    /// The catalogue of the front.
     pub fn catalogue(&self) -> &Catalogue
         ensures publications { publications_of result.now ≡ self.now }
         ensures lawful { AreLawful self.now }
@@ -124,14 +124,14 @@ impl<K: Naming> Look<K> {
         &self.reading.get().catalogue
     }
 
-    /// A note of the front. Takes no memory.
+    /// A note of the front. Allocates nothing.
     pub fn note(&self) -> Note<K>
         ensures { result ≡ self.now }
     {
         Note::of(self.front.again())
     }
 
-    /// Gives the pane back, which has seen this front.
+    /// Ends the look and returns its pane, which has seen this front.
     pub fn leave(self) -> Pane<K>
         ensures { result ≡ self }
     {

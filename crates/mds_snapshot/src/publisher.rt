@@ -1,4 +1,4 @@
-//! The one who publishes.
+//! The publisher: the only writer of what is published.
 ghost use Rattle.std.specs.Prelude.{◌≡◌, ◌++◌, ◌∷◌, [], drop, true, false, IfOk, OnOk, OnErr, IfSome, IsErr, MatchBool};
 ghost use mathlib.Core.List.{IsPrefix};
 ghost use Rattle.mds_catalog.specs.Publication.{publication_of, is_lawful};
@@ -19,11 +19,12 @@ use std::alloc::AllocError;
 use std::marker::Model;
 use std::sync::{Arc, Wait};
 
-/// The two copies of what is shown.
+/// The writer of the two copies of what is visible.
 pub(crate) type Copies<K> = Writer<Shown, Operation, [Listed; 0], Fronts<K>>;
 
-/// The one who publishes, with a catalogue of its own. Contracts see the list that is published, and whether
-/// it is open: want of memory within an exchange closes it. It is not `Drop`: end it by `finish`.
+/// The writer of what is published, with a catalogue of its own. Contracts see the list that is published, and whether
+/// the publisher is open: running out of memory within an exchange of the copies closes it. It is not `Drop`: end it
+/// with `finish`.
 pub struct Publisher<K: Naming> {
     writer: Copies<K>,
     ledger: Ledger<K>,
@@ -48,7 +49,7 @@ impl<K: Naming> Model for Publisher<K> {
 }
 
 impl<K: Naming> Publisher<K> {
-    /// An open publisher of the list that is shown.
+    /// An open publisher of the list that is visible.
     pub(crate) fn over(
         writer: Copies<K>,
         ledger: Ledger<K>,
@@ -69,7 +70,7 @@ impl<K: Naming> Publisher<K> {
         }
     }
 
-    /// A pane that knows what was published so far.
+    /// A pane that knows what was published so far; `None` where there is no slot for a further reader.
     pub(crate) fn pane(&self) -> Option<Pane<K>>
         requires { self.now.publications ≡ [] }
         ensures { IfSome result (λ p. p ≡ []) }
@@ -80,8 +81,8 @@ impl<K: Naming> Publisher<K> {
         }
     }
 
-    /// An exchange that changes nothing. It makes the room in the operations' log that each publication
-    /// takes.
+    /// Runs an exchange of the copies that changes nothing. It allocates the room in the operations' log that each
+    /// publication needs.
     pub(crate) fn rested<R: Wait>(self, rt: &R) -> (Publisher<K>, Result<(), AllocError>)
         requires { self.is_open ≡ true }
         ensures { OnOk result.1 (result.0 ≡ self) }
@@ -104,7 +105,7 @@ impl<K: Naming> Publisher<K> {
         (publisher, shown)
     }
 
-    /// The whole list's.
+    /// The catalogue of the whole list.
     pub fn catalogue(&self) -> &Catalogue
         ensures publications { publications_of result.now ≡ self.now.publications }
         ensures lawful { AreLawful self.now.publications }
@@ -112,26 +113,26 @@ impl<K: Naming> Publisher<K> {
         &self.catalogue
     }
 
-    /// A note of the list. Takes no memory.
+    /// A note of the list. Allocates nothing.
     pub fn note(&self) -> Note<K>
         ensures { result ≡ self.now.publications }
     {
         Note::of(self.front.again())
     }
 
-    /// Whether all that the pane knows is published here; if not, it knows all that is, and more.
+    /// Whether all that the pane knows is published here; if not, the pane knows all that is published here, and more.
     pub fn has_published(&self, pane: &Pane<K>) -> bool
         ensures { MatchBool result (IsPrefix pane.now self.now.publications) (IsShorterFront self.now.publications pane.now) }
     {
         self.front.covers(&pane.front())
     }
 
-    /// Publishes a lawful batch at once, and gives a note of the list.
+    /// Publishes a lawful batch at once, and returns a note of the list.
     ///
     /// # Errors
     ///
-    /// Memory ran out, or the publisher is closed. The list is the old one, and no later call with another
-    /// batch publishes this one. A publisher that is closed refuses every batch.
+    /// Out of memory, or the publisher is closed. The list is unchanged, and no later call with another batch publishes
+    /// this one. A closed publisher refuses every batch.
     pub fn publish<R: Wait>(&mut self, rt: &R, batch: Arc<Batch>) -> Result<Note<K>, AllocError>
         requires lawful { is_lawful self.old.publications (publication_of batch.value) ≡ true }
         ensures ok { IfOk result (λ n. (self.old.is_open ≡ true) × (self.new ≡ record { publications = self.old.publications ++ publication_of batch.value ∷ []; is_open = true }) × (n ≡ self.new.publications)) }
@@ -168,7 +169,7 @@ impl<K: Naming> Publisher<K> {
         self.exchanged(rt, batch, own, after)
     }
 
-    /// The same list and catalogue, and no more publications: each further one is refused.
+    /// Closes the publisher: the list and the catalogue stay, and each further publication is refused.
     pub fn closed(self) -> Publisher<K>
         ensures { result ≡ record { publications = self.publications; is_open = false } }
     {
@@ -188,7 +189,7 @@ impl<K: Naming> Publisher<K> {
         }
     }
 
-    /// The exchange, with the publisher's own share and the list afterwards.
+    /// Runs the exchange that publishes, with the publisher's own reference to the batch and the list afterwards.
     fn exchanged<R: Wait>(
         self,
         rt: &R,
@@ -237,7 +238,7 @@ impl<K: Naming> Publisher<K> {
         }
     }
 
-    /// Ends it, open or closed. It waits for the looks that are held; then nothing is shown.
+    /// Ends the publisher, open or closed. Waits for the looks that are held; then there is nothing to look at.
     pub fn finish<R: Wait>(self, rt: &R) {
         let Self {
             writer,
@@ -272,7 +273,7 @@ fn show<K: Naming, R: Wait>(
     }
 }
 
-/// An exchange that changes nothing. It makes the room in the operations' log that each publication takes.
+/// Runs an exchange that changes nothing. It allocates the room in the operations' log that each publication needs.
 pub(crate) fn rest<K: Naming, R: Wait>(
     rt: &R,
     mut writer: Copies<K>,

@@ -1,23 +1,25 @@
-//! What readers look at: a catalogue, with the front of the history that it is the fold of.
+//! The value of each copy: a catalogue, with the front of the history that it is the fold of.
 use crate::history::{Listed, Trail};
 use left_right::Absorb;
 use mds_catalog::{Batch, Catalogue};
 use std::alloc::AllocError;
 use std::sync::Arc;
 
-/// What is done to both copies.
+/// An operation on both copies.
 #[derive(Drop)]
 pub enum Operation {
-    /// Nothing.
+    /// Changes nothing.
     Rest,
-    /// Takes a batch, and the front that ends with it.
+    /// Appends a batch; the front is the one that ends with it.
     Publish(Arc<Batch>, Trail),
 }
 
 /// A catalogue and its front.
 #[derive(Drop)]
 pub struct Shown {
+    /// The published documents.
     pub catalogue: Catalogue,
+    /// The front that the catalogue is the fold of.
     pub trail: Trail,
 }
 

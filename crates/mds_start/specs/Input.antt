@@ -1,4 +1,4 @@
--- What the program is given: the words of its arguments, and a number of connections as one of them.
+-- The program's arguments: its words, and a number of connections as one of them.
 use Rattle.std.specs.Prelude.{ℕ, ◌==◌, List, [], ◌∷◌, Option, Some, None, Bool, false, ◌&&◌, length, nat_lt, nat_le, bytes_eq, codes, if◌then◌else◌}
 use Rattle.std.specs.List.{list_all}
 use Rattle.std.specs.Char.{is_ascii_digit}
@@ -17,7 +17,7 @@ is_count word = nat_lt 0 (length word) && nat_le (length word) 9 && are_digits w
 abbrev pub count_in : List ℕ → Option ℕ
 count_in word = if is_count word then Some (digits_value 10 word) else None
 
--- what the program is asked to do
+-- what the arguments ask for
 pub data Request : Type 0 where
   help : Request
   version : Request
@@ -43,7 +43,7 @@ abbrev pub asked_counted : List ℕ → Option ℕ → Option Request
 asked_counted address None = None
 asked_counted address (Some connections) = serve_at address (Some connections)
 
--- what the words behind the program's name ask for
+-- what the words after the program's name ask for
 abbrev pub asked_by : List (List ℕ) → Option Request
 asked_by (word ∷ []) = asked_alone word
 asked_by (address ∷ count ∷ []) = asked_counted address (count_in count)

@@ -1,4 +1,4 @@
-//! What the program is asked to do.
+//! The arguments of the program.
 ghost use Rattle.std.specs.Prelude.{◌≡◌, map, string_bytes, option_map};
 ghost use Rattle.mds_start.specs.Input.{asked_by, asked_alone, serve_at, asked_view, is_flag};
 
@@ -11,7 +11,7 @@ pub const VERSION: &str = "1.2.0";
 pub const USAGE: &str =
     "usage: mds_serve ADDRESS [CONNECTIONS] < CONFIGURATION (mds_serve --help says more)";
 
-/// What `--help` answers.
+/// The text of `--help`.
 pub const HELP: &str = "\
 mds_serve ADDRESS [CONNECTIONS]   serves one city over HTTP
 mds_serve --help                  says this
@@ -53,8 +53,8 @@ pub enum Asked<'a> {
     },
 }
 
-/// What the words behind the program's name ask for: `--help`, `--version`, or `ADDRESS [CONNECTIONS]`, where
-/// no address begins with `-`. `None` for any others.
+/// What the words after the program's name ask for: `--help`, `--version`, or `ADDRESS
+/// [CONNECTIONS]`, where no address begins with `-`. `None` for any others.
 pub fn asked_by(words: &[String]) -> Option<Asked<'_>>
     ensures { option_map asked_view result ≡ asked_by (map string_bytes words.now) }
 {

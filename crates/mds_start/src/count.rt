@@ -1,4 +1,4 @@
-//! The number of connections that is asked for.
+//! The number of connections to serve.
 ghost use Rattle.std.specs.Prelude.{◌≡◌};
 ghost use Rattle.mds_start.specs.Input.{are_digits, count_in};
 

@@ -16,12 +16,13 @@ pub enum ServeFault {
     BadConfig,
     /// There was no memory to open the server, or it couldn't be opened.
     NotOpened,
-    /// Nothing can be listened to at the address, or threads or the waiting for events couldn't be had.
+    /// Nothing can be listened to at the address, or threads or the waiting for events couldn't be
+    /// had.
     NoListener,
 }
 
 impl ServeFault {
-    /// What the program says of it on standard error.
+    /// The line on standard error.
     pub fn message(self) -> &'static str
         ensures { result.now ≡ message_of self }
     {

@@ -1,4 +1,4 @@
-//! How the server is asked to start, how many threads serve, and why it ends without serving.
+//! The arguments of `mds_serve`, how many threads serve, and why a start fails.
 #![tactic(auto)]
 
 mod asking;

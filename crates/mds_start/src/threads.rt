@@ -4,8 +4,8 @@ ghost use Rattle.mds_request.specs.Configuration.{configuration};
 
 use mds_request::Config;
 
-/// How many threads serve a city on so many processors: as many as these, and at least one for each who asks,
-/// the author and the operators, and one for all others.
+/// How many threads serve a city on so many processors: as many as these, and at least one for each
+/// client: the author, the operators, and anonymous.
 pub fn workers(processors: usize, config: &Config) -> usize
     ensures processors { processors ≤ result }
     ensures askers { length (configuration config.now).operators + 2 ≤ result }

@@ -1,11 +1,11 @@
--- A list or an object whose values are converted one after another.
+-- Converting the values of a list or an object one after another.
 use Rattle.std.proofs.Common.{◌≡◌, ℕ, List, [], ◌∷◌, ◌++◌, Option, Some, None, Result, Ok, Err, refl, sym, ap, ◌∙◌}
 use Rattle.serde_json.specs.Data as source
 use Rattle.mds_text.specs.Fault.{Fault, Refuses, ◌>>=◌}
 use Rattle.mds_text.specs.Reading.{json_of, items_from, members_from}
 use Rattle.mds_text.specs.Tree.{Json, Items, no_items, item, items_of, Members, no_members, member, members_of}
 
--- these entries, and then those
+-- these entries, then those of `rest`
 abbrev pub items_behind : List Json → Items → Items
 items_behind [] rest = rest
 items_behind (t ∷ ts) rest = item t (items_behind ts rest)
@@ -14,7 +14,7 @@ abbrev pub members_behind : List (List ℕ × Json) → Members → Members
 members_behind [] rest = rest
 members_behind (m ∷ ms) rest = member m.0 m.1 (members_behind ms rest)
 
--- what was read, with more in front
+-- what was read, with these entries before it
 abbrev pub items_with : List Json → Result Items Fault → Result Items Fault
 items_with front found = found >>= λ rest. Ok (items_behind front rest)
 
@@ -53,7 +53,7 @@ members_push : (done : List (List ℕ × Json)) (name : List ℕ) (t : Json) (fo
 members_push done name t (Ok ts) = ap Ok (members_behind-push done name t ts)
 members_push done name t (Err fault) = refl
 
--- a value that was converted goes behind those before it
+-- a converted value goes after those before it
 pub items_with-push : (done : List Json) (d : source.Data) (ds : source.Items) (t : Json) → json_of d ≡ Ok t → items_with (done ++ t ∷ []) (items_from ds) ≡ items_with done (items_from (source.item d ds))
 items_with-push done d ds t is = items_push done t (items_from ds) ∙ ap (λ r. items_with done (r >>= λ u. items_from ds >>= λ ts. Ok (item u ts))) (sym is)
 
@@ -61,7 +61,7 @@ pub members_with-push : (done : List (List ℕ × Json)) (name : List ℕ) (d : 
     → members_with (done ++ (name, t) ∷ []) (members_from ds) ≡ members_with done (members_from (source.member name d ds))
 members_with-push done name d ds t is = members_push done name t (members_from ds) ∙ ap (λ r. members_with done (r >>= λ u. members_from ds >>= λ ts. Ok (member name u ts))) (sym is)
 
--- a refusal of a part is one of the whole
+-- a refusal of a part is a refusal of the whole
 pub items_with-refused : (cause : Option Fault) (done : List Json) (d : source.Data) (ds : source.Items) → Refuses cause (json_of d) → Refuses cause (items_with done (items_from (source.item d ds)))
 items_with-refused None done d ds h = tt
 items_with-refused (Some fault) done d ds h = ap (λ r. items_with done (r >>= λ u. items_from ds >>= λ ts. Ok (item u ts))) h

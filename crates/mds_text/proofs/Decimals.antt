@@ -1,4 +1,4 @@
--- The decimals of a fraction, one after another.
+-- The decimals of a fraction, printed one after another.
 use Rattle.std.proofs.Common.{◌≡◌, ℕ, zero, suc, ◌+◌, ◌/◌, ◌%◌, ◌^◌, ◌<◌, ◌≤◌, List, [], ◌∷◌, ◌++◌, cond, refl, sym, ap, subst, ◌∙◌, arith, append_assoc, append-nil}
 use Rattle.std.proofs.Math.Nat.{pow-suc, mul-div_cancel, mod-lt}
 use Rattle.std.proofs.lemmas.Bool.{ne_eqb}
@@ -8,7 +8,7 @@ pub ten_pos : (k : ℕ) → 0 < 10 ^ k
 ten_pos zero = omega arith
 ten_pos (suc k) = let below = ten_pos k in omega (arith, pow-suc 10 k)
 
--- there is a place, where something is left
+-- where something is left, a place is left
 pub place_left : (places rest : ℕ) → 0 < rest → rest < 10 ^ places → (p : ℕ) × (places ≡ suc p)
 place_left zero rest some few = absurd (omega arith)
 place_left (suc p) rest some few = (p, refl)
@@ -37,7 +37,7 @@ turn_at p rest u done more all some is grown before =
           ∙ before,
     )
 
--- one turn of the loop that prints them: the unit before it, and what is printed before and after it
+-- one iteration of the loop that prints them: the unit before it, and what is printed before and after it
 pub decimals-turn : (places unit rest : ℕ) (done more all : List ℕ) → 0 < rest → unit ≡ 10 ^ places → rest < 10 ^ places → more ≡ done ++ (48 + rest / (unit / 10)) ∷ [] → done ++ decimals places rest ≡ all
     → (p : ℕ) × (unit / 10 ≡ 10 ^ p) × (rest % (unit / 10) < 10 ^ p) × (more ++ decimals p (rest % (unit / 10)) ≡ all)
 decimals-turn places unit rest done more all some is few grown before =
@@ -46,13 +46,13 @@ decimals-turn places unit rest done more all some is few grown before =
     let next : unit / 10 ≡ 10 ^ p = ap (λ n. n / 10) (is ∙ ap (λ k. 10 ^ k) left.1) ∙ tenth p in
     let step = turn_at p rest (unit / 10) done more all some next grown (ap (λ k. done ++ decimals k rest) (sym left.1) ∙ before) in (p, next, step.0, step.1)
 
--- a place is left, so the next unit is no zero
+-- a place is left, so the next unit isn't zero
 pub tenth_pos : (places unit rest : ℕ) → 0 < rest → unit ≡ 10 ^ places → rest < 10 ^ places → 0 < unit / 10
 tenth_pos places unit rest some is few =
     let left = place_left places rest some few in
     subst (λ u. 0 < u) (sym (ap (λ n. n / 10) (is ∙ ap (λ k. 10 ^ k) left.1) ∙ tenth left.0)) (ten_pos left.0)
 
--- the loop's end: nothing is left, and all that was printed is the fraction
+-- the loop's end: nothing is left, and what was printed is the fraction
 pub decimals-end : (places rest whole : ℕ) (start pushed out : List ℕ) → rest ≤ 0 → (whole ≡ 0 → ⊥) → pushed ≡ start ++ 46 ∷ [] → out ++ decimals places rest ≡ pushed ++ decimals 7 whole → out ≡ start ++ fraction whole
 decimals-end places rest whole start pushed out none some point all =
     let zero_left : rest ≡ 0 = omega arith in

@@ -1,4 +1,4 @@
--- The parts of a number are digits of its text.
+-- The parts of a number consist of digits of its text.
 use Rattle.std.proofs.Common.{◌≡◌, ℕ, suc, ◌+◌, ◌<◌, ◌≤◌, List, [], ◌∷◌, true, false, cond, Some, None, eqb, length, take, drop, refl, sym, ap, subst, ◌∙◌, arith, length-drop}
 use Rattle.std.proofs.lemmas.Bool.Decides.{nat_tests}
 use Rattle.std.proofs.lemmas.List.Sums.{prefix_len-le-length}
@@ -56,7 +56,7 @@ behind_minus_short s = elim (begins_with 45 s) as (λ b. length (cond b (drop 1 
   | false ↦ omega arith
 ]
 
--- the parts of a number are digits, and not more of them than its text has bytes
+-- the parts of a number are digits, and no more of them than its text has bytes
 pub number_of-digits : (s : List ℕ) (n : Parts) → number_of s ≡ Some n → HasDigits n × (length n.whole ≤ length s)
 unfolding number_of
 number_of-digits s n h =

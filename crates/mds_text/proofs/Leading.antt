@@ -1,4 +1,4 @@
--- The digits of a number from the front.
+-- The leading digits of a number.
 use Rattle.std.proofs.Common.{◌≡◌, ℕ, zero, suc, ◌+◌, ◌-◌, ◌*◌, ◌/◌, ◌^◌, ◌<◌, ◌≤◌, List, ◌++◌, true, false, cond, nat_lt, nat_le, Some, None, length, take, get_or, refl, sym, ap, ◌∙◌, inl, inr, ◌⊎◌, arith, length-append}
 use Rattle.std.proofs.Math.Nat.{pow-suc}
 use Rattle.std.proofs.Math.ListN.{get_or-append}
@@ -15,7 +15,7 @@ use Rattle.mds_text.specs.Numbers.{digit_at, leading, up_to_limit}
 pub digit_value-is : (c : ℕ) → 48 ≤ c → c ≤ 57 → digit_value c ≡ c - 48
 digit_value-is c low high = grind (arith, nat_tests)
 
--- a digit, by its place
+-- a digit's value, by its place
 pub digit_is : (ds : List ℕ) (i c : ℕ) → AllDigits 10 ds → i < length ds → c ≡ get_or ds i 0 - 48 → (c ≡ digit_value (get_or ds i 0)) × (c < 10)
 digit_is ds i c all within is =
     let range = digit_in ds i all within in
@@ -52,7 +52,7 @@ pub leading-zero : (ds : List ℕ) → leading ds 0 ≡ 0
 unfolding leading
 leading-zero ds = refl
 
--- more digits write no smaller number
+-- more digits never give a smaller number
 leading-grows : (ds : List ℕ) (i j : ℕ) → leading ds i ≤ leading ds (i + j)
 leading-grows ds i zero = omega (arith, ap (leading ds) (let same : i + 0 ≡ i = omega arith in same))
 leading-grows ds i (suc j) =
@@ -94,7 +94,7 @@ up_to_limit-some n most t h =
       | inr many ↦ absurd (none-some t (sym (h ∙ over n most many)))
     ]
 
--- what rounds to 180 degrees at most, and what doesn't
+-- tenths that round to 180 degrees at most, and tenths that don't
 pub rounds_within : (n m t : ℕ) → m ≡ (n + 5) / 10 → Some t ≡ up_to_limit 18000000004 n → Some ((t + 5) / 10) ≡ up_to_limit 1800000000 m
 rounds_within n m t is h =
     let found = up_to_limit-some n 18000000004 t h in

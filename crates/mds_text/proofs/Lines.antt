@@ -59,7 +59,7 @@ both true true h = (refl, refl)
 both true false h = cc
 both false b h = cc
 
--- a line whose bytes are known
+-- a concrete line, checked byte by byte
 visible : (xs : List ℕ) → list_all (λ b. leb 32 b) xs ≡ true → IsLine xs
 visible [] h = tt
 visible (x ∷ xs) h =

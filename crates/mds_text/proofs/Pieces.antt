@@ -5,7 +5,7 @@ use Rattle.std.proofs.lemmas.List.{take-append-drop}
 use Rattle.std.proofs.lemmas.List.Sums.{sum_by-cons}
 use Rattle.mds_text.specs.Quoting.{is_quoted, piece_tail, pieces_behind, pieces, quoted_count, quoted_text, shown}
 
--- the pieces behind those bytes are the pieces of the text from there on
+-- the pieces after `k` bytes are the pieces of the text from there on
 pub pieces_behind-drop : (k : ℕ) (s : List ℕ) → pieces_behind k s ≡ pieces (drop k s)
 unfolding pieces_behind
 pieces_behind-drop zero [] = refl
@@ -13,7 +13,7 @@ pieces_behind-drop zero (b ∷ s) = refl
 pieces_behind-drop (suc k) [] = refl
 pieces_behind-drop (suc k) (b ∷ s) = pieces_behind-drop k s
 
--- the first piece, and those of the rest
+-- the first piece, then those of the rest
 pieces-cons : (b : ℕ) (s : List ℕ) → pieces (b ∷ s) ≡ (b ∷ take (piece_tail b s) s) ∷ pieces (drop (piece_tail b s) s)
 unfolding pieces_behind
 pieces-cons b s = ap (λ ps. (b ∷ take (piece_tail b s) s) ∷ ps) (pieces_behind-drop (piece_tail b s) s)
@@ -29,7 +29,7 @@ pieces-split text b n s piece left is len front behind =
     behind ∙ ap (λ k. drop k text) (one_more n) ∙ ap (drop (suc n)) is ∙ ap (λ k. drop k s) len in
     ap pieces is ∙ pieces-cons b s ∙ ap (λ p. p ∷ pieces (drop (piece_tail b s) s)) (sym first) ∙ ap (λ t. piece ∷ pieces t) (sym rest)
 
--- what was written and what is left are the whole text
+-- one iteration: what was written, and what is left, quoted, are the whole text, quoted
 pub text_turn : (text piece left out more all : List ℕ) → pieces text ≡ piece ∷ pieces left → more ≡ out ++ shown piece → out ++ quoted_text text ≡ all → more ++ quoted_text left ≡ all
 text_turn text piece left out more all split grown before =
     ap (λ o. o ++ quoted_text left) grown ∙ append_assoc out (shown piece) (quoted_text left) ∙ ap (λ ps. out ++ flat_map shown ps) (sym split) ∙ before
@@ -56,7 +56,7 @@ unfolding pieces_behind
 count_end [] count all none before = omega (arith, before)
 count_end (b ∷ s) count all none before = absurd (omega arith)
 
--- the pieces, one behind the other, are the text behind those bytes
+-- the pieces after `k` bytes, concatenated, are the text from there on
 concat-pieces : (k : ℕ) (s : List ℕ) → concat (pieces_behind k s) ≡ drop k s
 unfolding pieces_behind
 concat-pieces zero [] = refl

@@ -1,4 +1,4 @@
--- Printed degrees are a number's text, and the number is the one that was printed.
+-- Printed degrees are the text of a number, and it is the number that was printed.
 use Rattle.std.proofs.Common.{◌≡◌, ℕ, zero, suc, ℤ, pos, negsuc, ◌≤ℤ◌, ◌+◌, ◌-◌, ◌*◌, ◌/◌, ◌%◌, ◌^◌, ◌<◌, ◌≤◌, List, [], ◌∷◌, ◌++◌, Bool, true, false, cond, ◌&&◌, eqb, nat_le, Option, Some, None, option_and_then, Result, Ok, Err, inl, inr, length, take, drop, get_or, refl, sym, ap, subst, ◌∙◌, arith, length-append, append-nil}
 use Rattle.std.proofs.Math.Nat.{pow-suc}
 use Rattle.std.proofs.Math.Seq.{take-append_seam, drop-append_seam}
@@ -23,7 +23,7 @@ use Rattle.mds_text.specs.Fault.{Fault, bad_number, out_of_range, ◌>>=◌}
 use Rattle.mds_text.specs.Numbers.{Parts, begins_with, behind_digits, behind_minus, digits, exponent_at, fraction_at, in_range, is_lowering, is_whole, number_of, short_number, signed, size_of, units_of, whole_at}
 use Rattle.mds_text.specs.Printed.{decimals, fraction, printed_degrees, unsigned_degrees}
 
--- the decimals of a fraction: digits, as many as there are places at most, that write it
+-- the decimals of a fraction: digits, at most as many as there are places, with its value
 pub record AreDecimals (places rest : ℕ) (ds : List ℕ) : Type 0 where
   pub all : AllDigits 10 ds
   pub few : length ds ≤ places
@@ -68,7 +68,7 @@ decimals_are (suc p) rest small =
 is_digit : (c : ℕ) → digit_value c < 10 → is_ascii_digit c ≡ true
 is_digit c h = let range = digit_from_value c h in grind (arith, nat_tests)
 
--- the digits in front of what begins with no digit
+-- how many digits a text begins with: those before a rest that begins with no digit
 digits_len : (ds rest : List ℕ) → AllDigits 10 ds → prefix_len is_ascii_digit rest ≡ 0 → prefix_len is_ascii_digit (ds ++ rest) ≡ length ds
 digits_len [] rest h none = none
 digits_len (d ∷ ds) rest h none =
@@ -149,7 +149,7 @@ number_of-written false ws fs hw whole hf =
     let none = no_minus ws (point fs) hw whole in
     number_of-body (ws ++ point fs) [] false ws fs none (ap (λ b. cond b (drop 1 (ws ++ point fs)) (ws ++ point fs)) none) hw whole hf
 
--- its units
+-- the units of such a number
 size_of-written : (negative : Bool) (ws fs : List ℕ) (whole rest : ℕ) → digits_value 10 ws ≡ whole → AreDecimals 7 rest fs → size_of (plain_parts negative ws fs) ≡ whole * 10000000 + rest
 unfolding size_of
 size_of-written negative ws fs whole rest is h =
@@ -188,7 +188,7 @@ fraction_is rest =
           subst (λ k. fraction k ≡ point (decimals 7 k)) (sym is) (sym (ap point (decimals-none 7)))
     ]
 
--- the digits of a number of units in degrees
+-- the digits of the whole degrees
 abbrev whole_of : ℕ → List ℕ
 whole_of n = decimal (n / 10000000)
 

@@ -1,4 +1,4 @@
--- A number of units, rounded from its digits up to the tenths.
+-- A number of units, rounded from its leading digits down to the tenths of a unit.
 use Rattle.std.proofs.Common.{◌≡◌, ℕ, zero, suc, ◌+◌, ◌-◌, ◌*◌, ◌/◌, ◌%◌, ◌^◌, ◌<◌, ◌≤◌, List, [], ◌∷◌, ◌++◌, cond, false, inl, inr, length, take, drop, refl, sym, ap, subst, ◌∙◌, arith, length-append, length-drop}
 use Rattle.std.proofs.Math.Nat.{pow-suc, mul-le-mul_right, pow-le-pow_right, div-eq_of_lt}
 use Rattle.std.proofs.Math.Seq.{take-length}
@@ -51,7 +51,7 @@ leading-front ds (suc i) few =
     ap (leading ds) next ∙ leading-suc ds i
     ∙ omega (arith, before, digit_at-inside ds i within, digits_value_more 10 ds i within, ap (λ k. digits_value 10 (take k ds)) next)
 
--- with zeros behind the last digit
+-- leading digits beyond the last: zeros follow it
 leading-pad : (ds : List ℕ) (j : ℕ) → leading ds (length ds + j) ≡ digits_value 10 ds * 10 ^ j
 leading-pad ds zero =
     let end : length ds + 0 ≡ length ds = omega arith in
@@ -62,7 +62,7 @@ leading-pad ds (suc j) =
     let power : digits_value 10 ds * 10 ^ suc j ≡ digits_value 10 ds * 10 ^ j * 10 = omega (arith, ap (λ k. digits_value 10 ds * k) (pow-suc 10 j)) in
     ap (leading ds) next ∙ leading-suc ds (length ds + j) ∙ omega (arith, before, power, digit_at-outside ds (length ds + j) (omega arith))
 
--- without the last digits
+-- leading digits without the last `q`
 leading-cut : (ds : List ℕ) (q : ℕ) → AllDigits 10 ds → leading ds (length ds - q) ≡ digits_value 10 ds / 10 ^ q
 leading-cut ds q all =
     elim (cases_lt (length ds) q) [
@@ -79,7 +79,7 @@ leading-cut ds q all =
           leading-front ds i (omega arith) ∙ sym (div-mul-add (digits_value 10 (take i ds)) (10 ^ q) (digits_value 10 (drop i ds)) small) ∙ ap (λ n. n / 10 ^ q) (sym split)
     ]
 
--- the tenths below a number, rounded, are the number rounded
+-- a quotient, rounded from its whole tenths, is the quotient rounded
 round_tenths : (m t : ℕ) → 0 < t → (m / t + 5) / 10 ≡ rounded m (t * 10)
 round_tenths m t some =
     let quotient = m / t in
@@ -132,7 +132,7 @@ size_of-leading n digits =
     tenths (n.whole ++ n.fraction) (length n.whole) (length n.fraction) (tens_up n) (cond n.lowers (digits_value 10 n.exponent) 0)
     (AllDigits-append n.whole n.fraction digits.whole digits.fraction) (length-append n.whole n.fraction)
 
--- a number of units, times the divisor, is less than half a divisor below the dividend, and at most half a divisor above
+-- the whole number of units nearest to m / d: times d, it is less than d / 2 below m, and at most d / 2 above
 abbrev IsNearest : ℕ → ℕ → ℕ → Type 0
 IsNearest units m d = (2 * (units * d) ≤ 2 * m + d) × (2 * m < 2 * (units * d) + d)
 
@@ -143,7 +143,7 @@ rounded-nearest m d some =
     let below : (2 * m + d) % (2 * d) < 2 * d = mod_below (2 * m + d) (2 * d) (omega (arith, some)) in
     (omega (arith, split), omega (arith, split, below))
 
--- dividend and divisor times the same
+-- the same where m and d are multiplied by the same number
 nearest-times : (units m d t : ℕ) → 0 < t → IsNearest units m d → IsNearest units (m * t) (d * t)
 nearest-times units m d t some near =
     let above = mul-le-mul_right t near.0 in

@@ -1,4 +1,4 @@
--- The bytes of a string, one or two at a time.
+-- The bytes of a string, one or two (an escape) at a time.
 use Rattle.std.proofs.Common.{◌≡◌, ℕ, ◌+◌, ◌<◌, ◌≤◌, List, [], ◌∷◌, true, false, cond, ◌==◌, length, drop, get_or, refl, ap, ◌∙◌, arith, eq-eqb, length-drop}
 use Rattle.std.proofs.lemmas.Bool.{ne_eqb}
 use Rattle.std.proofs.lemmas.List.{drop_more}
@@ -43,7 +43,7 @@ string_len-byte s i within mark slash =
 pub string_len-last : (s : List ℕ) (i : ℕ) → i < length s → length (drop (i + 1) s) ≤ 0 → string_len (drop i s) ≡ 1 + string_len (drop (i + 1) s)
 string_len-last s i within last = ap string_len (drop_more s i 0 within) ∙ last_goes (get_or s i 0) (drop (i + 1) s) last
 
--- one turn of the loop over a string's bytes
+-- one iteration of the loop over a string's bytes
 pub pair_turn : (s : List ℕ) (i k all : ℕ) → k ≡ 2 → i + 1 < length s → get_or s i 0 ≡ 92 → i + string_len (drop i s) ≡ all → (i + k ≤ length s) × (i + k + string_len (drop (i + k) s) ≡ all)
 pair_turn s i k all two within is before =
     let step = string_len-pair s i within is in

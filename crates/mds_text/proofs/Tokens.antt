@@ -1,4 +1,4 @@
--- The words of the vocabulary.
+-- Tokens, the words of the vocabulary.
 use Rattle.std.proofs.Common.{◌≡◌, ℕ, zero, suc, ◌+◌, ◌<◌, ◌≤◌, ◌-◌, Bool, true, false, not, cond, ◌&&◌, ◌==◌, nat_le, List, [], ◌∷◌, ◌++◌, length, take, drop, replicate, refl, sym, ap, subst, ◌∙◌, arith, length-append, length-drop}
 use Rattle.std.proofs.Math.Seq.{take-append_seam, drop-append_seam}
 use Rattle.std.proofs.lemmas.Bool.{le-leb, leb-true}
@@ -24,7 +24,7 @@ both false b h = cc
 byte_lt : (b : ℕ) → is_token_byte b ≡ true → b < 128
 byte_lt b h = grind (arith, nat_tests)
 
--- a token is text
+-- a token is UTF-8
 pub IsUtf8-token : (s : List ℕ) → is_token s ≡ true → IsUtf8 s
 IsUtf8-token s h =
     let bytes = both (nat_le 1 (length s) && nat_le (length s) 40) (list_all is_token_byte s) h in
@@ -36,7 +36,7 @@ all_three a b c p q r = rw (p, q, r)
 not_empty : (n : ℕ) → (n == 0) ≡ false → 1 ≤ n
 not_empty n h = grind (arith, nat_tests)
 
--- the parts of the test, as a reader meets them
+-- from the conditions that `Token::read` tests, one by one
 pub is_token-from : (s : List ℕ) → (length s == 0) ≡ false → length s ≤ 40 → list_all is_token_byte s ≡ true → is_token s ≡ true
 is_token-from s some few bytes = all_three _ _ _ (le-leb 1 (length s) (not_empty (length s) some)) (le-leb (length s) 40 few) bytes
 
@@ -46,7 +46,7 @@ sized n s few = omega (arith, length-append {A = ℕ} s (drop (length s) (replic
 rest_zeros : (n : ℕ) (s : List ℕ) → drop (length s) (s ++ drop (length s) (replicate n 0)) ≡ replicate (n - length s) 0
 rest_zeros n s = drop-append_seam s (drop (length s) (replicate n 0)) ∙ drop-replicate (length s) n 0
 
--- a token with zeros behind it
+-- a token padded with zeros
 pub IsPadded-from : (s : List ℕ) → is_token s ≡ true → IsPadded (length s) (s ++ drop (length s) (replicate 40 0))
 IsPadded-from s h =
     let sizes = both (nat_le 1 (length s)) (nat_le (length s) 40) (both (nat_le 1 (length s) && nat_le (length s) 40) (list_all is_token_byte s) h).0 in
@@ -58,7 +58,7 @@ IsPadded-from s h =
       zeros = rest_zeros 40 s;
     }
 
--- a byte of a token is no zero
+-- a byte of a token isn't zero
 filled : (b : ℕ) → is_token_byte b ≡ true → not (b == 0) ≡ true
 filled b h = grind (arith, nat_tests)
 
@@ -76,7 +76,7 @@ none_filled (suc n) = refl
 eqb_same : (n m : ℕ) → n ≡ m → (n == m) ≡ true
 eqb_same n m h = grind (arith, nat_tests)
 
--- the length of a token with zeros behind it
+-- the length of the word in a padded token
 pub word_len-padded : (s : List ℕ) → is_token s ≡ true → word_len (s ++ drop (length s) (replicate 40 0)) ≡ length s
 word_len-padded s h =
     let p = (λ (b : ℕ). not (b == 0)) in
@@ -86,14 +86,14 @@ word_len-padded s h =
     ∙ ap (λ t. cond t (length s + prefix_len p (drop (length s) (replicate 40 0))) (prefix_len p s)) (eqb_same (prefix_len p s) (length s) all)
     ∙ omega (arith, zeros)
 
--- a token with zeros behind it, and the word that stands before them
+-- a padded token, in terms of the length of its word
 pub IsPadded-read : (s : List ℕ) → is_token s ≡ true → IsPadded (word_len (s ++ drop (length s) (replicate 40 0))) (s ++ drop (length s) (replicate 40 0))
 IsPadded-read s h = subst (λ n. IsPadded n (s ++ drop (length s) (replicate 40 0))) (sym (word_len-padded s h)) (IsPadded-from s h)
 
 pub padded-word : (s : List ℕ) → is_token s ≡ true → take (word_len (s ++ drop (length s) (replicate 40 0))) (s ++ drop (length s) (replicate 40 0)) ≡ s
 padded-word s h = ap (λ n. take n (s ++ drop (length s) (replicate 40 0))) (word_len-padded s h) ∙ take-append_seam s (drop (length s) (replicate 40 0))
 
--- forty bytes are equal where the words that stand at their fronts are
+-- padded tokens are equal where their words are
 pub same_words : (xs ys : List ℕ) → IsPadded (word_len xs) xs → IsPadded (word_len ys) ys → bytes_eq xs ys ≡ bytes_eq (take (word_len xs) xs) (take (word_len ys) ys)
 same_words xs ys hx hy =
     let whole = bytes_eq-Decides xs ys in

@@ -1,4 +1,4 @@
--- The members of a document and their general readings (MDS 2.0, general information; RFC 8259, section 4).
+-- The members of a document and how each kind of value is read (MDS 2.0, general information; RFC 8259, section 4).
 use Rattle.std.specs.Prelude.{ℕ, ℤ, pos, negsuc, List, [], ◌∷◌, Bool, nat_le, if◌then◌else◌, Option, Some, None, Result, Ok, Err, bytes_eq}
 use Rattle.uuid.specs.Text.{parsed}
 use Rattle.mds_text.specs.Tree.{Json, null, boolean, int, text, list, object, Members, no_members, member, entries}
@@ -19,12 +19,12 @@ present None = None
 present (Some null) = None
 present (Some value) = Some value
 
--- the member of a document: absent and null are none, and what is no object has a bad field of that name
+-- the member of a document: None where it is absent or null; a value that is no object is a bad field of that name
 abbrev pub member_at : Json → Field → Result (Option Json) Fault
 member_at (object ms) field = Ok (present (find_member (name_of field) ms))
 member_at value field = Err (bad_field field)
 
--- a value that may be missing, read where it is there
+-- an optional value, read where it is present
 abbrev pub optional : {A : Type 0} → (Json → Result A Fault) → Option Json → Result (Option A) Fault
 optional read None = Ok None
 optional read (Some value) = read value >>= λ a. Ok (Some a)
@@ -37,11 +37,11 @@ abbrev pub or_bad : {A : Type 0} → Field → Option A → Result A Fault
 or_bad field None = Err (bad_field field)
 or_bad field (Some a) = Ok a
 
--- a member that has to be there
+-- a member that is required
 abbrev pub required_at : {A : Type 0} → (Field → Json → Result A Fault) → Json → Field → Result A Fault
 required_at read document field = optional_at read document field >>= or_bad field
 
--- a member that has to be there, whatever it is
+-- a member that is required, whatever its value
 abbrev pub required_member : Json → Field → Result Json Fault
 required_member document field = member_at document field >>= or_bad field
 
@@ -56,7 +56,7 @@ id_of field value = text_of field value >>= λ s. or_bad field (parsed s)
 abbrev pub token_of : Field → Json → Result (List ℕ) Fault
 token_of field value = text_of field value >>= λ s. or_bad field (as_token s)
 
--- a whole number from 0 to the last that is allowed
+-- a whole number from 0 to the greatest that is allowed
 abbrev pub up_to : ℕ → ℤ → Result ℕ Fault
 up_to most (pos n) = if nat_le n most then Ok n else Err out_of_range
 up_to most (negsuc n) = Err out_of_range
@@ -86,12 +86,12 @@ abbrev pub list_of : Field → Json → Result (List Json) Fault
 list_of field (list ts) = Ok (entries ts)
 list_of field value = Err (bad_field field)
 
--- each entry in its order, up to the first fault
+-- reads each entry in order, up to the first fault
 abbrev pub each : {A : Type 0} → (Json → Result A Fault) → List Json → Result (List A) Fault
 each read [] = Ok []
 each read (t ∷ ts) = read t >>= λ a. each read ts >>= λ rest. Ok (a ∷ rest)
 
--- a list whose entries are all of one kind
+-- a list whose entries are all read in the same way
 abbrev pub list_each : {A : Type 0} → (Field → Json → Result A Fault) → Field → Json → Result (List A) Fault
 list_each read field value = list_of field value >>= each (read field)
 

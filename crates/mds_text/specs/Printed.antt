@@ -1,4 +1,4 @@
--- The compact text of a JSON value (RFC 8259, sections 2 and 7), with degrees as decimals.
+-- The compact text of a JSON value (RFC 8259, sections 2 and 7), with degrees in decimal notation.
 use Rattle.std.specs.Prelude.{ℕ, zero, suc, ℤ, pos, negsuc, List, [], ◌∷◌, ◌++◌, ◌+◌, ◌/◌, ◌%◌, ◌^◌, ◌==◌, ◌||◌, nat_lt, Bool, true, false, if◌then◌else◌, codes}
 use Rattle.std.specs.Fmt.{decimal, signed_decimal}
 use Rattle.std.specs.List.{flat_map}
@@ -8,8 +8,8 @@ use Rattle.mds_text.specs.Tree.{Json, null, boolean, int, text, degrees, list, o
 abbrev pub hex_digit : ℕ → ℕ
 hex_digit d = if nat_lt d 10 then 48 + d else 87 + d
 
--- a byte of a text as it is printed (RFC 8259, section 7): the quotation mark and the backslash have a backslash
--- before them, and bytes below 32 are escaped, five of them by a letter
+-- a byte of a string as it is printed (RFC 8259, section 7): the quotation mark and the backslash are escaped by a
+-- backslash, bytes below 32 by a letter (five of them) or as `\u00..`
 abbrev pub escaped : ℕ → List ℕ
 escaped b =
     if (b == 34) || (b == 92) then 92 ∷ b ∷ []
@@ -21,20 +21,20 @@ escaped b =
     else if nat_lt b 32 then codes "\\u00" ++ hex_digit (b / 16) ∷ hex_digit (b % 16) ∷ []
     else b ∷ []
 
--- a text between quotation marks
+-- a string in quotation marks
 abbrev pub quoted : List ℕ → List ℕ
 quoted s = 34 ∷ flat_map escaped s ++ 34 ∷ []
 
--- the decimals of a fraction of 10^places, up to the last that isn't zero
+-- the decimals of a fraction `rest` of 10^places, up to the last that isn't zero
 unfoldable pub decimals : ℕ → ℕ → List ℕ
 decimals zero rest = []
 decimals (suc places) rest = if rest == 0 then [] else (48 + rest / 10 ^ places) ∷ decimals places (rest % 10 ^ places)
 
--- a point and the decimals, where there are any
+-- a point and the decimals, where the fraction isn't zero
 abbrev pub fraction : ℕ → List ℕ
 fraction rest = if rest == 0 then [] else 46 ∷ decimals 7 rest
 
--- a number of 10^-7 degree, in degrees
+-- units of 10^-7 degree, in degrees
 abbrev pub unsigned_degrees : ℕ → List ℕ
 unsigned_degrees n = decimal (n / 10 ^ 7) ++ fraction (n % 10 ^ 7)
 
@@ -43,7 +43,7 @@ abbrev pub printed_degrees : ℤ → List ℕ
 printed_degrees (pos n) = unsigned_degrees n
 printed_degrees (negsuc n) = 45 ∷ unsigned_degrees (suc n)
 
--- a comma, where something stands before
+-- a comma, except before the first entry
 abbrev pub comma_if : Bool → List ℕ
 comma_if later = if later then 44 ∷ [] else []
 

@@ -1,4 +1,4 @@
--- A JSON value (RFC 8259, section 3) whose numbers are whole, or degrees that are to be printed.
+-- A JSON value (RFC 8259, section 3) whose numbers are whole, or degrees to be printed.
 use Rattle.std.specs.Prelude.{ℕ, ℤ, Bool, List, [], ◌∷◌}
 
 mutual

@@ -5,7 +5,7 @@ use Rattle.mds_text.specs.declared.tree.Tree.{Tree, Tree-F, fold-Tree}
 use Rattle.mds_text.specs.declared.tree.Tree.TheOpen.{Member-F}
 use Rattle.mds_text.specs.declared.tree.Member.{Member}
 
--- one level, with each value inside already seen as JSON
+-- one level of a tree, whose children are JSON values already
 abbrev pub tree_step : Tree-F Json (List ℕ × Json) → Json
 tree_step Tree-F.Null = null
 tree_step (Tree-F.Bool b) = boolean b
@@ -18,7 +18,7 @@ tree_step (Tree-F.Object v) = object (members_of v.items)
 abbrev pub member_step : Member-F Json (List ℕ × Json) → List ℕ × Json
 member_step m = (string_bytes m.name, m.value)
 
--- what a `Tree` stands for
+-- the JSON value of a `Tree`
 abbrev pub view : Tree → Json
 view = fold-Tree Json (List ℕ × Json) tree_step member_step
 

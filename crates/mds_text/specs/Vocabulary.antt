@@ -1,4 +1,4 @@
--- The words of states, vehicle types, propulsion types, event types and rule types.
+-- Tokens: the words for states, vehicle types, propulsion types, event types and rule types.
 use Rattle.std.specs.Prelude.{◌≡◌, ℕ, ◌≤◌, ◌-◌, Bool, true, not, if◌then◌else◌, Option, Some, None, ◌&&◌, ◌||◌, ◌==◌, nat_le, List, ◌++◌, length, drop, replicate, take}
 use Rattle.std.specs.List.{list_all, prefix_len}
 use Rattle.std.proofs.Common.{ap, ◌∙◌, sym, arith}
@@ -12,15 +12,15 @@ is_token_byte b = (nat_le 97 b && nat_le b 122) || (nat_le 48 b && nat_le b 57) 
 abbrev pub is_token : List ℕ → Bool
 is_token s = nat_le 1 (length s) && nat_le (length s) 40 && list_all is_token_byte s
 
--- a text that is a token
+-- the text, where it is a token
 abbrev pub as_token : List ℕ → Option (List ℕ)
 as_token s = if is_token s then Some s else None
 
--- how many bytes stand before the first zero
+-- how many bytes come before the first zero
 abbrev pub word_len : List ℕ → ℕ
 word_len bytes = prefix_len (λ b. not (b == 0)) bytes
 
--- a token at the front of forty bytes, and zeros behind it
+-- forty bytes: a token, padded with zeros
 pub record IsPadded (len : ℕ) (bytes : List ℕ) : Type 0 where
   pub whole : length bytes ≡ 40
   pub fits : len ≤ 40
@@ -30,7 +30,7 @@ pub record IsPadded (len : ℕ) (bytes : List ℕ) : Type 0 where
 pub padded_length : (len : ℕ) (bytes : List ℕ) → IsPadded len bytes → length (take len bytes) ≡ len
 padded_length len bytes h = length-take-le len bytes (omega (arith, h.whole, h.fits))
 
--- the forty bytes are the token and zeros
+-- the token, padded with zeros again, is the forty bytes
 pub padded_back : (len : ℕ) (bytes : List ℕ) → IsPadded len bytes → take len bytes ++ replicate (40 - length (take len bytes)) 0 ≡ bytes
 padded_back len bytes h =
     ap (λ n. take len bytes ++ replicate (40 - n) 0) (padded_length len bytes h)

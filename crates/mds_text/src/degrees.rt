@@ -1,4 +1,4 @@
-//! Coordinates in decimal notation.
+//! Coordinates in decimal notation: from the text of a number to units of 10^-7 degree.
 ghost use Rattle.std.specs.Prelude.{◌≡◌, ◌+◌, ◌^◌, ◌<◌, ◌≤◌, ◌++◌, length, slice_index, IfOk};
 ghost use Rattle.std.specs.Char.{digit_value};
 ghost use Rattle.std.specs.Str.Parse.{AllDigits, digits_value};
@@ -16,16 +16,16 @@ const MOST_BYTES: usize = 64;
 /// The most digits of an exponent.
 const MOST_EXPONENT_DIGITS: usize = 3;
 
-/// The most tenths of a unit that are rounded to 180 degrees.
+/// The most tenths of a unit that are still rounded to 180 degrees.
 const MOST_TENTHS: u64 = 10 * MOST_UNITS + 4;
 
 /// The coordinate that a number's text (RFC 8259, section 6) gives in degrees, in units of 10^-7
-/// degree, rounded half away from zero. Takes no memory.
+/// degree, rounded half away from zero. Allocates nothing.
 ///
 /// # Errors
 ///
-/// `BadNumber` for a text that is no number, has more than 64 bytes or an exponent of more than three
-/// digits; else `OutOfRange` beyond 180 degrees.
+/// `BadNumber` for a text that is no number, has more than 64 bytes or an exponent of more than
+/// three digits; else `OutOfRange` beyond 180 degrees.
 #[tactic(auto, unfolding(crate::specs::Numbers::units_of))]
 pub fn units_of(text: &str) -> Result<Units7, NumberFault>
     ensures { Gives number_cause (λ u. u) result (units_of text.now) }
@@ -37,7 +37,7 @@ pub fn units_of(text: &str) -> Result<Units7, NumberFault>
     signed(number.negative, size)
 }
 
-/// A number whose text and exponent aren't too long.
+/// Parses a number whose text and exponent aren't too long; `BadNumber` for any other text.
 fn short_number(text: &[u8]) -> Result<Number<'_>, NumberFault>
     ensures value { Gives number_cause parts_view result (short_number (length text.now) (number_of text.now)) }
     ensures digits { IfOk result (λ n. HasDigits (parts_view n)) }
@@ -53,7 +53,7 @@ fn short_number(text: &[u8]) -> Result<Number<'_>, NumberFault>
     }
 }
 
-/// A size of at most 180 degrees, with its sign.
+/// A size with its sign; `OutOfRange` beyond 180 degrees.
 fn signed(negative: bool, size: u64) -> Result<Units7, NumberFault>
     ensures { Gives number_cause (λ u. u) result (in_range negative size) }
 {
@@ -65,7 +65,7 @@ fn signed(negative: bool, size: u64) -> Result<Units7, NumberFault>
     Units7::new(units).ok_or(NumberFault::OutOfRange)
 }
 
-/// The size of a number of degrees in units; `None` beyond 180 degrees.
+/// The absolute value of a number of degrees, in units; `None` beyond 180 degrees.
 fn size_of(number: &Number<'_>) -> Option<u64>
     requires digits { HasDigits (parts_view number.now) }
     requires short { length number.now.whole.now ≤ most_bytes }
@@ -78,7 +78,7 @@ fn size_of(number: &Number<'_>) -> Option<u64>
     }
 }
 
-/// How many of a number's digits stand in front of the hundredths of a unit.
+/// How many of a number's digits come before the hundredths of a unit.
 fn places_of(number: &Number<'_>) -> usize
     requires digits { HasDigits (parts_view number.now) }
     requires short { length number.now.whole.now ≤ most_bytes }
@@ -95,7 +95,7 @@ fn places_of(number: &Number<'_>) -> usize
     }
 }
 
-/// The number that a few digits write.
+/// The value of at most three digits.
 fn value_of(digits: &[u8]) -> usize
     requires digits { AllDigits 10 digits.now }
     requires few { length digits.now ≤ most_exponent_digits }
@@ -109,7 +109,7 @@ fn value_of(digits: &[u8]) -> usize
     value
 }
 
-/// The number that so many digits write, with zeros behind the last digit; `None` above the limit.
+/// The value of the first `places` digits, the last followed by zeros; `None` above the limit.
 fn leading(whole: &[u8], fraction: &[u8], places: usize) -> Option<u64>
     requires whole { AllDigits 10 whole.now }
     requires fraction { AllDigits 10 fraction.now }
@@ -125,7 +125,7 @@ fn leading(whole: &[u8], fraction: &[u8], places: usize) -> Option<u64>
     Some(value)
 }
 
-/// The digit at a place of a number, and zero behind the last.
+/// The digit at a place of a number, and zero after the last one.
 fn digit_at(whole: &[u8], fraction: &[u8], place: usize) -> u8
     requires whole { AllDigits 10 whole.now }
     requires fraction { AllDigits 10 fraction.now }
@@ -143,7 +143,7 @@ fn digit_at(whole: &[u8], fraction: &[u8], place: usize) -> u8
     }
 }
 
-/// The digit at a place.
+/// The value of the digit at a place.
 fn digit_of(digits: &[u8], place: usize) -> u8
     requires digits { AllDigits 10 digits.now }
     requires within { place < length digits.now }

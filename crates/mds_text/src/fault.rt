@@ -3,18 +3,18 @@ use std::alloc::{AllocError, AllocFailed};
 use std::error::Error;
 use std::fmt;
 
-/// Why a text is refused.
+/// Why a text is refused as a document.
 #[derive(Clone, Copy, Debug)]
 pub enum TextFault {
-    /// The text is no JSON (RFC 8259) or no UTF-8.
+    /// The text is not JSON (RFC 8259), or not UTF-8.
     BadJson,
-    /// A member is missing, or of another kind than it has to be.
+    /// A member is missing, or of another kind than it must be.
     BadField(Field),
-    /// A text where a number has to be is no number.
+    /// A string that must hold a number holds none.
     BadNumber,
     /// A number is too small or too large.
     OutOfRange,
-    /// Memory ran out.
+    /// Out of memory.
     NoMemory,
 }
 
@@ -59,11 +59,11 @@ impl<T: Drop> From<AllocFailed<T>> for TextFault {
     }
 }
 
-/// Why a text is no coordinate.
+/// Why a text is not a coordinate.
 #[derive(Clone, Copy, PartialEq, Eq, Debug)]
 pub enum NumberFault {
-    /// It is no number (RFC 8259, section 6), has more than 64 bytes or an exponent of more than three
-    /// digits.
+    /// It is not a number (RFC 8259, section 6), has more than 64 bytes or an exponent of more than
+    /// three digits.
     BadNumber,
     /// It is beyond 180 degrees.
     OutOfRange,

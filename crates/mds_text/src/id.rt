@@ -20,8 +20,8 @@ impl Model for Id {
 }
 
 impl Id {
-    /// Reads a UUID in any of its four spellings: simple, hyphenated, URN or braced, in either case
-    /// (RFC 9562, section 4). `None` for any other text.
+    /// Parses a UUID in any of its four spellings: simple, hyphenated, URN or braced, in either
+    /// case (RFC 9562, section 4). `None` for any other text.
     pub fn read(text: &str) -> Option<Id>
         ensures { result ≡ parsed text.now }
     {
@@ -31,7 +31,7 @@ impl Id {
         }
     }
 
-    /// The hyphenated spelling in lower case, which `read` reads as this identifier.
+    /// The hyphenated lower-case spelling, which `read` parses back to this identifier.
     pub fn print(&self, alloc: Global) -> Result<String, AllocError>
         ensures text { IfOk result (λ s. string_bytes s ≡ hyphenated_text lower self.now) }
         ensures back { IfOk result (λ s. parsed (string_bytes s) ≡ Some self.now) }

@@ -1,4 +1,4 @@
-//! Texts, identifiers, moments and coordinates: what every document of the server is made of.
+//! JSON texts and trees, identifiers, moments and coordinates: what every document is made of.
 #![tactic(auto)]
 
 mod degrees;

@@ -1,4 +1,4 @@
-//! Trees that are made and not read.
+//! Trees built by the program rather than read from a text.
 ghost use Rattle.std.specs.Prelude.{◌≡◌, [], ◌∷◌, ◌++◌, IfOk, OnOk, OnErr, map, pos};
 ghost use Rattle.mds_text.specs.Tree.{boolean, int, list, object, text, items_of, members_of, Json};
 ghost use Rattle.mds_text.specs.View.{view, member_view};
@@ -8,14 +8,14 @@ use crate::id::Id;
 use crate::tree::{Member, Tree};
 use std::alloc::{AllocError, Global};
 
-/// A text.
+/// A string.
 pub fn text_tree(alloc: Global, value: &str) -> Result<Tree, AllocError>
     ensures { IfOk result (λ t. view t ≡ text value.now) }
 {
     Ok(Tree::Text(String::from_str(alloc, value)?))
 }
 
-/// An identifier in the hyphenated spelling in lower case (RFC 9562, section 4).
+/// An identifier as a string, in the hyphenated lower-case spelling (RFC 9562, section 4).
 pub fn id_tree(alloc: Global, id: &Id) -> Result<Tree, AllocError>
     ensures { IfOk result (λ t. view t ≡ text (hyphenated_text lower id.now)) }
 {
@@ -29,7 +29,7 @@ pub fn int_tree(value: i64) -> Tree
     Tree::Int(value)
 }
 
-/// A truth value.
+/// A boolean.
 pub fn bool_tree(value: bool) -> Tree
     ensures { view result ≡ boolean value }
 {
@@ -43,14 +43,14 @@ pub fn list_tree(entries: Vec<Tree>) -> Tree
     Tree::List(entries)
 }
 
-/// An object of these members, in the order in which they stand.
+/// An object of these members, in their order.
 pub fn object_tree(members: Vec<Member>) -> Tree
     ensures { view result ≡ object (members_of (map member_view members.items)) }
 {
     Tree::Object(members)
 }
 
-/// Adds a member behind the others. `Err` leaves them as they were, and drops the value.
+/// Appends a member. `Err` leaves the members as they were, and drops the value.
 pub fn add_member(members: &mut Vec<Member>, name: &str, value: Tree) -> Result<(), AllocError>
     ensures ok { OnOk result (map member_view members.new.items
         ≡ map member_view members.old.items ++ (name.now, view value) ∷ []) }
@@ -61,7 +61,7 @@ pub fn add_member(members: &mut Vec<Member>, name: &str, value: Tree) -> Result<
     Ok(())
 }
 
-/// A copy of a tree.
+/// A deep copy of a tree.
 #[cycle(copy_tree)]
 pub fn copy_tree(alloc: Global, tree: &Tree) -> Result<Tree, AllocError>
     ensures { IfOk result (λ t. view t ≡ view tree.now) }
@@ -88,7 +88,7 @@ fn copy_list(alloc: Global, entries: &[Tree]) -> Result<Vec<Tree>, AllocError>
     Ok(copies)
 }
 
-/// Copies of the members of an object.
+/// Deep copies of the members of an object.
 #[cycle(copy_tree)]
 pub fn copy_members(alloc: Global, members: &[Member]) -> Result<Vec<Member>, AllocError>
     ensures { IfOk result (λ v. map member_view v.items ≡ map member_view members.now) }

@@ -6,8 +6,8 @@ use std::marker::Model;
 /// The last moment: the end of the year 2099 in UTC.
 const LAST: i64 = 4_102_444_799_999;
 
-/// A moment: whole milliseconds since the Unix epoch, from 0 to the end of 2099 in UTC
-/// (MDS 2.0, timestamps). Contracts see the number.
+/// A point in time: whole milliseconds since the Unix epoch, from 0 to the end of 2099 in UTC (MDS
+/// 2.0, timestamps). Contracts see the number.
 #[derive(Clone, Copy, PartialEq, Eq, PartialOrd, Ord)]
 pub struct Moment {
     millis: u64,
@@ -27,7 +27,7 @@ impl Model for Moment {
 }
 
 impl Moment {
-    /// The moment of this many milliseconds; `None` out of range.
+    /// The moment of this many milliseconds since the Unix epoch; `None` out of range.
     pub fn new(millis: i64) -> Option<Moment>
         ensures range { IsSome result ↔ ((pos 0 ≤ℤ millis) × (millis ≤ℤ pos last_moment)) }
         ensures value { IfSome result (λ m. pos m ≡ millis) }

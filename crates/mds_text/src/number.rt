@@ -1,4 +1,4 @@
-//! The parts of a number (RFC 8259, section 6).
+//! Parses a number into its parts (RFC 8259, section 6).
 ghost use Rattle.std.specs.Prelude.{◌≡◌, ◌≤◌, ◌++◌, drop, length, false, Option, None, Some, option_map, if◌then◌else◌, IfSome};
 ghost use Rattle.std.specs.Char.{is_ascii_digit};
 ghost use Rattle.std.specs.List.{prefix_len};
@@ -8,9 +8,9 @@ ghost use Rattle.mds_text.specs.Numbers.{begins_with, behind_digits, behind_sign
 /// The most digits of a plain number.
 const PLAIN_DIGITS: usize = 18;
 
-/// A number's parts, lent by its text: `-12.50e-3` is negative, has the digits `12` before the point
-/// and `50` behind it, and its exponent `3` lowers. Where there is no fraction or no exponent, it has
-/// no digit.
+/// A number's parts, borrowed from its text: `-12.50e-3` is negative, has the digits `12` before
+/// the point and `50` after it, and `lowers` says that its exponent `3` has a minus. Where there is
+/// no fraction or no exponent, it is empty.
 #[derive(Clone, Copy)]
 pub struct Number<'a> {
     pub negative: bool,
@@ -20,7 +20,7 @@ pub struct Number<'a> {
     pub exponent: &'a [u8],
 }
 
-/// The number that a text is; `None` for any other text.
+/// Parses the whole text as a number; `None` for any other text.
 #[tactic(auto, unfolding(crate::specs::Numbers::number_of))]
 pub fn number_of(text: &[u8]) -> Option<Number<'_>>
     ensures { option_map parts_view result ≡ number_of text.now }
@@ -46,7 +46,8 @@ pub fn number_of(text: &[u8]) -> Option<Number<'_>>
     }
 }
 
-/// Whether a number has an optional minus and 1 to 18 digits and nothing else, and isn't `-0`.
+/// Whether a number is plain: 1 to 18 digits, with a minus or none, no fraction, no exponent, and
+/// not `-0`.
 pub fn is_plain(number: &Number<'_>) -> bool
     ensures { result ≡ is_plain (parts_view number.now) }
 {
@@ -56,7 +57,7 @@ pub fn is_plain(number: &Number<'_>) -> bool
         && !(number.negative && cut(number.whole, b'0').is_some())
 }
 
-/// What stands behind this byte, where the text begins with it.
+/// What follows this byte, where the text begins with it.
 fn cut(text: &[u8], byte: u8) -> Option<&[u8]>
     ensures { option_map (λ rest. rest.now) result ≡ (if begins_with byte text.now then Some (drop 1 text.now) else None) }
 {
@@ -66,7 +67,7 @@ fn cut(text: &[u8], byte: u8) -> Option<&[u8]>
     }
 }
 
-/// The digits that a text begins with, and what stands behind them.
+/// The digits that a text begins with, and what follows them.
 fn cut_digits(text: &[u8]) -> (&[u8], &[u8])
     ensures digits { result.0.now ≡ digits text.now }
     ensures rest { result.1.now ≡ behind_digits text.now }
@@ -82,7 +83,7 @@ fn digits_len(text: &[u8]) -> usize
     text.iter().take_while(|b| b.is_ascii_digit()).count()
 }
 
-/// Zero, or digits that begin with no zero, and what stands behind them.
+/// The whole part: zero, or digits that begin with no zero, and what follows.
 fn whole_at(text: &[u8]) -> Option<(&[u8], &[u8])>
     ensures { option_map (λ p. (p.0.now, p.1.now)) result ≡ whole_at text.now }
 {
@@ -99,7 +100,7 @@ fn whole_at(text: &[u8]) -> Option<(&[u8], &[u8])>
     }
 }
 
-/// One digit or more, and what stands behind them.
+/// One digit or more, and what follows them.
 fn digits_at(text: &[u8]) -> Option<(&[u8], &[u8])>
     ensures { option_map (λ p. (p.0.now, p.1.now)) result ≡ digits_at text.now }
 {
@@ -111,7 +112,7 @@ fn digits_at(text: &[u8]) -> Option<(&[u8], &[u8])>
     }
 }
 
-/// The digits behind a point, where one stands, and what stands behind them.
+/// The digits after a decimal point, where there is one, and what follows them.
 fn fraction_at(text: &[u8]) -> Option<(&[u8], &[u8])>
     ensures { option_map (λ p. (p.0.now, p.1.now)) result ≡ fraction_at text.now }
 {
@@ -121,7 +122,7 @@ fn fraction_at(text: &[u8]) -> Option<(&[u8], &[u8])>
     }
 }
 
-/// What stands behind an `e` or `E`, where one stands.
+/// What follows an `e` or `E`, where the text begins with one.
 fn cut_e(text: &[u8]) -> Option<&[u8]>
     ensures { option_map (λ rest. rest.now) result ≡ (if has_exponent text.now then Some (drop 1 text.now) else None) }
 {
@@ -131,7 +132,7 @@ fn cut_e(text: &[u8]) -> Option<&[u8]>
     }
 }
 
-/// What stands behind a sign, or the text where none stands.
+/// What follows a sign, or the text where it begins with none.
 fn behind_sign(text: &[u8]) -> &[u8]
     ensures { result.now ≡ behind_sign text.now }
 {
@@ -144,7 +145,7 @@ fn behind_sign(text: &[u8]) -> &[u8]
     }
 }
 
-/// The digits of an exponent, where one stands, and what stands behind them.
+/// The digits of an exponent, where there is one, and what follows them.
 fn exponent_at(text: &[u8]) -> Option<(&[u8], &[u8])>
     ensures { option_map (λ p. (p.0.now, p.1.now)) result ≡ exponent_at text.now }
 {
@@ -154,7 +155,7 @@ fn exponent_at(text: &[u8]) -> Option<(&[u8], &[u8])>
     }
 }
 
-/// Whether an exponent stands with a minus.
+/// Whether the text begins with an exponent that has a minus.
 fn is_lowering(text: &[u8]) -> bool
     ensures { result ≡ is_lowering text.now }
 {
@@ -164,8 +165,8 @@ fn is_lowering(text: &[u8]) -> bool
     }
 }
 
-/// The number of two decimal digits, as hours, minutes and seconds are written; `None` where a byte is
-/// no digit or the number is above `most`.
+/// The number of two decimal digits, as in hours, minutes and seconds; `None` where a byte is no
+/// digit or the number is above `most`.
 pub fn two_digits(tens: u8, ones: u8, most: u8) -> Option<u8>
     ensures value { result ≡ two_digits most tens ones }
     ensures most { IfSome result (λ n. n ≤ most) }

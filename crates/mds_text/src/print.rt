@@ -1,4 +1,4 @@
-//! From a tree to its text.
+//! Prints a tree as JSON text.
 ghost use Rattle.std.specs.Prelude.{◌≡◌, false, [], ◌∷◌, ◌++◌, ◌^◌, ◌<◌, ◌≤◌, IfOk, OnOk, map, string_bytes};
 ghost use Rattle.std.specs.List.{All};
 ghost use Rattle.std.specs.Fmt.{signed_decimal};
@@ -13,8 +13,7 @@ use std::alloc::{AllocError, Global};
 /// Units of 10^-7 degree in a degree.
 const DEGREE: u64 = 10_000_000;
 
-/// Prints a tree compactly (RFC 8259), members in the order in which they stand, degrees as
-/// `print_units` gives them.
+/// Prints a tree compactly (RFC 8259), members in their order, degrees as `print_units` gives them.
 pub fn print_tree(alloc: Global, tree: &Tree) -> Result<Vec<u8>, AllocError>
     ensures text { IfOk result (λ v. v.items ≡ printed (view tree.now)) }
     ensures one_line { IfOk result (λ v. All (λ b. 32 ≤ b) v.items) }
@@ -83,7 +82,7 @@ fn print_int(out: &mut Vec<u8>, int: i64) -> Result<(), AllocError>
     out.extend_from_slice(digits.as_bytes())
 }
 
-/// A text between quotation marks (RFC 8259, section 7).
+/// A string in quotation marks, with escapes (RFC 8259, section 7).
 fn print_text(out: &mut Vec<u8>, text: &str) -> Result<(), AllocError>
     ensures { OnOk result (out.new.items ≡ out.old.items ++ quoted text.now) }
 {
@@ -127,9 +126,9 @@ fn hex_digit(digit: u8) -> u8
     }
 }
 
-/// Degrees in decimal notation: a minus where they are negative, the whole degrees, and, where that
-/// isn't all, a point and the decimals up to the last that isn't zero. What `print_tree` prints of a
-/// coordinate, for who prints one alone.
+/// Degrees in decimal notation: a minus where they are negative, the whole degrees, and, where
+/// there is a fraction, a point and its decimals up to the last that isn't zero. `print_tree`
+/// prints coordinates in this way too.
 pub fn print_units(alloc: Global, units: Units7) -> Result<String, AllocError>
     ensures text { IfOk result (λ s. string_bytes s ≡ printed_degrees units) }
 {

@@ -1,4 +1,4 @@
-//! Numbers that aren't plain are put in quotes before a text is read.
+//! Puts numbers that aren't plain in quotation marks, before a text is read.
 ghost use Rattle.std.specs.Prelude.{◌≡◌, ◌≤◌, ◌++◌, ◌∷◌, [], length, IfOk, OnOk};
 ghost use Rattle.std.specs.List.{prefix_len};
 ghost use Rattle.mds_text.specs.Quoting.{begins_token, continues_token, is_quoted, piece_tail, quoted_count, quoted_text, shown, string_len};
@@ -6,11 +6,11 @@ ghost use Rattle.mds_text.specs.Quoting.{begins_token, continues_token, is_quote
 use crate::number::{is_plain, number_of};
 use std::alloc::{AllocError, Global};
 
-/// A backslash and the byte behind it, which ends no string (RFC 8259, section 7).
+/// A backslash and the byte after it, which doesn't end a string (RFC 8259, section 7).
 const ESCAPE_LEN: usize = 2;
 
-/// The text with each number that isn't plain in quotes, and how many were quoted. What stands in
-/// strings, and what is no number (RFC 8259, section 6), stays as it is.
+/// The text with each number that isn't plain in quotation marks, and how many were quoted.
+/// Strings, and what is no number (RFC 8259, section 6), stay as they are.
 pub fn quote_numbers(alloc: Global, text: &[u8]) -> Result<(Vec<u8>, u64), AllocError>
     ensures text { IfOk result (λ r. r.0.items ≡ quoted_text text.now) }
     ensures count { IfOk result (λ r. r.1 ≡ quoted_count text.now) }
@@ -29,7 +29,7 @@ pub fn quote_numbers(alloc: Global, text: &[u8]) -> Result<(Vec<u8>, u64), Alloc
     Ok((out, count))
 }
 
-/// Adds a piece of the text, in quotes where it is a number that isn't plain.
+/// Appends a piece of the text, in quotation marks where it is a number that isn't plain.
 fn push_piece(out: &mut Vec<u8>, piece: &[u8]) -> Result<(), AllocError>
     ensures { OnOk result (out.new.items ≡ out.old.items ++ shown piece.now) }
 {
@@ -52,7 +52,7 @@ pub fn is_quoted(piece: &[u8]) -> bool
     }
 }
 
-/// How many bytes of the piece that the first byte begins stand behind it.
+/// How many bytes, after the first one, belong to the piece that it begins.
 fn piece_tail(first: u8, behind: &[u8]) -> usize
     ensures value { result ≡ piece_tail first behind.now }
     ensures within { result ≤ length behind.now }
@@ -66,7 +66,7 @@ fn piece_tail(first: u8, behind: &[u8]) -> usize
     }
 }
 
-/// How many bytes a string has behind its opening mark.
+/// The length of a string after its opening quotation mark, the closing one included.
 fn string_len(text: &[u8]) -> usize
     ensures value { result ≡ string_len text.now }
     ensures within { result ≤ length text.now }
@@ -85,7 +85,7 @@ fn string_len(text: &[u8]) -> usize
     at
 }
 
-/// How many bytes a token has at the front of a text that goes on with it.
+/// How many bytes at the beginning of the text continue a token.
 fn token_len(text: &[u8]) -> usize
     ensures value { result ≡ prefix_len continues_token text.now }
     ensures within { result ≤ length text.now }

@@ -1,4 +1,4 @@
-//! From a text to its tree.
+//! Reads a JSON text into a tree.
 ghost use Rattle.std.specs.Prelude.{◌≡◌, IfOk, map};
 ghost use Rattle.mds_text.specs.Fault.{Gives, text_cause};
 ghost use Rattle.mds_text.specs.Reading.{json_of, items_from, members_from, plain_int, read_json, read_text};
@@ -16,8 +16,9 @@ use std::alloc::Global;
 /// Just above the greatest plain whole number, which has 18 digits.
 const LIMIT: i64 = 1_000_000_000_000_000_000;
 
-/// Reads a JSON text (RFC 8259) of at most 127 levels. Numbers that aren't plain are read as texts. Of
-/// equal names in one object the last is kept. `BadJson` where the text is no such text or no UTF-8.
+/// Reads a JSON text (RFC 8259) of at most 127 levels. Numbers that aren't plain become strings; of
+/// equal names in one object the last is kept. `BadJson` where the text is not such a text, or not
+/// UTF-8.
 pub fn read_tree(alloc: Global, bytes: &[u8]) -> Result<Tree, TextFault>
     ensures { Gives text_cause view result (read_text bytes.now) }
 {
@@ -25,7 +26,7 @@ pub fn read_tree(alloc: Global, bytes: &[u8]) -> Result<Tree, TextFault>
     Ok(tree)
 }
 
-/// Reads a text as `read_tree` does, and says how many of its numbers weren't plain.
+/// Reads a text as `read_tree` does, and counts its numbers that aren't plain.
 pub fn read_counted(alloc: Global, bytes: &[u8]) -> Result<(Tree, u64), TextFault>
     ensures tree { Gives text_cause (λ r. view r.0) result (read_text bytes.now) }
     ensures quoted { IfOk result (λ r. r.1 ≡ quoted_count bytes.now) }
@@ -50,7 +51,7 @@ fn read_json(alloc: Global, bytes: &[u8]) -> Result<Tree, TextFault>
     }
 }
 
-/// A plain whole number.
+/// A plain whole number; `BadJson` for any other.
 fn int_from(number: Number) -> Result<i64, TextFault>
     ensures { Gives text_cause (λ z. z) result (plain_int (number_view number)) }
 {

@@ -9,11 +9,11 @@ use std::marker::Model;
 /// The most bytes of a token.
 const MOST: usize = 40;
 
-/// A word of the vocabulary, as a vehicle type or an event type: 1 to 40 bytes of `a-z`, `0-9` and
-/// `_`, kept inline. Contracts see its bytes.
+/// A word of the vocabulary, such as a vehicle type or an event type: 1 to 40 bytes of `a-z`, `0-9`
+/// and `_`, stored inline. Contracts see its bytes.
 #[derive(Clone, Copy)]
 pub struct Token {
-    // the word, and zeros behind it
+    // the word, padded with zeros
     bytes: [u8; 40],
 }
 
@@ -51,7 +51,7 @@ impl Eq for Token {
 }
 
 impl Token {
-    /// Reads a token; `None` for any other text. Takes no memory.
+    /// Parses a token; `None` for any other text. Allocates nothing.
     pub fn read(text: &str) -> Option<Token>
         ensures { result ≡ as_token text.now }
     {
@@ -64,7 +64,7 @@ impl Token {
         Some(Token { bytes })
     }
 
-    /// The text that was read.
+    /// The word as text.
     pub fn as_str(&self) -> &str
         ensures text { result.now ≡ self.now }
         ensures token { is_token result.now ≡ true }
@@ -75,7 +75,7 @@ impl Token {
     }
 }
 
-/// How many bytes stand before the zeros.
+/// How many bytes come before the padding.
 fn word_len(bytes: &[u8]) -> usize
     ensures value { result ≡ word_len bytes.now }
     ensures within { result ≤ length bytes.now }

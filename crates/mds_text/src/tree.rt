@@ -1,7 +1,7 @@
 use crate::units::Units7;
 
-/// A JSON text (RFC 8259) whose numbers are plain whole numbers. `Degrees` stands in trees that are
-/// made to be printed, and in none that was read.
+/// A JSON value (RFC 8259) whose numbers are plain whole numbers. `Degrees` occurs only in trees
+/// that are made to be printed, never in one that was read.
 #[derive(Drop)]
 #[cycle(tree)]
 pub enum Tree {

@@ -6,8 +6,8 @@ use std::marker::Model;
 /// 180 degrees in units of 10^-7 degree.
 pub(crate) const MOST_UNITS: u64 = 1_800_000_000;
 
-/// A coordinate as a whole number of 10^-7 degree, at most 1,800,000,000 in size.
-/// Contracts see the number.
+/// A coordinate as a whole number of 10^-7 degree, from -1,800,000,000 to 1,800,000,000. Contracts
+/// see the number.
 #[derive(Clone, Copy, PartialEq, Eq, PartialOrd, Ord)]
 pub struct Units7 {
     units: i32,
@@ -41,7 +41,7 @@ impl Units7 {
         }
     }
 
-    /// The units of 10^-7 degree.
+    /// The number of units of 10^-7 degree.
     pub fn get(self) -> i64
         ensures value { result ≡ self }
         ensures least { least_units ≤ℤ result }

@@ -25,7 +25,7 @@ one_more of items i item within here =
     sym (map-append of (take i items) (item ∷ []))
     ∙ ap (map of) (ap (λ x. take i items ++ x ∷ []) here ∙ sym (take_more items i item within))
 
--- one entry's draft more
+-- the question for one more entry's draft
 pub draft_more : {E : Type 0} (of : E → Entry) (at : ℕ) (first list next : List Entry) (entries : List E) (i : ℕ) (e : E) → i < length entries
     → e ≡ get_or entries i e → list ≡ first ++ drafts at (map of (take i entries)) → next ≡ list ++ drafts at (of e ∷ [])
     → next ≡ first ++ drafts at (map of (take (i + 1) entries))
@@ -40,7 +40,7 @@ answered_more c [] (reply ∷ replies) q r s b next are is = absurd are
 answered_more c (question ∷ questions) [] q r s b next are is = absurd are
 answered_more c (question ∷ questions) (reply ∷ replies) q r s b next are is = (are.0, are.1, answered_more c questions replies q r are.0 b next are.2 is)
 
--- one question's answer more
+-- the answer to one more question
 pub told_more : {E : Type 0} (of : E → Entry) (c : Configuration) (questions : List E) (i : ℕ) (q : E) (replies next_replies : List Reply) (r : Reply)
     (s b next : Server) → i < length questions → q ≡ get_or questions i q → next_replies ≡ replies ++ r ∷ []
     → AreTold c (map of (take i questions)) replies s b → IsTold c (of q) r b next → AreTold c (map of (take (i + 1) questions)) next_replies s next

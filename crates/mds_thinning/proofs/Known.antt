@@ -61,7 +61,7 @@ and_right : (a b : Bool) → (a && b) ≡ true → b ≡ true
 and_right true b h = h
 and_right false b h = cc
 
--- equality of bytes has no order
+-- equality of bytes is symmetric
 turned : (xs ys : List ℕ) (b c : Bool) → bytes_eq xs ys ≡ b → bytes_eq ys xs ≡ c → b ≡ c
 turned xs ys true c is other = sym (same_bytes xs) ∙ subst (λ zs. bytes_eq xs xs ≡ bytes_eq zs xs) (equal_bytes xs ys is) refl ∙ other
 turned xs ys false true is other = sym is ∙ subst (λ zs. bytes_eq zs ys ≡ bytes_eq ys ys) (equal_bytes ys xs other) refl ∙ same_bytes ys
@@ -74,7 +74,7 @@ all_of_none : (p : List ℕ → Bool) (states : List (List ℕ)) → is_none sta
 all_of_none p [] h = refl
 all_of_none p (state ∷ states) h = cc
 
--- a report stays by what stands behind one of the same device and the same state
+-- whether a report stays, if the next report of its device has the same state
 at_same : (any none all b : Bool) (t : List ℕ) (ahead : Option Ahead) → bytes_eq t t ≡ true → (none ≡ true → all ≡ true)
     → ((c : Bool) → (not any && (none || (all && c))) ≡ stays_by t c ahead)
     → (not any && (all && b)) ≡ stays_by t b (Some (joined t ahead))
@@ -96,7 +96,7 @@ at_same false false all b t (Some (Run u)) s h e = by (bytes_eq u t) (sym (and_t
     by false is = ap (λ x. x && b) is
 at_same false false all b t (Some Settled) s h e = ap (λ x. x && b) (sym (and_true all) ∙ e true)
 
--- nor does one of another state
+-- a report doesn't stay if the next report of its device has another state
 at_other : (b : Bool) (state t : List ℕ) (ahead : Option Ahead) → bytes_eq t state ≡ false → stays_by state b (Some (joined t ahead)) ≡ false
 at_other b state t None apart = ap (λ x. x && b) apart
 at_other b state t (Some (Run u)) apart = by (bytes_eq u t)
@@ -111,13 +111,13 @@ abbrev may_stay : Device → List ℕ → Bool → List Kind → Bool
 may_stay device state b behind =
     not (list_any (is_removal device) behind) && (is_none (states_of device behind) || (list_all (bytes_eq state) (states_of device behind) && b))
 
--- behind it stands a removal
+-- one more removal comes after it
 at_removal : (same any rest : Bool) (ahead : Option Ahead) (state : List ℕ) (b : Bool) → (not any && rest) ≡ stays_by state b ahead
     → (not (same || any) && rest) ≡ stays_by state b (cond same (Some Settled) ahead)
 at_removal true any rest ahead state b h = refl
 at_removal false any rest ahead state b h = h
 
--- behind it stands another report of its device
+-- one more report of its device comes after it
 at_report : (state told : List ℕ) (b : Bool) (any none all : Bool) (ahead : Option Ahead) → (none ≡ true → all ≡ true)
     → ((c : Bool) → (not any && (none || (all && c))) ≡ stays_by state c ahead)
     → (same : Bool) → bytes_eq state told ≡ same
@@ -127,7 +127,7 @@ at_report state told b any none all ahead h e true is =
     ∙ ap (λ t. stays_by state b (Some (joined t ahead))) (equal_bytes state told is)
 at_report state told b any none all ahead h e false is = and_false (not any) ∙ sym (at_other b state told ahead (apart state told is))
 
--- what stands behind a report tells whether it stays
+-- what comes after a report says whether it stays
 pub stays_by_ahead : (device : Device) (state : List ℕ) (b : Bool) (behind : List Kind)
     → may_stay device state b behind ≡ stays_by state b (ahead_of device behind)
 stays_by_ahead device state b [] = refl

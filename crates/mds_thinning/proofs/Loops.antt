@@ -15,7 +15,7 @@ drop_more xs i d h = let e : i + 1 ≡ suc i = omega arith in rw e (drop-cons xs
 pub reverse_more : {A : Type 0} (xs : List A) (i : ℕ) (d : A) → i < length xs → reverse (take (i + 1) xs) ≡ get_or xs i d ∷ reverse (take i xs)
 reverse_more xs i d h = let e : i + 1 ≡ suc i = omega arith in rw e (ap reverse (take-suc xs i d h) ∙ reverse-append (take i xs) (get_or xs i d ∷ []))
 
--- what begins a run, and what is found so far
+-- whether one more entry begins a run, with what was found so far
 pub begins_more : (found : List Bool) (kinds : List Kind) (i : ℕ) (d : Kind) (is : Bool) → i < length kinds
     → found ++ beginnings (reverse (take i kinds)) (drop i kinds) ≡ beginnings [] kinds
     → is ≡ begins_at (reverse (take i kinds)) (get_or kinds i d)
@@ -61,7 +61,7 @@ stays_one_more found kinds p d b is h all begins_is stays_is =
     ∙ stays_as_known (reverse (take p kinds)) (get_or kinds p d) (drop (p + 1) kinds))
     ∙ ap (staying (reverse (take p kinds))) (sym (drop_more kinds p d h))
 
--- what stays, from the last one on
+-- whether one more entry stays, from the last one on
 pub stays_more : (found : List Bool) (kinds : List Kind) (place : ℕ) (d : Kind) (b is : Bool) → 0 < place → place ≤ length kinds
     → reverse found ≡ staying (reverse (take place kinds)) (drop place kinds)
     → b ≡ begins_at (reverse (take (place - 1) kinds)) (get_or kinds (place - 1) d)
@@ -84,7 +84,7 @@ picked_one : {A : Type 0} (mark : Bool) (entry : A) (marks : List Bool) (entries
 picked_one true entry marks entries = refl
 picked_one false entry marks entries = refl
 
--- what is kept, and what is to be
+-- one more entry is kept or dropped, with what was kept so far
 pub picked_more : {E A : Type 0} (of : E → A) (marks : List Bool) (entries : List E) (i : ℕ) (d : Bool) (e : E) (kept next : List A)
     → i < length marks → i < length entries
     → next ≡ kept ++ cond (get_or marks i d) (of (get_or entries i e) ∷ []) []

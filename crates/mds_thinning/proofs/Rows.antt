@@ -1,4 +1,4 @@
--- What is kept of a device's reports, and the row that they come to.
+-- What compaction keeps of a device's reports, and the row that they lead to.
 use Rattle.std.proofs.Common.{◌≡◌, ℕ, ◌&&◌, Bool, true, false, not, cond, refl, sym, ap, subst, ◌∙◌}
 use Rattle.std.proofs.Common.{List, [], ◌∷◌, ◌++◌, map, reverse, bytes_eq, Option, Some, None, Result, Ok, Err, append_assoc}
 use Rattle.std.specs.Prelude.{option_map}
@@ -33,7 +33,7 @@ abbrev begun_of : List ℕ → List Told → List Told
 begun_of state [] = []
 begun_of state (report ∷ earlier) = cond (bytes_eq report.state state) (run_begun state report earlier ∷ []) []
 
--- what is kept of a device's reports, the last one first, by what stands behind them
+-- what is kept of a device's reports, the last one first, by what comes after them
 abbrev pub expected : Option Ahead → List Told → List Told
 expected None [] = []
 expected None (last ∷ earlier) = last ∷ begun_of last.state earlier
@@ -84,7 +84,7 @@ same_either : {A : Type 0} (b : Bool) (x : A) → cond b x x ≡ x
 same_either true x = refl
 same_either false x = refl
 
--- a report of the device, by what stands before it and behind it
+-- a report of the device, by what comes before it and after it
 at_device : (device other : Device) (before behind : List Kind) (state : List ℕ) (r : Told) (reports kept : List Told) → r.state ≡ state → other ≡ device
     → kept ≡ expected (Some (joined state (ahead_of device behind))) reports → state_before device before ≡ head_state reports
     → cond (stays before (Report other state) behind) (r ∷ kept) kept ≡ expected (ahead_of device behind) (r ∷ reports)
@@ -142,7 +142,7 @@ known_more device before (Report other state) read reports fits known =
     by true = ap (λ s. Some s) (sym fits.2)
     by false = known
 
--- what is kept of all reports comes to their row
+-- what is kept of all reports leads to their row
 row_of_expected : ThinnedIsTheSame → (reports : List Told) → row_by (expected None reports) ≡ row_by reports
 row_of_expected law [] = refl
 row_of_expected law (last ∷ []) = refl
@@ -175,7 +175,7 @@ fits_entry : (configuration : Configuration) (e : Entry) → Fits (kind_of confi
 fits_entry configuration e = fits_asked configuration e (token_of configuration (actor_by configuration e.asker))
 
 module _ (configuration : Configuration) (device : Device) where
-  -- a device's reports behind some entries, the first one first
+  -- a device's reports after some entries, the first one first
   abbrev run : List Told → List Entry → List Told
   run reports [] = reports
   run reports (e ∷ entries) = run (added device (kind_of configuration e) (read_report e.body) reports) entries

@@ -1,11 +1,12 @@
--- What it is that one journal was found to lead to where another does.
+-- When one journal was found to lead to where another does.
 use Rattle.std.specs.Prelude.{ℕ, List}
 use Rattle.mds_request.specs.Configuration.{Configuration}
 use Rattle.mds_entries.specs.Entries.{Entry}
 use Rattle.mds_thinning.specs.Questions.{questions}
 use Rattle.mds_thinning.specs.Thinning.{IsJournal, AreAlike}
 
--- A server that is started from the entries of the other journal and one that is started from this one answer the questions of a moment alike.
+-- A server that is started from the entries of the other journal and one that is started from this one have the same
+-- answers to the questions of a moment.
 abbrev pub LeadsAlike : (one other : List (List ℕ)) → Type 0
 LeadsAlike one other =
     (configuration : Configuration) × (at : ℕ) × (head : List ℕ) × (entries : List Entry)

@@ -1,4 +1,5 @@
--- What an entry is to thinning: a report of a device with its state, the removal of a device, or something else.
+-- The kind of an entry, for compaction: a report of a device with its state, the removal of a device, or something
+-- else.
 use Rattle.std.specs.Prelude.{ℕ, List, Option, Some, None, Result, Ok, Err}
 use Rattle.mds_fleet.specs.Books.{Report as Told}
 use Rattle.mds_fleet.specs.Reading.{read_report}
@@ -19,11 +20,11 @@ abbrev pub as_report : ℕ → Result Told Fault → Kind
 as_report operator (Ok report) = Report (record { operator = operator; id = report.device }) report.state
 as_report operator (Err fault) = Other
 
--- what a body is that the operator at a place reports
+-- the kind of an entry with this body, reported by the operator at a place
 abbrev pub reported : ℕ → List ℕ → Kind
 reported operator body = as_report operator (read_report body)
 
--- what a call with this body is
+-- the kind of a call with this body
 abbrev pub kind_by : Result Call Code → List ℕ → Kind
 kind_by (Ok (OperatorAt operator Reports)) body = reported operator body
 kind_by (Ok (OperatorAt operator (RemoveVehicle id))) body = Removal (record { operator = operator; id = id })
@@ -33,6 +34,6 @@ abbrev pub kind_asked : Configuration → Option Request → Kind
 kind_asked configuration None = Other
 kind_asked configuration (Some request) = kind_by (call_of configuration request) request.body
 
--- what an entry is with the operators of a configuration
+-- the kind of an entry, by the operators of a configuration
 abbrev pub kind_of : Configuration → Entry → Kind
 kind_of configuration e = kind_asked configuration (request_by configuration e)

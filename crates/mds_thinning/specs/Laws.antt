@@ -1,4 +1,4 @@
--- What thinning leaves of each device.
+-- What compaction keeps of each device.
 use Rattle.std.specs.Prelude.{◌≡◌, List, [], ◌∷◌, reverse, if◌then◌else◌, Result, Ok, Err}
 use Rattle.mds_text.specs.Fault.{Fault}
 use Rattle.mds_fleet.specs.Books.{Report as Told}
@@ -13,20 +13,20 @@ use Rattle.mds_thinning.specs.Kinds.{kind_of}
 use Rattle.mds_thinning.specs.Staying.{is_same}
 use Rattle.mds_thinning.specs.Thinned.{thinned}
 
--- a device's reports, the last one first, behind an entry that is this and whose body reads so
+-- a device's reports, the last one first, after an entry of this kind, whose body reads so
 abbrev pub added : Device → Kind → Result Told Fault → List Told → List Told
 added device (Report other state) (Ok report) reports = if is_same other device then report ∷ reports else reports
 added device (Report other state) (Err fault) reports = reports
 added device (Removal other) read reports = if is_same other device then [] else reports
 added device Other read reports = reports
 
--- The reports of a device since its last removal, the last one first, among entries of which the last one stands first.
+-- The reports of a device since its last removal, the last one first, among entries of which the last one comes first.
 abbrev pub reports_since : Configuration → Device → List Entry → List Told
 reports_since configuration device [] = []
 reports_since configuration device (e ∷ before) =
     added device (kind_of configuration e) (read_report e.body) (reports_since configuration device before)
 
--- Each device's reports in the thinned journal come to the row that those in the journal come to.
+-- Each device's reports in the compacted journal lead to the same row as those in the journal.
 abbrev pub RowsStay : Type 0
 RowsStay =
     (configuration : Configuration) (entries : List Entry) (device : Device)

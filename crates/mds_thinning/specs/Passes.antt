@@ -1,4 +1,4 @@
--- What two passes over a journal's entries know of a device: forwards the state before, and backwards what stands behind.
+-- What two passes over a journal's entries know of a device: forwards the state before, and backwards what comes after.
 use Rattle.std.specs.Prelude.{ℕ, ◌&&◌, Bool, true, false, List, [], ◌∷◌, bytes_eq, if◌then◌else◌, Option, Some, None}
 use Rattle.std.specs.declared.cmp.Ordering.{Ordering}
 use Rattle.std.specs.Ordering.{nat_cmp, ordering_then}
@@ -23,13 +23,13 @@ abbrev pub beginnings : List Kind → List Kind → List Bool
 beginnings before [] = []
 beginnings before (kind ∷ behind) = begins_at before kind ∷ beginnings (kind ∷ before) behind
 
--- what stands at and behind a report of this state
+-- what comes at and after a report of this state
 abbrev pub joined : List ℕ → Option Ahead → Ahead
 joined state None = Run state
 joined state (Some (Run other)) = if bytes_eq other state then Run state else Settled
 joined state (Some Settled) = Settled
 
--- what stands of a device among these
+-- what these entries have of a device
 abbrev pub ahead_of : Device → List Kind → Option Ahead
 ahead_of device [] = None
 ahead_of device (Report other state ∷ behind) =
@@ -37,7 +37,7 @@ ahead_of device (Report other state ∷ behind) =
 ahead_of device (Removal other ∷ behind) = if is_same other device then Some Settled else ahead_of device behind
 ahead_of device (Other ∷ behind) = ahead_of device behind
 
--- whether a report stays, by what stands behind it, and by whether it begins a run
+-- whether a report stays, by what comes after it, and by whether it begins a run
 abbrev pub stays_by : List ℕ → Bool → Option Ahead → Bool
 stays_by state is_beginning None = true
 stays_by state is_beginning (Some (Run other)) = bytes_eq other state && is_beginning

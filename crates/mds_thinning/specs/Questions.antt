@@ -1,4 +1,4 @@
--- What a server is asked, to tell it from another: requests with who asks in place of the access token.
+-- The questions by which compaction compares two servers: requests with the client in place of the access token.
 use Rattle.std.specs.Prelude.{ℕ, Bool, true, false, List, [], ◌∷◌, ◌++◌, map, codes, if◌then◌else◌}
 use Rattle.mds_request.specs.Configuration.{Configuration, Operator}
 use Rattle.mds_request.specs.declared.request.Verb.{Verb}
@@ -7,7 +7,7 @@ use Rattle.mds_entries.specs.Entries.{Entry}
 use Rattle.mds_entries.specs.declared.entry.Asker.{Asker}
 use Rattle.mds_entries.specs.declared.entry.Asker.TheVariants.{Author, Operator as OperatorBy}
 
--- a request for what stands at this target
+-- a GET request for this target
 abbrev pub asks : ℕ → Asker → List ℕ → Entry
 asks at asker target = record { asker = asker; at = at; verb = Get; target = target; body = [] }
 
@@ -15,18 +15,18 @@ abbrev pub is_put_by : Asker → Verb → Bool
 is_put_by Author Put = true
 is_put_by asker verb = false
 
--- the author kept a draft by this entry
+-- the author put a draft by this entry
 abbrev pub is_draft : Entry → Bool
 is_draft e = is_put_by e.asker e.verb
 
--- for each operator's vehicles
+-- the question for an operator's vehicles
 abbrev pub fleet_of : ℕ → Operator → Entry
 fleet_of at operator = asks at (OperatorBy operator.id) (codes "/fleet/vehicles")
 
 abbrev pub fleets : ℕ → List Operator → List Entry
 fleets at operators = map (fleet_of at) operators
 
--- for each draft that was kept by one of these entries
+-- a question for each draft that was put by one of these entries
 abbrev pub drafts : ℕ → List Entry → List Entry
 drafts at [] = []
 drafts at (e ∷ entries) = if is_draft e then asks at Author e.target ∷ drafts at entries else drafts at entries

@@ -1,4 +1,4 @@
--- What a server answers to questions, one after another.
+-- A server's answers to questions, one after another.
 use Rattle.std.specs.Prelude.{◌≡◌, ◌≢◌, List, [], ◌∷◌, Option, Some}
 use Rattle.mds_catalog.specs.Publication.{Publication}
 use Rattle.mds_request.specs.Configuration.{Configuration}
@@ -24,7 +24,7 @@ Tells Author request reply s next = RoomTells request reply s next
 Tells (OperatorAt place) request reply s next = DeskAnswers place request reply s next
 Tells Nobody request reply s next = ⊥
 
--- A question is answered, with its asker's access token of the configuration, and not for want of memory.
+-- A question is answered, with its client's access token of the configuration, and the server isn't out of memory.
 pub record IsTold (configuration : Configuration) (question : Entry) (reply : Reply) (s next : Server) : Type 0 where
   pub request : Request
   pub asked : request_by configuration question ≡ Some request
@@ -38,7 +38,7 @@ AreTold configuration (question ∷ questions) (reply ∷ replies) s next =
     (between : Server) × IsTold configuration question reply s between × AreTold configuration questions replies between next
 AreTold configuration questions replies s next = ⊥
 
--- These are the replies to questions of a server that is started again from entries.
+-- These are the replies to questions of a server that is started from entries.
 abbrev pub AreReplies : Configuration → List Entry → List Entry → List Reply → Type 0
 AreReplies configuration entries questions replies =
     (s : Server) × (next : Server) × IsStartedAgain configuration entries s × AreTold configuration questions replies s next

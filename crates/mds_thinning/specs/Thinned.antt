@@ -1,4 +1,4 @@
--- The entries of a thinned journal.
+-- The entries of a compacted journal.
 use Rattle.std.specs.Prelude.{List, [], map}
 use Rattle.mds_request.specs.Configuration.{Configuration}
 use Rattle.mds_entries.specs.Entries.{Entry}

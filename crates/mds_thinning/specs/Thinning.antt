@@ -1,4 +1,4 @@
--- What it is that a journal is thinned.
+-- When a journal is compacted.
 use Rattle.std.specs.Prelude.{◌≡◌, ℕ, List, ◌∷◌, map, length, Ok}
 use Rattle.mds_request.specs.Configuration.{Configuration, read_configuration}
 use Rattle.mds_request.specs.Reply.{Reply}
@@ -8,11 +8,12 @@ use Rattle.mds_thinning.specs.Replies.{AreReplies}
 use Rattle.mds_thinning.specs.Thinned.{thinned}
 use Rattle.mds_thinning.specs.declared.thinning.Counts.{Counts}
 
--- a journal's texts: a head, and one of each entry
+-- the payloads of a journal: a head, and one of each entry
 abbrev pub IsJournal : List (List ℕ) → List ℕ → List Entry → Type 0
 IsJournal texts head entries = texts ≡ head ∷ map entry_text entries
 
--- A server that is started from entries, and one that is started from the journal that these texts are, answer these questions alike.
+-- A server that is started from entries and one that is started from the journal of these payloads have the same
+-- answers to these questions.
 pub record AreAlike (configuration : Configuration) (entries : List Entry) (texts : List (List ℕ)) (asked : List Entry) : Type 0 where
   pub head : List ℕ
   pub back : List Entry
@@ -21,8 +22,9 @@ pub record AreAlike (configuration : Configuration) (entries : List Entry) (text
   pub old : AreReplies configuration entries asked replies
   pub new : AreReplies configuration back asked replies
 
--- The log may be of the head and the thinned entries of a journal of these texts; and a server that is started from the old entries and one
--- that is started from what was read back of the log answer the questions of this moment alike.
+-- The log may be of the head and the compacted entries of a journal of these payloads; and a server that is started
+-- from the old entries and one that is started from what was read back from the log have the same answers to the
+-- questions of this moment.
 pub record IsThinned (may_be : List (List ℕ) → Type 0) (text : List ℕ) (at : ℕ) (texts : List (List ℕ)) (counts : Counts) : Type 0 where
   pub configuration : Configuration
   pub read : read_configuration text ≡ Ok configuration

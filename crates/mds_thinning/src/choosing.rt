@@ -1,5 +1,5 @@
-//! Which of a journal's entries stay, by what they are: two passes, one forwards and one backwards, each of which keeps
-//! what it knows of each device in a map.
+//! Which of a journal's entries stay, by their kinds: two passes, one forwards and one backwards, each with a map of
+//! what is known of each device.
 ghost use Rattle.std.specs.Prelude.{◌≡◌, [], ◌∷◌, List, IfOk, OnOk, bytes_eq};
 ghost use Rattle.std.specs.BTreeMap.{get};
 ghost use Rattle.std.specs.Option.{option_copied};
@@ -20,7 +20,7 @@ fn is_same_state(state: Token, other: Token) -> bool
     state == other
 }
 
-/// Whether a report of this state begins a run behind the state before.
+/// Whether a report of this state begins a run after the state before.
 fn is_beginning(state: Token, before: Option<Token>) -> bool
     ensures { result ≡ begins state before }
 {
@@ -30,7 +30,7 @@ fn is_beginning(state: Token, before: Option<Token>) -> bool
     }
 }
 
-/// Whether an entry begins a run of its device, whose state is told to be known from then on.
+/// Whether an entry begins a run of its device. The map has the device's state from then on.
 fn begins_run(states: &mut BTreeMap<Device, Token>, kind: Kind) -> Result<bool, AllocError>
     ensures begins { (before : List Known) → IfOk result (λ is. ((q : Owned) → get device_cmp states.old q ≡ state_before q before)
         → is ≡ begins_at before kind) }
@@ -63,7 +63,7 @@ fn beginnings(alloc: Global, kinds: &[Kind]) -> Result<Vec<bool>, AllocError>
     Ok(found)
 }
 
-/// Whether a report stays, by what stands behind it.
+/// Whether a report stays, by what comes after it.
 fn stays_by(state: Token, begins: bool, ahead: Option<&Ahead>) -> bool
     ensures { result ≡ stays_by state begins (option_copied ahead.entry) }
 {
@@ -74,7 +74,7 @@ fn stays_by(state: Token, begins: bool, ahead: Option<&Ahead>) -> bool
     }
 }
 
-/// What stands at and behind a report.
+/// What comes at and after a report.
 fn joined(state: Token, ahead: Option<&Ahead>) -> Ahead
     ensures { result ≡ joined state (option_copied ahead.entry) }
 {
@@ -91,7 +91,7 @@ fn joined(state: Token, ahead: Option<&Ahead>) -> Ahead
     }
 }
 
-/// Whether an entry stays, by what is known to stand behind it, to which it is then added.
+/// Whether an entry stays, by what is known to come after it, to which it is then added.
 fn stays(behind: &mut BTreeMap<Device, Ahead>, kind: Kind, begins: bool) -> Result<bool, AllocError>
     ensures stays { (kinds : List Known) → IfOk result (λ is. ((q : Owned) → get device_cmp behind.old q ≡ ahead_of q kinds)
         → is ≡ stays_at kind begins kinds) }
@@ -114,11 +114,11 @@ fn stays(behind: &mut BTreeMap<Device, Ahead>, kind: Kind, begins: bool) -> Resu
     }
 }
 
-/// Which of the entries stay, by what they are.
+/// Which of the entries stay, by their kinds.
 ///
 /// # Errors
 ///
-/// Memory ran out.
+/// Out of memory.
 pub(crate) fn chosen(alloc: Global, kinds: &[Kind]) -> Result<Vec<bool>, AllocError>
     ensures { IfOk result (λ marks. marks.items ≡ staying [] kinds.now) }
 {

@@ -1,4 +1,4 @@
-//! Whether two servers answered alike.
+//! Whether two servers' answers are equal.
 ghost use Rattle.std.specs.Prelude.{◌≡◌, ◌↔◌, IsTrue};
 
 use mds_shelf::Answer;
@@ -10,7 +10,7 @@ fn is_same(one: &Answer, other: &Answer) -> bool
     one.status() == other.status() && one.body() == other.body()
 }
 
-/// Whether two servers answered the same questions alike, each of them.
+/// Whether all answers of two servers to the same questions are equal.
 pub(crate) fn are_same(ones: &[Answer], others: &[Answer]) -> bool
     ensures { IsTrue result ↔ (ones.now ≡ others.now) }
 {

@@ -1,4 +1,4 @@
-//! Why a journal isn't thinned.
+//! Why a journal isn't compacted.
 use mds_entries::WriteFault;
 use mds_folder::FolderFault;
 use mds_records::{AppendFault, NotSynced, ReadFault};
@@ -7,22 +7,22 @@ use mds_request::ConfigFault;
 use std::alloc::{AllocError, AllocFailed};
 use std::fmt;
 
-/// Why a journal isn't thinned. The journal stays as it was.
+/// Why a journal isn't compacted. The journal stays as it was.
 #[derive(Clone, Copy)]
 pub enum ThinFault {
-    /// Memory ran out, in this program or in a server that it starts or asks. No other fault tells of that.
+    /// Out of memory, in this program or in a server that it starts or asks. No other fault means that.
     NoMemory,
     /// The configuration's text is none.
     Configuration(ConfigFault),
     /// The folder or the journal in it can't be used.
     Folder(FolderFault),
-    /// A server isn't started from the journal.
+    /// No server starts from the journal.
     OldRefused(StartFault),
-    /// The thinned journal can't be written, synced or read back.
+    /// The compacted journal can't be written, synced or read back.
     NotWritten,
-    /// A server isn't started from the thinned journal.
+    /// No server starts from the compacted journal.
     NewRefused(StartFault),
-    /// The servers answer one of the questions otherwise.
+    /// The servers' answers to one of the questions differ.
     Differs,
 }
 

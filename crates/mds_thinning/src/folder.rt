@@ -1,4 +1,4 @@
-//! The journal of a city's folder, thinned.
+//! Compaction of the journal in a city's folder.
 
 use crate::fault::ThinFault;
 use crate::front::emptied;
@@ -11,16 +11,16 @@ use std::alloc::Global;
 use std::fs::{self, File, Files};
 use std::sync::Wait;
 
-/// A city's folder, whose journal is to be replaced by who has its lock.
+/// A city's folder, whose journal is to be replaced by the holder of its lock.
 #[derive(Drop)]
 struct Locked<'a, 'b, R: Files<File = File>> {
     rt: &'a R,
     alloc: Global,
     folder: &'b str,
-    /// Are locked as long as they are open: the folder's lock, and its journal.
+    /// Locked as long as they are open: the folder's lock, and its journal.
     locks: (File, File),
-    /// Another handle of the thinned journal, which is locked as long as it is open: who opens the journal finds a locked file
-    /// before it is renamed and after.
+    /// Another handle of the compacted journal, which is locked as long as it is open: a program that opens the journal
+    /// finds a locked file before it is renamed and after.
     thinned: Option<File>,
 }
 
@@ -32,7 +32,7 @@ fn again(file: &File) -> Result<File, FolderFault> {
     }
 }
 
-/// Renames what stands beside the journal over it.
+/// Renames the compacted journal over the journal.
 fn rename<R: Files<File = File>>(rt: &R, alloc: Global, folder: &str) -> Result<(), FolderFault> {
     let from = format!(in alloc; "{folder}/journal.thinned")?;
     let to = format!(in alloc; "{folder}/journal")?;
@@ -45,7 +45,7 @@ fn rename<R: Files<File = File>>(rt: &R, alloc: Global, folder: &str) -> Result<
 impl<R: Files<File = File>> Place<Journal<Stored<File>>> for Locked<'_, '_, R> {
     ghost use Rattle.std.specs.Prelude.{⊤};
 
-    // of what stands in files nothing is known in the proofs
+    // the proofs know nothing of the contents of files
     ghost is_replaced = { λ _. ⊤ };
 
     fn beside(&mut self) -> Result<Journal<Stored<File>>, FolderFault> {
@@ -64,7 +64,7 @@ impl<R: Files<File = File>> Place<Journal<Stored<File>>> for Locked<'_, '_, R> {
     }
 }
 
-/// The texts of a folder's journal. What is cut off it is kept.
+/// The payloads of a folder's journal. A torn tail that is cut off is saved.
 fn texts_in<R: Files<File = File>>(
     rt: &R,
     alloc: Global,
@@ -82,15 +82,15 @@ fn texts_in<R: Files<File = File>>(
     }
 }
 
-/// Thins the journal of a city's folder, which no server may have meanwhile: takes the folder's lock, reads the journal (what
-/// of it isn't whole is kept beside it, and cut), writes the thinned one to `journal.thinned` beside it, syncs that, starts a
-/// server from each and compares what they answer at this moment, renames it over the journal and syncs the folder. The
-/// configuration is its text, as `Config::read` reads it.
+/// Compacts the journal of a city's folder, which no server may have meanwhile. It takes the folder's lock and reads
+/// the journal (a tail that isn't whole is saved next to it, and cut). It writes the compacted one to `journal.thinned`
+/// next to it, syncs that, starts a server from each and compares their answers at this moment. It renames it over the
+/// journal and syncs the folder. The configuration is its text, as `Config::read` reads it.
 ///
 /// # Errors
 ///
-/// Those of `thin`, and `Folder` where the folder can't be used or another program has it. The journal stays as it was, but
-/// where renaming it or syncing the folder failed, of which it isn't known.
+/// Those of `thin`, and `Folder` where the folder can't be used or another program has it. The journal stays as it was,
+/// except where renaming it or syncing the folder failed: then it isn't known whether it did.
 pub fn thin_folder<R: Wait + Files<File = File>>(
     rt: &R,
     alloc: Global,

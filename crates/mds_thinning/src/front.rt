@@ -1,4 +1,4 @@
-//! The front of a journal, thinned while the journal is appended to.
+//! A prefix of a journal, compacted while the journal is appended to.
 ghost use Rattle.std.specs.Prelude.{◌≡◌, ℕ, List, [], map, IfOk};
 ghost use Rattle.mds_records.specs.Seals.{IsSealed};
 ghost use Rattle.mds_rolling.specs.Shorter.{numbers_of};
@@ -15,7 +15,7 @@ use std::alloc::Global;
 use std::marker::Brand;
 use std::sync::Wait;
 
-/// How it is found that one journal leads to where another does: a server is started from each, and they answer alike.
+/// The check that one journal leads to where another does: a server is started from each, and their answers are equal.
 pub struct Found;
 
 impl Finding for Found {
@@ -24,31 +24,31 @@ impl Finding for Found {
     ghost same = { LeadsAlike };
 }
 
-/// The front of a journal that is to be thinned.
+/// The prefix of a journal that is to be compacted.
 #[derive(Clone, Copy)]
 pub struct Front<'a> {
     /// The text of the configuration, as `mds_request::Config::read` reads it.
     pub config: &'a [u8],
-    /// The bytes of the journal's file, from its beginning up to the seal.
+    /// The bytes of the journal's file, from its beginning up to the log end.
     pub bytes: &'a [u8],
-    /// Where the front ends.
+    /// Where the prefix ends.
     pub seal: Seal,
     /// The moment at which the servers are asked.
     pub at: Moment,
 }
 
-/// A journal that is to be thinned, and its seal.
+/// A journal that is to be compacted, and its log end.
 #[derive(Clone, Copy)]
 struct Whole<'a> {
     old: Old<'a>,
     seal: Seal,
 }
 
-/// The texts of a journal's front.
+/// The payloads of a journal's prefix.
 ///
 /// # Errors
 ///
-/// `Folder` where the bytes aren't those up to the seal, `NoMemory`.
+/// `Folder` where the bytes aren't those up to the log end, `NoMemory`.
 fn texts_of(alloc: Global, front: &Front<'_>) -> Result<Vec<Vec<u8>>, ThinFault>
     ensures { IfOk result (λ texts. IsSealed front.now.seal (map (λ t. t.items) texts.items)) }
 {
@@ -59,11 +59,11 @@ fn texts_of(alloc: Global, front: &Front<'_>) -> Result<Vec<Vec<u8>>, ThinFault>
     }
 }
 
-/// A log that was made to have nothing, once it is seen that it has nothing.
+/// A log that was created empty, once it is seen to be empty.
 ///
 /// # Errors
 ///
-/// It has something, or can't be read.
+/// It isn't empty, or can't be read.
 pub fn emptied<L: Log>(log: L) -> Result<L, FolderFault>
     ensures { IfOk result (λ log. L.may_be log []) }
 {
@@ -75,7 +75,7 @@ pub fn emptied<L: Log>(log: L) -> Result<L, FolderFault>
     }
 }
 
-/// Thins a journal to a log, where both openings are named.
+/// Compacts a journal to a log, where both openings are named.
 fn shortened<K: Naming, O: Naming, L: Sealed, R: Wait>(
     rt: &R,
     alloc: Global,
@@ -111,12 +111,12 @@ fn shortened_named<K: Naming, L: Sealed, R: Wait>(
     shortened::<K, Brand, L, R>(rt, alloc, whole, log, (one, other))
 }
 
-/// Thins the front of a journal to a log that has nothing yet, as `thin` does: the shorter log may take the journal's place
-/// once it is brought up to what was appended since.
+/// Compacts the prefix of a journal to an empty log, as `thin` does: the shorter log may take the journal's place once
+/// it has what was appended since.
 ///
 /// # Errors
 ///
-/// Those of `thin`, and `Folder` where the bytes aren't those up to the seal.
+/// Those of `thin`, and `Folder` where the bytes aren't those up to the log end.
 pub fn thin_front<L: Sealed, R: Wait>(
     rt: &R,
     alloc: Global,

@@ -1,4 +1,4 @@
-//! What an entry is to thinning.
+//! The kinds of entries that compaction tells apart.
 ghost use Rattle.std.specs.Prelude.{◌≡◌, IfOk};
 ghost use Rattle.mds_request.specs.Configuration.{configuration};
 ghost use Rattle.mds_entries.specs.Entries.{entry_of};
@@ -18,10 +18,10 @@ pub(crate) struct Device {
     pub id: Id,
 }
 
-/// What an entry is to thinning.
+/// The kind of an entry, for compaction.
 #[derive(Clone, Copy)]
 pub(crate) enum Kind {
-    /// A report of a device, with the state that it tells.
+    /// A report of a device, with the state in it.
     Report(Device, Token),
     /// The removal of a device.
     Removal(Device),
@@ -29,7 +29,7 @@ pub(crate) enum Kind {
     Other,
 }
 
-/// What stands of a device behind an entry, where something does.
+/// What comes of a device after an entry, where something does.
 #[derive(Clone, Copy)]
 pub(crate) enum Ahead {
     /// Reports of this state alone.
@@ -38,7 +38,7 @@ pub(crate) enum Ahead {
     Settled,
 }
 
-/// What a body is that the operator at a place reports.
+/// The kind of an entry with this body, reported by the operator at a place.
 fn reported(alloc: Global, operator: usize, body: &[u8]) -> Result<Kind, AllocError>
     ensures { IfOk result (λ kind. kind ≡ reported operator body.now) }
 {
@@ -52,7 +52,7 @@ fn reported(alloc: Global, operator: usize, body: &[u8]) -> Result<Kind, AllocEr
     }
 }
 
-/// What a call with this body is.
+/// The kind of a call with this body.
 fn kind_by(alloc: Global, call: &Result<Call, Code>, body: &[u8]) -> Result<Kind, AllocError>
     ensures { IfOk result (λ kind. kind ≡ kind_by call.now body.now) }
 {
@@ -68,12 +68,12 @@ fn kind_by(alloc: Global, call: &Result<Call, Code>, body: &[u8]) -> Result<Kind
     }
 }
 
-/// What an entry is with the operators of a configuration: a report or a removal of a device, or something else, as an
+/// The kind of an entry, by the operators of a configuration: a report or a removal of a device, or something else: an
 /// entry of the author, of an operator that isn't there, or with a body that is no report.
 ///
 /// # Errors
 ///
-/// Memory ran out.
+/// Out of memory.
 pub(crate) fn kind_of(
     alloc: Global,
     routes: &Routes,

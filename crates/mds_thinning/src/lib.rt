@@ -1,4 +1,5 @@
-//! Thinning a city's journal: a shorter one that leads to the same server, written beside it, compared and put in its place.
+//! Compaction of a city's journal: a shorter one that leads to the same server, written next to it, compared and put in
+//! its place.
 #![tactic(auto)]
 
 mod choosing;

@@ -1,4 +1,4 @@
-//! The order in which a thinned journal comes to stand in the place of the old one.
+//! The order in which a compacted journal takes the place of the old one.
 ghost use Rattle.std.specs.Prelude.{◌≡◌, ◌⊎◌, map};
 ghost use Rattle.mds_snapshot.specs.Opening.{book_of};
 ghost use Rattle.mds_thinning.specs.Thinning.{IsThinned};
@@ -13,24 +13,24 @@ use std::alloc::Global;
 use std::marker::Brand;
 use std::sync::Wait;
 
-/// Where a journal stands, and another beside it: a folder of files, or memory in tests. A crash at any step leaves the one
-/// or the other in its place, whole.
+/// Where a journal is, and another next to it: a folder of files, or memory in tests. A crash at any step leaves the
+/// one or the other in its place, whole.
 pub trait Place<L: Log> {
     ghost use Rattle.std.specs.Prelude.{[], IfOk};
 
-    /// Another journal than at first stands in the place.
+    /// Another journal than at first is in the place.
     ghost is_replaced: { Self → Type 0 };
 
-    /// Makes a log that has nothing, beside the journal.
+    /// Creates an empty log next to the journal.
     fn beside(&mut self) -> Result<L, FolderFault>
         ensures empty { IfOk result (λ log. L.may_be log []) }
         ensures kept { is_replaced self.new → is_replaced self.old };
 
-    /// Puts what stands beside the journal into its place at once, and waits until the disk has it so.
+    /// Puts the log next to the journal into its place at once, and waits until that is synced.
     fn replace(&mut self) -> Result<(), FolderFault>;
 }
 
-/// Thins a journal where it stands, where both openings are named.
+/// Compacts a journal in place, where both openings are named.
 fn thin_both<P: Place<L>, K: Naming, O: Naming, L: Log, R: Wait>(
     rt: &R,
     alloc: Global,
@@ -69,12 +69,13 @@ fn thin_named<P: Place<L>, K: Naming, L: Log, R: Wait>(
     thin_both::<P, K, Brand, L, R>(rt, alloc, place, old, one, other)
 }
 
-/// Thins a journal where it stands: the thinned one is written beside it, synced and compared, and then put into its place.
+/// Compacts a journal in place: the compacted one is written next to it, synced and compared, and then put into its
+/// place.
 ///
 /// # Errors
 ///
-/// Those of `thin`, and `Folder` where the place can't be used. Unless it was the last step that failed, of which nothing is
-/// known but that one of the two journals stands there, the old journal does.
+/// Those of `thin`, and `Folder` where the place can't be used. The old journal stays in its place, unless the last
+/// step failed: then it is only known that one of the two journals is there.
 pub fn thin_at<P: Place<L>, L: Log, R: Wait>(
     rt: &R,
     alloc: Global,

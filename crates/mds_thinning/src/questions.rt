@@ -1,4 +1,4 @@
-//! What a server is asked, to tell it from another.
+//! The questions by which compaction compares two servers.
 ghost use Rattle.std.specs.Prelude.{◌≡◌, [], ◌∷◌, ◌++◌, map, IfOk, OnOk, if◌then◌else◌};
 ghost use Rattle.mds_request.specs.Configuration.{configuration, operator};
 ghost use Rattle.mds_entries.specs.Entries.{entry_of};
@@ -9,7 +9,7 @@ use mds_request::{Config, Operator, Verb};
 use mds_text::Moment;
 use std::alloc::{AllocError, Global};
 
-/// A question of who asks, for this target.
+/// A request of this client, for this target.
 fn asks<'a>(at: Moment, asker: Asker, target: &'a [u8]) -> Entry<'a>
     ensures { entry_of result ≡ asks at asker target.now }
 {
@@ -22,7 +22,7 @@ fn asks<'a>(at: Moment, asker: Asker, target: &'a [u8]) -> Entry<'a>
     }
 }
 
-/// Whether an entry is one by which the author kept a draft.
+/// Whether the author put a draft by this entry.
 fn is_draft(entry: &Entry<'_>) -> bool
     ensures { result ≡ is_draft (entry_of entry.now) }
 {
@@ -61,7 +61,7 @@ fn add_fleets<'a>(
     Ok(())
 }
 
-/// Adds the question for an entry's draft, where it is one by which the author kept one.
+/// Adds the question for an entry's draft, where the author put one by it.
 fn add_draft<'a>(list: &mut Vec<Entry<'a>>, entry: &Entry<'a>, at: Moment) -> Result<(), AllocError>
     ensures { OnOk result (map entry_of list.new.items ≡ map entry_of list.old.items ++ drafts at (entry_of entry.now ∷ [])) }
 {
@@ -72,7 +72,7 @@ fn add_draft<'a>(list: &mut Vec<Entry<'a>>, entry: &Entry<'a>, at: Moment) -> Re
     }
 }
 
-/// Adds the questions for the drafts that the author kept by these entries.
+/// Adds the questions for the drafts that the author put by these entries.
 fn add_drafts<'a>(
     list: &mut Vec<Entry<'a>>,
     entries: &[Entry<'a>],
@@ -86,12 +86,12 @@ fn add_drafts<'a>(
     Ok(())
 }
 
-/// What a server of a journal with these entries is asked at this moment: the author for the policies, the geographies
-/// and each draft that an entry kept, and each operator for its vehicles.
+/// The questions to a server of a journal with these entries, at this moment: the author asks for the policies, the
+/// geographies and each draft that an entry put, and each operator for its vehicles.
 ///
 /// # Errors
 ///
-/// Memory ran out.
+/// Out of memory.
 pub(crate) fn questions<'a>(
     alloc: Global,
     config: &Config,

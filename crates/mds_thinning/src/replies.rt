@@ -1,4 +1,4 @@
-//! What a server that is started again answers to questions.
+//! The answers of a server that is started from a journal's entries.
 ghost use Rattle.std.specs.Prelude.{◌≡◌, ◌<◌, List, length, map, IfOk, IfSome};
 ghost use Rattle.mds_request.specs.Configuration.{configuration};
 ghost use Rattle.mds_request.specs.Request.{request_of};
@@ -20,7 +20,7 @@ use mds_verdict::Plain;
 use std::alloc::Global;
 use std::sync::Wait;
 
-/// The status of a server that has no memory, or shows nothing.
+/// The status of a server that is out of memory or has no snapshot.
 const BUSY: u16 = 503;
 
 /// What a server is started with.
@@ -38,7 +38,7 @@ fn desk_tells<K: Naming>(desks: &mut [Desk<K>], place: usize, request: &Request<
     desks[place].answer(request, &mut OpenGate, &Plain)
 }
 
-/// The author's room answers a request. A question publishes nothing, so that there is nothing for desks to learn.
+/// The author's room answers a request. A question publishes nothing, so desks have nothing to learn.
 fn room_tells<K: Naming, R: Wait>(rt: &R, room: &mut AuthorRoom<K>, request: &Request<'_>) -> Answer
     ensures { (desks : List DeskState) → RoomTells (request_of request.now) result
         (record { room = room_of room.old; desks = desks }) (record { room = room_of room.new; desks = desks }) }
@@ -75,7 +75,7 @@ fn tells<K: Naming, R: Wait>(
 ///
 /// # Errors
 ///
-/// `NoMemory` where the answer is that there is none, `Differs` where nobody is there who asks.
+/// `NoMemory` where the status is 503, `Differs` where the question's client isn't there.
 fn told<K: Naming, R: Wait>(
     rt: &R,
     config: &Config,
@@ -119,15 +119,15 @@ fn all_told<K: Naming, R: Wait>(
     Ok(replies)
 }
 
-/// Why the replies aren't to be had.
+/// Why there are no replies.
 pub(crate) enum ReplyFault {
-    /// The server isn't started.
+    /// The server doesn't start.
     Refused(StartFault),
     /// It doesn't answer a question.
     Untold(ThinFault),
 }
 
-/// Why a server isn't started: for want of memory, or else for this fault.
+/// Why a server doesn't start: it is out of memory, or else this fault.
 fn refused(fault: StartFault) -> ReplyFault {
     match fault {
         StartFault::Opening(OpenFault::NoMemory) => ReplyFault::Untold(ThinFault::NoMemory),
@@ -141,11 +141,11 @@ fn refused(fault: StartFault) -> ReplyFault {
     }
 }
 
-/// A server that is started from entries answers questions, and is ended.
+/// A server is started from entries, answers questions, and is ended.
 ///
 /// # Errors
 ///
-/// The server isn't started, or a question isn't answered.
+/// The server doesn't start, or a question isn't answered.
 pub(crate) fn replies<K: Naming, R: Wait>(
     rt: &R,
     alloc: Global,

@@ -1,4 +1,4 @@
-//! The entries of a thinned journal.
+//! The entries of a compacted journal.
 ghost use Rattle.std.specs.Prelude.{◌≡◌, [], ◌∷◌, ◌++◌, map, length, IfOk, OnOk, if◌then◌else◌};
 ghost use Rattle.mds_request.specs.Configuration.{configuration};
 ghost use Rattle.mds_entries.specs.Entries.{entry_of};
@@ -12,7 +12,7 @@ use mds_entries::Entry;
 use mds_request::{Config, Routes};
 use std::alloc::{AllocError, Global};
 
-/// What the entries are, each of them.
+/// The kind of each entry.
 fn kinds_of(alloc: Global, config: &Config, entries: &[Entry<'_>]) -> Result<Vec<Kind>, AllocError>
     ensures { IfOk result (λ kinds. kinds.items ≡ map (kind_of (configuration config.now)) (map entry_of entries.now)) }
 {
@@ -66,15 +66,15 @@ fn picked<'a>(
     Ok(kept)
 }
 
-/// The entries of a journal that stay where it is thinned, in their order: of each device of an operator, since it was
-/// last removed, its last report and the one that began the run of that one's state; and whatever is no report and no
-/// removal of a device, as all of the author's. Answered again, they lead to the same drafts, publications and rows.
+/// The entries of a journal that compaction keeps, in their order: of each device of an operator, since it was last
+/// removed, its last report and the one that began the run of that one's state; and whatever is no report and no
+/// removal of a device, as all of the author's. Replayed, they lead to the same drafts, publications and rows.
 ///
-/// It takes time for each entry that grows by the logarithm of how many devices there are.
+/// The time for each entry grows with the logarithm of the number of devices.
 ///
 /// # Errors
 ///
-/// Memory ran out.
+/// Out of memory.
 pub fn thinned_entries<'a>(
     alloc: Global,
     config: &Config,

@@ -1,4 +1,4 @@
-//! A journal is thinned to a new log, and the servers of both are compared.
+//! Compaction of a journal to a new log, and the comparison of the servers of both.
 ghost use Rattle.std.specs.Prelude.{◌≡◌, [], map, Ok, IfOk, OnOk};
 ghost use Rattle.mds_request.specs.Configuration.{configuration, read_configuration};
 ghost use Rattle.mds_entries.specs.Entries.{entry_of};
@@ -22,27 +22,27 @@ use mds_text::Moment;
 use std::alloc::Global;
 use std::sync::Wait;
 
-/// A journal that is to be thinned.
+/// A journal that is to be compacted.
 #[derive(Clone, Copy)]
 pub struct Old<'a> {
     /// The text of the configuration, as `mds_request::Config::read` reads it.
     pub config: &'a [u8],
-    /// The journal's texts, the head first.
+    /// The payloads of the journal's records, the head first.
     pub texts: &'a [Vec<u8>],
     /// The moment at which the servers are asked.
     pub at: Moment,
 }
 
-/// How many entries a journal had, and how many the thinned one has.
+/// How many entries a journal had, and how many the compacted one has.
 #[derive(Clone, Copy, Debug, PartialEq, Eq)]
 pub struct Counts {
     /// Of the journal.
     pub before: usize,
-    /// Of the thinned one.
+    /// Of the compacted one.
     pub after: usize,
 }
 
-/// What both servers are asked.
+/// The configuration and the questions for both servers.
 #[derive(Clone, Copy)]
 struct Asking<'a> {
     config: &'a Config,
@@ -51,7 +51,7 @@ struct Asking<'a> {
     questions: &'a [Entry<'a>],
 }
 
-/// The configuration that a text is.
+/// The configuration of a text.
 fn config_of(alloc: Global, text: &[u8]) -> Result<Config, ThinFault>
     ensures { IfOk result (λ config. read_configuration text.now ≡ Ok (configuration config)) }
 {
@@ -61,7 +61,7 @@ fn config_of(alloc: Global, text: &[u8]) -> Result<Config, ThinFault>
     }
 }
 
-/// The head and the entries that a journal's texts are.
+/// The head and the entries of a journal's payloads.
 fn parts<'a>(alloc: Global, texts: &'a [Vec<u8>]) -> Result<(&'a [u8], Vec<Entry<'a>>), ThinFault>
     ensures { IfOk result (λ r. IsJournal (map (λ t. t.items) texts.now) r.0.now (map entry_of r.1.items)) }
 {
@@ -74,7 +74,7 @@ fn parts<'a>(alloc: Global, texts: &'a [Vec<u8>]) -> Result<(&'a [u8], Vec<Entry
     }
 }
 
-/// What a server that is started from entries answers.
+/// The answers of a server that is started from entries.
 fn replies_of<K: Naming, R: Wait>(
     rt: &R,
     alloc: Global,
@@ -95,7 +95,7 @@ fn replies_of<K: Naming, R: Wait>(
     replies::<K, R>(rt, alloc, asking.config, opening, entries, asking.questions)
 }
 
-/// Why the server of the old journal has no replies.
+/// Why the server of the old journal gave no replies.
 fn of_old(fault: ReplyFault) -> ThinFault {
     match fault {
         ReplyFault::Refused(fault) => ThinFault::OldRefused(fault),
@@ -103,7 +103,7 @@ fn of_old(fault: ReplyFault) -> ThinFault {
     }
 }
 
-/// Why the server of the thinned journal has no replies.
+/// Why the server of the compacted journal gave no replies.
 fn of_new(fault: ReplyFault) -> ThinFault {
     match fault {
         ReplyFault::Refused(fault) => ThinFault::NewRefused(fault),
@@ -111,7 +111,8 @@ fn of_new(fault: ReplyFault) -> ThinFault {
     }
 }
 
-/// Whether servers that are started from the entries and from the texts of the thinned journal answer alike.
+/// Compares the answers of a server that is started from the entries with those of one that is started from the
+/// payloads of the compacted journal.
 fn are_alike<K: Naming, O: Naming, R: Wait>(
     rt: &R,
     alloc: Global,
@@ -146,17 +147,17 @@ fn are_alike<K: Naming, O: Naming, R: Wait>(
     }
 }
 
-/// Writes the thinned journal of an old one to a new log, which has nothing yet, syncs it, reads it back, starts a server
-/// from each of the two, and compares what they answer: to the author for the policies, the geographies and each draft that
-/// an entry kept, and to each operator for its vehicles, byte for byte.
+/// Writes the compacted journal of an old one to a new log, which is empty, reads it back, syncs it, starts a server
+/// from each of the two, and compares their answers: to the author for the policies, the geographies and each draft
+/// that an entry put, and to each operator for its vehicles, byte for byte.
 ///
 /// The blanks are of one opening each, which K and O name.
 ///
 /// # Errors
 ///
-/// `Configuration` where the configuration's text is none, `Folder` where the old texts are no journal, or one that the
-/// configuration doesn't fit; `OldRefused` and `NewRefused` where no server starts from a journal, `NotWritten` where
-/// the new log fails, `Differs` where the two servers don't answer alike, `NoMemory`. The new log is of no use then.
+/// `Configuration` where the configuration's text is none, `Folder` where the old payloads are no journal, or one that
+/// the configuration doesn't fit; `OldRefused` and `NewRefused` where no server starts from a journal, `NotWritten`
+/// where the new log fails, `Differs` where the two servers' answers differ, `NoMemory`. The new log is of no use then.
 pub fn thin<K: Naming, O: Naming, L: Log, R: Wait>(
     rt: &R,
     alloc: Global,

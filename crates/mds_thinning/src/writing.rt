@@ -1,4 +1,4 @@
-//! A journal's texts, written to a new log.
+//! Writes a journal's entries to a new log.
 ghost use Rattle.std.specs.Prelude.{◌≡◌, [], ◌∷◌, ◌++◌, List, ℕ, map, length, IfOk, OnOk};
 ghost use Rattle.mds_entries.specs.Entries.{entry_of, entry_text};
 
@@ -10,7 +10,7 @@ use std::alloc::{AllocError, Global};
 /// The most entries that are appended at once.
 const GROUP: usize = 256;
 
-/// The texts of entries.
+/// The payloads of entries.
 fn texts_of(alloc: Global, entries: &[Entry<'_>]) -> Result<Vec<Vec<u8>>, ThinFault>
     ensures { IfOk result (λ texts. map (λ t. t.items) texts.items ≡ map (λ e. entry_text (entry_of e)) entries.now) }
 {
@@ -21,7 +21,7 @@ fn texts_of(alloc: Global, entries: &[Entry<'_>]) -> Result<Vec<Vec<u8>>, ThinFa
     Ok(texts)
 }
 
-/// A text alone.
+/// A list of one payload.
 fn alone(alloc: Global, text: &[u8]) -> Result<Vec<Vec<u8>>, AllocError>
     ensures { IfOk result (λ group. map (λ t. t.items) group.items ≡ text.now ∷ []) }
 {
@@ -30,7 +30,7 @@ fn alone(alloc: Global, text: &[u8]) -> Result<Vec<Vec<u8>>, AllocError>
     Ok(group)
 }
 
-/// Appends entries behind so many texts, and gives how many there are then.
+/// Appends entries after so many records, and returns how many there are then.
 fn append<L: Log>(
     alloc: Global,
     log: &mut L,
@@ -64,7 +64,7 @@ fn append_all<L: Log>(
     Ok(())
 }
 
-/// Writes a head and entries to a log that has nothing.
+/// Writes a head and entries to an empty log.
 fn write<L: Log>(
     alloc: Global,
     log: &mut L,
@@ -78,7 +78,7 @@ fn write<L: Log>(
     append_all(alloc, log, count, entries)
 }
 
-/// Writes a head and entries to a log that has nothing, waits until they are synced, and gives the texts that the log has.
+/// Writes a head and entries to an empty log, waits until they are synced, and returns the payloads that the log has.
 ///
 /// # Errors
 ///

@@ -1,37 +1,37 @@
-//! A disk in memory, one call of which isn't answered.
+//! A disk in memory, of which one call fails, or each one from a call on.
 use mds_folder::FolderFault;
 use mds_records::{Journal, Log, Medium, MediumFault, Memory};
 use mds_thinning::Place;
 use std::alloc::Global;
 use std::cell::{Cell, RefCell};
 
-/// The bytes for which there is room beside a journal, so that no growth of them is refused.
+/// The capacity in bytes of the file next to a journal, so that no allocation for it is refused.
 const ROOM: usize = 16_384;
 
-/// When a disk answers no more.
+/// Which calls on a disk fail.
 #[derive(Clone, Copy, PartialEq, Eq)]
 pub(crate) enum Failing {
-    /// At one call alone.
+    /// One call alone.
     Once,
-    /// From a call on.
+    /// Each call from one on.
     Onward,
 }
 
-/// A disk with a journal and what stands beside it, which answers so many calls before one that it doesn't. Of bytes that are to be
-/// appended then half are. What wasn't synced is lost where it takes the journal's place.
+/// A disk with a journal and a file next to it, on which so many calls succeed before one fails. Where an append
+/// fails half of its bytes are appended. What wasn't synced of the file is lost where it takes the journal's place.
 #[derive(Drop)]
 pub(crate) struct Disk {
     alloc: Global,
     journal: RefCell<Vec<u8>>,
     beside: RefCell<Vec<u8>>,
-    /// How many bytes of what stands beside the journal are synced.
+    /// How many bytes of the file next to the journal are synced.
     synced: Cell<usize>,
     calls_left: Cell<u32>,
     failing: Failing,
 }
 
 impl Disk {
-    /// A disk with a journal of these texts; none, memory ran out.
+    /// A disk with a journal of these payloads; `None` where memory ran out.
     pub(crate) fn new(
         alloc: Global,
         texts: &[Vec<u8>],
@@ -51,19 +51,19 @@ impl Disk {
         })
     }
 
-    /// Answers all calls from here on.
+    /// All calls succeed from here on.
     pub(crate) fn mend(&self) {
         self.calls_left.set(u32::MAX);
     }
 
-    /// The texts of the journal, as who opens it reads them; none, memory ran out.
+    /// The payloads of the journal, as they are read once it is opened; `None` where memory ran out.
     pub(crate) fn texts(&self) -> Option<Vec<Vec<u8>>> {
         let bytes = copied(self.alloc, &self.journal).ok()?;
         let mut log = Journal::open(self.alloc, memory(bytes)).ok()?;
         log.read_from(0).ok()
     }
 
-    /// Counts a call, and tells whether it is answered.
+    /// Counts a call, and returns whether it succeeds.
     fn is_answered(&self) -> bool {
         let left = self.calls_left.get();
         if left > 0 {
@@ -76,7 +76,7 @@ impl Disk {
         false
     }
 
-    /// Empties what stands beside the journal, and tells whether that was answered.
+    /// Empties the file next to the journal, and returns whether that succeeded.
     fn empties(&self) -> bool {
         if !self.is_answered() {
             return false;
@@ -89,7 +89,8 @@ impl Disk {
         true
     }
 
-    /// Puts what is synced of what stands beside the journal into its place, and tells whether that was answered.
+    /// Puts what is synced of the file next to the journal into the journal's place, and returns whether that
+    /// succeeded.
     fn renames(&self) -> bool {
         if !self.is_answered() {
             return false;
@@ -102,7 +103,7 @@ impl Disk {
     }
 }
 
-/// A medium that answers the calls of a test.
+/// Storage in memory, on which the calls of a test succeed.
 fn memory(bytes: Vec<u8>) -> Memory {
     Memory {
         bytes,
@@ -111,7 +112,7 @@ fn memory(bytes: Vec<u8>) -> Memory {
     }
 }
 
-/// A copy of what a cell has.
+/// A copy of the bytes in a cell.
 fn copied(alloc: Global, cell: &RefCell<Vec<u8>>) -> Result<Vec<u8>, MediumFault> {
     match cell.try_borrow() {
         Ok(bytes) => Ok(Vec::from_slice(alloc, &bytes)?),
@@ -119,7 +120,7 @@ fn copied(alloc: Global, cell: &RefCell<Vec<u8>>) -> Result<Vec<u8>, MediumFault
     }
 }
 
-/// What stands beside the journal of a disk.
+/// The file next to a disk's journal.
 #[derive(Drop)]
 pub(crate) struct Beside<'d> {
     disk: &'d Disk,
@@ -128,7 +129,7 @@ pub(crate) struct Beside<'d> {
 impl Medium for Beside<'_> {
     ghost use Rattle.std.specs.Prelude.{⊤};
 
-    // of what stands in cells nothing is known in the proofs
+    // the proofs know nothing of the bytes in cells
     ghost holds = { λ _ _. ⊤ };
 
     ghost is_synced = { λ _. ⊤ };
@@ -185,7 +186,7 @@ pub(crate) struct Held<'d> {
 impl<'d> Place<Journal<Beside<'d>>> for Held<'d> {
     ghost use Rattle.std.specs.Prelude.{⊤};
 
-    // of what stands in cells nothing is known in the proofs
+    // the proofs know nothing of the bytes in cells
     ghost is_replaced = { λ _. ⊤ };
 
     fn beside(&mut self) -> Result<Journal<Beside<'d>>, FolderFault> {
@@ -205,7 +206,7 @@ impl<'d> Place<Journal<Beside<'d>>> for Held<'d> {
     }
 
     fn replace(&mut self) -> Result<(), FolderFault> {
-        // the second call syncs the names
+        // the second call syncs the file names
         if self.disk.renames() && self.disk.is_answered() {
             Ok(())
         } else {

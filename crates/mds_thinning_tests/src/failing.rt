@@ -1,4 +1,4 @@
-//! A journal is thinned on a disk that fails at each of its calls.
+//! Compaction of a journal on a disk that fails at each of its calls.
 use crate::disk::{Beside, Disk, Failing, Held};
 use crate::journal::{OLD, THINNED, texts};
 use mds_exchanges::CONFIGURATION;
@@ -10,27 +10,28 @@ use std::alloc::{AllocGlobal, Global};
 use std::process::Abort;
 use std::sync::Wait;
 
-/// How many calls of a disk are answered before the last one that thinning takes: one to make an empty file, three to open and read it,
-/// two to append the head and the entries, one to read them back, one to sync them, and one to rename the file. The last syncs the names.
+/// How many calls on a disk succeed before the last one of a compaction: one to make an empty file, three to open and
+/// read it, two to append the head and the entries, one to read them back, one to sync them, and one to rename the
+/// file. The last one syncs the file names.
 const LAST: u32 = 9;
 
-/// The old journal was thinned.
+/// The old journal was compacted.
 const SIX_TO_FIVE: Outcome = Outcome::Thinned(Counts {
     before: 6,
     after: 5,
 });
 
-/// The thinned journal was thinned again.
+/// The compacted journal was compacted again.
 const FIVE_TO_FIVE: Outcome = Outcome::Thinned(Counts {
     before: 5,
     after: 5,
 });
 
-/// What thinning ended with.
+/// How a compaction ended.
 #[derive(Clone, Copy, Debug, PartialEq, Eq)]
 enum Outcome {
     Thinned(Counts),
-    /// The disk didn't answer.
+    /// A call on the disk failed.
     NotAnswered,
     /// Memory ran out.
     NoMemory,
@@ -38,7 +39,7 @@ enum Outcome {
     Refused,
 }
 
-/// What a fault tells.
+/// The outcome that a fault stands for.
 fn outcome_of(fault: ThinFault) -> Outcome {
     match fault {
         ThinFault::NotWritten | ThinFault::Folder(FolderFault::Unusable) => Outcome::NotAnswered,
@@ -47,7 +48,7 @@ fn outcome_of(fault: ThinFault) -> Outcome {
     }
 }
 
-/// Thins a journal of these texts on a disk that has it, and compares the servers at this moment.
+/// Compacts a journal of these payloads on the disk that has it, and compares the servers at this moment.
 fn thin_texts<R: Wait>(
     rt: &R,
     alloc: Global,
@@ -66,7 +67,7 @@ fn thin_texts<R: Wait>(
     }
 }
 
-/// Thins the journal of a disk, and compares the servers at 2003.
+/// Compacts the journal of a disk, and compares the servers at 2003.
 fn thin_on<R: Wait>(rt: &R, alloc: Global, disk: &Disk) -> Outcome {
     let Some(at) = Moment::new(2003) else {
         return Outcome::Refused;
@@ -77,8 +78,8 @@ fn thin_on<R: Wait>(rt: &R, alloc: Global, disk: &Disk) -> Outcome {
     }
 }
 
-/// Thins, where one growth may be refused: then that is said, the old journal stands there, and the same call is answered afterwards.
-/// None, it was refused to what the test makes.
+/// Compacts with one allocation that may be refused: then the outcome is `NoMemory`, the old journal is still there,
+/// and a second call succeeds. `None` where the allocation was one of the test's own.
 fn thins<R: Wait + Abort + AllocGlobal>(rt: &R) -> Option<()> {
     let alloc = rt.alloc();
     let old = texts(alloc, OLD)?;
@@ -95,14 +96,15 @@ fn thins<R: Wait + Abort + AllocGlobal>(rt: &R) -> Option<()> {
     Some(())
 }
 
-/// Whether the texts stand on a disk as its journal.
+/// Whether a disk's journal has these payloads.
 fn stands(rt: &impl Abort, disk: &Disk, texts: &[Vec<u8>]) -> bool {
     let standing = disk.texts().expect(rt, "a journal");
     standing.as_slice() == texts
 }
 
-/// A disk answers so many calls: then the fault is named, and the old journal stands there, or, where it was renamed and isn't known
-/// to be on the disk so, the thinned one. The same call is answered afterwards, and then the thinned one stands there.
+/// Compacts on a disk on which so many calls succeed. Then the fault is reported, and the old journal is still there;
+/// or the compacted one, where it was renamed and it isn't known whether that is synced. A second call on the mended
+/// disk succeeds, and then the compacted journal is there.
 fn fails<R: Wait + Abort + AllocGlobal>(rt: &R, calls: u32, failing: Failing) {
     let alloc = rt.alloc();
     let old = texts(alloc, OLD).expect(rt, "a journal");
@@ -137,7 +139,7 @@ fn a_call_that_fails_leaves_a_whole_journal(rt: HostRuntime) {
     }
 }
 
-/// Six entries are thinned to five, by so many calls.
+/// Six entries are compacted to five, by so many calls.
 #[test]
 fn thins_with_no_call_more(rt: HostRuntime) {
     let old = texts(rt.alloc(), OLD).expect(&rt, "a journal");

@@ -1,14 +1,14 @@
-//! Journals of what a city is asked.
+//! Journals of requests to a city.
 use mds_entries::{Entry, entry_by, entry_text, head_text, shares};
 use mds_exchanges::{CONFIGURATION, Exchange, PUBLISH, PUT_CAP, PUT_SQUARE, REPORT_FIRST};
 use mds_request::{Config, Request, Verb};
 use mds_text::Moment;
 use std::alloc::Global;
 
-/// What is asked at a moment, in milliseconds since the Unix epoch.
+/// A moment, in milliseconds since the Unix epoch, and the exchange whose request comes then.
 pub(crate) type Asked<'a> = (i64, &'a Exchange);
 
-/// Alfa's first vehicle is where it was, and as it was.
+/// A report of alfa's first vehicle, where it was and in the state in which it was.
 pub(crate) const FIRST_LATER: &Exchange = &Exchange {
     at: 2002,
     token: "alfa",
@@ -29,7 +29,7 @@ pub(crate) const OLD: &[Asked<'static>] = &[
     (2002, FIRST_LATER),
 ];
 
-/// The same without the report that is neither the last nor begins its state's run.
+/// The same, compacted: without the report that is neither the last one nor begins its state's run.
 pub(crate) const THINNED: &[Asked<'static>] = &[
     (1000, &PUT_SQUARE),
     (1000, &PUT_CAP),
@@ -38,12 +38,12 @@ pub(crate) const THINNED: &[Asked<'static>] = &[
     (2002, FIRST_LATER),
 ];
 
-/// The city's configuration; none, memory ran out.
+/// The city's configuration; `None` where memory ran out.
 pub(crate) fn configuration(alloc: Global) -> Option<Config> {
     Config::read(alloc, CONFIGURATION).ok()
 }
 
-/// The request of an exchange at a moment; none where that is no moment.
+/// The request of an exchange at a moment; `None` where that is no moment.
 pub(crate) fn request(at: i64, exchange: &Exchange) -> Option<Request<'_>> {
     Some(Request {
         at: Moment::new(at)?,
@@ -54,7 +54,7 @@ pub(crate) fn request(at: i64, exchange: &Exchange) -> Option<Request<'_>> {
     })
 }
 
-/// The entry of what is asked.
+/// The entry of an exchange's request at a moment.
 fn entry<'a>(config: &Config, at: i64, exchange: &'a Exchange) -> Option<Entry<'a>> {
     match request(at, exchange) {
         Some(request) => entry_by(config, &request),
@@ -62,7 +62,7 @@ fn entry<'a>(config: &Config, at: i64, exchange: &'a Exchange) -> Option<Entry<'
     }
 }
 
-/// Adds the entry of what is asked; none, memory ran out.
+/// Adds the entry of an exchange's request; `None` where there is none, or memory ran out.
 fn add<'a>(
     entries: &mut Vec<Entry<'a>>,
     config: &Config,
@@ -78,7 +78,7 @@ fn add<'a>(
     }
 }
 
-/// The entries of what is asked, in their order; none, memory ran out.
+/// The entries of these requests, in their order; `None` where memory ran out.
 pub(crate) fn entries<'a>(
     alloc: Global,
     config: &Config,
@@ -91,13 +91,13 @@ pub(crate) fn entries<'a>(
     Some(entries)
 }
 
-/// The text of a journal's head.
+/// The payload of a journal's head.
 fn head(alloc: Global, config: &Config) -> Option<Vec<u8>> {
     let shares = shares(alloc, config).ok()?;
     head_text(alloc, &shares).ok()
 }
 
-/// The text of an entry.
+/// The payload of an entry.
 fn text(alloc: Global, config: &Config, at: i64, exchange: &Exchange) -> Option<Vec<u8>> {
     match entry(config, at, exchange) {
         Some(entry) => entry_text(alloc, &entry).ok(),
@@ -105,12 +105,12 @@ fn text(alloc: Global, config: &Config, at: i64, exchange: &Exchange) -> Option<
     }
 }
 
-/// Adds a text where there is one; none, memory ran out.
+/// Adds a payload; `None` where there is none, or memory ran out.
 fn push(texts: &mut Vec<Vec<u8>>, text: Option<Vec<u8>>) -> Option<()> {
     texts.push(text?).ok()
 }
 
-/// The texts of a journal of what is asked, the head first; none, memory ran out.
+/// The payloads of a journal of these requests, the head first; `None` where memory ran out.
 pub(crate) fn texts(alloc: Global, asked: &[Asked<'_>]) -> Option<Vec<Vec<u8>>> {
     let config = configuration(alloc)?;
     let mut texts = Vec::new(alloc);

@@ -1,5 +1,6 @@
-//! Tests of starting again and of thinning: journals whose outcome is worked out by hand, and a disk that fails at each of its calls.
-//! They use public items alone, and stand here so that their proof doesn't prove those crates again.
+//! Tests of restarts and of compaction: journals whose outcome is worked out by hand, and a disk that fails at each
+//! of its calls. They use public items alone, and are a crate of their own, so that proving them doesn't prove the
+//! tested crates again.
 #![tactic(auto)]
 
 #[cfg(test)]

@@ -1,4 +1,4 @@
-//! A server is started again from a journal's entries.
+//! A server restarts by replaying a journal's entries.
 ghost use Rattle.std.specs.Prelude.{◌≡◌};
 ghost use Rattle.mds_snapshot.specs.Opening.{book_of};
 
@@ -32,7 +32,7 @@ fn is_reply(answer: &Answer, exchange: &Exchange) -> bool {
     answer.status() == exchange.status && answer.body() == exchange.reply.as_bytes()
 }
 
-/// The room gives the exchange's reply.
+/// Whether the room gives the exchange's reply.
 fn room_replies<K: Naming, R: Wait>(rt: &R, room: &mut AuthorRoom<K>, exchange: &Exchange) -> bool {
     let Some(request) = request(exchange.at, exchange) else {
         return false;
@@ -41,7 +41,7 @@ fn room_replies<K: Naming, R: Wait>(rt: &R, room: &mut AuthorRoom<K>, exchange: 
     is_reply(&answer, exchange)
 }
 
-/// The desk at a place gives the exchange's reply.
+/// Whether the desk at this index gives the exchange's reply.
 fn desk_replies<K: Naming>(desks: &mut [Desk<K>], place: usize, exchange: &Exchange) -> bool {
     let Some(request) = request(exchange.at, exchange) else {
         return false;
@@ -53,8 +53,8 @@ fn desk_replies<K: Naming>(desks: &mut [Desk<K>], place: usize, exchange: &Excha
     is_reply(&answer, exchange)
 }
 
-/// A room and desks that are started again reply as those whose journal it is: the desks know what was published, and alfa's has both
-/// vehicles; the room goes on at the next revision.
+/// Checks that a room and desks replayed from a journal reply as those that wrote it: the desks know what was
+/// published, and alfa's has both vehicles; the room goes on at the next revision.
 fn go_on<K: Naming, R: Wait + Abort + AllocGlobal>(
     rt: &R,
     config: Config,

@@ -1,11 +1,11 @@
-//! Journals of which the entries that stay are worked out by hand.
+//! Which entries of a journal stay when it is compacted, worked out by hand.
 use crate::journal::{Asked, configuration, entries};
 use mds_exchanges::{Exchange, PUT_CAP, REPORT_FIRST, REPORT_SECOND};
 use mds_thinning::thinned_entries;
 use std::alloc::Global;
 use std::process::Abort;
 
-/// Alfa's first vehicle is in another state.
+/// A report of alfa's first vehicle in another state.
 const FIRST_RESERVED: &Exchange = &Exchange {
     at: 2001,
     token: "alfa",
@@ -16,7 +16,7 @@ const FIRST_RESERVED: &Exchange = &Exchange {
     reply: r#"{"result":"changed"}"#,
 };
 
-/// A report whose body is none.
+/// A report whose body isn't one.
 const NO_REPORT: &Exchange = &Exchange {
     at: 2001,
     token: "alfa",
@@ -38,7 +38,7 @@ const REMOVE_FIRST: &Exchange = &Exchange {
     reply: "",
 };
 
-/// Three reports of the first device, of one state, and one of the second between them.
+/// Three reports of the first device, in one state, and one of the second device between them.
 const RUN: &[Asked<'static>] = &[
     (2001, &REPORT_FIRST),
     (2002, &REPORT_SECOND),
@@ -46,7 +46,7 @@ const RUN: &[Asked<'static>] = &[
     (2004, &REPORT_FIRST),
 ];
 
-/// A state that changes back.
+/// Reports of a device whose state changes, and changes back.
 const BACK: &[Asked<'static>] = &[
     (2001, &REPORT_FIRST),
     (2002, FIRST_RESERVED),
@@ -54,7 +54,7 @@ const BACK: &[Asked<'static>] = &[
     (2004, &REPORT_FIRST),
 ];
 
-/// A device is removed and comes back, among what is no report.
+/// A device is removed and reported again, among entries that are no reports.
 const REMOVED: &[Asked<'static>] = &[
     (2001, &REPORT_FIRST),
     (2002, REMOVE_FIRST),
@@ -64,7 +64,7 @@ const REMOVED: &[Asked<'static>] = &[
     (2006, &REPORT_SECOND),
 ];
 
-/// Of a journal those entries stay that are of these moments.
+/// Checks that compaction leaves the entries of these moments of a journal.
 fn stay(rt: &impl Abort, alloc: Global, journal: &[Asked<'_>], moments: &[i64]) {
     let config = configuration(alloc).expect(rt, "a configuration");
     let Some(entries) = entries(alloc, &config, journal) else {
@@ -79,19 +79,19 @@ fn stay(rt: &impl Abort, alloc: Global, journal: &[Asked<'_>], moments: &[i64]) 
     }
 }
 
-/// The middle one of the three goes.
+/// The middle one of the three reports is dropped.
 #[test]
 fn a_run_keeps_its_ends(rt: HostRuntime) {
     stay(&rt, rt.alloc(), RUN, &[2001, 2002, 2004]);
 }
 
-/// It begins a run of its own.
+/// A state that comes back begins a run of its own; the reports before it are dropped.
 #[test]
 fn a_state_that_comes_back_begins_anew(rt: HostRuntime) {
     stay(&rt, rt.alloc(), BACK, &[2003, 2004]);
 }
 
-/// The device's entries up to its removal go with it; what isn't a report stays.
+/// The device's entries up to its removal, this one too, are dropped; what isn't a report stays.
 #[test]
 fn a_removal_goes_with_what_stands_before(rt: HostRuntime) {
     stay(&rt, rt.alloc(), REMOVED, &[2003, 2004, 2005, 2006]);

@@ -1,4 +1,4 @@
--- What one vehicle more changes in the verdicts.
+-- How one more vehicle changes the verdicts.
 use Rattle.std.proofs.Common.{◌≡◌, ◌≢◌, ℕ, ◌+◌, ◌<◌, ◌≤◌, Bool, true, false, cond, ◌&&◌, not, nat_lt, Option, Some, None, List, [], ◌∷◌, ◌++◌, length, map, take, filter, get_or, set, refl, sym, ap, subst, ◌∙◌, arith, length-append}
 use Rattle.std.proofs.lemmas.Bool.Decides.{nat_tests}
 use Rattle.std.specs.List.{enumerate_from, position}
@@ -48,11 +48,11 @@ no_rule : (k : ℕ) (group : Option ℕ) → group ≡ None → is_rule k group 
 no_rule k None is = refl
 no_rule k (Some m) is = cc
 
--- the values of the rules of a policy, each worked out from the rows that it counts
+-- the values of a policy's rules, each computed from the rows that the rule counts
 abbrev pub values : Policy → (List ℕ → List (List (List Position))) → List Row → Local → ℕ → (ℕ → Rule → List Row → Verdict) → List Verdict
 values policy polygons rows local t value = numbered (λ k rule. value k rule (measured policy k rule polygons rows local t)) 0 policy.rules
 
--- the value of the rule with this number
+-- the value of the rule at this index
 pub get_or-values : (policy : Policy) (polygons : List ℕ → List (List (List Position))) (rows : List Row) (local : Local) (t : ℕ) (value : ℕ → Rule → List Row → Verdict) (n : ℕ) (rule : Rule) (d : Verdict)
     → n < length policy.rules → get_or policy.rules n rule ≡ rule
     → get_or (values policy polygons rows local t value) n d ≡ value n rule (measured policy n rule polygons rows local t)
@@ -60,9 +60,10 @@ get_or-values policy polygons rows local t value n rule d within here =
     get_or-numbered (λ k r. value k r (measured policy k r polygons rows local t)) 0 n n policy.rules rule d within (let e : n ≡ 0 + n = omega arith in e)
     ∙ ap (λ r. value n r (measured policy n r polygons rows local t)) here
 
--- one row more
+-- one more row
 module _ (policy : Policy) (polygons : List ℕ → List (List (List Position))) (rows : List Row) (row : Row) (local : Local) (t : ℕ) where
-  -- a rule counts it where it is the first that the row meets, and the row adds there
+  -- a rule counts it where it is the first that the row meets, and the row counts towards its
+  -- measure
   measured-append : (n : ℕ) (rule : Rule) → measured policy n rule polygons (rows ++ row ∷ []) local t
       ≡ measured policy n rule polygons rows local t ++ row_if (is_rule n (first policy polygons row local) && adds rule.kind rule.bounds t row) row
   measured-append n rule =
@@ -91,7 +92,7 @@ module _ (policy : Policy) (polygons : List ℕ → List (List (List Position)))
         (λ k r apart. ap (value k r) (measured_same k r (not_there (is_rule k (first policy polygons row local)) _ (other_rule k n (first policy polygons row local) caught_by apart))))
         ∙ ap (λ r. set (values policy polygons rows local t value) n (value n r (measured policy n r polygons (rows ++ row ∷ []) local t))) here
 
-    -- a row that a rule catches, and that doesn't add to its measure, changes nothing
+    -- a row that a rule catches without counting it changes nothing
     pub values-not_adding : adds rule.kind rule.bounds t row ≡ false → values policy polygons (rows ++ row ∷ []) local t value ≡ values policy polygons rows local t value
     values-not_adding none =
         let old = value n rule (measured policy n rule polygons rows local t) in
@@ -100,7 +101,7 @@ module _ (policy : Policy) (polygons : List ℕ → List (List (List Position)))
         (ap (value n rule) (measured_same n rule (not_adding (is_rule n (first policy polygons row local)) (adds rule.kind rule.bounds t row) none)) ∙ sym (get_or-values policy polygons rows local t value n rule old within here))
         ∙ set-get_or (values policy polygons rows local t value) n old
 
-    -- a row that adds to the measure of the rule that catches it is the last that it counts
+    -- a row that a rule counts is the last of its rows
     pub values-adding : adds rule.kind rule.bounds t row ≡ true
         → values policy polygons (rows ++ row ∷ []) local t value ≡ set (values policy polygons rows local t value) n (value n rule (measured policy n rule polygons rows local t ++ row ∷ []))
     values-adding adding =
@@ -109,7 +110,7 @@ module _ (policy : Policy) (polygons : List ℕ → List (List (List Position)))
         (measured-append n rule
         ∙ ap (λ b. measured policy n rule polygons rows local t ++ row_if b row) (both_there (is_rule n (first policy polygons row local)) (adds rule.kind rule.bounds t row) (that_rule n (first policy polygons row local) caught_by) adding))
 
--- what is gathered for an open rule
+-- the result for an open rule
 gathered_open : (rule : Rule) (local : Local) (rows : List Row) → is_evaluated rule.kind ≡ true → is_open rule.window local ≡ true
     → gathered_rule rule local rows ≡ (record { rule = rule.id; status = status_of rule.kind rule.bounds (length rows); measure = length rows; devices = take MOST_DEVICES (map (λ (r : Row). r.device) rows) })
 gathered_open rule local rows p q = rw (p, q) refl
@@ -127,7 +128,7 @@ evaluated_and_open policy polygons row local n rule caught_by here =
     first_two (is_evaluated rule.kind) (is_open rule.window local) _ _ _ _
     (ap (λ r. meets r polygons row local) (sym here) ∙ (position-Some (λ r. meets r polygons row local) policy.rules n rule caught_by).1)
 
--- a list with room for more, and one that is full
+-- a list with room for more, and a full one
 take_more : (n : ℕ) (xs : List (List ℕ)) (x : List ℕ) → length (take n xs) < n → take n (xs ++ x ∷ []) ≡ take n xs ++ x ∷ []
 take_more n xs x room =
     let short : length xs < n = grind (arith, length-take n xs) in
@@ -154,7 +155,7 @@ listed_last status rows row devices violated room is =
     ∙ sym (take_more MOST_DEVICES (devices_of rows) row.device (subst (λ ds. length ds < MOST_DEVICES) as_first room))
     ∙ ap (take MOST_DEVICES) (sym (map-append (λ (r : Row). r.device) rows (row ∷ []))) ∙ ap (λ s. listed s (rows ++ row ∷ [])) (sym violated)
 
--- a vehicle more is listed where there is room
+-- one more vehicle, which is listed where there is room
 pub listed_next : (status : Status) (rows : List Row) (row : Row) (devices : List (List ℕ)) → status ≡ Violated → devices ≡ listed status rows
     → cond (nat_lt (length devices) MOST_DEVICES) (devices ++ row.device ∷ []) devices ≡ listed status (rows ++ row ∷ [])
 listed_next status rows row devices violated is = by (nat_lt (length devices) MOST_DEVICES) refl
@@ -174,7 +175,7 @@ if_some : (found : Option ℕ) (n : ℕ) → ((k : ℕ) → found ≡ Some k →
 if_some None n h = tt
 if_some (Some k) n h = h k refl
 
--- what is found is the number of a rule
+-- the index that was found is that of a rule
 pub number_within : (policy : Policy) (polygons : List ℕ → List (List (List Position))) (row : Row) (local : Local) (number : Option ℕ) → number ≡ first policy polygons row local → IfSome number (λ n. n < length policy.rules)
 number_within policy polygons row local number is = if_some number (length policy.rules) (λ k here. within_rules policy polygons row local k (sym is ∙ here))
 
@@ -183,7 +184,7 @@ pub rows_more : {X : Type 0} (row : X → Row) (xs : List X) (n : ℕ) (x : X) �
 rows_more row xs n x within here =
     ap (map row) (take_one_more xs n x within) ∙ map-append row (take n xs) (get_or xs n x ∷ []) ∙ ap (λ y. map row (take n xs) ++ row y ∷ []) (sym here)
 
--- one row more that is counted and listed
+-- one more row that is counted and listed
 pub gathered_more : (rule : Rule) (local : Local) (rows : List Row) (row : Row) (old new : Verdict)
     → (is_evaluated rule.kind ≡ true) × (is_open rule.window local ≡ true) → old ≡ gathered_rule rule local rows
     → new ≡ (record old { status = status_of rule.kind rule.bounds (old.measure + 1); measure = old.measure + 1; devices = cond (nat_lt (length old.devices) MOST_DEVICES) (old.devices ++ row.device ∷ []) old.devices })
@@ -208,7 +209,7 @@ shown_listed Inactive rows = refl
 shown_listed Ok rows = refl
 shown_listed Violated rows = refl
 
--- what is shown of what is gathered is the verdict
+-- the verdict, from the result of counting
 shown_gathered : (rule : Rule) (local : Local) (rows : List Row) → shown (gathered_rule rule local rows) ≡ judged rule local (length rows) rows
 shown_gathered rule local rows =
     let status = status_of rule.kind rule.bounds (length rows) in
@@ -227,7 +228,7 @@ verdicts_shown policy polygons rows local t =
     ∙ numbered_same (λ k rule. judged rule local (length (rows_of k rule)) (rows_of k rule)) (λ k rule. shown (gathered_rule rule local (rows_of k rule))) 0 policy.rules
     (λ k rule low. shown_gathered rule local (rows_of k rule))
 
--- an element of a list, and of what the list stands for
+-- an element of a list, and what it stands for
 pub at_document : {X Y : Type 0} (document : X → Y) (xs : List X) (ys : List Y) (n : ℕ) (x : X) → map document xs ≡ ys → n < length xs → x ≡ get_or xs n x → get_or ys n (document x) ≡ document x
 at_document document xs ys n x same within here =
     ap (λ zs. get_or zs n (document x)) (sym same) ∙ get_or-map document xs n x (document x) within ∙ ap document (sym here)

@@ -1,4 +1,4 @@
--- What is gathered of some vehicles, and of others after them.
+-- The result of counting some vehicles, joined with that of later ones.
 use Rattle.std.proofs.Common.{◌≡◌, ℕ, zero, suc, ◌+◌, ◌-◌, ◌<◌, ◌≤◌, Bool, true, false, cond, not, nat_lt, List, [], ◌∷◌, ◌++◌, length, map, take, filter, get_or, refl, sym, ap, ◌∙◌, arith, length-append}
 use Rattle.std.proofs.lemmas.Bool.Decides.{nat_tests}
 use Rattle.std.specs.List.{enumerate_from}
@@ -20,7 +20,7 @@ use Rattle.mds_verdict.proofs.Counting.{get_or-values}
 use Rattle.mds_verdict.proofs.Measures.{length_held}
 use Rattle.mds_verdict.proofs.Numbered.{by_places}
 
--- the first of two lists together
+-- the first elements of two lists, concatenated
 taken_on : {X : Type 0} (n : ℕ) (xs ys : List X) → take n (xs ++ ys) ≡ take n xs ++ take (n - length (take n xs)) ys
 taken_on zero xs ys =
     let none : zero - length (take zero xs) ≡ zero = omega arith in
@@ -32,16 +32,16 @@ taken_on (suc n) (x ∷ xs) ys =
     let left : suc n - length (x ∷ take n xs) ≡ n - length (take n xs) = omega arith in
     ap (λ zs. x ∷ zs) (taken_on n xs ys) ∙ ap (λ k. x ∷ (take n xs ++ take k ys)) (sym left)
 
--- the first of the first ones of two lists
+-- the same by the first elements of each
 taken_joined : {X : Type 0} (n : ℕ) (xs ys : List X) → take n xs ++ take (n - length (take n xs)) (take n ys) ≡ take n (xs ++ ys)
 taken_joined n xs ys =
     ap (λ zs. take n xs ++ zs) (take-take (n - length (take n xs)) n ys (omega arith)) ∙ sym (taken_on n xs ys)
 
--- what is gathered of these rows for a rule that is evaluated and open
+-- the result of these rows for a rule that is evaluated and open
 abbrev opened : Rule → List Row → Verdict
 opened rule rows = record { rule = rule.id; status = status_of rule.kind rule.bounds (length rows); measure = length rows; devices = take MOST_DEVICES (map (λ (row : Row). row.device) rows) }
 
--- by a number and a list
+-- the same, by a measure and a list of devices
 abbrev made : Rule → ℕ → List (List ℕ) → Verdict
 made rule n devices = record { rule = rule.id; status = status_of rule.kind rule.bounds n; measure = n; devices = devices }
 
@@ -57,7 +57,7 @@ opened_joined rule xs ys = by (nat_lt 0 (length ys)) refl
         let empty : length ys ≡ 0 = grind (arith, nat_tests) in
         ap (opened rule) (sym (append-nil xs) ∙ ap (λ zs. xs ++ zs) (sym (nil_from_length ys empty)))
 
--- of a rule that is evaluated or not, and open or not
+-- for a rule that may or may not be evaluated and open
 joined_if : (rule : Rule) (b c : Bool) (xs ys : List Row)
     → joined_rule rule
     (cond (not b) (record { rule = rule.id; status = NotEvaluated; measure = 0; devices = [] }) (cond (not c) (record { rule = rule.id; status = Inactive; measure = 0; devices = [] }) (opened rule xs)))
@@ -71,7 +71,7 @@ joined_if rule true true xs ys = opened_joined rule xs ys
 gathered_together : (rule : Rule) (local : Local) (xs ys : List Row) → joined_rule rule (gathered_rule rule local xs) (gathered_rule rule local ys) ≡ gathered_rule rule local (xs ++ ys)
 gathered_together rule local xs ys = joined_if rule (is_evaluated rule.kind) (is_open rule.window local) xs ys
 
--- the rows that a rule counts among some and others
+-- the rows that a rule counts, among some rows and others after them
 measured_together : (policy : Policy) (n : ℕ) (rule : Rule) (polygons : List ℕ → List (List (List Position))) (xs ys : List Row) (local : Local) (t : ℕ)
     → measured policy n rule polygons (xs ++ ys) local t ≡ measured policy n rule polygons xs local t ++ measured policy n rule polygons ys local t
 measured_together policy n rule polygons xs ys local t =
@@ -84,7 +84,7 @@ an_element [] none = absurd (omega arith)
 an_element (x ∷ xs) some = x
 
 module _ (policy : Policy) (polygons : List ℕ → List (List (List Position))) (local : Local) (t : ℕ) where
-  -- what is gathered for the rule with this number
+  -- the result for the rule at this index
   at_rule : (rows : List Row) (held : List RuleVerdict) (k : ℕ) (v : RuleVerdict) (rule : Rule) → map verdict_document held ≡ gathered policy polygons rows local t → k < length policy.rules
       → verdict_document (get_or held k v) ≡ gathered_rule (get_or policy.rules k rule) local (measured policy k (get_or policy.rules k rule) polygons rows local t)
   at_rule rows held k v rule is within =
@@ -98,7 +98,7 @@ module _ (policy : Policy) (polygons : List ℕ → List (List (List Position)))
   length-gathered rows =
       length-map (enumerate_from 0 policy.rules) (λ e. gathered_rule e.1 local (measured policy e.0 e.1 polygons rows local t)) ∙ length-enumerate_from 0 policy.rules
 
-  -- what is gathered of some rows, joined with what is gathered of others, is gathered of all
+  -- the results of some rows and of others, joined, are those of all rows
   pub gathered_joined : (xs ys : List Row) (rules : List program.Rule) (held later joined : List RuleVerdict) → map rule_document rules ≡ policy.rules
       → map verdict_document held ≡ gathered policy polygons xs local t → map verdict_document later ≡ gathered policy polygons ys local t
       → IsJoined rules held later joined → map verdict_document joined ≡ gathered policy polygons (xs ++ ys) local t

@@ -1,4 +1,4 @@
--- How many verdicts there are, and how great their measures may be.
+-- The number of verdicts, and how great their measures can be.
 use Rattle.std.proofs.Common.{◌≡◌, ℕ, ◌+◌, ◌<◌, ◌≤◌, Bool, true, false, cond, ◌&&◌, not, List, [], ◌∷◌, length, map, take, filter, get_or, refl, sym, ap, subst, ◌∙◌, arith, sum_by, IsPermutation}
 use Rattle.std.specs.List.{All, enumerate_from}
 use Rattle.std.proofs.lemmas.List.{get_or-map, length-map, length-take, length-take-le}
@@ -55,7 +55,7 @@ numbered_alike : {X V : Type 0} (f : X → V) (n : ℕ) (xs : List X) → map (�
 numbered_alike f n [] = refl
 numbered_alike f n (x ∷ xs) = ap (λ vs. f x ∷ vs) (numbered_alike f (n + 1) xs)
 
--- what is gathered of no vehicle, from what the rules stand for
+-- the result of counting no vehicle
 pub gathered_of_none : {X : Type 0} (document : X → Rule) (xs : List X) (policy : Policy) (polygons : List ℕ → List (List (List Position))) (local : Local) (t : ℕ) (found : List Verdict)
     → map document xs ≡ policy.rules → found ≡ map (λ x. gathered_rule (document x) local []) xs → found ≡ gathered policy polygons [] local t
 gathered_of_none document xs policy polygons local t found same is =
@@ -64,7 +64,7 @@ gathered_of_none document xs policy polygons local t found same is =
 gathered_rule_at_most : (rule : Rule) (local : Local) (rows : List Row) → (gathered_rule rule local rows).measure ≤ length rows
 gathered_rule_at_most rule local rows = at_most (not (is_evaluated rule.kind)) (not (is_open rule.window local)) _ _ _ (length rows) (omega arith) (omega arith) (omega arith)
 
--- no measure is greater than the number of vehicles that are gathered
+-- no measure is greater than the number of vehicles, in the result of counting
 pub gathered_at_most : (policy : Policy) (polygons : List ℕ → List (List (List Position))) (rows : List Row) (local : Local) (t : ℕ)
     → All (λ v. v.measure ≤ length rows) (gathered policy polygons rows local t)
 gathered_at_most policy polygons rows local t =
@@ -72,7 +72,7 @@ gathered_at_most policy polygons rows local t =
     (λ k d within. let e = get_or (enumerate_from 0 policy.rules) k d in
     at_most_through _ _ _ (gathered_rule_at_most e.1 local (measured policy e.0 e.1 polygons rows local t)) (measured_at_most policy e.0 e.1 polygons rows local t))
 
--- as many as the rules
+-- there are as many verdicts as rules
 pub length_held : (policy : Policy) (polygons : List ℕ → List (List (List Position))) (rows : List Row) (local : Local) (t : ℕ) (held : List RuleVerdict)
     → map verdict_document held ≡ gathered policy polygons rows local t → length held ≡ length policy.rules
 length_held policy polygons rows local t held is =
@@ -130,7 +130,7 @@ same_outcome false false x y z w same = same
 judged_outcome : (rule : Rule) (local : Local) (m : ℕ) (rows others : List Row) → outcome (judged rule local m rows) ≡ outcome (judged rule local m others)
 judged_outcome rule local m rows others = same_outcome (not (is_evaluated rule.kind)) (not (is_open rule.window local)) _ _ _ _ refl
 
--- the vehicles in another order
+-- the vehicles in another order have the same outcomes
 pub outcomes-IsPermutation : (policy : Policy) (polygons : List ℕ → List (List (List Position))) (rows others : List Row) (local : Local) (t : ℕ)
     → IsPermutation rows others → map outcome (verdicts policy polygons rows local t) ≡ map outcome (verdicts policy polygons others local t)
 outcomes-IsPermutation policy polygons rows others local t same =
@@ -153,7 +153,7 @@ few_of true c x y z k p q r = p
 few_of false true x y z k p q r = q
 few_of false false x y z k p q r = r
 
--- no verdict lists more devices than may be
+-- no verdict lists more devices than `MOST_DEVICES`
 pub few_devices : (policy : Policy) (polygons : List ℕ → List (List (List Position))) (rows : List Row) (local : Local) (t : ℕ)
     → All (λ v. length v.devices ≤ MOST_DEVICES) (verdicts policy polygons rows local t)
 few_devices policy polygons rows local t =

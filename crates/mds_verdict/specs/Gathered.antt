@@ -1,4 +1,4 @@
--- What is gathered of the vehicles while they are counted: the verdicts, but with the devices of kept rules too.
+-- The result of counting vehicles: the verdicts, but with the devices of rules that aren't violated too.
 use Rattle.std.specs.Prelude.{◌≡◌, ℕ, ◌+◌, ◌-◌, ◌<◌, ◌^◌, List, [], ◌++◌, Option, nat_lt, not, if◌then◌else◌, get_or, length, map, take}
 use Rattle.std.specs.List.{enumerate_from}
 use Rattle.mds_geometry.specs.declared.position.Position.{Position}
@@ -14,7 +14,8 @@ use Rattle.mds_verdict.specs.declared.verdict.TheConstants.{MOST_DEVICES}
 use Rattle.mds_verdict.specs.declared.verdict.Status.{Status}
 use Rattle.mds_verdict.specs.declared.verdict.Status.TheVariants.{NotEvaluated, Inactive, Violated}
 
--- the verdict on a rule that would have these rows, if it were open, with the first 100 devices in any case
+-- the verdict on a rule, by these rows where it is evaluated and open, with the first 100 devices whether it is
+-- violated or not
 abbrev pub gathered_rule : Rule → Local → List Row → Verdict
 gathered_rule rule local rows =
     if not (is_evaluated rule.kind) then (record { rule = rule.id; status = NotEvaluated; measure = 0; devices = [] })
@@ -31,27 +32,27 @@ abbrev pub shown_devices : Status → List (List ℕ) → List (List ℕ)
 shown_devices Violated devices = devices
 shown_devices status devices = []
 
--- the verdict without the devices of a kept rule
+-- the verdict, with its devices only where it is violated
 abbrev pub shown : Verdict → Verdict
 shown verdict = record verdict { devices = shown_devices verdict.status verdict.devices }
 
--- a tally of these rows
+-- the tally of these rows
 abbrev pub IsTally : Tally → Policy → (List ℕ → List (List (List Position))) → List Row → Local → ℕ → Type 0
 IsTally tally policy polygons rows local t = map verdict_document tally.rules.items ≡ gathered policy polygons rows local t
 
--- it is the tally of some rows, and the number is that of the first rule that a row meets
+-- this is the tally of some rows, and the number is that of the first rule that the row meets
 abbrev pub MayCount : Tally → Policy → Option ℕ → Row → ℕ → Type 0
 MayCount tally policy number row t =
     (polygons : List ℕ → List (List (List Position))) × (rows : List Row) × (local : Local)
     × (number ≡ first policy polygons row local) × (IsTally tally policy polygons rows local t) × (length rows < 2 ^ 63)
 
--- these are tallies of some rows and of others
+-- these are the tallies of some rows and of others
 abbrev pub MayJoin : Tally → Tally → Policy → Type 0
 MayJoin tally later policy =
     (polygons : List ℕ → List (List (List Position))) × (rows : List Row) × (more : List Row) × (local : Local) × (t : ℕ)
     × (IsTally tally policy polygons rows local t) × (IsTally later policy polygons more local t) × (length rows < 2 ^ 63) × (length more < 2 ^ 63)
 
--- what is gathered for a rule, with what is gathered of later rows
+-- the result for a rule, with that of later rows added
 abbrev pub joined_rule : Rule → Verdict → Verdict → Verdict
 joined_rule rule verdict later =
     if nat_lt 0 later.measure
@@ -63,7 +64,7 @@ joined_rule rule verdict later =
     })
     else verdict
 
--- at each place these verdicts are the first joined with the later ones
+-- at each index the verdict is the first one with the later one added
 abbrev pub IsJoined : List program.Rule → List RuleVerdict → List RuleVerdict → List RuleVerdict → Type 0
 IsJoined rules held later joined =
     (length joined ≡ length held)

@@ -1,4 +1,4 @@
--- How the rules of a policy are judged, and how that is reported (MDS 2.0 Policy, rules and order of operations).
+-- The verdicts on the rules of a policy, and the report on them (MDS 2.0 Policy, rules and order of operations).
 use Rattle.std.specs.Prelude.{ℕ, ◌*◌, ◌-◌, ◌==◌, pos, List, [], ◌∷◌, Bool, true, false, ◌&&◌, not, nat_le, nat_lt, if◌then◌else◌, Option, Some, None, ◌++◌, length, filter, map, take, codes}
 use Rattle.std.specs.List.{enumerate_from}
 use Rattle.std.specs.List.Sorted.{IsStrictlySortedBy}
@@ -25,16 +25,16 @@ use Rattle.mds_verdict.specs.declared.verdict.Status.TheVariants.{NotEvaluated, 
 abbrev pub Ascends : List Row → Type 0
 Ascends rows = IsStrictlySortedBy (slice_cmp nat_cmp) (map (λ row. row.device) rows)
 
--- a number reaches another, which itself counts where it is included
+-- a number reaches another one; an equal one only where it is inclusive
 abbrev pub reaches : Bool → ℕ → ℕ → Bool
 reaches inclusive least x = if inclusive then nat_le least x else nat_lt least x
 
--- a number isn't below a minimum, if there is one
+-- a number isn't below the minimum, where there is one
 abbrev pub above_minimum : Option ℕ → Bool → ℕ → ℕ → Bool
 above_minimum None inclusive unit x = true
 above_minimum (Some minimum) inclusive unit x = reaches inclusive (minimum * unit) x
 
--- a number isn't above a maximum, if there is one
+-- a number isn't above the maximum, where there is one
 abbrev pub below_maximum : Option ℕ → Bool → ℕ → ℕ → Bool
 below_maximum None inclusive unit x = true
 below_maximum (Some maximum) inclusive unit x = reaches inclusive x (maximum * unit)
@@ -44,19 +44,19 @@ abbrev pub within : Bounds → ℕ → ℕ → Bool
 within bounds unit x =
     above_minimum bounds.minimum bounds.inclusive_minimum unit x && below_maximum bounds.maximum bounds.inclusive_maximum unit x
 
--- the unit of a rule on time, in milliseconds
+-- the unit of a time rule, in milliseconds
 abbrev pub millis : TimeUnit → ℕ
 millis Seconds = 1000
 millis Minutes = 60000
 millis Hours = 3600000
 millis Days = 86400000
 
--- for how long a vehicle has been in its state at a moment; 0 at a moment before
+-- how long a vehicle has been in its state at a moment; 0 at an earlier moment
 abbrev pub dwell : Row → ℕ → ℕ
 dwell row t = t - row.since
 
--- whether a vehicle that a rule catches adds to its measure: each does for a rule on the count, and for a rule on time
--- each whose dwell is outside the bounds
+-- whether a vehicle that a rule catches counts towards its measure: each one does for a count rule, and for a time rule
+-- each one whose dwell time is outside the bounds
 abbrev pub adds : Kind → Bounds → ℕ → Row → Bool
 adds Count bounds t row = true
 adds (Time unit) bounds t row = not (within bounds (millis unit) (dwell row t))
@@ -66,13 +66,13 @@ adds Other bounds t row = false
 abbrev pub measured : Policy → ℕ → Rule → (List ℕ → List (List (List Position))) → List Row → Local → ℕ → List Row
 measured policy n rule polygons rows local t = filter (adds rule.kind rule.bounds t) (caught policy n polygons rows local)
 
--- an open rule is kept where the count is within the bounds, or where no vehicle is there for a time outside them
+-- a count rule is violated where its measure is outside the bounds, a time rule where its measure isn't 0
 abbrev pub status_of : Kind → Bounds → ℕ → Status
 status_of Count bounds measure = if within bounds 1 measure then Ok else Violated
 status_of (Time unit) bounds measure = if measure == 0 then Ok else Violated
 status_of Other bounds measure = NotEvaluated
 
--- the devices of these rows, the first 100, for a rule that is violated
+-- the devices of the first 100 of these rows, for a violated rule
 abbrev pub listed : Status → List Row → List (List ℕ)
 listed Violated rows = take MOST_DEVICES (map (λ row. row.device) rows)
 listed status rows = []
@@ -84,11 +84,11 @@ pub record Verdict : Type 0 where
   pub measure : ℕ
   pub devices : List (List ℕ)
 
--- the verdict that a `RuleVerdict` stands for
+-- the verdict of the program's `RuleVerdict`
 abbrev pub verdict_document : RuleVerdict → Verdict
 verdict_document v = record { rule = v.rule; status = v.status; measure = v.measure; devices = v.devices.items }
 
--- the verdict on a rule that would have this measure, of these rows, if it were open
+-- the verdict on a rule, by this measure and these rows where it is evaluated and open
 abbrev pub judged : Rule → Local → ℕ → List Row → Verdict
 judged rule local measure rows =
     if not (is_evaluated rule.kind) then (record { rule = rule.id; status = NotEvaluated; measure = 0; devices = [] })
@@ -104,18 +104,18 @@ verdicts_by policy polygons counted named local t =
 abbrev pub verdicts : Policy → (List ℕ → List (List (List Position))) → List Row → Local → ℕ → List Verdict
 verdicts policy polygons rows local t = verdicts_by policy polygons rows rows local t
 
--- a status, as it stands in a report
+-- the name of a status in a report
 abbrev pub status_name : Status → List ℕ
 status_name NotEvaluated = codes "not_evaluated"
 status_name Inactive = codes "inactive"
 status_name Ok = codes "ok"
 status_name Violated = codes "violated"
 
--- an identifier, as the server prints it: lower case, with hyphens (RFC 9562, section 4)
+-- an identifier as the server prints it: in lower case, with hyphens (RFC 9562, section 4)
 abbrev pub printed_id : List ℕ → Json
 printed_id id = text (hyphenated_text lower id)
 
--- the vehicles that a violated rule counts; other entries name none
+-- the vehicles that a violated rule counts; the entry of any other rule has no such member
 abbrev pub reported_devices : Status → List (List ℕ) → List (List ℕ × Json)
 reported_devices Violated devices = (codes "devices", list (items_of (map printed_id devices))) ∷ []
 reported_devices status devices = []
@@ -125,7 +125,8 @@ reported_rule verdict =
     object (members_of (reported_devices verdict.status verdict.devices
     ++ (codes "measure", int (pos verdict.measure)) ∷ (codes "rule_id", printed_id verdict.rule) ∷ (codes "status", text (status_name verdict.status)) ∷ []))
 
--- the report on a policy: `{"policy_id":"..","rules":[{"devices":[".."],"measure":m,"rule_id":"..","status":"violated"}, ..]}`
+-- the report on a policy:
+-- `{"policy_id":"..","rules":[{"devices":[".."],"measure":m,"rule_id":"..","status":"violated"}, ..]}`
 abbrev pub reported : Policy → List Verdict → Json
 reported policy verdicts =
     object (members_of ((codes "policy_id", printed_id policy.id) ∷ (codes "rules", list (items_of (map reported_rule verdicts))) ∷ []))

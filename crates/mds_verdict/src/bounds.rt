@@ -6,7 +6,7 @@ use mds_match::Vehicle;
 use mds_policy::{Bounds, Kind, TimeUnit};
 use mds_text::Moment;
 
-/// Whether a vehicle that a rule catches adds to the rule's measure.
+/// Whether a vehicle that a rule catches counts towards the rule's measure.
 pub(crate) fn adds(kind: Kind, bounds: Bounds, moment: Moment, vehicle: &Vehicle) -> bool
     ensures { result ≡ adds kind bounds moment (row_of vehicle.now) }
 {
@@ -17,9 +17,9 @@ pub(crate) fn adds(kind: Kind, bounds: Bounds, moment: Moment, vehicle: &Vehicle
     }
 }
 
-/// Whether a number lies within a rule's bounds, each of which counts as many units as it says (MDS 2.0, Policy, Rule:
-/// `minimum`, `maximum`, `inclusive_minimum`, `inclusive_maximum`). The unit is 1 for counts, `millis` of a rule's unit
-/// for times.
+/// Whether a value lies within a rule's bounds, each multiplied by the unit (MDS 2.0, Policy, Rule:
+/// `minimum`, `maximum`, `inclusive_minimum`, `inclusive_maximum`). The unit is 1 for counts, and
+/// `millis` of the rule's unit for times.
 pub fn within(bounds: Bounds, unit: u64, value: u64) -> bool
     requires { unit ≤ 86400000 }
     ensures { result ≡ within bounds unit value }
@@ -65,7 +65,7 @@ fn times(bound: u32, unit: u64) -> u64
     u64::from(bound) * unit
 }
 
-/// How many milliseconds one unit of time has (MDS 2.0, Policy, Rule Units).
+/// The milliseconds of a unit of time (MDS 2.0, Policy, Rule Units).
 pub fn millis(unit: TimeUnit) -> u64
     ensures value { result ≡ millis unit }
     ensures most { result ≤ 86400000 }

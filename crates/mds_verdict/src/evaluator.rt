@@ -5,23 +5,25 @@ use mds_policy::Policy;
 use mds_text::Moment;
 use std::alloc::{AllocError, Global};
 
-/// Judges the rules of a policy by an operator's vehicles (MDS 2.0 Policy, rules and order of
-/// operations).
+/// Evaluates the rules of a policy against an operator's vehicles (MDS 2.0 Policy, rules and order
+/// of operations).
 pub trait Evaluator<P: Places> {
     ghost use Rattle.std.specs.Prelude.{◌≡◌, ◌^◌, ◌<◌, All, IfOk, map, ⊤};
     ghost use Rattle.mds_policy.specs.Policy.{policy_document};
     ghost use Rattle.mds_match.specs.Row.{row_of};
     ghost use Rattle.mds_verdict.specs.Verdict.{Ascends, verdict_document, verdicts};
 
-    /// What it takes to judge: nothing, or threads that may share what they judge.
+    /// What an evaluation requires of the evaluator: nothing, or threads that may share its
+    /// arguments.
     ghost may_judge: { Type 0 } = { ⊤ };
 
-    /// The verdict on each rule of the policy, in their order, at a local time and at the moment up
-    /// to which a vehicle's time in its state counts. The vehicles ascend by device id, each once.
+    /// One verdict for each rule of the policy, in their order, at a local time and at the moment
+    /// up to which a vehicle's time in its state is measured. The vehicles ascend by device id,
+    /// each once.
     ///
     /// # Errors
     ///
-    /// Memory ran out.
+    /// Out of memory.
     fn verdicts(
         &self,
         alloc: Global,
@@ -38,9 +40,9 @@ pub trait Evaluator<P: Places> {
         ensures fits { IfOk result (λ found. All (λ v. v.measure < 2 ^ 63) found.items) };
 }
 
-/// Takes the vehicles one after another, to count and to list them. Besides its result it grows what
-/// it finds first: the areas of each rule's geographies. While it counts, it lists the first
-/// `MOST_DEVICES` of each rule; the lists of kept rules are dropped at the end.
+/// Evaluates vehicle after vehicle. Besides its result it allocates the areas of each rule's
+/// geographies. While it counts, it lists the first `MOST_DEVICES` devices of each rule; the lists
+/// of rules that aren't violated are dropped at the end.
 #[derive(Clone, Copy, Debug)]
 pub struct Plain;
 

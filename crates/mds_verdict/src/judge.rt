@@ -11,7 +11,8 @@ use mds_policy::Policy;
 use mds_text::Moment;
 use std::alloc::{AllocError, Global};
 
-/// The verdicts on a policy's rules: what the vehicles come to, less the devices that aren't shown.
+/// The verdicts on a policy's rules: the tally of all vehicles, without the devices of rules that
+/// aren't violated.
 pub(crate) fn of_all<P: Places>(
     alloc: Global,
     policy: &Policy,
@@ -28,8 +29,8 @@ pub(crate) fn of_all<P: Places>(
     Ok(tally.verdicts())
 }
 
-/// What the vehicles come to, one after another. The geographies are found once, before the first
-/// vehicle.
+/// The tally of all vehicles, one after another. The geographies are looked up once, before the
+/// first vehicle.
 fn gather<P: Places>(
     alloc: Global,
     policy: &Policy,

@@ -1,5 +1,5 @@
-//! What follows from the definition of verdicts, for all policies and vehicles, and for bounds that
-//! are worked out.
+//! Laws of verdicts: for all policies and vehicles, and on worked examples of bounds. Each
+//! function's contract is the law; the functions themselves do nothing.
 
 ghost use Rattle.std.specs.Prelude.{◌≡◌, ℕ, ◌≤◌, List, Some, true, false, IsTrue, All, IsPermutation, length, map};
 ghost use Rattle.mds_geometry.specs.declared.position.Position.{Position};
@@ -18,8 +18,8 @@ pub fn any_order()
         ≡ map {B = Status × ℕ} (λ v. (v.status, v.measure)) (verdicts policy polygons others local t) }
 {}
 
-/// There is one verdict for each rule, no measure is greater than the number of vehicles, and no list
-/// of devices is longer than it may be.
+/// There is one verdict for each rule, no measure is greater than the number of vehicles, and no
+/// list of devices is longer than `MOST_DEVICES`.
 pub fn bounded()
     ensures each { (policy : Policy) (polygons : List ℕ → List (List (List Position))) (rows : List Row) (local : Local) (t : ℕ) →
         length (verdicts policy polygons rows local t) ≡ length policy.rules }
@@ -29,8 +29,8 @@ pub fn bounded()
         All (λ v. length v.devices ≤ MOST_DEVICES) (verdicts policy polygons rows local t) }
 {}
 
-/// The inclusive flags hold for the bound times the unit: a minute is within a maximum of one minute,
-/// and not below it. A minimum of one isn't met by none.
+/// The inclusive flags apply to the bound times the unit: a minute is within an inclusive maximum
+/// of one minute, and not within an exclusive one. A minimum of one isn't met by zero.
 pub fn ends_of_bounds()
     ensures included { IsTrue (below_maximum (Some 1) true (millis Minutes) 60000) }
     ensures after { ¬ IsTrue (below_maximum (Some 1) true (millis Minutes) 60001) }

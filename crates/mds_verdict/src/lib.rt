@@ -1,4 +1,4 @@
-//! Whether the rules of a policy are kept by an operator's vehicles, and the report on it.
+//! Whether an operator's vehicles keep the rules of a policy, and the report on it.
 #![tactic(auto)]
 
 mod bounds;

@@ -11,13 +11,13 @@ use mds_text::{
 };
 use std::alloc::{AllocError, Global};
 
-/// The report on a policy, as the server prints it: an object with the policy's identifier and, for
-/// each verdict in order, the measure, the rule's identifier and the status, and for a violated rule
-/// the devices before them.
+/// The compliance report on a policy, as the server prints it: an object with the policy's
+/// identifier and, for each verdict in order, the measure, the rule's identifier and the status,
+/// preceded by the devices where the rule is violated.
 ///
 /// # Errors
 ///
-/// Memory ran out.
+/// Out of memory.
 pub fn report_tree(
     alloc: Global,
     policy: &Policy,

@@ -14,8 +14,8 @@ use mds_policy::{Bounds, Kind, Policy, Rule};
 use mds_text::{Id, Moment};
 use std::alloc::{AllocError, Global};
 
-/// What vehicles come to for each rule of a policy: how many it counts, and the first `MOST_DEVICES`
-/// of them in the order in which they came, whether the rule is kept or not.
+/// The result of counting vehicles for each rule of a policy: how many it counts, and the first
+/// `MOST_DEVICES` of them in the order in which they came, whether the rule is violated or not.
 #[derive(Drop)]
 pub struct Tally {
     rules: Vec<RuleVerdict>,
@@ -35,7 +35,7 @@ impl Tally {
     ///
     /// # Errors
     ///
-    /// Memory ran out.
+    /// Out of memory.
     pub fn new(alloc: Global, policy: &Policy, local: Local) -> Result<Tally, AllocError>
         ensures { IfOk result (λ tally. (polygons : List ℕ → List (List (List Position))) (moment : ℕ) →
             IsTally tally (policy_document policy.now) polygons [] local moment) }
@@ -44,12 +44,13 @@ impl Tally {
         Ok(Tally { rules })
     }
 
-    /// Counts a vehicle more in the rule of this number, the first that it meets, and lists it last
-    /// where fewer than `MOST_DEVICES` are listed. The policy is that of all vehicles so far.
+    /// Counts one more vehicle for the rule at this index, the first that the vehicle meets, and
+    /// lists it last where fewer than `MOST_DEVICES` are listed. The policy is the same for all
+    /// vehicles of a tally.
     ///
     /// # Errors
     ///
-    /// Memory ran out.
+    /// Out of memory.
     pub fn count(
         &mut self,
         policy: &Policy,
@@ -67,12 +68,12 @@ impl Tally {
         Ok(())
     }
 
-    /// Adds what later vehicles come to: counts are added, and devices listed behind those that are
-    /// there, up to `MOST_DEVICES`. The policy is that of both.
+    /// Adds the tally of later vehicles: measures are added, and devices are listed after those
+    /// that are there, up to `MOST_DEVICES`. The policy is that of both.
     ///
     /// # Errors
     ///
-    /// Memory ran out.
+    /// Out of memory.
     pub fn join(&mut self, policy: &Policy, later: &Tally) -> Result<(), AllocError>
         requires { MayJoin self.old later.now (policy_document policy.now) }
         ensures { OnOk result ((polygons : List ℕ → List (List (List Position))) (rows more : List Row) (local : Time) (moment : ℕ) →
@@ -84,7 +85,8 @@ impl Tally {
         Ok(())
     }
 
-    /// The verdicts by the vehicles that were counted, less the devices that aren't shown.
+    /// The verdicts on the vehicles that were counted, without the devices of rules that aren't
+    /// violated.
     pub fn verdicts(self) -> Vec<RuleVerdict>
         ensures { (policy : Document) (polygons : List ℕ → List (List (List Position))) (rows : List Row) (local : Time) (moment : ℕ) →
             IsTally self policy polygons rows local moment →
@@ -107,12 +109,12 @@ fn of_none(alloc: Global, rules: &[Rule], local: Local) -> Result<Vec<RuleVerdic
     Ok(held)
 }
 
-/// Counts a vehicle in the rule of this number, the first that it meets, as if it came last among
-/// those that were counted, and lists it, whether its rule is kept or not.
+/// Counts a vehicle for the rule at this index, the first that the vehicle meets, as the last of
+/// those that were counted, and lists it, whether the rule is violated or not.
 ///
 /// # Errors
 ///
-/// Memory ran out.
+/// Out of memory.
 fn count(
     held: &mut [RuleVerdict],
     policy: &Policy,
@@ -137,7 +139,7 @@ fn count(
     Ok(())
 }
 
-/// Counts one vehicle more, and lists its device, if fewer than `MOST_DEVICES` are listed.
+/// Counts one more vehicle, and lists its device where fewer than `MOST_DEVICES` are listed.
 fn count_in(verdict: &mut RuleVerdict, rule: &Rule, device: Id) -> Result<(), AllocError>
     requires { verdict.old.measure < 2 ^ 63 }
     ensures { OnOk result (verdict_document verdict.new ≡ record (verdict_document verdict.old) {
@@ -154,11 +156,11 @@ fn count_in(verdict: &mut RuleVerdict, rule: &Rule, device: Id) -> Result<(), Al
     Ok(())
 }
 
-/// Adds what later vehicles come to for each rule.
+/// Adds the tally of later vehicles, rule by rule.
 ///
 /// # Errors
 ///
-/// Memory ran out.
+/// Out of memory.
 fn join(held: &mut [RuleVerdict], rules: &[Rule], later: &[RuleVerdict]) -> Result<(), AllocError>
     requires rules { length rules.now ≡ length held.old }
     requires later { length later.now ≡ length held.old }
@@ -172,7 +174,7 @@ fn join(held: &mut [RuleVerdict], rules: &[Rule], later: &[RuleVerdict]) -> Resu
     Ok(())
 }
 
-/// Adds what later vehicles come to for one rule.
+/// Adds the tally of later vehicles for one rule.
 fn join_in(verdict: &mut RuleVerdict, rule: &Rule, later: &RuleVerdict) -> Result<(), AllocError>
     requires { verdict.old.measure + later.now.measure < 2 ^ 64 }
     ensures { OnOk result (verdict_document verdict.new
@@ -197,7 +199,7 @@ fn show(held: &mut [RuleVerdict])
     }
 }
 
-/// Drops the devices of a rule that isn't violated. A list keeps no more memory than it shows.
+/// Drops the devices of a rule that isn't violated, and the spare capacity of the list.
 fn show_in(verdict: &mut RuleVerdict)
     ensures { verdict_document verdict.new ≡ shown (verdict_document verdict.old) }
 {

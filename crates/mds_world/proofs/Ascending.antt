@@ -1,4 +1,4 @@
--- Vehicles that ascend by device id are rows that do.
+-- The rows of vehicles that ascend by device id ascend too.
 use Rattle.std.proofs.Common.{Bor, List, map, sym, subst}
 use Rattle.std.proofs.lemmas.Simd.{map-map}
 use Rattle.std.specs.List.Sorted.{IsStrictlySortedBy}

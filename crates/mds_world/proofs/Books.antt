@@ -1,4 +1,4 @@
--- The books of a machine: one of each operator, of which a call changes one.
+-- The books of a machine: one for each operator; a call changes one of them.
 use Rattle.std.proofs.Common.{◌≡◌, ℕ, ◌<◌, List, [], map, set, length, get_or, Option, Some, None, Result, Ok, refl, ap, sym, subst, ◌∙◌}
 use Rattle.std.specs.Option.{option_map, IfSome}
 use Rattle.std.specs.List.{slice_get}
@@ -50,7 +50,7 @@ pub limits_kept : (books : List Fleet) (operators : List Operator) (place : ℕ)
 limits_kept books operators place book new limits here same =
     map-set_same limit_of books place new book (same ∙ ap limit_of here) ∙ limits
 
--- an operator's call, where the operator and its rows are these
+-- an operator's call, where these are the operator and its rows
 abbrev own_does : State → ℕ → Option Operator → Option Rows → OperatorCall → Request → Result (Reply × State) Code
 own_does w place operator found call request = do
   o ← or_code Token operator
@@ -58,7 +58,7 @@ own_does w place operator found call request = do
   after ← operator_does w.configuration.zone o w.publications rows call request
   Ok (after.0, with_rows w place after.1)
 
--- what an operator's call gives of its rows, it gives of the state
+-- what an operator's call does to its rows, it does to the state
 own : (w : State) (place : ℕ) (operator : Option Operator) (found : Option Rows) (rows new : Rows) (limit : ℕ) (call : OperatorCall) (request : Request) (reply : Reply) → Some limit ≡ option_map allowed operator → found ≡ Some rows → with_rows w place rows ≡ w → IfSome operator (λ o. Gives (Unit {0}) rows (operator_does w.configuration.zone o w.publications rows call request) reply new) → Gives (Unit {0}) w (own_does w place operator found call request) reply (with_rows w place new)
 own w place None found rows new limit call request reply there held same h = absurd (cc)
 own w place (Some o) None rows new limit call request reply there held same h = absurd (cc)
@@ -79,7 +79,7 @@ comes configuration publications drafts books place book new call request reply 
     (own w place (slice_get configuration.operators place) (slice_get (map rows_of books) place) book.rows new.rows book.limit call request reply
     (limit_at books configuration.operators place book limits within here) held (ap (λ fleets. record { configuration = configuration; publications = publications; drafts = drafts; fleets = fleets }) same) answer)
 
--- a machine without a publication, a draft or a row
+-- a machine without publications, drafts or rows
 pub new_is : (configuration : Configuration) (publications : List Publication) (policies : FinMap id_cmp Policy) (geographies : FinMap id_cmp Geography) (fleets : List Rows) → publications ≡ [] → policies ≡ empty → geographies ≡ empty → fleets ≡ map (λ operator. empty) configuration.operators → record { configuration = configuration; publications = publications; drafts = record { policies = policies; geographies = geographies }; fleets = fleets } ≡ new_state configuration
 new_is configuration publications policies geographies fleets p q r s =
     ap (λ x. record { configuration = configuration; publications = x; drafts = record { policies = policies; geographies = geographies }; fleets = fleets }) p

@@ -1,4 +1,4 @@
--- In a list of lawful publications each policy is the published one of its identifier.
+-- In a list of lawful publications each policy is the published one with its identifier.
 use Rattle.std.proofs.Common.{◌≡◌, ℕ, Bool, true, false, cond, not, ◌||◌, List, [], ◌∷◌, ◌++◌, map, find, bytes_eq, Option, Some, None, option_map, refl, sym, ap, subst, ◌∙◌, append_assoc}
 use Rattle.std.specs.List.{All}
 use Rattle.std.specs.Option.{is_none, is_some, option_or}
@@ -44,7 +44,7 @@ second_none : (a b : Option (List ℕ)) → is_none (option_or a b) ≡ true →
 second_none None b h = none_of b h
 second_none (Some x) b h = absurd (false≢true h)
 
--- nothing was found, and so each failed the test
+-- nothing was found, so each failed the test
 each_fails : (test : List ℕ → Bool) (ids : List (List ℕ)) → find test ids ≡ None → All (λ id. test id ≡ false) ids
 each_fails test [] h = All-nil (λ x. test x ≡ false)
 each_fails test (id ∷ ids) h = by (test id) refl h (each_fails test ids)
@@ -85,7 +85,7 @@ all_apart moment before q (r ∷ rs) other none =
     (find_late (has r.id) before (dated moment q ∷ []) (All-head (NotIn before) r rs none) ∙ ap (λ b. cond b (Some (dated moment q)) None) (other_way r.id q.id (All-head (λ (p : Policy). bytes_eq p.id q.id ≡ false) r rs other)))
     (all_apart moment before q rs (All-tail (λ (p : Policy). bytes_eq p.id q.id ≡ false) r rs other) (All-tail (NotIn before) r rs none))
 
--- policies of one moment behind others, with identifiers that differ and that none of the others has
+-- policies of one moment after others, with distinct identifiers that none of the others has
 behind : (moment : ℕ) (before : List (Published Policy)) (policies : List Policy) → All (NotIn before) policies → are_distinct (map (λ (q : Policy). q.id) policies) ≡ true
     → All (λ q. IsFirst (before ++ map (dated moment) policies) (dated moment q)) policies
 behind moment before [] new differ = All-nil (λ (q : Policy). IsFirst (before ++ []) (dated moment q))
@@ -105,7 +105,7 @@ flat_one p = append-nil (map (dated p.moment) p.policies)
 AllFirst : List Publication → Type 0
 AllFirst publications = All (IsFirst (published_policies publications)) (published_policies publications)
 
--- a lawful publication more
+-- one more lawful publication
 one_more : (taken : List Publication) (p : Publication) → is_lawful taken p ≡ true → AllFirst taken → AllFirst (taken ++ p ∷ [])
 unfolding AllFirst
 one_more taken p lawful first =
@@ -129,7 +129,7 @@ one_more taken p lawful first =
     let whole : published_policies (taken ++ p ∷ []) ≡ old ++ new = flat_map-append (λ (q : Publication). map (dated q.moment) q.policies) taken (p ∷ []) ∙ ap (λ xs. old ++ xs) (flat_one p) in
     subst (λ ps. All (IsFirst ps) ps) (sym whole) all
 
--- publications that are lawful behind those that were taken
+-- publications that are lawful after those that were taken
 all_first : (taken rest : List Publication) → ((before others : List Publication) (p : Publication) → rest ≡ before ++ p ∷ others → is_lawful (taken ++ before) p ≡ true) → AllFirst taken → AllFirst (taken ++ rest)
 unfolding AllFirst
 all_first taken [] lawful first = subst (λ ps. AllFirst ps) (sym (append-nil taken)) first
@@ -141,7 +141,7 @@ all_first taken (p ∷ ps) lawful first =
 own_if : (publications : List Publication) (p : Published Policy) → IsFirst (published_policies publications) p → IsOfItsId publications p.document
 own_if publications p is = ap (option_map (λ q. q.document)) is
 
--- each policy in force is the published one of its identifier
+-- each policy in force is the published one with its identifier
 pub all_own : (publications : List Publication) (operator : List ℕ) (t : ℕ) (policies : List (lent.Published program.Policy)) → AreLawful publications → map lent_policy policies ≡ in_force publications operator t
     → All (λ p. IsOfItsId publications (lent_policy p).document) policies
 unfolding AllFirst
@@ -153,7 +153,7 @@ all_own publications operator t policies lawful are =
     All-filter (is_in_force publications operator t) (λ p. IsOfItsId publications p.document) (published_policies publications) own in
     from_map (λ p. IsOfItsId publications p.document) lent_policy policies (subst (All (λ p. IsOfItsId publications p.document)) (sym are) forced)
 
--- what is found under an identifier is the published policy of its own
+-- what is found at an identifier is the published policy with its own identifier
 pub found_own : (publications : List Publication) (id : List ℕ) (p : Published Policy) → Some p ≡ find_policy publications id → IsOfItsId publications p.document
 found_own publications id p found =
     let own : p.document.id ≡ id = (bytes_eq-Decides p.document.id id).0 (passes (published_policies publications) (sym found)) in

@@ -1,4 +1,4 @@
--- Texts that are joined are the printed text of what they are joined to.
+-- Joined texts are the printed text of the joined value.
 use Rattle.std.proofs.Common.{◌≡◌, ℕ, ◌≤◌, List, [], ◌∷◌, ◌++◌, map, length, codes, true, false, cond, Option, Some, None, option_map, Result, Ok, Err, refl, ap, sym, ◌∙◌, append_assoc}
 use Rattle.std.specs.Fmt.{decimal}
 use Rattle.std.specs.List.{flat_map, join_with_byte}
@@ -21,7 +21,7 @@ use Rattle.mds_machine.specs.Published.{policy_json, geography_json, is_shown, p
 use Rattle.mds_world.specs.Texts.{list_text, revised_text}
 use Rattle.mds_world.proofs.OneLine.{one_line}
 
--- a printed value, and others behind it
+-- a printed value, and others after it
 behind : (v : Json) (vs : List Json) → join_with_byte 44 (map printed (v ∷ vs)) ≡ printed v ++ printed_items true (items_of vs)
 behind v [] = sym (append-nil (printed v))
 behind v (w ∷ vs) = ap (λ rest. printed v ++ 44 ∷ rest) (behind w vs)
@@ -44,7 +44,7 @@ revised_is : (name text : List ℕ) (value : Json) (n : ℕ) → text ≡ printe
 revised_is name text value n is =
     ap (λ t. revised_text name t n) is ∙ ap {B = List ℕ} (λ bytes. 123 ∷ 34 ∷ bytes) (regrouped (flat_map escaped name ++ (34 ∷ [])) (printed value) (44 ∷ quoted (codes "revision")) (decimal n) (125 ∷ []))
 
--- what is printed stands on one line
+-- what is printed is one line
 pub line_is : (bytes : List ℕ) (value : Json) → bytes ≡ printed value → is_line bytes ≡ true
 line_is bytes value is = ap is_line is ∙ one_line (printed value) (All-from_recursion (λ b. 32 ≤ b) (printed value) (IsLine-printed value))
 
@@ -52,7 +52,7 @@ line_is bytes value is = ap is_line is ∙ one_line (printed value) (All-from_re
 pub body_is : (name text body : List ℕ) (value : Json) (n m : ℕ) → body ≡ revised_text name text n → text ≡ printed value → n ≡ m → body ≡ printed (revised_json name value m)
 body_is name text body value n m made is same = made ∙ revised_is name text value n is ∙ ap (λ k. printed (revised_json name value k)) same
 
--- the texts that are lent are the printed documents
+-- the borrowed texts are the printed documents
 pub policies_printed : (ps : List (Published Policy)) → map served_policy ps ≡ map printed (map policy_json ps)
 unfolding policy_text
 policies_printed [] = refl
@@ -71,7 +71,7 @@ geography_printed : (g : Published Geography) → served_geography g ≡ printed
 unfolding geography_text
 geography_printed g = refl
 
--- the body of a reply, of which all but the value's text is known
+-- the body of a reply, where all but the value's text is known
 pub record IsBody (name body : List ℕ) (value : Json) (n : ℕ) : Type 0 where
   pub is : body ≡ printed (revised_json name value n)
   pub line : is_line body ≡ true
@@ -84,12 +84,12 @@ told_body name text body value n m made is same =
 some_same : {A : Type 0} {x y : A} → Some x ≡ Some y → x ≡ y
 some_same e = cc
 
--- one policy is told by its text
+-- the text of one policy is the printed policy
 pub policy_text_is : (publications : List Publication) (id text : List ℕ) (found : Published Policy) → Some found ≡ find_policy publications id → Some text ≡ option_map served_policy (find_policy publications id) → text ≡ printed (policy_json found)
 policy_text_is publications id text found is lent =
     some_same (lent ∙ ap (option_map served_policy) (sym is)) ∙ policy_printed found
 
--- one policy that the reader is shown
+-- one policy that is visible to the reader
 pub policy_answered : (publications : List Publication) (reader : Option (List ℕ)) (id : List ℕ) (found : Published Policy) (reply : Reply) → Some found ≡ find_policy publications id → is_shown reader found ≡ true → reply ≡ told (revised_json (codes "policy") (policy_json found) (length publications)) → policy_answer publications reader id ≡ Ok reply
 policy_answered publications reader id found reply is shown made =
     let answer : Published Policy → Result Reply Code = λ p. Ok (told (revised_json (codes "policy") (policy_json p) (length publications))) in
@@ -117,7 +117,7 @@ no_geography publications id lent =
       | None ↦ λ is e. ap (λ o. or_code NotFound o >>= λ (g : Published Geography). Ok (told (revised_json (codes "geography") (geography_json g) (length publications)))) is
     ] refl lent
 
--- texts behind commas, behind the first
+-- texts after commas, after the first text
 pub joined_bytes : (x : List ℕ) (xs : List (List ℕ)) → join_with_byte 44 (x ∷ xs) ≡ x ++ flat_map (λ t. 44 ∷ t) xs
 joined_bytes x [] = sym (append-nil x)
 joined_bytes x (y ∷ ys) = ap (λ rest. x ++ 44 ∷ rest) (joined_bytes y ys)

@@ -1,4 +1,4 @@
--- What is published lasts: what a row matches of a published policy stays as more is published.
+-- What a row matches of a published policy doesn't change as more is published.
 use mathlib.Core.List.{IsPrefix}
 use Rattle.std.proofs.Common.{◌≡◌, ◌⊎◌, ℕ, Bool, true, false, cond, ◌&&◌, ◌||◌, List, [], ◌∷◌, ◌++◌, map, find, bytes_eq, Option, Some, None, option_map, refl, sym, ap, subst, ◌∙◌, inl, inr, ⊎_elim}
 use Rattle.std.specs.List.{All, list_all}
@@ -23,7 +23,7 @@ use Rattle.mds_catalog.specs.Laws.{AreLawful}
 use Rattle.mds_catalog.proofs.Found.{find_early}
 use Rattle.mds_world.specs.Lasting.{IsOfItsId, is_placed, lasting_in}
 
--- a policy that is the published one of its identifier, with its geographies published
+-- a policy is the published one with its identifier, and its geographies are published
 pub is_published : (publications : List Publication) (policy : Policy) → IsOfItsId publications policy → is_placed publications policy ≡ true → IsPublished (lasting_in publications) policy (published_area publications)
 is_published publications policy own placed = by (find_policy publications policy.id) own
   where
@@ -53,7 +53,7 @@ module _ (publications rest : List Publication) where
       ap (λ all. find (λ q. bytes_eq q.document.id id) all) (flat_map-append (λ q. map (dated q.moment) q.geographies) publications rest)
       ∙ find_early (λ q. bytes_eq q.document.id id) (published_geographies publications) (published_geographies rest) g is
 
-  -- a published area stays
+  -- a published area doesn't change
   area_stays : (id : List ℕ) → is_geography_published publications id ≡ true → (is_geography_published more id ≡ true) × (published_area more id ≡ published_area publications id)
   area_stays id there = by (find_geography publications id) refl there
     where
@@ -64,7 +64,7 @@ module _ (publications rest : List Publication) where
           let stays = geography_stays id g is in
           (ap is_some stays, ap (λ o. option_map_or (λ q. q.document.polygons) o []) (stays ∙ sym is))
 
-  -- where geographies are published, more of them don't change which positions these hold
+  -- further publications don't change which positions published geographies hold
   places_stay : (ids : List (List ℕ)) → list_all (is_geography_published publications) ids ≡ true
       → (list_all (is_geography_published more) ids ≡ true) × ((position : Position) → in_place ids (published_area more) position ≡ in_place ids (published_area publications) position)
   places_stay [] h = (refl, λ position. refl)
@@ -76,7 +76,7 @@ module _ (publications rest : List Publication) where
         λ position. ap (λ polygons. area_holds polygons position || in_place ids (published_area more) position) here.1 ∙ ap (λ b. area_holds (published_area publications id) position || b) (there.1 position),
       )
 
-  -- and so a row matches the same rules
+  -- so a row matches the same rules
   rules_stay : (rules : List Rule) → list_all (λ rule. list_all (is_geography_published publications) rule.geographies) rules ≡ true
       → (list_all (λ rule. list_all (is_geography_published more) rule.geographies) rules ≡ true) × ((row : Row) → map (matches (published_area more) row) rules ≡ map (matches (published_area publications) row) rules)
   rules_stay [] h = (refl, λ row. refl)
@@ -101,7 +101,7 @@ module _ (publications rest : List Publication) where
             λ row. ap (bits_of more row) stays ∙ rules.1 row ∙ sym (ap (bits_of publications row) is),
           )
 
--- a publication more, where it is lawful
+-- one more publication, where it is lawful
 pub grows_extended : (publications : List Publication) (p : Publication) → Grows (lasting_in publications) (lasting_in (extended publications p))
 grows_extended publications p = by (is_lawful publications p)
   where
@@ -109,7 +109,7 @@ grows_extended publications p = by (is_lawful publications p)
     by true = grows publications (p ∷ [])
     by false = λ id lasts. (lasts, λ row. refl)
 
--- what a book keeps stays right as more lasts
+-- the index of a book stays right as more is published
 pub fits_grown : (published more : kept.Published) (book : Fleet) → Grows published more → Fits published book → Fits more book
 fits_grown published more book grow fits vehicles ordered same = grown published more vehicles book.kept grow (fits vehicles ordered same)
 
@@ -117,12 +117,12 @@ pub all_fit_grown : (publications : List Publication) (p : Publication) (books :
 all_fit_grown publications p books fit =
     All-weaker (Fits (lasting_in publications)) (Fits (lasting_in (extended publications p))) (λ book. fits_grown (lasting_in publications) (lasting_in (extended publications p)) book (grows_extended publications p)) books fit
 
--- what a book keeps stays right for publications that go on from those it was right for
+-- the index of a book stays right for publications that continue those it was right for
 pub fits_front : (known front : List Publication) (book : Fleet) → IsPrefix known front → Fits (lasting_in known) book → Fits (lasting_in front) book
 fits_front known front book goes_on fits =
     subst (λ ps. Fits (lasting_in ps) book) goes_on.1 (fits_grown (lasting_in known) (lasting_in (known ++ goes_on.0)) book (grows known goes_on.0) fits)
 
--- what stands in a list before its end: the last one, or one of the others
+-- an element of a list with one more at its end: that last one, or one of the others
 cut : {A : Type 0} (xs : List A) (x : A) (before rest : List A) (y : A) → xs ++ x ∷ [] ≡ before ++ y ∷ rest
     → ((before ≡ xs) × (y ≡ x)) ⊎ ((others : List A) × (xs ≡ before ++ y ∷ others))
 cut [] x [] rest y is = inl (refl, cc is)
@@ -137,7 +137,7 @@ pub lawful_none : AreLawful []
 lawful_none [] rest p is = absurd (cc is)
 lawful_none (b ∷ bs) rest p is = absurd (cc is)
 
--- lawful publications stay so with one more, where it is lawful
+-- lawful publications stay lawful with one more, where it is lawful
 pub lawful_extended : (publications : List Publication) (p : Publication) → AreLawful publications → AreLawful (extended publications p)
 lawful_extended publications p all = by (is_lawful publications p) refl
   where

@@ -1,4 +1,4 @@
--- Bytes of which none is below 32 have no line feed among them.
+-- Bytes that are all at least 32 have no line feed.
 use Rattle.std.proofs.Common.{◌≡◌, ℕ, ◌≤◌, ◌==◌, List, [], ◌∷◌, true, not, ◌&&◌, refl, ap, ◌∙◌, arith}
 use Rattle.std.specs.List.{All, AllByRecursion}
 use Rattle.std.proofs.lemmas.List.Elements.{recursion_from_All}

@@ -1,4 +1,4 @@
--- The place of the operator who asks is a place of the configuration.
+-- The place of an operator that makes a call is a place of the configuration.
 use Rattle.std.proofs.Common.{◌≡◌, ℕ, ◌<◌, List, [], ◌∷◌, length, Bool, true, false, cond, bytes_eq, Option, Some, None, Ok, ap}
 use Rattle.std.specs.List.{position}
 use Rattle.std.proofs.lemmas.List.Quantifiers.{position-Some}

@@ -24,7 +24,7 @@ use Rattle.mds_machine.specs.Bodies.{list_json, compliance_json, published_json}
 use Rattle.mds_machine.specs.Codes.{fault_code, publish_code}
 use Rattle.mds_machine.specs.Operator.{compliance_reply, policy_compliance_answer, policy_report}
 
--- the local time that was given is the one that was to be given
+-- the local time that was returned is the defined one
 pub local_told : (result : Result Local AllocError) (local due : Local) → result ≡ Ok local → result ≡ Ok due → local ≡ due
 local_told result local due was is = cc
 
@@ -54,7 +54,7 @@ module _ (zone : Zone) (operator : Operator) (publications : List Publication) (
       ∙ ap (λ b. cond b (Ok found) (Err NotFound) >>= answer) binds
       ∙ ap Ok (sym (reply_is ∙ ap (reply_with (codes "policy") value) n_is ∙ ap (λ v. reply_with (codes "policy") v (length publications)) whole))
 
--- a publication that is asked for
+-- the publication of a publish request
 pub published : (drafts : Drafts) (publications : List Publication) (request : Request) (named : Named) (p shared : Publication) (n : ℕ) (reply : Reply) → read_publish_list request.body ≡ Ok named → batch_of drafts named publications request.at ≡ Ok p → shared ≡ p → n ≡ length publications → reply ≡ told (published_json request.at (n + 1)) → publish drafts publications request ≡ Ok (reply, (taken_out drafts shared, publications ++ shared ∷ []))
 published drafts publications request named p shared n reply read made is n_is reply_is =
     let asked : publication_asked drafts publications request ≡ Ok p =

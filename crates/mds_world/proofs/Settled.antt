@@ -1,4 +1,4 @@
--- From what the parts of a call give to what the call, the state and the machine's step are to be.
+-- From the results of a call's parts to the call, the state and the machine's step.
 use Rattle.std.proofs.Common.{◌≡◌, ◌≢◌, Result, Ok, Err, inl, inr, sym, ap, ◌∙◌}
 use Rattle.mds_request.specs.Reply.{Reply, refused}
 use Rattle.mds_request.specs.Request.{Request}
@@ -12,17 +12,17 @@ use Rattle.mds_world.specs.Denied.{denial, Denies, code_of}
 use Rattle.mds_world.specs.declared.denied.Denied.{Denied}
 use Rattle.mds_world.specs.declared.denied.Denied.TheVariants.{Refused, Exhausted}
 
--- a success that is defined
+-- a defined success
 pub done : {S : Type 0} (old : S) (defined : Result (Reply × S) Code) (outcome : Reply × S) → defined ≡ Ok outcome → Gives (Unit {0}) old defined outcome.0 outcome.1
 done old defined outcome is = inl (sym (ap (λ d. (settled old d).0) is), sym (ap (λ d. (settled old d).1) is))
 
--- a refusal that is defined, or want of memory
+-- a defined refusal, or out of memory
 pub denied : {S : Type 0} (old new : S) (defined : Result (Reply × S) Code) (why : Denied) (reply : Reply) → Denies (denial why) defined → new ≡ old → reply ≡ refused (code_of why) → Gives (Unit {0}) old defined reply new
 denied old new defined (Refused code) reply is same said =
     inl (said ∙ sym (ap (λ d. (settled old d).0) is), same ∙ sym (ap (λ d. (settled old d).1) is))
 denied old new defined Exhausted reply is same said = inr (tt, said, same)
 
--- what is given of a part of the state is given of the state, of which the rest stays
+-- an outcome for a part of the state is one for the state, whose rest doesn't change
 pub lifted : {S T : Type 0} (into : S → T) (old new : S) (whole : T) (defined : Result (Reply × S) Code) (reply : Reply) → into old ≡ whole → Gives (Unit {0}) old defined reply new → Gives (Unit {0}) whole (defined >>= λ after. Ok (after.0, into after.1)) reply (into new)
 lifted into old new whole (Ok after) reply is h = elim h [
   | inl k ↦ inl (k.0, ap into k.1)
@@ -39,7 +39,7 @@ present≢too_large call h = absurd (cc)
 present≢token : (call : Call) → ◌≢◌ {A = Result Call Code} (Ok call) (Err Token)
 present≢token call h = absurd (cc)
 
--- what a request's call gives is a step
+-- the outcome of a request's call is a step
 pub stepped : (w next : State) (request : Request) (reply : Reply) (call : Call) → call_of w.configuration request ≡ Ok call → Gives (Unit {0}) w (call_does w call request) reply next → Step w request reply next
 stepped w next request reply call is h =
     let as_defined : does w request ≡ call_does w call request = ap (λ c. c >>= λ call. call_does w call request) is in

@@ -1,11 +1,11 @@
--- What the parts of a call give: a success, the code of a refusal, or want of memory.
+-- The result of a part of a call: a success, the code of a refusal, or out of memory.
 use Rattle.std.specs.Prelude.{◌≡◌, Option, Some, None, Result, Ok, Err}
 use Rattle.mds_request.specs.declared.code.Code.{Code}
 use Rattle.mds_request.specs.declared.code.Code.TheVariants.{NoMemory}
 use Rattle.mds_world.specs.declared.denied.Denied.{Denied}
 use Rattle.mds_world.specs.declared.denied.Denied.TheVariants.{Refused, Exhausted}
 
--- the code of the refusal, or none for want of memory
+-- the code of the refusal, or none for out of memory
 abbrev pub denial : Denied → Option Code
 denial (Refused code) = Some code
 denial Exhausted = None
@@ -18,7 +18,7 @@ abbrev pub Denies : {Y : Type 0} → Option Code → Result Y Code → Type 0
 Denies None defined = Unit {0}
 Denies (Some code) defined = defined ≡ Err code
 
--- what is given, seen by `view`, is what is defined, unless memory ran out
+-- the result, under `view`, is the defined one, unless memory ran out
 abbrev pub Meets : {X Y : Type 0} → (X → Y) → Result X Denied → Result Y Code → Type 0
 Meets view (Ok x) defined = defined ≡ Ok (view x)
 Meets view (Err denied) defined = Denies (denial denied) defined

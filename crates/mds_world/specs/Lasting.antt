@@ -1,4 +1,4 @@
--- Of which policies all that their matches rest on is published, which is for good, and what a row matches of them.
+-- The policies whose matches rest on published documents alone, and so are final, and what a row matches of them.
 use denote.Struct.Props as logic
 use Rattle.std.specs.Prelude.{◌≡◌, List, [], Bool, false, map, option_map, Option, Some, None, IfSome, All, slice_index_or}
 use Rattle.std.specs.Coded.{Π_prop}
@@ -24,11 +24,11 @@ lasting_in publications =
       bits = λ id row. option_map_or (λ p. map (matches (published_area publications) row) p.document.rules) (find_policy publications id) [];
     }
 
--- the published policy of its identifier is this one
+-- the published policy with this one's identifier is this one
 abbrev pub IsOfItsId : List Publication → Policy → Type 0
 IsOfItsId publications policy = option_map (λ p. p.document) (find_policy publications policy.id) ≡ Some policy
 
--- that what is kept is right has one proof at most, so it may be a ghost field
+-- that an index is right has one proof at most, so it may be a ghost field
 listed_prop : (published : kept.Published) (vehicles : Vehicles) (listed : Option Listed) → IsProp (IfSome listed (IsListed published vehicles))
 listed_prop published vehicles None = Prim.hlevel logic.props
 listed_prop published vehicles (Some listed) = Prim.hlevel logic.props

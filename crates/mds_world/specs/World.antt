@@ -1,4 +1,4 @@
--- The state of the machine that a `World` is in.
+-- The state of the machine of a `World`.
 use Rattle.std.specs.Prelude.{map}
 use Rattle.mds_catalog.specs.Catalogue.{publications_of}
 use Rattle.mds_drafts.specs.Shelf.{drafts_of}

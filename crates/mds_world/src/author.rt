@@ -25,17 +25,18 @@ use mds_text::{DraftKind, Id, Tree};
 use std::alloc::{AllocError, Global};
 use std::sync::Arc;
 
-/// What a call of the author comes to.
+/// The result of a call of the author.
 #[derive(Drop)]
 pub enum AuthorAct {
-    /// It is answered, and the drafts are as they are to be.
+    /// The reply; the drafts are already as they are after the call.
     Answer(Reply),
-    /// The batch, which is lawful on the catalogue, is to be published, and then answered with this
-    /// reply. Whoever publishes it takes its drafts out then; nothing has changed yet.
+    /// This batch, which is lawful after the catalogue's publications, is still to be published,
+    /// and this is the reply afterwards. The caller publishes it and then removes its drafts;
+    /// nothing has changed yet.
     Publish(Arc<Batch>, Reply),
 }
 
-/// What became of a draft, as a body.
+/// The body of the reply to a put.
 fn put_body(put: Put) -> &'static [u8]
     ensures body { result.now ≡ printed (result_json (put_word put)) }
     ensures short { length result.now ≤ ROOM }
@@ -47,7 +48,7 @@ fn put_body(put: Put) -> &'static [u8]
     }
 }
 
-/// The document that a text is, as a draft.
+/// Reads a text as a document of this kind, as a draft.
 fn document(
     alloc: Global,
     drafts: &mut Drafts,
@@ -69,7 +70,8 @@ fn document(
     }
 }
 
-/// Puts a draft under its own identifier. The room for the reply comes before the change.
+/// Puts a draft with its own identifier, which must be this one. Memory for the reply is allocated
+/// before the change.
 fn put_draft(
     alloc: Global,
     drafts: &mut Drafts,
@@ -99,7 +101,7 @@ fn served(alloc: Global, draft: &Draft) -> Result<Tree, AllocError>
     }
 }
 
-/// Shows a draft.
+/// The reply to a request for a draft.
 fn show_draft(alloc: Global, drafts: &Drafts, kind: DraftKind, id: Id) -> Result<Reply, Denied>
     ensures { Meets (λ r. r) result (draft_answer (drafts_of drafts.now) kind id) }
 {
@@ -122,7 +124,7 @@ fn drop_draft(alloc: Global, drafts: &mut Drafts, kind: DraftKind, id: Id) -> Re
     }
 }
 
-/// The batch that a publish request asks for, and the reply to it.
+/// The batch of a publish request, and the reply to it.
 fn publish(
     alloc: Global,
     drafts: &Drafts,
@@ -139,7 +141,7 @@ fn publish(
     Ok(AuthorAct::Publish(Arc::new(alloc, batch)?, reply))
 }
 
-/// What a call of the author comes to, if it isn't refused.
+/// The result of a call of the author, unless it is refused.
 fn act(
     alloc: Global,
     drafts: &mut Drafts,
@@ -168,10 +170,10 @@ fn act(
     }
 }
 
-/// Answers a call of the author, over the drafts and the published catalogue, or gives the batch
+/// Answers a call of the author, over the drafts and the published catalogue, or returns the batch
 /// that is to be published.
 ///
-/// The reply is a success, the first refusal that applies, or 503 `no_memory`; a call that isn't a
+/// The reply is a success, the first refusal that applies, or 503 `no_memory`; a call without
 /// success changes nothing.
 pub fn author_step(
     alloc: Global,
@@ -180,7 +182,8 @@ pub fn author_step(
     call: &AuthorCall,
     request: &Request<'_>,
 ) -> AuthorAct
-    // once a batch that is to be published is, and its drafts are taken out, all is as defined
+    // once a batch that is to be published is published, and its drafts are removed, the state is
+    // the defined one
     ensures answer { let after = outcome (drafts_of drafts.new) (publications_of catalogue.now) result in
         Gives (Unit {0}) (drafts_of drafts.old, publications_of catalogue.now)
         (author_does (drafts_of drafts.old) (publications_of catalogue.now) call.now (request_of request.now)) after.0 after.1 }

@@ -1,4 +1,4 @@
-//! The replies of successes.
+//! The replies of successes: bodies of JSON.
 ghost use Rattle.std.specs.Prelude.{◌≡◌, ◌^◌, ◌<◌, ◌≤◌, [], length, IfOk, IsTrue, map, vec_capacity};
 ghost use Rattle.mds_text.specs.View.{view};
 ghost use Rattle.mds_match.specs.Row.{row_of};
@@ -17,10 +17,10 @@ use std::alloc::{AllocError, Global};
 /// The version of the compliance reports.
 const REPORT_VERSION: i64 = 2;
 
-/// The most bytes of a body that is made in room that was kept for it.
+/// The most bytes of a body that is written into memory allocated before.
 const ROOM: usize = 24;
 
-/// Room for a short body, so that it can be made after a change.
+/// Allocates memory for a short body, so that the body can be written after a change.
 pub(crate) fn room(alloc: Global) -> Result<Vec<u8>, AllocError>
     ensures empty { IfOk result (λ room. room.items ≡ []) }
     ensures roomy { IfOk result (λ room. ROOM ≤ vec_capacity room) }
@@ -28,7 +28,7 @@ pub(crate) fn room(alloc: Global) -> Result<Vec<u8>, AllocError>
     Vec::with_capacity(alloc, ROOM)
 }
 
-/// A success with this body, in room that was kept for it, so that no memory is asked for.
+/// A success with this body, written into memory allocated before, so that it can't fail.
 pub(crate) fn in_room(mut room: Vec<u8>, body: &[u8]) -> Reply
     requires empty { room.items ≡ [] }
     requires roomy { ROOM ≤ vec_capacity room }
@@ -57,7 +57,7 @@ pub(crate) fn told(alloc: Global, value: &Tree) -> Result<Reply, AllocError>
     Ok(Reply::ok(body))
 }
 
-/// What was removed: `{"removed":id}`.
+/// The identifier of what was removed: `{"removed":id}`.
 pub(crate) fn removed_reply(alloc: Global, id: Id) -> Result<Reply, AllocError>
     ensures { IfOk result (λ r. r ≡ told (removed_json id)) }
 {
@@ -90,7 +90,7 @@ pub(crate) fn published_reply(
     told(alloc, &object_tree(members))
 }
 
-/// What is found at a moment, under its name: `{"at":moment,name:value,"revision":revision,"version":2}`.
+/// A result at a moment, under its name: `{"at":moment,name:value,"revision":revision,"version":2}`.
 pub(crate) fn compliance_reply(
     alloc: Global,
     moment: Moment,
@@ -125,7 +125,7 @@ fn compliance_tree(
     Ok(object_tree(members))
 }
 
-/// Words, each as a text.
+/// Words, each as a JSON text.
 fn words_tree(alloc: Global, words: &[Token]) -> Result<Tree, AllocError>
     ensures { IfOk result (λ t. view t ≡ words_json words.now) }
 {

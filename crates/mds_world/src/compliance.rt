@@ -1,4 +1,4 @@
-//! Reports on the policies that are in force for an operator, over its own vehicles.
+//! Compliance reports: on the policies that are in force for an operator, over its own vehicles.
 ghost use Rattle.std.specs.Prelude.{◌≡◌, ◌^◌, ◌<◌, All, IfOk, IfSome, map};
 ghost use Rattle.std.specs.FinMap as finite;
 ghost use Rattle.std.specs.List.{list_all};
@@ -27,7 +27,7 @@ use mds_text::{Id, Moment, Tree, list_tree};
 use mds_verdict::{Evaluator, RuleVerdict, report_tree};
 use std::alloc::{AllocError, Global};
 
-/// A request of an operator, with the zone by whose local time its policies' rules are judged.
+/// A request of an operator, with the time zone for the local time of rules.
 #[derive(Clone, Copy)]
 pub(crate) struct OperatorRequest<'a> {
     pub(crate) zone: &'a Zone,
@@ -53,7 +53,7 @@ fn are_published(catalogue: &Catalogue, geographies: &[Id]) -> bool
         .all(|id| catalogue.geography(*id).is_some())
 }
 
-/// Whether the geographies of each of these rules are published.
+/// Whether all geographies of these rules are published.
 fn are_placed(catalogue: &Catalogue, rules: &[Rule]) -> bool
     ensures { result ≡ list_all (λ rule. list_all (is_geography_published (publications_of catalogue.now)) (rule_document rule).geographies) rules.now }
 {
@@ -62,15 +62,15 @@ fn are_placed(catalogue: &Catalogue, rules: &[Rule]) -> bool
         .all(|rule| are_published(catalogue, &rule.geographies))
 }
 
-/// Whether the geographies of all rules of a policy are published.
+/// Whether all geographies of a policy's rules are published.
 fn is_placed(catalogue: &Catalogue, policy: &Policy) -> bool
     ensures { result ≡ is_placed (publications_of catalogue.now) (policy_document policy.now) }
 {
     are_placed(catalogue, policy.rules())
 }
 
-/// The verdicts on a published policy's rules by what the book keeps of its vehicles. `None` where it
-/// has none, where a geography of the policy isn't published, or where what is kept has no answer.
+/// The verdicts on a published policy's rules by the book's bitmap index. `None` where the book has no vehicles, where
+/// a geography of the policy isn't published, or where the index has no answer.
 fn kept_verdicts(
     book: &mut Book,
     catalogue: &Catalogue,
@@ -93,8 +93,8 @@ fn kept_verdicts(
     book.verdicts(policy, catalogue, local, at)
 }
 
-/// The verdicts on a published policy's rules: by what the book keeps, and by the evaluator where that
-/// has no answer.
+/// The verdicts on a published policy's rules: by the book's bitmap index, or by the evaluator where the index has no
+/// answer.
 fn policy_verdicts<E: Evaluator<Catalogue>>(
     alloc: Global,
     evaluator: &E,

@@ -1,4 +1,4 @@
-//! From the faults of the layers below to the codes of refusals, and from these to replies.
+//! From the faults of the crates below to the codes of refusals, and from these to replies.
 ghost use Rattle.std.specs.Prelude.{◌≡◌};
 ghost use Rattle.mds_geography.specs.Fault.{ring_cause};
 ghost use Rattle.mds_machine.specs.Codes.{fault_code};
@@ -17,7 +17,7 @@ use std::alloc::{AllocError, AllocFailed};
 pub enum Denied {
     /// It is refused, with this code.
     Refused(Code),
-    /// Memory ran out.
+    /// Out of memory.
     Exhausted,
 }
 

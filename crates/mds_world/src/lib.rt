@@ -1,5 +1,5 @@
-//! The program of the machine: it answers requests, and keeps each operator's vehicles, the drafts
-//! and the published catalogue.
+//! The state machine as a program: it answers requests, and holds each operator's vehicles, the
+//! drafts and the published catalogue.
 #![tactic(auto)]
 
 mod author;

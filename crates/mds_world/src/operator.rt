@@ -27,7 +27,7 @@ use mds_text::Id;
 use mds_verdict::Evaluator;
 use std::alloc::{AllocError, Global};
 
-/// What became of a report, as a body.
+/// The body of the reply to a report.
 fn taken_body(taken: Taken) -> &'static [u8]
     ensures body { result.now ≡ printed (result_json (taken_word taken)) }
     ensures short { length result.now ≤ ROOM }
@@ -40,7 +40,7 @@ fn taken_body(taken: Taken) -> &'static [u8]
     }
 }
 
-/// Takes a report. The room for the reply comes before the change.
+/// Takes a report. Memory for the reply is allocated before the change.
 fn report(alloc: Global, book: &mut Book, request: &Request<'_>) -> Result<Reply, Denied>
     ensures answer { (o : Configured) → o.limit ≡ book.old.limit
         → Meets (λ r. (r, book.new.rows)) result (report o book.old.rows (request_of request.now)) }
@@ -75,7 +75,7 @@ fn remove(alloc: Global, book: &mut Book, device: Id) -> Result<Reply, Denied>
     }
 }
 
-/// What an operator's call is answered, and what becomes of its book.
+/// Carries out an operator's call over its book and the catalogue.
 fn carry_out<E: Evaluator<Catalogue>>(
     alloc: Global,
     evaluator: &E,
@@ -110,12 +110,12 @@ fn carry_out<E: Evaluator<Catalogue>>(
     }
 }
 
-/// Answers a call of the operator at this place of the configuration, over its own book and the
-/// published catalogue alone.
+/// Answers a call of the operator at this place of the configuration, over its own book and the published catalogue
+/// alone.
 ///
-/// The reply is a success, the first refusal that applies, or 503 `no_memory`; a call that isn't a
-/// success changes nothing of what the book holds. What the book keeps beside its vehicles is right for
-/// the catalogue before the call and after it, and so for any catalogue that goes on from this one.
+/// The reply is a success, the first refusal that applies, or 503 `no_memory`; a call without success doesn't change
+/// the book's rows. The book's bitmap index is right for the catalogue before the call and after it, and so for any
+/// catalogue that continues this one.
 pub fn operator_step<E: Evaluator<Catalogue>>(
     alloc: Global,
     book: &mut Book,

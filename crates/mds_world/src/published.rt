@@ -1,5 +1,5 @@
-//! What is told of published documents: to the author of all, to an operator of the policies that are
-//! meant for it. Their texts were printed when they were published.
+//! Replies about published documents: the author sees all of them, an operator the policies that are meant for it.
+//! Their texts were printed when they were published.
 ghost use Rattle.std.specs.Prelude.{◌≡◌, IfOk};
 ghost use Rattle.mds_catalog.specs.Catalogue.{publications_of, lent_policy};
 ghost use Rattle.mds_machine.specs.Published.{is_shown, policies_reply, policy_answer, geographies_reply, geography_answer};
@@ -26,7 +26,7 @@ pub(crate) fn policies(
     Ok(Reply::ok(body))
 }
 
-/// Whether an operator is shown a policy; the author, who is none, is shown any.
+/// Whether a policy is visible to an operator; where none is given, which stands for the author, any policy is.
 fn is_shown(operator: Option<Id>, policy: &Published<'_, Policy>) -> bool
     ensures { result ≡ is_shown operator (lent_policy policy.now) }
 {
@@ -36,7 +36,7 @@ fn is_shown(operator: Option<Id>, policy: &Published<'_, Policy>) -> bool
     }
 }
 
-/// One published policy, if it is meant for the operator who asks.
+/// One published policy, if it is visible to the operator, or to the author where none is given.
 pub(crate) fn policy(
     alloc: Global,
     catalogue: &Catalogue,

@@ -1,4 +1,4 @@
-//! Bodies that are joined from texts that were printed before.
+//! Bodies that are joined from texts printed before.
 ghost use Rattle.std.specs.Prelude.{◌≡◌, [], ◌∷◌, ◌++◌, IfOk, OnOk, map, codes};
 ghost use Rattle.std.specs.Fmt.{decimal};
 ghost use Rattle.std.specs.List.{flat_map, join_with_byte};
@@ -7,15 +7,16 @@ ghost use Rattle.mds_world.specs.Texts.{list_text, revised_text};
 
 use std::alloc::{AllocError, Global};
 
-/// Room for what stands beside a name and texts: braces, quotation marks and the revision.
+/// The most bytes of a body apart from its name and its texts: braces, quotation marks and the
+/// revision.
 const MARGIN: usize = 64;
 
-/// What is published, under its name: `{name:[text,..],"revision":revision}`, from the texts of its
-/// entries.
+/// Something published, under its name: `{name:[text,..],"revision":revision}`, from the texts of
+/// its entries.
 ///
 /// # Errors
 ///
-/// Memory for the body ran out.
+/// Out of memory for the body.
 pub(crate) fn list_body(
     alloc: Global,
     name: &str,
@@ -34,11 +35,11 @@ pub(crate) fn list_body(
     Ok(body)
 }
 
-/// What is published, under its name: `{name:text,"revision":revision}`, from its text.
+/// Something published, under its name: `{name:text,"revision":revision}`, from its text.
 ///
 /// # Errors
 ///
-/// Memory for the body ran out.
+/// Out of memory for the body.
 pub(crate) fn text_body(
     alloc: Global,
     name: &str,
@@ -54,7 +55,7 @@ pub(crate) fn text_body(
     Ok(body)
 }
 
-/// How many bytes these texts have, each with a comma.
+/// The total length of these texts, each with a comma.
 fn length_of(texts: &[&[u8]]) -> usize {
     let mut length: usize = 0;
     for text in texts {
@@ -63,7 +64,8 @@ fn length_of(texts: &[&[u8]]) -> usize {
     length
 }
 
-/// The body up to the value of its first member, with room for a value of this length and the rest.
+/// A body up to the value of its first member, with capacity for a value of this length and the
+/// rest.
 fn opened(alloc: Global, name: &str, length: usize) -> Result<Vec<u8>, AllocError>
     requires { flat_map escaped name.now ≡ name.now }
     ensures { IfOk result (λ v. v.items ≡ 123 ∷ quoted name.now ++ 58 ∷ []) }
@@ -76,7 +78,7 @@ fn opened(alloc: Global, name: &str, length: usize) -> Result<Vec<u8>, AllocErro
     Ok(body)
 }
 
-/// Adds these texts, with a comma between each two.
+/// Appends these texts, separated by commas.
 fn join(body: &mut Vec<u8>, texts: &[&[u8]]) -> Result<(), AllocError>
     ensures { OnOk result (body.new.items ≡ body.old.items ++ join_with_byte 44 (map (λ t. t.now) texts.now)) }
 {
@@ -91,7 +93,7 @@ fn join(body: &mut Vec<u8>, texts: &[&[u8]]) -> Result<(), AllocError>
     Ok(())
 }
 
-/// Adds the number of publications as the last member.
+/// Appends the number of publications as the last member, and closes the object.
 fn close(body: &mut Vec<u8>, revision: u64) -> Result<(), AllocError>
     ensures { OnOk result (body.new.items
         ≡ body.old.items ++ 44 ∷ quoted (codes "revision") ++ 58 ∷ decimal revision ++ 125 ∷ []) }

@@ -1,3 +1,4 @@
+//! The whole state machine in one value.
 ghost use Rattle.std.specs.Prelude.{◌≡◌, All, map, length, IfOk, OnErr};
 ghost use Rattle.std.specs.FinMap.{empty};
 ghost use Rattle.mds_kept.specs.Kept.{Published};
@@ -18,24 +19,24 @@ use mds_request::{
 use mds_verdict::Evaluator;
 use std::alloc::{AllocError, Global};
 
-/// The machine between two requests: the configuration, what is published, the author's drafts and
-/// each operator's own book. Contracts see its state.
+/// The machine between two requests: the configuration, what is published, the author's drafts and each operator's
+/// book. Contracts see its state.
 #[derive(Drop)]
 pub struct World<E: Drop> {
     config: Config,
     routes: Routes,
     catalogue: Catalogue,
     drafts: Drafts,
-    // one of each operator, in the configuration's order
+    // a book for each operator, in the order of the configuration
     books: Vec<Book>,
     evaluator: E,
     ghost limits: { map (λ book. book.limit) books.items ≡ map (λ operator. operator.limit) (configuration config).operators },
     ghost lawful: { AreLawful (publications_of catalogue) },
-    // what the books keep is right for what is published
+    // the index of each book is right for what is published
     ghost fits: { All (Fits (lasting_in (publications_of catalogue))) books.items } by { all_fit_prop (lasting_in (publications_of catalogue)) books.items },
 }
 
-/// An empty book of each operator, with the operator's limit.
+/// An empty book for each operator, with the operator's limit.
 fn empty_books(alloc: Global, operators: &[Operator]) -> Result<Vec<Book>, AllocError>
     ensures rows { IfOk result (λ books. map (λ book. book.rows) books.items ≡ map (λ operator. empty) (map operator_of operators.now)) }
     ensures limits { IfOk result (λ books. map (λ book. book.limit) books.items ≡ map (λ operator. operator.limit) (map operator_of operators.now)) }
@@ -57,12 +58,11 @@ impl<E: Evaluator<Catalogue> + Drop> World<E> {
     ghost use Rattle.mds_machine.specs.Step.{Step, Run, call_does, exchanges, new_state};
     ghost use Rattle.mds_world.specs.World.{state_of};
 
-    /// A machine of this configuration that no request has come to: without a publication, a draft or
-    /// a vehicle.
+    /// A new machine of this configuration: without publications, drafts or vehicles.
     ///
     /// # Errors
     ///
-    /// Memory ran out.
+    /// Out of memory.
     pub fn new(alloc: Global, config: Config, evaluator: E) -> Result<World<E>, AllocError>
         ensures { IfOk result (λ w. state_of w ≡ new_state (configuration config)) }
     {
@@ -81,8 +81,8 @@ impl<E: Evaluator<Catalogue> + Drop> World<E> {
 
     /// Answers a request, and carries it out: one step of the machine.
     ///
-    /// The reply is the success, the first refusal that applies, or 503 `no_memory`; a request that
-    /// isn't a success changes nothing.
+    /// The reply is the success, the first refusal that applies, or 503 `no_memory`; a request without success changes
+    /// nothing.
     pub fn answer(&mut self, request: &Request<'_>) -> Reply
         requires { E.may_judge }
         ensures step { Step (state_of self.old) (request_of request.now) result (state_of self.new) }
@@ -95,14 +95,13 @@ impl<E: Evaluator<Catalogue> + Drop> World<E> {
         }
     }
 
-    /// Answers requests one after another, each as `answer` does, and gives their replies in that order.
+    /// Answers requests one after another, each as `answer` does, and returns their replies in that order.
     ///
-    /// A reply may be 503 `no_memory`; the requests behind it are answered all the same.
+    /// A reply may be 503 `no_memory`; the requests after it are answered all the same.
     ///
     /// # Errors
     ///
-    /// There is no memory for the list of replies. No request was answered then, and nothing has
-    /// changed.
+    /// Out of memory for the list of replies. Then no request was answered, and nothing has changed.
     pub fn run(&mut self, requests: &[Request<'_>]) -> Result<Vec<Reply>, AllocError>
         requires { E.may_judge }
         ensures history { IfOk result (λ replies. Run (state_of self.old) (exchanges (map request_of requests.now) replies.items) (state_of self.new)) }
@@ -120,7 +119,7 @@ impl<E: Evaluator<Catalogue> + Drop> World<E> {
         Ok(replies)
     }
 
-    /// Answers a call of the author. A publication takes its drafts out.
+    /// Answers a call of the author. After a publication its drafts are removed.
     fn author_call(&mut self, call: &AuthorCall, request: &Request<'_>) -> Reply
         ensures { Gives (Unit {0}) (state_of self.old) (call_does (state_of self.old) (call_kinds.Author call.now) (request_of request.now)) result (state_of self.new) }
     {

@@ -12,7 +12,7 @@ use Rattle.std.specs.List.{list_all}
 use Rattle.std.specs.Str.{IsUtf8}
 use Rattle.mds_zones.specs.Footer.{IsLastLine, IsFooter, is_line_feed, is_rule_byte, is_plain}
 
--- a text that a line feed ends
+-- a text that ends with a line feed
 ended : (file : List ℕ) → 1 ≤ length file → get_or file (length file - 1) 0 ≡ 10 → file ≡ take (length file - 1) file ++ 10 ∷ []
 ended file some last =
     sym (take-append-drop (length file - 1) file)
@@ -21,7 +21,7 @@ ended file some last =
     ∙ ap (λ b. b ∷ drop (suc (length file - 1)) file) last
     ∙ ap (λ t. 10 ∷ t) (drop_of_length-le file {i = suc (length file - 1)} (omega arith)))
 
--- no line feed stands in a text from a place on
+-- there is no line feed in a text from a position on
 one_line : (text : List ℕ) (n : ℕ) → ((k : ℕ) → n ≤ k → k < length text → is_line_feed (get_or text k 0) ≡ true → ⊥) → list_all (λ b. not (is_line_feed b)) (drop n text) ≡ true
 one_line text n after = list_all-from_AllPass (λ b. not (is_line_feed b)) (drop n text) (λ k d within. no_line_feed k d within)
   where
@@ -31,7 +31,7 @@ one_line text n after = list_all-from_AllPass (λ b. not (is_line_feed b)) (drop
         let here : get_or (drop n text) k d ≡ get_or text (n + k) 0 = get_or-drop n text k d ∙ get_or_default_zero text (n + k) d (omega arith) in
         grind (arith, nat_tests, here, after (n + k) (omega arith) (omega arith))
 
--- what stands behind the last line feed
+-- the text after the last line feed
 pub behind : (text : List ℕ) (place : ℕ) → place < length text → is_line_feed (get_or text place 0) ≡ true
     → ((k : ℕ) → place + 1 ≤ k → k < length text → is_line_feed (get_or text k 0) ≡ true → ⊥) → IsLastLine text (take (length text - (place + 1)) (drop (place + 1) text))
 behind text place within here after =
@@ -42,13 +42,13 @@ behind text place within here after =
       one_line = one_line text (place + 1) after;
     })
 
--- a text without a line feed has no last line behind one
+-- a text without a line feed has no last line after one
 pub no_line : (text line : List ℕ) → ((k : ℕ) → k < length text → is_line_feed (get_or text k 0) ≡ true → ⊥) → IsLastLine text line → ⊥
 no_line text line none is =
     none (length is.front) (subst (λ t. length is.front < length t) (sym is.whole) (omega (arith, length-append is.front (10 ∷ line))))
     (ap (λ t. is_line_feed (get_or t (length is.front) 0)) is.whole ∙ ap is_line_feed (get_or-append_seam is.front 10 line 0))
 
--- a file's footer is the last line of what stands before the line feed at its end
+-- a file's footer is the last line of the text before the line feed at its end
 text_of : (file text : List ℕ) → file ≡ text ++ 10 ∷ [] → text ≡ take (length file - 1) file
 text_of file text e =
     sym (subst (λ (f : List ℕ). take (length f - 1) f ≡ text) (sym e) (subst (λ n. take n (text ++ 10 ∷ []) ≡ text) (omega (arith, length-append text (10 ∷ []))) (take-append_seam text (10 ∷ []))))
@@ -76,7 +76,7 @@ ascii (b ∷ bs) plain (suc i) = ascii bs (both (is_rule_byte b) (is_plain bs) p
 plain_utf8 : (rule : List ℕ) → is_plain rule ≡ true → IsUtf8 rule
 plain_utf8 rule plain = IsUtf8-from_ascii rule (ascii rule plain)
 
--- so what isn't UTF-8 is no plain rule
+-- so a text that isn't UTF-8 is no plain rule
 pub not_plain : (rule : List ℕ) → (IsUtf8 rule → ⊥) → is_plain rule ≡ false
 not_plain rule other = by_test (is_plain rule) refl
   where

@@ -15,19 +15,19 @@ is_first_version file = slice_index file 4 == 0
 abbrev pub is_line_feed : ℕ → Bool
 is_line_feed b = b == 10
 
--- behind the last line feed of a text stands this line
+-- after the last line feed of a text comes this line
 pub record IsLastLine (text line : List ℕ) : Type 0 where
   pub front : List ℕ
   pub whole : text ≡ front ++ 10 ∷ line
   pub one_line : list_all (λ b. not (is_line_feed b)) line ≡ true
 
--- a file ends with a line feed, and this is the line before it, which begins behind another one
+-- a file ends with a line feed, and this is the line before it, which begins after another one
 pub record IsFooter (file line : List ℕ) : Type 0 where
   pub text : List ℕ
   pub whole : file ≡ text ++ 10 ∷ []
   pub last : IsLastLine text line
 
--- printable ASCII that stands in a JSON string as it is (RFC 8259, section 7)
+-- printable ASCII that needs no escape in a JSON string (RFC 8259, section 7)
 abbrev pub is_rule_byte : ℕ → Bool
 is_rule_byte b = nat_le 32 b && nat_le b 126 && not (b == 34) && not (b == 92)
 
@@ -46,7 +46,8 @@ pub record HasRule (file rule : List ℕ) : Type 0 where
   pub some : rule ≢ []
   pub plain : is_plain rule ≡ true
 
--- why a file has no rule; want of memory says nothing, and that a file can't be read is told of none that was
+-- why a file has no rule; `NoMemory` says nothing about the file, and `Unreadable` is never reported of a file that was
+-- read
 abbrev pub HasFault : List ℕ → ZoneFault → Type 0
 HasFault file Unreadable = ⊥
 HasFault file NoTzif = is_tzif file ≡ false

@@ -1,10 +1,10 @@
--- What is told of a zone that goes by a name.
+-- The messages about a named zone.
 use Rattle.std.specs.Prelude.{ℕ, List, ◌++◌, codes}
 use Rattle.mds_zones.specs.declared.fault.ZoneFault.{ZoneFault}
 use Rattle.mds_zones.specs.declared.fault.ZoneFault.TheVariants.{Unreadable, NoTzif, FirstVersion, NoFooter, NoRule, NoText, NoMemory}
 use Rattle.mds_zones.specs.Names.{path_of}
 
--- which rule a name stands for, and by which file
+-- which rule a name means, and by which file
 abbrev pub zone_wording : List ℕ → List ℕ → List ℕ
 zone_wording name rule = codes "zone " ++ name ++ codes " is " ++ rule ++ codes " by " ++ path_of name
 

@@ -5,7 +5,7 @@ use std::fmt;
 /// Why the file of a zone gives no rule.
 #[derive(Clone, Copy, Debug, PartialEq, Eq)]
 pub enum ZoneFault {
-    /// It isn't there, or can't be read: whoever reads the file tells so.
+    /// It isn't there, or can't be read: only the caller that reads the file reports this.
     Unreadable,
     /// It doesn't begin as a TZif file does (RFC 9636, section 3.1).
     NoTzif,
@@ -13,11 +13,11 @@ pub enum ZoneFault {
     FirstVersion,
     /// It doesn't end with a line (RFC 9636, section 3.3).
     NoFooter,
-    /// Its footer is empty: no rule is in force behind its last transition.
+    /// Its footer is empty: no rule is in force after its last transition.
     NoRule,
     /// Its footer has bytes other than printable ASCII, or a quote or a backslash.
     NoText,
-    /// Memory ran out.
+    /// Out of memory.
     NoMemory,
 }
 

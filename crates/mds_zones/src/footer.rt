@@ -10,8 +10,8 @@ use std::alloc::Global;
 /// The bytes of a header (RFC 9636, section 3.1).
 const HEADER: usize = 44;
 
-/// The rule of a TZif file: what stands between the line feed at its end and the one before (RFC 9636, section 3.3). It is in force
-/// behind the file's last transition.
+/// The rule of a TZif file: the text between the line feed at its end and the one before (RFC 9636, section 3.3). It is
+/// in force after the file's last transition.
 ///
 /// # Errors
 ///
@@ -56,7 +56,7 @@ fn is_first_version(file: &[u8]) -> bool
     file[4] == 0
 }
 
-/// What stands behind the last line feed of a text, if it has one.
+/// The text after the last line feed, if there is one.
 fn last_line(text: &[u8]) -> Option<&[u8]>
     ensures { MatchOption result ((line : List ℕ) → ¬ IsLastLine text.now line) (λ line. IsLastLine text.now line.now) }
 {

@@ -1,4 +1,4 @@
-//! Time zones that go by a name, as `America/New_York`: which texts are names, where the file of one is, and the rule of POSIX's TZ
+//! Named time zones, as `America/New_York`: which texts are names, which file a zone has, and the rule of POSIX's TZ
 //! variable in its footer (RFC 9636).
 #![tactic(auto)]
 

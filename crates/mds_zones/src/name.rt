@@ -7,11 +7,11 @@ use std::marker::Model;
 
 /// The most bytes of a zone's name.
 pub const MOST_NAME: usize = 255;
-/// Where the files of zones lie.
+/// The folder of the zones' files.
 const FOLDER: &str = "/usr/share/zoneinfo/";
 
-/// The name of a time zone, as `America/New_York`: parts of letters, digits, `_`, `-` and `+`, with slashes between them, of at
-/// most 255 bytes. So a path that it ends leads to no other folder. Contracts see the name.
+/// The name of a time zone, as `America/New_York`: parts of letters, digits, `_`, `-` and `+`, with slashes between
+/// them, of at most 255 bytes. So a path that ends with it leads to no other folder. Contracts see the name.
 #[derive(Drop)]
 pub struct ZoneName {
     text: String,
@@ -29,12 +29,13 @@ impl Model for ZoneName {
 }
 
 impl ZoneName {
-    /// The name that a text is, or `None`: an empty one, one with a slash at an end or beside another, or with any byte but letters,
-    /// digits, `_`, `-`, `+` and `/` (so none with a dot) is no name. Whether a file has it is another matter.
+    /// The name in a text, or `None`: an empty text, one with a slash at an end or next to another, or with any byte
+    /// but letters, digits, `_`, `-`, `+` and `/` (so none with a dot) is no name. Whether there is a file of it is
+    /// another matter.
     ///
     /// # Errors
     ///
-    /// Memory ran out.
+    /// Out of memory.
     pub fn read(alloc: Global, text: &str) -> Result<Option<ZoneName>, AllocError>
         ensures name { IfOk result (λ found. IfSome found (λ name. name ≡ text.now)) }
         ensures cases { IfOk result (λ found. is_some found ≡ is_zone_name text.now) }
@@ -59,7 +60,7 @@ impl ZoneName {
     ///
     /// # Errors
     ///
-    /// Memory ran out.
+    /// Out of memory.
     pub fn path(&self, alloc: Global) -> Result<String, AllocError>
         ensures { IfOk result (λ path. string_bytes path ≡ path_of self.now) }
     {
@@ -69,14 +70,14 @@ impl ZoneName {
     }
 }
 
-/// A letter, a digit, `_`, `-` or `+`.
+/// Whether a byte is a letter, a digit, `_`, `-` or `+`.
 fn is_part_byte(byte: u8) -> bool
     ensures { result ≡ is_part_byte byte }
 {
     byte.is_ascii_alphanumeric() || byte == b'_' || byte == b'-' || byte == b'+'
 }
 
-/// Whether a text is parts of such bytes, each of one at least, with a slash between two of them.
+/// Whether a text is parts of such bytes, each of one at least, with a slash between each two.
 fn are_parts(text: &[u8]) -> bool
     ensures { result ≡ are_parts false text.now }
 {

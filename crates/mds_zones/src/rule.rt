@@ -1,4 +1,4 @@
-//! The rule that a name stands for.
+//! The rule of a named zone.
 ghost use Rattle.std.specs.Prelude.{◌≡◌, true, IfOk, IfSome, is_some};
 ghost use Rattle.std.specs.List.{list_all};
 ghost use Rattle.mds_zones.specs.Footer.{is_rule_byte, is_plain};
@@ -6,8 +6,8 @@ ghost use Rattle.mds_zones.specs.Footer.{is_rule_byte, is_plain};
 use std::alloc::{AllocError, Global};
 use std::marker::Model;
 
-/// A text in the place of a zone's name: printable ASCII without quotes and backslashes, so that it stands in a JSON string as it
-/// is. Whether it is a rule of POSIX's TZ variable, `mds_match::Zone::read` says. Contracts see the text.
+/// A text in the place of a zone's name: printable ASCII without quotes and backslashes, so that it needs no escapes in
+/// a JSON string. Whether it is a rule of POSIX's TZ variable, `mds_match::Zone::read` says. Contracts see the text.
 #[derive(Drop)]
 pub struct ZoneRule {
     text: String,
@@ -25,11 +25,11 @@ impl Model for ZoneRule {
 }
 
 impl ZoneRule {
-    /// The rule that a text is, or `None` where it has another byte.
+    /// The rule in a text, or `None` where it has another byte.
     ///
     /// # Errors
     ///
-    /// Memory ran out.
+    /// Out of memory.
     pub fn read(alloc: Global, text: &str) -> Result<Option<ZoneRule>, AllocError>
         ensures rule { IfOk result (λ found. IfSome found (λ rule. rule ≡ text.now)) }
         ensures cases { IfOk result (λ found. is_some found ≡ is_plain text.now) }
@@ -51,7 +51,7 @@ impl ZoneRule {
     }
 }
 
-/// Printable ASCII without the quote and the backslash.
+/// Whether a byte is printable ASCII and neither the quote nor the backslash.
 fn is_rule_byte(byte: u8) -> bool
     ensures { result ≡ is_rule_byte byte }
 {

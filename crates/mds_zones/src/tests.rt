@@ -1,9 +1,9 @@
-//! Names of zones, and the footers of their files.
+//! Tests of the names of zones, and of the footers of their files.
 use crate::{ZoneFault, ZoneName, ZoneRule, rule_in, zone_told};
 use std::alloc::{AllocError, Global};
 use std::test::Fail;
 
-/// A file of this version, with this behind its header, as a data block and a footer are.
+/// A file of this version, with these bytes after its header, as a data block and a footer are.
 fn file_of(alloc: Global, version: u8, behind: &[u8]) -> Result<Vec<u8>, AllocError> {
     let mut file = Vec::new(alloc);
     file.extend_from_slice(b"TZif")?;
@@ -15,7 +15,7 @@ fn file_of(alloc: Global, version: u8, behind: &[u8]) -> Result<Vec<u8>, AllocEr
     Ok(file)
 }
 
-/// Whether a text is taken as a name.
+/// Whether a text is read as a name.
 fn is_name(alloc: Global, text: &str) -> Result<bool, AllocError> {
     Ok(ZoneName::read(alloc, text)?.is_some())
 }

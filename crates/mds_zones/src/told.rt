@@ -1,4 +1,4 @@
-//! What is told of a zone that goes by a name.
+//! The message about a named zone.
 ghost use Rattle.std.specs.Prelude.{◌≡◌, IfOk, string_bytes};
 ghost use Rattle.mds_zones.specs.Wording.{zone_wording};
 
@@ -6,12 +6,12 @@ use crate::name::ZoneName;
 use crate::rule::ZoneRule;
 use std::alloc::{AllocError, Global};
 
-/// Which rule a name stands for, and by which file: `zone America/New_York is EST5EDT,M3.2.0,M11.1.0 by
+/// Which rule a name means, and by which file: `zone America/New_York is EST5EDT,M3.2.0,M11.1.0 by
 /// /usr/share/zoneinfo/America/New_York`.
 ///
 /// # Errors
 ///
-/// Memory ran out.
+/// Out of memory.
 pub fn zone_told(alloc: Global, name: &ZoneName, rule: &ZoneRule) -> Result<String, AllocError>
     ensures { IfOk result (λ told. string_bytes told ≡ zone_wording name.now rule.now) }
 {

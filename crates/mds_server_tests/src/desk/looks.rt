@@ -1,4 +1,5 @@
-//! The looks at what is published, of which a gate is told, and what they show about a publication.
+//! Looks at what is published: how many there are, and what they show before and after a
+//! publication.
 use super::*;
 use mds_desk::Gate;
 
@@ -13,7 +14,7 @@ pub(super) const POLICIES: &Exchange = &Exchange {
     success: r#"{"policies":[{"name":"cap","policy_id":"00000000-0000-4000-8000-000000000201","published_date":1000,"rules":[{"geographies":["00000000-0000-4000-8000-000000000101"],"maximum":1,"name":"cap","rule_id":"00000000-0000-4000-8000-000000000301","rule_type":"count"}],"start_date":1000}],"revision":1}"#,
 };
 
-/// Counts the looks of which it is told.
+/// A gate that counts the looks at which it is called.
 #[derive(Drop)]
 struct Counting {
     looks: u64,
@@ -54,14 +55,15 @@ impl Scene for EachLook {
     }
 }
 
-/// One look for each request.
+/// There is one look for each request.
 #[test]
 fn a_gate_is_told_of_each_look(rt: HostRuntime) -> Result<(), Fail> {
     assert!(rt; stage(&rt, rt.alloc(), &EachLook)?);
     Ok(())
 }
 
-/// The revision of a reply that lists just what is published at it.
+/// The revision of a reply that lists the policies, which is checked to be the list at this
+/// revision.
 fn revision(rt: &impl Abort, reply: &Answer) -> u64 {
     if is_reply(reply, 200, EMPTY) {
         0
@@ -71,12 +73,12 @@ fn revision(rt: &impl Abort, reply: &Answer) -> u64 {
     }
 }
 
-/// The revision that a desk lists now.
+/// The revision at which a desk lists the policies now.
 fn revision_at<K: Naming>(rt: &impl Abort, desk: &mut Desk<K>) -> u64 {
     revision(rt, &asked(rt, desk, POLICIES))
 }
 
-/// What a desk is shown it goes on to be shown.
+/// Checks that a desk's revision doesn't go back.
 fn assert_goes_on<K: Naming>(rt: &impl Abort, desk: &mut Desk<K>) {
     let before = revision_at(rt, desk);
     assert!(rt; before <= revision_at(rt, desk));
@@ -102,14 +104,15 @@ impl Scene for PublicationBetween {
     }
 }
 
-/// What a desk hasn't heard of it may be shown, and then goes on to be; what it learnt it is shown.
+/// A desk may see a publication of which it hasn't learnt, and goes on to see it then. It sees one
+/// of which it has learnt.
 #[test]
 fn a_publication_between_looks(rt: HostRuntime) -> Result<(), Fail> {
     assert!(rt; stage(&rt, rt.alloc(), &PublicationBetween)?);
     Ok(())
 }
 
-/// No call has this target.
+/// A request whose target is no call's.
 const NOWHERE: &Exchange = &Exchange {
     at: 1000,
     token: "alfa",

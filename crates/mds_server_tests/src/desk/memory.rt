@@ -1,12 +1,11 @@
-//! The same with one growth refused, wherever it is: then one reply is 503 `no_memory`, or one call wants
-//! memory, and what is asked once more is answered. Where nothing could be furnished, the scene is played
-//! again.
+//! The room and desks with one allocation refused, whichever it is: then one reply is 503 `no_memory`, or one call
+//! runs out of memory, and a second try is answered. Where nothing could be furnished, the test is run again.
 use super::*;
 use mds_catalog::Catalogue;
 use mds_parallel::Chunked;
 use mds_verdict::Evaluator;
 
-/// Plays a scene; a second time where the first found no memory.
+/// Runs a test, a second time where the first ran out of memory.
 fn stage_at_last<S: Scene, R: Wait + Abort>(rt: &R, alloc: Global, scene: &S) -> Result<(), Fail>
     requires { S.may_play }
 {
@@ -16,8 +15,8 @@ fn stage_at_last<S: Scene, R: Wait + Abort>(rt: &R, alloc: Global, scene: &S) ->
     Ok(())
 }
 
-/// What the room gives to a request of the author, once more where it was refused for want of memory: no
-/// note comes then.
+/// The room's reply to a request of the author, and its note; those of a second try where the first was refused out
+/// of memory, which gives no note.
 fn given_at_last<K: Naming, R: Wait + Abort>(
     rt: &R,
     room: &mut AuthorRoom<K>,
@@ -31,7 +30,7 @@ fn given_at_last<K: Naming, R: Wait + Abort>(
     room_turn(rt, room, exchange)
 }
 
-/// The room gives the exchange's reply at the first or the second try, and perhaps a note.
+/// Checks that the room gives the exchange's reply, at the second try at the latest, and returns its note, if any.
 fn told<K: Naming, R: Wait + Abort>(
     rt: &R,
     room: &mut AuthorRoom<K>,
@@ -42,14 +41,14 @@ fn told<K: Naming, R: Wait + Abort>(
     note
 }
 
-/// Puts both documents and publishes them, each at the first or the second try.
+/// Puts both documents and publishes them, each at the second try at the latest.
 fn set_up_at_last<K: Naming, R: Wait + Abort>(rt: &R, room: &mut AuthorRoom<K>) -> Note<K> {
     assert!(rt; told(rt, room, PUT_SQUARE).is_none());
     assert!(rt; told(rt, room, PUT_CAP).is_none());
     told(rt, room, PUBLISH).expect(rt, "a note")
 }
 
-/// What a desk answers to a request, once more where it was refused for want of memory.
+/// A desk's reply to a request; that of a second try where the first was refused out of memory.
 fn answer_at_last<K: Naming, E: Evaluator<Catalogue>>(
     rt: &impl Abort,
     desk: &mut Desk<K>,
@@ -66,7 +65,7 @@ fn answer_at_last<K: Naming, E: Evaluator<Catalogue>>(
     desk.answer(request, &mut OpenGate, evaluator)
 }
 
-/// A desk gives the exchange's reply, at the first or the second try.
+/// Checks that a desk gives the exchange's reply, at the second try at the latest.
 fn assert_answers_at_last<K: Naming, E: Evaluator<Catalogue>>(
     rt: &impl Abort,
     desk: &mut Desk<K>,
@@ -109,13 +108,13 @@ impl<E: Evaluator<Catalogue>> Scene for Answering<'_, E> {
     }
 }
 
-/// Drafts, a publication, what is learnt, reports and questions. Learning takes no memory.
+/// Drafts, a publication, learning of it, reports and questions. Learning needs no memory.
 #[test]
 fn answers_or_wants_memory(rt: HostRuntime) -> Result<(), Fail> {
     stage_at_last(&rt, rt.alloc(), &Answering { evaluator: &Plain })
 }
 
-/// The same by several threads.
+/// The same, with evaluation by several threads.
 #[test]
 fn answers_by_threads_or_wants_memory(rt: HostRuntime) -> Result<(), Fail> {
     let evaluator = &Chunked(&rt);
@@ -133,7 +132,7 @@ fn four_requests<'a>(rt: &impl Abort, exchanges: &'a [&'a Exchange; 4]) -> [Requ
     ]
 }
 
-/// Whether all are successes: else one is 503 `no_memory`. Those before it are the exchanges' replies.
+/// Whether all replies are successes; else one is 503 `no_memory`. Those before it are the exchanges' replies.
 fn are_successes(rt: &impl Abort, replies: &[Answer], exchanges: &[&Exchange]) -> bool {
     assert!(rt; replies.len() == exchanges.len());
     for (reply, exchange) in replies.iter().zip(exchanges) {
@@ -146,7 +145,7 @@ fn are_successes(rt: &impl Abort, replies: &[Answer], exchanges: &[&Exchange]) -
     true
 }
 
-/// What a desk replies to a run of requests, once more where the call wanted memory.
+/// A desk's replies to a run of requests; those of a second call where the first ran out of memory.
 fn run_at_last<K: Naming, E: Evaluator<Catalogue>>(
     desk: &mut Desk<K>,
     requests: &[Request<'_>],
@@ -185,14 +184,14 @@ impl<E: Evaluator<Catalogue>> Scene for Running<'_, E> {
     }
 }
 
-/// All of an operator's requests in one call. Where the call wants memory, the same call answers them
-/// all; where one reply is 503 `no_memory`, those before it are as they should be.
+/// All of an operator's requests in one call. Where the call runs out of memory, a second one answers them all; where
+/// one reply is 503 `no_memory`, those before it are as they should be.
 #[test]
 fn runs_or_wants_memory(rt: HostRuntime) -> Result<(), Fail> {
     stage_at_last(&rt, rt.alloc(), &Running { evaluator: &Plain })
 }
 
-/// The same by several threads.
+/// The same, with evaluation by several threads.
 #[test]
 fn runs_by_threads_or_wants_memory(rt: HostRuntime) -> Result<(), Fail> {
     let evaluator = &Chunked(&rt);

@@ -1,4 +1,4 @@
-//! Desks and the room in threads that overlap: one waits for what another does, within a limit.
+//! Desks and the room in threads that overlap: one waits for another, within a limit.
 ghost use Rattle.std.specs.Prelude.{◌≡◌};
 ghost use Rattle.mds_snapshot.specs.Opening.{book_of};
 
@@ -9,10 +9,10 @@ use mds_desk::Gate;
 use std::sync::atomic::{AtomicBool, Ordering};
 use std::thread::{Threads, join};
 
-/// What one thread tells another.
+/// Flags between two threads.
 #[derive(Drop)]
 struct Signals {
-    /// A desk has looked.
+    /// A desk has taken its look.
     looked: AtomicBool,
     /// Another desk has answered.
     answered: AtomicBool,
@@ -27,14 +27,14 @@ impl Signals {
     }
 }
 
-/// What is done in a thread of its own.
+/// A job for a thread of its own.
 trait Errand {
     type Outcome;
 
     fn run(self) -> Self::Outcome;
 }
 
-/// Runs an errand in a thread of its own, and does something else meanwhile.
+/// Runs a job in a thread of its own, and something else concurrently.
 fn beside<R: Threads, E: Errand<Outcome = A> + Send + Drop, A: Send, B, F: FnOnce() -> B>(
     rt: &R,
     errand: E,
@@ -45,7 +45,7 @@ fn beside<R: Threads, E: Errand<Outcome = A> + Send + Drop, A: Send, B, F: FnOnc
     join(rt, move || -> A { errand.run() }, meanwhile)
 }
 
-/// Holds a look until the other desk has answered, and knows whether it did so in time.
+/// A gate that holds a look until the other desk has answered, and notes whether that was in time.
 #[derive(Drop)]
 struct Holding<'a> {
     signals: &'a Signals,
@@ -82,7 +82,8 @@ impl<K: Naming> Errand for HeldDesk<'_, K> {
     }
 }
 
-/// The reply, asked for once the other desk's look is held.
+/// The reply to a question that comes once the other desk's look is held; `None` where that isn't
+/// in time.
 fn answered_meanwhile<K: Naming>(desk: &mut Desk<K>, signals: &Signals) -> Option<Answer> {
     if !is_set_in_time(&signals.looked) {
         return None;
@@ -94,7 +95,7 @@ fn answered_meanwhile<K: Naming>(desk: &mut Desk<K>, signals: &Signals) -> Optio
     Some(reply)
 }
 
-/// Puts both documents and publishes them, of which both desks learn.
+/// Puts both documents and publishes them, and has both desks learn of it.
 fn set_up_for_both<K: Naming, R: Wait + Abort>(
     rt: &R,
     room: &mut AuthorRoom<K>,
@@ -123,7 +124,7 @@ fn two_desks<K: Naming + Send + Sync, R: Threads + Wait + Abort>(
     assert_success(rt, &second.expect(rt, "bravo in time"), NONE_FOR_BRAVO);
 }
 
-/// Lets the author publish at its first call.
+/// A gate that lets the author publish at its first call.
 #[derive(Drop)]
 struct Starting<'a> {
     signals: &'a Signals,
@@ -145,7 +146,7 @@ struct RunningDesk<'a, K: Naming> {
 impl<K: Naming> Errand for RunningDesk<'_, K> {
     type Outcome = Option<[u64; 3]>;
 
-    /// The revisions of the replies, each of which lists just what is published at it.
+    /// The revisions of the replies, each of which has to list the policies at its revision.
     fn run(self) -> Option<[u64; 3]> {
         let moment = Moment::new(POLICIES.at)?;
         let requests = [
@@ -161,7 +162,7 @@ impl<K: Naming> Errand for RunningDesk<'_, K> {
     }
 }
 
-/// The revisions of three replies, each of which lists just what is published at it.
+/// The revisions of three replies, each of which has to list the policies at its revision.
 fn revisions(replies: &[Answer]) -> Option<[u64; 3]> {
     match replies {
         [first, second, third] => Some([listed(first)?, listed(second)?, listed(third)?]),
@@ -169,7 +170,7 @@ fn revisions(replies: &[Answer]) -> Option<[u64; 3]> {
     }
 }
 
-/// The revision of a reply that lists just what is published at it.
+/// The revision of a reply that lists the policies at this revision; `None` of another reply.
 fn listed(reply: &Answer) -> Option<u64> {
     match reply.body() {
         _ if reply.status() != 200 => None,
@@ -179,7 +180,7 @@ fn listed(reply: &Answer) -> Option<u64> {
     }
 }
 
-/// Publishes once the desk has looked.
+/// Publishes once the desk has taken its first look.
 fn published_meanwhile<K: Naming, R: Wait>(
     rt: &R,
     room: &mut AuthorRoom<K>,
@@ -206,7 +207,7 @@ fn published_beside<K: Naming + Send + Sync, R: Threads + Wait>(
     beside(rt, running, || published_meanwhile(rt, room, &signals))
 }
 
-/// The first reply lists nothing, and what is listed goes on to be.
+/// Checks that the first reply lists nothing, and that the revisions don't go back.
 fn assert_rise(rt: &impl Abort, revisions: [u64; 3]) {
     let [first, second, third] = revisions;
     assert!(rt; first == 0);
@@ -234,7 +235,7 @@ enum Overlap {
     PublicationBetweenLooks,
 }
 
-/// Has it done with what is furnished for the configuration.
+/// Runs it on a room and desks that are furnished for the configuration.
 fn overlapped<K: Naming + Send + Sync, R: Threads + Wait + Abort>(
     rt: &R,
     alloc: Global,
@@ -256,7 +257,7 @@ fn overlapped<K: Naming + Send + Sync, R: Threads + Wait + Abort>(
     Ok(())
 }
 
-/// Has it done with what was prepared.
+/// Prepares a blank, and runs it on what is furnished with that.
 fn staged<R: Threads + Wait + Abort>(rt: &R, alloc: Global, overlap: Overlap) -> Result<(), Fail> {
     let config = Config::read(alloc, CONFIGURATION)?;
     let blank = prepare(alloc)?;

@@ -1,4 +1,4 @@
-//! Worked scripts, asked one after another.
+//! Worked scripts, one request after another.
 use super::*;
 use crate::counting::Counting;
 
@@ -92,7 +92,8 @@ impl Scene for MomentsGoBack {
     }
 }
 
-/// A desk counts the vehicles of its own operator, and a moment may lie before an earlier one.
+/// A desk counts the vehicles of its own operator, and a request's moment may lie before an earlier
+/// one's.
 #[test]
 fn counts_its_own_vehicles_at_any_moment(rt: HostRuntime) -> Result<(), Fail> {
     assert!(rt; stage(&rt, rt.alloc(), &MomentsGoBack)?);
@@ -147,7 +148,7 @@ impl Scene for Judged {
     }
 }
 
-/// A desk judges by the evaluator that it is given, and by no other.
+/// A desk evaluates by the evaluator that it is given, and by no other.
 #[test]
 fn judges_by_its_evaluator(rt: HostRuntime) -> Result<(), Fail> {
     assert!(rt; stage(&rt, rt.alloc(), &Judged)?);

@@ -1,4 +1,4 @@
-//! What is refused before a desk or the author's room is asked.
+//! Requests that are refused before a desk or the author's room is reached.
 use super::*;
 use mds_request::{Actor, MOST_BODY};
 
@@ -26,7 +26,7 @@ const NOWHERE: &str = "/nowhere";
 
 const NOBODY: &str = "Bearer nobody";
 
-/// Whether alfa's question with what arrived has this answer.
+/// Whether alfa's question with this body has this answer.
 fn tells_alfa<K: Named, R: Host + Sync>(
     rt: &R,
     alloc: Global,
@@ -84,7 +84,7 @@ fn spaces(alloc: Global, length: usize) -> Result<Arrived, AllocError> {
     Ok(Arrived::Whole(Bytes::from_vec(spaces)?))
 }
 
-/// Whether nobody's request with a body of so many spaces has this answer.
+/// Whether an anonymous request with a body of so many spaces has this answer.
 fn tells_nobody<K: Named, R: Host + Sync>(
     rt: &R,
     alloc: Global,
@@ -114,7 +114,7 @@ const NO_ROUTE: &Answer = &Answer {
     body: r#"{"error":"no_route"}"#,
 };
 
-/// Whether a request that no call has, with these credentials, is refused so.
+/// Whether a request for a path of no call, with these credentials, is refused with `no_route`.
 fn finds_nowhere<K: Named, R: Host + Sync>(
     rt: &R,
     alloc: Global,
@@ -125,7 +125,7 @@ fn finds_nowhere<K: Named, R: Host + Sync>(
     gives(rt, hall, parts, whole(""), Moment::new(2000), NO_ROUTE)
 }
 
-/// Alfa's desk and the author's room are taken all the while.
+/// Checks refusals while the locks of alfa's desk and of the author's room are held.
 pub(super) fn refused_beside_locks<K: Named, R: Host + Sync>(
     rt: &R,
     alloc: Global,

@@ -1,4 +1,4 @@
-//! An operator's question is held while another operator and the author are answered.
+//! An operator's question is held at its gate while another operator and the author are answered.
 use super::*;
 use crate::waiting::is_set_in_time;
 use mds_desk::Gate;
@@ -7,7 +7,7 @@ use mds_verdict::Plain;
 use std::sync::atomic::{AtomicBool, Ordering};
 use std::thread::join;
 
-/// The author's draft of a policy that takes the place of the other.
+/// The author's draft of a policy that supersedes the other.
 const DRAFT_OF_NEXT: &Exchange = &Exchange {
     at: 2000,
     credentials: Some(CITY),
@@ -16,14 +16,14 @@ const DRAFT_OF_NEXT: &Exchange = &Exchange {
     answer: TAKEN,
 };
 
-/// What the threads tell each other: that the question is held, and that the others have their answers.
+/// Flags between the threads: that the question is held, and that the others have their answers.
 #[derive(Drop)]
 struct Signals {
     held: AtomicBool,
     answered: AtomicBool,
 }
 
-/// Holds a question until the others have their answers.
+/// A gate that holds a question until the others have their answers, and notes whether that was in time.
 #[derive(Drop)]
 struct Holding<'a> {
     signals: &'a Signals,
@@ -37,13 +37,13 @@ impl Gate for Holding<'_> {
     }
 }
 
-/// What is done in a thread of its own.
+/// A job for a thread of its own.
 trait Errand {
-    /// Whether it went as wanted.
+    /// Runs the job, and returns whether it went as it should.
     fn run(self) -> bool;
 }
 
-/// Runs an errand in a thread of its own, and does something else meanwhile. Says how each went.
+/// Runs a job in a thread of its own, and something else concurrently. Returns the results of both.
 fn beside<R: Threads, E: Errand + Send + Drop, F: FnOnce() -> bool>(
     rt: &R,
     errand: E,
@@ -64,7 +64,7 @@ struct HeldQuestion<'a, K: Named, R> {
 }
 
 impl<K: Named, R: Host> Errand for HeldQuestion<'_, K, R> {
-    /// Whether it has its answer, and was held in time.
+    /// Whether the question has its answer, and the others had theirs in time while it was held.
     fn run(self) -> bool {
         let Some(asked) = parts(self.alloc, Method::GET, COMPLIANCE, Some(ALFA)) else {
             return false;
@@ -83,7 +83,7 @@ impl<K: Named, R: Host> Errand for HeldQuestion<'_, K, R> {
     }
 }
 
-/// Whether bravo's question and then the author's draft have their answers, meanwhile.
+/// Whether bravo's question and then the author's draft are answered while alfa's question is held.
 fn are_answered<K: Named, R: Host + Sync>(
     rt: &R,
     alloc: Global,

@@ -1,11 +1,12 @@
-//! What heads are resolved to: who asks, and what for.
+//! What heads are resolved to: the client and the call.
 use super::*;
 use mds_hall::{HallContext, ResolvedCall};
 use mds_limits::{Cost, SMALL_BODY};
 use mds_request::{Actor, Verb};
 use mds_verdict::Plain;
 
-/// A head, who asks by it, what its answer takes of their queue where there is no body, and the answer's status then.
+/// A head, its client, what its answer takes of the client's queue where there is no body, and the answer's status
+/// then.
 struct Head {
     verb: Verb,
     target: &'static str,
@@ -63,8 +64,8 @@ const CALLS: &[Head] = &[
     },
 ];
 
-/// Heads that the table of calls refuses: for the access token, twice, the path, the method, twice the role, and the
-/// identifier.
+/// Heads that the table of calls refuses: twice for the access token, for the path, for the method, twice for the
+/// role, and for the identifier.
 const REFUSALS: &[Head] = &[
     Head {
         verb: Verb::Get,
@@ -124,7 +125,7 @@ const REFUSALS: &[Head] = &[
     },
 ];
 
-/// The name of a verb.
+/// A method that is read as this verb.
 fn method(verb: Verb) -> Method {
     match verb {
         Verb::Get => Method::GET,
@@ -160,7 +161,7 @@ fn status<K: Named, R: Host>(
     }
 }
 
-/// Each head is resolved to who asks by it, and takes and answers what it has to.
+/// Checks the client of each head, what its answer takes of the queue, and the answer's status.
 pub(super) fn each_head<K: Named, R: Host>(rt: &R, alloc: Global, hall: &Hall<K>) {
     for heads in [CALLS, REFUSALS] {
         for head in heads {
@@ -173,7 +174,7 @@ pub(super) fn each_head<K: Named, R: Host>(rt: &R, alloc: Global, hall: &Hall<K>
     }
 }
 
-/// A report of more than 16 KiB takes a turn of its own.
+/// Checks that a report of more than 16 KiB takes a turn of its own.
 pub(super) fn large_report<K: Named, R: Host>(rt: &R, alloc: Global, hall: &Hall<K>) {
     let parts = parts(alloc, Method::POST, EVENTS, Some(ALFA)).expect(rt, "a head");
     let call = hall.resolve(parts);

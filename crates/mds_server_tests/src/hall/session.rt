@@ -1,4 +1,4 @@
-//! A policy is published, and an operator asks for compliance.
+//! Sessions at a hall: publications, operators' questions, and credentials.
 ghost use Rattle.std.specs.Prelude.{◌≡◌};
 ghost use Rattle.mds_snapshot.specs.Opening.{book_of};
 
@@ -13,7 +13,7 @@ use mds_snapshot::{Naming, Note};
 const VEHICLE: &str =
     r#"{"device_id":"00000000-0000-4000-8000-000000000401","vehicle_type":"scooter","vehicle_state":"available","timestamp":1500,"location":{"lat":5,"lng":5}}"#;
 
-/// One vehicle is counted, at 2000.
+/// The answer at 2000 where one vehicle is counted.
 const ONE_COUNTED: &Answer = &Answer {
     status: 200,
     body: r#"{"at":2000,"policies":[{"policy_id":"00000000-0000-4000-8000-000000000201","rules":[{"measure":1,"rule_id":"00000000-0000-4000-8000-000000000301","status":"ok"}]}],"revision":1,"version":2}"#,
@@ -27,7 +27,7 @@ const REPORT: &Exchange = &Exchange {
     answer: TAKEN,
 };
 
-/// Alfa's question, bravo's and nobody's.
+/// A question by alfa, by bravo, and by an anonymous client.
 const QUESTIONS: &[&Exchange] = &[
     &Exchange {
         at: 2000,
@@ -72,7 +72,8 @@ const WITHDRAWN: &Exchange = &Exchange {
     },
 };
 
-/// There is a note once something is published, and none before; a further publication's is of more, and is there for all who ask.
+/// Checks that there is no note before the first publication and one after it, that a further publication's note
+/// covers more, and that a further call gives the same note.
 pub(super) fn latest_note<K: Named, R: Host + Sync>(rt: &R, alloc: Global, hall: &Hall<K>) {
     assert!(rt; hall.note(rt).is_none());
     set_up(rt, alloc, hall);
@@ -90,7 +91,7 @@ fn keeps_the_latest_note(rt: HostRuntime) -> Result<(), Fail> {
     visited(&rt, Visit::LatestNote)
 }
 
-/// Bravo's question is judged by this evaluator.
+/// Checks that bravo's question is evaluated by the given evaluator.
 pub(super) fn judged<K: Named, R: Host + Sync>(rt: &R, alloc: Global, hall: &Hall<K>) {
     set_up(rt, alloc, hall);
     let counting = Counting::new();
@@ -101,7 +102,7 @@ pub(super) fn judged<K: Named, R: Host + Sync>(rt: &R, alloc: Global, hall: &Hal
     assert!(rt; counting.policies() == 1);
 }
 
-/// A hall judges by the evaluator that it is given, and by no other.
+/// A hall evaluates by the evaluator that it is given, and by no other.
 #[test]
 fn judges_by_its_evaluator(rt: HostRuntime) -> Result<(), Fail> {
     visited(&rt, Visit::Judged)
@@ -109,7 +110,7 @@ fn judges_by_its_evaluator(rt: HostRuntime) -> Result<(), Fail> {
 
 const VEHICLES: &str = "/fleet/vehicles";
 
-/// The target of alfa's vehicles, which aren't any.
+/// The target of alfa's vehicles, with a query. Alfa has none.
 const ALL_VEHICLES: &str = "/fleet/vehicles?all";
 
 const NO_VEHICLES: &Answer = &Answer {
@@ -117,7 +118,7 @@ const NO_VEHICLES: &Answer = &Answer {
     body: r#"{"vehicles":[]}"#,
 };
 
-/// Credentials, and what is answered to them: they are alfa's, or unknown.
+/// Credentials, and the answers to them: they are alfa's, or not known.
 const CREDENTIALS: &[(&str, &Answer)] = &[
     ("bearer alfa", NO_VEHICLES),
     ("BEARER alfa", NO_VEHICLES),
@@ -129,7 +130,7 @@ const CREDENTIALS: &[(&str, &Answer)] = &[
     ("Bearer", TOKEN),
 ];
 
-/// Whether a question for vehicles, with this head, has this answer.
+/// Whether a request for vehicles, with this head, has this answer.
 fn lists<K: Named, R: Host + Sync>(
     rt: &R,
     alloc: Global,
@@ -151,7 +152,7 @@ fn signed_twice(alloc: Global) -> Option<Parts> {
     }
 }
 
-/// Nobody is known by two fields with credentials.
+/// Checks the answer to each of `CREDENTIALS`, and that two fields with credentials are nobody's.
 pub(super) fn each_form<K: Named, R: Host + Sync>(rt: &R, alloc: Global, hall: &Hall<K>) {
     for (credentials, answer) in CREDENTIALS {
         let asked = parts(alloc, Method::GET, ALL_VEHICLES, Some(credentials));
@@ -166,7 +167,7 @@ fn reads_bearer_tokens_alone(rt: HostRuntime) -> Result<(), Fail> {
     visited(&rt, Visit::EachForm)
 }
 
-/// The same at a desk by itself.
+/// `desk_turn` answers at a desk without a hall.
 #[test]
 fn answers_at_a_desk(rt: HostRuntime) -> Result<(), Fail> {
     let alloc = rt.alloc();
@@ -192,7 +193,7 @@ fn at_desk<K: Naming, R: Host + Sync>(
     outcome
 }
 
-/// Whether a desk that has a note gives this answer to a question at 2000.
+/// Whether a desk that is given a note answers so to a question at 2000.
 fn tells<K: Naming, R: Host + Sync>(
     rt: &R,
     alloc: Global,
@@ -221,7 +222,7 @@ fn tells<K: Naming, R: Host + Sync>(
     is_answer(rt, response, answer)
 }
 
-/// Alfa asks, and then nobody does.
+/// Checks the answers to a question by alfa and to one by an anonymous client.
 fn two_questions<K: Naming, R: Host + Sync>(
     rt: &R,
     alloc: Global,

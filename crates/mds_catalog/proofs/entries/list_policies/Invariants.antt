@@ -4,7 +4,7 @@ use Rattle.mds_catalog.specs.Listed.{Lists, spots_from}
 use Rattle.mds_catalog.specs.Kept.{fresh}
 use Rattle.mds_catalog.proofs.entries.list_policies.Given as goal
 
--- the policies before this one are listed
+-- the policies before this one have entries
 abbrev pub invariant-loop-place : goal.invariant-loop-place
 invariant-loop-place l =
     record {

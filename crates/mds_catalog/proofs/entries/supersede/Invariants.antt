@@ -3,7 +3,7 @@ use Rattle.mds_policy.specs.Policy.{policy_document}
 use Rattle.mds_catalog.specs.Kept.{after_successors}
 use Rattle.mds_catalog.proofs.entries.supersede.Given as goal
 
--- the policies from here on make of the entries what all make of those at the start
+-- the policies from here on make of the entries what all make of the initial ones
 abbrev pub invariant-loop-policy : goal.invariant-loop-policy
 invariant-loop-policy l =
     after_successors l.moment (map (λ share. policy_document share.value) (drop l.policy-index l.policies)) l.entries

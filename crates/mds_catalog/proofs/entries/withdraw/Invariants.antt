@@ -2,7 +2,7 @@ use Rattle.std.proofs.Common.{◌≡◌, ◌++◌, map, take, drop}
 use Rattle.mds_catalog.specs.Kept.{after_withdrawal}
 use Rattle.mds_catalog.proofs.entries.withdraw.Given as goal
 
--- the entries before this one are marked, the others as they were
+-- the entries before this one are marked, the others unchanged
 abbrev pub invariant-loop-entry : goal.invariant-loop-entry
 invariant-loop-entry l =
     l.entries ≡ map (after_withdrawal l.moment l.ids) (take l.entry-index l.initial.entries) ++ drop l.entry-index l.initial.entries

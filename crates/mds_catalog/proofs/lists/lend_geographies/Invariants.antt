@@ -4,7 +4,7 @@ use Rattle.mds_catalog.specs.Publication.{publications_in, published_geographies
 use Rattle.mds_catalog.specs.Catalogue.{lent_geography}
 use Rattle.mds_catalog.proofs.lists.lend_geographies.Given as goal
 
--- those of the batches before this one, and then of this one up to here
+-- those of the batches before this one, then those of this one up to here
 abbrev pub invariant-loop-geography : goal.invariant-loop-geography
 invariant-loop-geography l =
     map lent_geography l.lent.items

@@ -3,7 +3,7 @@ use Rattle.mds_catalog.specs.Catalogue.{served_geography}
 use Rattle.mds_catalog.specs.Publication.{publications_in, published_geographies}
 use Rattle.mds_catalog.proofs.lists.lend_geography_texts.Given as goal
 
--- those of the batches before this one, and then of this one up to here
+-- those of the batches before this one, then those of this one up to here
 abbrev pub invariant-loop-text : goal.invariant-loop-text
 invariant-loop-text l =
     map (λ t. t.now) l.lent.items

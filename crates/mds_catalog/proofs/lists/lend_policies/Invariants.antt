@@ -4,7 +4,7 @@ use Rattle.mds_catalog.specs.Publication.{publications_in, published_policies, d
 use Rattle.mds_catalog.specs.Catalogue.{lent_policy}
 use Rattle.mds_catalog.proofs.lists.lend_policies.Given as goal
 
--- those of the batches before this one, and then of this one up to here
+-- those of the batches before this one, then those of this one up to here
 abbrev pub invariant-loop-policy : goal.invariant-loop-policy
 invariant-loop-policy l =
     map lent_policy l.lent.items

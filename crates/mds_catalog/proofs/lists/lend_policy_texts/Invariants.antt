@@ -4,7 +4,7 @@ use Rattle.mds_catalog.specs.Publication.{publications_in, published_policies, d
 use Rattle.mds_catalog.proofs.Texts.{shown_texts}
 use Rattle.mds_catalog.proofs.lists.lend_policy_texts.Given as goal
 
--- those of the batches before this one, and then of this one up to here
+-- those of the batches before this one, then those of this one up to here
 abbrev pub invariant-loop-place : goal.invariant-loop-place
 invariant-loop-place l =
     map (λ t. t.now) l.lent.items

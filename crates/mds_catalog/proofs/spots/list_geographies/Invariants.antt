@@ -3,7 +3,7 @@ use Rattle.mds_geography.specs.Geography.{geography_document}
 use Rattle.mds_catalog.specs.Listed.{Lists, spots_from}
 use Rattle.mds_catalog.proofs.spots.list_geographies.Given as goal
 
--- the geographies before this one are listed
+-- the geographies before this one have spots
 abbrev pub invariant-loop-place : goal.invariant-loop-place
 invariant-loop-place l =
     record {

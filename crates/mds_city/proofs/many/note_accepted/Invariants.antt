@@ -2,7 +2,7 @@ use Rattle.std.proofs.Common.{◌≡◌, ◌==◌, ◌≤◌, length, map, take}
 use Rattle.std.specs.Vec.{vec_capacity}
 use Rattle.mds_city.proofs.many.note_accepted.Given as goal
 
--- the answers so far are noted, and there is room for all
+-- the flags of the answers so far are set, and there is room for all
 abbrev pub invariant-loop-answer : goal.invariant-loop-answer
 invariant-loop-answer l = record {
   noted : l.flags.items ≡ map (λ answer. answer.status == 200) (take l.answer-index l.answers);

@@ -2,6 +2,6 @@ use Rattle.std.proofs.Common.{◌≤◌}
 use Rattle.mds_commit.specs.declared.room.TheConstants.{STEP}
 use Rattle.mds_commit.proofs.backlog.bytes_of_all.Given as goal
 
--- the sum so far is within what is set aside at once
+-- the sum so far is within what is reserved on the disk at once
 abbrev pub invariant-loop-text : goal.invariant-loop-text
 invariant-loop-text l = l.bytes ≤ STEP

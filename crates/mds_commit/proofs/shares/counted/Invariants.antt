@@ -4,7 +4,7 @@ use Rattle.mds_commit.specs.Tables.{usage_of}
 use Rattle.mds_commit.specs.declared.deciding.TheConstants.{LEAST_BYTES}
 use Rattle.mds_commit.proofs.shares.counted.Given as goal
 
--- what is kept for those that were counted
+-- what those counted so far take up
 abbrev pub invariant-loop-share : goal.invariant-loop-share
 invariant-loop-share l = record {
   texts : l.all.texts + l.without ≡ sum_by texts_kept (map usage_of (take l.share-index l.shares));

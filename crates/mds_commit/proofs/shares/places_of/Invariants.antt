@@ -2,6 +2,6 @@ use Rattle.std.proofs.Common.{◌≡◌, take}
 use Rattle.mds_commit.specs.Tables.{texts_held}
 use Rattle.mds_commit.proofs.shares.places_of.Given as goal
 
--- the places of those that were counted
+-- the reservations of those counted so far
 abbrev pub invariant-loop-share : goal.invariant-loop-share
 invariant-loop-share l = l.held ≡ texts_held (take l.share-index l.shares)

@@ -3,7 +3,7 @@ use Rattle.mds_configuration.specs.Findings.{found_from, told}
 use Rattle.mds_configuration.specs.Spots.{seen}
 use Rattle.mds_configuration.proofs.gathering.add_each.Given as goal
 
--- what is found so far, and at those that are left
+-- the findings so far, and those for the members that are left
 abbrev pub invariant-loop-spot : goal.invariant-loop-spot
 invariant-loop-spot l =
     map told l.findings.items ++ found_from l.fn.text l.fn.errors.wrong l.fn.errors.zone (map seen (drop l.spot-index l.fn.spots))

@@ -2,7 +2,7 @@ use Rattle.std.proofs.Common.{◌≡◌, ◌+◌, ◌≤◌, drop, take, min, le
 use Rattle.mds_configuration.specs.Places.{place_at, place_behind}
 use Rattle.mds_configuration.proofs.place.place_of.Given as goal
 
--- what is left leads to where the whole leads, and neither count is beyond the bytes
+-- the rest leads to where the whole leads, and neither count is beyond the bytes
 abbrev pub invariant-loop-byte : goal.invariant-loop-byte
 invariant-loop-byte l =
     record {

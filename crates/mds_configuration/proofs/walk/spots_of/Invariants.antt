@@ -2,7 +2,7 @@ use Rattle.std.proofs.Common.{◌≡◌, ◌≤◌, ◌++◌, map, drop}
 use Rattle.mds_configuration.specs.Spots.{seen, spots_from, start}
 use Rattle.mds_configuration.proofs.walk.spots_of.Given as goal
 
--- what was found and what is left are the whole, and neither count is beyond the lexemes
+-- what was found and what is left to find are the whole, and neither count is beyond the lexemes
 abbrev pub invariant-loop-place : goal.invariant-loop-place
 invariant-loop-place l =
     record {

@@ -3,7 +3,7 @@ use Rattle.mds_configuration.specs.Pieces.{piece}
 use Rattle.mds_configuration.specs.Zoning.{ended, written_end}
 use Rattle.mds_configuration.proofs.zoning.written_end.Given as goal
 
--- what is left ends where the whole does
+-- the rest ends where the whole does
 abbrev pub invariant-loop-byte : goal.invariant-loop-byte
 invariant-loop-byte l =
     record {

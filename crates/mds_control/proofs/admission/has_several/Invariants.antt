@@ -3,7 +3,7 @@ use Rattle.httparse.specs.Spans.{header_bytes}
 use Rattle.mds_control.specs.Admission.{has_field, has_several}
 use Rattle.mds_control.proofs.admission.has_several.Given as goal
 
--- behind the first, one more is enough
+-- after the first, one more is enough
 abbrev pub invariant-loop-header : goal.invariant-loop-header
 invariant-loop-header l =
     (if l.is_found then has_field l.name (map (header_bytes l.bytes) (drop l.header-index l.headers))

@@ -6,7 +6,7 @@ use Rattle.mds_request.specs.Configuration.{configuration}
 use Rattle.mds_desk.specs.Desk.{state_of, new_desk}
 use Rattle.mds_desk.proofs.furnishing.desks.Given as goal
 
--- a desk is made of each pane so far, and there is room for all
+-- a desk is made with each pane so far, and there is room for all
 abbrev pub invariant-loop-pane : goal.invariant-loop-pane
 invariant-loop-pane g l = record {
   made : map state_of l.desks.items ≡ map (new_desk (configuration l.fn.config.value)) (range_with_len 0 (length l.yielded));

@@ -14,7 +14,7 @@ use Rattle.mds_examples.specs.Vehicles.{first_report, one_row}
 use Rattle.mds_examples.proofs.Rows.{no_rows, none_first, none_count, one_entry}
 use Rattle.mds_examples.proofs.histories.meaning.Goals as goal
 
--- the view's only report leads to one row
+-- the only report in the view leads to one row
 
 abbrev reports : List Event
 reports = arrival (first_report 2000) 2000 ∷ []

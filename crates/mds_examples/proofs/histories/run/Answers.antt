@@ -24,7 +24,7 @@ use Rattle.mds_examples.proofs.histories.run.Goals as goal
 stepped : {w next : State} {reply : Reply} (request : Request) → answered w request ≡ (reply, next) → Step w request reply next
 stepped request e = inl (ap (λ s. s.0) (sym e), ap (λ s. s.1) (sym e))
 
--- the states between: the first vehicle is there before the policy
+-- the states in between: the first vehicle is reported before the policy is put
 abbrev with_vehicle : State
 with_vehicle = record after_square { fleets = one_row ∷ no_rows ∷ [] }
 

@@ -4,7 +4,7 @@ use Rattle.std.proofs.lemmas.Iterator.Consumers.{map_from_collect, YieldsList-fr
 use Rattle.std.specs.BTreeMap.{values}
 use Rattle.mds_fleet.proofs.book.lent.Goals as goal
 
--- the closure gives what is in the box
+-- the closure borrows from the box
 pub returns-clause-whole : goal.returns-clause-whole
 returns-clause-whole c =
     map_from_collect _ c.collect.ensures.ran

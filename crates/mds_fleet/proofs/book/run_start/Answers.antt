@@ -4,7 +4,7 @@ use Rattle.mds_match.specs.Row.{row_of}
 use Rattle.mds_fleet.specs.Books.{report_document}
 use Rattle.mds_fleet.proofs.book.run_start.Goals as goal
 
--- the states are one
+-- the states are equal
 pub returns-then-eq : goal.returns-then-eq
 returns-then-eq c =
     let row = row_of c.args.vehicle.now in

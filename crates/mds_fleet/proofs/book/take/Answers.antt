@@ -23,12 +23,12 @@ use Rattle.mds_fleet.proofs.book.take.Goals as goal
 in_past : (a b : ℕ) → false ≡ is_gt (nat_cmp a b) → a ≤ b
 in_past a b h = grind (arith, nat_tests)
 
--- the only error that a refused growth makes
+-- the only error of a refused allocation
 refused : (r : Result Taken BookFault) → IsErrAnd r (λ e. e ≡ NoMemory) → r ≡ Err NoMemory
 refused (Ok taken) is = absurd is
 refused (Err fault) is = ap Err is
 
--- ---- the device is held
+-- ---- the device has a row
 
 updated : (c : goal.After-vehicles-1) → Updates c.args.vehicles.now c.args.report.device (Some (with_value c.in-Some.vehicle.now c.update.new.vehicle)) (c.get_mut.follows.lender (with_value c.in-Some.vehicle.now c.update.new.vehicle))
 updated c = ((c.get_mut.follows.holds (with_value c.in-Some.vehicle.now c.update.new.vehicle)).3 (subst IsSome c.in-Some.ensures.value refl)).0
@@ -63,7 +63,7 @@ returns-in-Some-clause-changed c is =
     let after = c.get_mut.follows.lender (with_value c.in-Some.vehicle.now c.update.new.vehicle) in
     changed_one c.args.vehicles.now after c.args.report.device _ (updated c) (c.get_mut.follows.holds (with_value c.in-Some.vehicle.now c.update.new.vehicle)).1
 
--- ---- it isn't
+-- ---- the device has no row
 
 pub returns-then-len-limit-clause-taken : goal.returns-then-len-limit-clause-taken
 returns-then-len-limit-clause-taken c =

@@ -4,7 +4,7 @@ use Rattle.mds_entries.specs.Entries.{entry_of}
 use Rattle.mds_folder.specs.Choosing.{concerns}
 use Rattle.mds_folder.proofs.choosing.told.Given as goal
 
--- what is told so far, and what is to be, are all
+-- those extracted so far and those left are all
 abbrev pub invariant-loop-entry : goal.invariant-loop-entry
 invariant-loop-entry l =
     map entry_of l.kept.items ++ filter (λ e. concerns l.extract.operator e.asker) (map entry_of (drop l.entry-index l.early))

@@ -3,7 +3,7 @@ use Rattle.mds_entries.specs.Entries.{entry_of}
 use Rattle.mds_folder.specs.Choosing.{without}
 use Rattle.mds_folder.proofs.choosing.without.Given as goal
 
--- what is kept so far, and what is to be, are all
+-- those taken so far and those left are all
 abbrev pub invariant-loop-entry : goal.invariant-loop-entry
 invariant-loop-entry l =
     map entry_of l.kept.items ++ without l.dropped (map entry_of (drop l.entry-index l.entries)) ≡ without l.dropped (map entry_of l.entries)

@@ -2,6 +2,6 @@ use Rattle.std.proofs.Common.{◌≡◌, map, take}
 use Rattle.mds_entries.specs.Entries.{entry_of, entry_text}
 use Rattle.mds_folder.proofs.journal.entries_in.Given as goal
 
--- the texts so far are those of the entries
+-- the payloads so far are those of the entries
 abbrev pub invariant-loop-number : goal.invariant-loop-number
 invariant-loop-number l = map (λ e. entry_text (entry_of e)) l.entries.items ≡ map (λ t. t.items) (take l.number l.texts)

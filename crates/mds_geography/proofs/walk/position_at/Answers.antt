@@ -8,7 +8,7 @@ use Rattle.mds_reading.proofs.Nodes.{node-Pairs}
 use Rattle.mds_geography.specs.Reading.{position_of, position_at}
 use Rattle.mds_geography.proofs.walk.position_at.Goals as goal
 
--- lists are no coordinates
+-- a list isn't a coordinate
 pairs_refused : (ps : List (Bor (List ℕ) × Bor (List ℕ))) → position_of (map pair_view ps) ≡ Err (bad_field Coordinates)
 pairs_refused [] = refl
 pairs_refused (p ∷ []) = refl

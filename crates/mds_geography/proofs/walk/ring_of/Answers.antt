@@ -12,7 +12,7 @@ use Rattle.mds_geography.proofs.walk.ring_of.Goals as goal
 same_number : (z : ℤ) → int_eq z z ≡ true
 same_number z = grind (arith, ints)
 
--- a position meets itself
+-- a position equals itself
 meets_itself : (p : Position) (q : Option Position) → Some p ≡ q → ends_meet (Some p) q ≡ true
 meets_itself p q same = subst (λ o. ends_meet (Some p) o ≡ true) same (rw (same_number p.lng, same_number p.lat) refl)
 

@@ -2,7 +2,7 @@ use Rattle.std.proofs.Common.{arith, ◌≡◌, ◌+◌, ◌*◌, ◌<◌, ◌�
 use Rattle.mds_geometry.proofs.Indexed.{strip_top}
 use Rattle.mds_geometry.proofs.marks.mark_across.Goals as goal
 
--- a cell within the grid
+-- the index of a cell of the grid is within its cells
 within : (row column last end : ℕ) → row ≤ last → column < 128 → end ≡ (last + 1) * 128 → row * 128 + column < end
 within row column last end below narrow is = omega arith
 

@@ -3,7 +3,7 @@ use Rattle.std.specs.List.{range_with_len}
 use Rattle.std.specs.Vec.Iter.{into_iter_items}
 use Rattle.mds_hall.proofs.hall.locked.Given as goal
 
--- each desk so far is behind a lock, at its place
+-- each desk so far is behind a lock, at its index
 abbrev pub invariant-loop-desk : goal.invariant-loop-desk
 invariant-loop-desk g l = record {
   in_order : map (λ desk. desk.place) l.locked.items ≡ range_with_len 0 (length l.yielded);

@@ -1,5 +1,5 @@
 use Rattle.mds_keeping_tests.proofs.commits.journal_bounded.Given as goal
 
--- the book of what was just opened
+-- the book of the log that was just opened
 abbrev pub ghosts-bounded : goal.ghosts-bounded
 ghosts-bounded g a = record { book = a.opened.seen.book }

@@ -1,5 +1,5 @@
 use Rattle.mds_keeping_tests.proofs.commits.journal_served.Given as goal
 
--- the book of what was just opened
+-- the book of the log that was just opened
 abbrev pub ghosts-served : goal.ghosts-served
 ghosts-served g a = record { book = a.opened.seen.book }

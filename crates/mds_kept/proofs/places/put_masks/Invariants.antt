@@ -3,7 +3,7 @@ use Rattle.mds_kept.specs.Kept.{with_place}
 use Rattle.mds_kept.specs.declared.kept.Column.{Column}
 use Rattle.mds_kept.proofs.places.put_masks.Given as goal
 
--- the columns so far are edited, and the others are as they were
+-- the columns so far are edited, the others are unchanged
 abbrev pub invariant-loop-column : goal.invariant-loop-column
 invariant-loop-column l = record {
   policies : (k : ℕ) (d : Column) → k < length l.fn.columns → (get_or l.columns k d).policy ≡ (get_or l.fn.columns k d).policy;

@@ -2,7 +2,7 @@ use Rattle.std.proofs.Common.{◌≡◌, length, drop}
 use Rattle.mds_kept.specs.Kept.{AreKept}
 use Rattle.mds_kept.proofs.words.renew.Given as goal
 
--- the words of the devices so far are renewed
+-- the words of the devices so far are computed again
 abbrev pub invariant-loop-device : goal.invariant-loop-device
 invariant-loop-device g l = record {
   long : length l.words ≡ length l.fn.words;

@@ -1,6 +1,6 @@
 use Rattle.std.proofs.Common.{ℕ, ◌<◌, ◌≤◌, get_or}
 use Rattle.mds_limits.proofs.seat.fullest.Given as goal
 
--- none before has more, and whoever was found has that many
+-- no client before this index has more connections, and the fullest so far has that many
 abbrev pub invariant-loop-place : goal.invariant-loop-place
 invariant-loop-place l = ((k : ℕ) → k < l.place → get_or l.counts k 0 ≤ l.held) × (l.held ≤ get_or l.counts l.most 0)

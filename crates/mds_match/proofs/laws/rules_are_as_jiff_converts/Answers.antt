@@ -10,7 +10,7 @@ use Rattle.mds_match.specs.Zone.{offset_in, instant_of, local_at, shown}
 use Rattle.mds_match.proofs.Offsets.{rule_offset-is}
 use Rattle.mds_match.proofs.laws.rules_are_as_jiff_converts.Goals as goal
 
--- a datetime's days, seconds and nanoseconds make up the moment at its offset
+-- the days, seconds and nanoseconds of a datetime add up to the moment at its offset
 abbrev Comes : ℤ → ℕ → ℤ → ℕ → ℕ → Type 0
 Comes offset moment days seconds nanos = (days *ℤ pos 86400000000000) +ℤ pos (seconds * 1000000000 + nanos) ≡ (pos moment *ℤ pos 1000000) +ℤ (offset *ℤ pos 1000000000)
 

@@ -7,7 +7,7 @@ use Rattle.mds_match.specs.declared.local.Local.{Local}
 use Rattle.mds_match.specs.Zone.{local_at}
 use Rattle.mds_match.proofs.zone.local_at.Goals as goal
 
--- the four divisions, one after another, are the local time
+-- the four divisions, one after another, give the local time
 local_is : (offset : ℤ) (moment : ℕ) (days seconds weekday second : ℤ) (day clock : ℕ) → days ≡ int_div_euclid ((pos moment +ℤ (offset *ℤ pos 1000)) +ℤ pos 345600000) (pos 86400000) → seconds ≡ int_div_euclid (pos moment +ℤ (offset *ℤ pos 1000)) (pos 1000) → weekday ≡ int_rem_euclid days (pos 7) → second ≡ int_rem_euclid seconds (pos 86400) → day ≡ unsigned_abs weekday → clock ≡ unsigned_abs second → (let made : Local = record { weekday = day; second = clock } in made) ≡ local_at offset moment
 local_is offset moment days seconds weekday second day clock d s w c e f = rw (e, f, w, c, d, s) refl
 

@@ -3,7 +3,7 @@ use Rattle.mds_catalog.specs.Catalogue.{lent_policy, publications_of}
 use Rattle.mds_public.specs.Face.{last, touched}
 use Rattle.mds_public.proofs.making.updated.Given as goal
 
--- with the policies that are left it is what is sought
+-- with the policies that are left it is the result
 abbrev pub invariant-loop-policy : goal.invariant-loop-policy
 invariant-loop-policy l =
     last l.updated (map (touched (publications_of l.catalogue)) (map lent_policy (drop l.policy-index l.policies)))

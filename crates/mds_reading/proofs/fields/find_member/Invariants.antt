@@ -4,6 +4,6 @@ use Rattle.mds_text.specs.Tree.{members_of}
 use Rattle.mds_reading.specs.Node.{node_member_view}
 use Rattle.mds_reading.proofs.fields.find_member.Given as goal
 
--- what was passed has another name
+-- the members before have other names
 abbrev pub invariant-loop-member : goal.invariant-loop-member
 invariant-loop-member l = find_member l.name (members_of (map node_member_view (drop l.member-index l.members))) ≡ find_member l.name (members_of (map node_member_view l.members))

@@ -4,7 +4,7 @@ use Rattle.mds_records.specs.Records.{written}
 use Rattle.mds_records.specs.Groups.{are_taken, group_of}
 use Rattle.mds_records.proofs.group.group_of.Given as goal
 
--- what is written and what is left are all
+-- the records written so far and those left are all
 abbrev pub invariant-loop-text : goal.invariant-loop-text
 invariant-loop-text l =
     record {

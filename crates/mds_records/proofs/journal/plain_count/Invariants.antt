@@ -2,7 +2,7 @@ use Rattle.std.proofs.Common.{◌≡◌, ◌+◌, ◌≤◌, map, drop, length}
 use Rattle.mds_records.specs.Groups.{listed}
 use Rattle.mds_records.proofs.journal.plain_count.Given as goal
 
--- those counted, and those that are to be, are all
+-- those counted so far and those left are all
 abbrev pub invariant-loop-record : goal.invariant-loop-record
 invariant-loop-record l =
     record {

@@ -2,7 +2,7 @@ use Rattle.std.proofs.Common.{◌≡◌, length}
 use Rattle.mds_records.specs.Marks.{further, furthest_said}
 use Rattle.mds_records.proofs.marks.furthest_said.Given as goal
 
--- the most so far, and what is said from here on, are all that is said
+-- the furthest so far and the furthest from here on give the furthest
 abbrev pub invariant-loop-behind : goal.invariant-loop-behind
 invariant-loop-behind l = further l.most (furthest_said l.rest) ≡ furthest_said l.fn.bytes
 

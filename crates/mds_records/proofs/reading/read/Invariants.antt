@@ -3,7 +3,7 @@ use Rattle.mds_records.specs.Sum.{sums_over}
 use Rattle.mds_records.specs.Records.{Reads, extent, offsets_from}
 use Rattle.mds_records.proofs.reading.read.Given as goal
 
--- whatever is read of the rest is read behind what was found; what was found takes the bytes before the rest
+-- whatever is read from the rest is read after what was found; what was found takes the bytes before the rest
 abbrev pub invariant-loop-text : goal.invariant-loop-text
 invariant-loop-text l =
     record {

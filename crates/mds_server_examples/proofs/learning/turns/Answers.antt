@@ -13,7 +13,7 @@ returns-clause-report c = takes_report
 pub returns-clause-question : goal.returns-clause-question
 returns-clause-question c = takes_question
 
--- a list with two publications at least
+-- whether a list has at least two publications
 abbrev has_two : List Publication → Bool
 has_two (p ∷ q ∷ more) = true
 has_two other = false

@@ -1,6 +1,6 @@
 use Rattle.mds_snapshot.specs.Opening.{book_of}
 use Rattle.mds_server_tests.proofs.desk.stage.Given as goal
 
--- the book of what was just prepared
+-- the book of the blank that was just prepared
 abbrev pub ghosts-furnished : goal.ghosts-furnished
 ghosts-furnished g a = record { book = book_of a.blank }

@@ -2,7 +2,7 @@ use Rattle.mds_request.specs.Configuration.{configuration}
 use Rattle.mds_snapshot.specs.Opening.{book_of}
 use Rattle.mds_server_tests.proofs.loopback.played.Given as goal
 
--- the book of what was just prepared
+-- the book of the blank that was just prepared
 abbrev pub ghosts-served-K-Naming : goal.ghosts-served-K-Naming
 ghosts-served-K-Naming g a = record { book = book_of a.blank }
 

@@ -5,7 +5,7 @@ use Rattle.mds_thinning.specs.Staying.{staying}
 use Rattle.mds_thinning.specs.Passes.{device_cmp, ahead_of}
 use Rattle.mds_thinning.proofs.choosing.chosen.Given as goal
 
--- what was found of those behind
+-- what was found of those after this one
 abbrev pub invariant-loop-place : goal.invariant-loop-place
 invariant-loop-place l =
     record {

@@ -4,6 +4,6 @@ use Rattle.mds_entries.specs.Entries.{entry_of}
 use Rattle.mds_thinning.specs.Kinds.{kind_of}
 use Rattle.mds_thinning.proofs.thinned.kinds_of.Given as goal
 
--- what the entries so far are
+-- the kinds of the entries so far
 abbrev pub invariant-loop-entry : goal.invariant-loop-entry
 invariant-loop-entry l = l.kinds.items ≡ map (kind_of (configuration l.config)) (map entry_of (take l.entry-index l.entries))

@@ -2,6 +2,6 @@ use Rattle.std.proofs.Common.{◌≡◌, map, take}
 use Rattle.mds_entries.specs.Entries.{entry_of, entry_text}
 use Rattle.mds_thinning.proofs.writing.texts_of.Given as goal
 
--- the texts of the entries so far
+-- the payloads of the entries so far
 abbrev pub invariant-loop-entry : goal.invariant-loop-entry
 invariant-loop-entry l = map (λ t. t.items) l.texts.items ≡ map (λ e. entry_text (entry_of e)) (take l.entry-index l.entries)

@@ -1,6 +1,6 @@
 use Rattle.mds_snapshot.specs.Opening.{book_of}
 use Rattle.mds_thinning_tests.proofs.starting.goes_on_from_a_journal.Given as goal
 
--- the book of what was just prepared
+-- the book of the blank that was just prepared
 abbrev pub ghosts-go_on : goal.ghosts-go_on
 ghosts-go_on g a = record { book = book_of a.blank }

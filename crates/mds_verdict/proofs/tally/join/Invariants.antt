@@ -6,7 +6,7 @@ use Rattle.mds_verdict.specs.Verdict.{verdict_document}
 use Rattle.mds_verdict.specs.declared.verdict.RuleVerdict.{RuleVerdict}
 use Rattle.mds_verdict.proofs.tally.join.Given as goal
 
--- the verdicts so far are joined, and the others are as they were
+-- the verdicts so far are joined, the others are unchanged
 abbrev pub invariant-loop-place : goal.invariant-loop-place
 invariant-loop-place l = record {
   long : length l.held ≡ length l.fn.held;

@@ -7,7 +7,7 @@ use Rattle.mds_catalog.specs.Catalogue.{publications_of}
 use Rattle.mds_catalog.specs.Publication.{published_area}
 use Rattle.mds_world.proofs.compliance.policy_verdicts.Goals as goal
 
--- the vehicles that the evaluator is asked about are those of the book
+-- the vehicles for the evaluator are those of the book
 pub returns-clause-exact : goal.returns-clause-exact
 returns-clause-exact g c =
     let rows : map (λ v. row_of v.now) c.deref.result.now ≡ values c.args.book.now.rows =

@@ -2,6 +2,6 @@ use Rattle.std.proofs.Common.{◌≡◌, false, drop}
 use Rattle.mds_zones.specs.Names.{are_parts}
 use Rattle.mds_zones.proofs.name.are_parts.Given as goal
 
--- what is left decides as the whole does
+-- the rest decides as the whole does
 abbrev pub invariant-loop-byte : goal.invariant-loop-byte
 invariant-loop-byte l = are_parts l.begun (drop l.byte-index l.text) ≡ are_parts false l.fn.text

@@ -3,7 +3,7 @@ use Rattle.mds_geography.specs.Geography.{geography_document}
 use Rattle.mds_catalog.specs.Publication.{are_distinct}
 use Rattle.mds_catalog.proofs.batch.Batch.geographies_differ.Given as goal
 
--- the rest differs where the whole list does
+-- the rest is distinct where the whole list is
 abbrev pub invariant-loop-i : goal.invariant-loop-i
 invariant-loop-i l =
     are_distinct (map (λ d. d.id) (map (λ share. geography_document share.value) (drop l.i l.self.geographies.items)))

@@ -3,7 +3,7 @@ use Rattle.mds_policy.specs.Policy.{policy_document}
 use Rattle.mds_catalog.specs.Publication.{is_policy_published, publications_in}
 use Rattle.mds_catalog.proofs.catalogue.Catalogue.published_policy.Given as goal
 
--- the rest has what the whole list has
+-- the search in the rest finds what the one in the whole list does
 abbrev pub invariant-loop-policy : goal.invariant-loop-policy
 invariant-loop-policy l =
     find (is_policy_published (publications_in l.self.batches.items)) (map (λ d. d.id) (map (λ share. policy_document share.value) (drop l.policy-index l.batch.policies.items)))

@@ -1,6 +1,6 @@
 use Rattle.mds_city.specs.Records.{text_of}
 use Rattle.mds_city.proofs.city.City.room_turn_of.Given as goal
 
--- the text that a place is held for
+-- the payload of the reservation
 abbrev pub ghosts-room_turn : goal.ghosts-room_turn
 ghosts-room_turn g a = record { text = text_of a.reserved }

@@ -3,7 +3,7 @@ use Rattle.std.specs.Vec.Iter.{into_iter_items}
 use Rattle.mds_commit.specs.Durable.{chosen}
 use Rattle.mds_commit.proofs.backlog.Backlog.settle.Given as goal
 
--- what was appended, with what is chosen of the texts that are left, is what is to be appended
+-- what was appended, with what is chosen of the payloads that are left, is what is to be appended
 abbrev pub invariant-loop-text : goal.invariant-loop-text
 invariant-loop-text g l = record {
   settled : l.is_settled ≡ true

@@ -1,7 +1,7 @@
 use Rattle.mds_world.proofs.Lasting.{fits_front}
 use Rattle.mds_desk.proofs.desk.Desk.learn.Goals as goal
 
--- what the book keeps stays right for more publications
+-- the book's index stays right for more publications
 pub invariant_of-self : goal.invariant_of-self
 invariant_of-self g c =
     let now = c.args.self.now in

@@ -5,11 +5,11 @@ use Rattle.mds_request.specs.Configuration.{operator}
 use Rattle.mds_world.specs.Lasting.{lasting_in}
 use Rattle.mds_desk.proofs.desk.Desk.new.Goals as goal
 
--- what an empty book keeps is right for whatever is published
+-- the index of an empty book is right for whatever is published
 pub invariant_of-result-clause-fits : goal.invariant_of-result-clause-fits
 invariant_of-result-clause-fits g c = c.new-book.ensures.fits (lasting_in c.args.pane)
 
--- the book's limit is that of the operator at the seat's place
+-- the book's limit is that of the operator at this place
 pub invariant_of-result-clause-limit : goal.invariant_of-result-clause-limit
 invariant_of-result-clause-limit g c =
     let found = c.operators.result.now in

@@ -6,7 +6,7 @@ use Rattle.mds_world.proofs.Lasting.{fits_front}
 use Rattle.mds_desk.proofs.Turning.{looked, not_looked}
 use Rattle.mds_desk.proofs.desk.Desk.take_turn.Goals as goal
 
--- what the book keeps stays right for a front that begins with all that is known
+-- the book's index stays right for a front that has all that is known as a prefix
 pub answer_call-answer-requires-clause-fits : goal.answer_call-answer-requires-clause-fits
 answer_call-answer-requires-clause-fits g c = fits_front c.args.self.pane c.in-Ok.look c.args.self.book c.in-Ok.ensures c.args.self.fits
 
@@ -18,7 +18,7 @@ returns-in-Ok g c =
     c.answer_call-answer.result c.answer_call-answer.new.book.rows
     (subst (IsPrefix d.pane) (sym left) c.in-Ok.ensures) (sym left) c.answer_call-answer.ensures.answer
 
--- nothing is shown: the desk is as it was
+-- there is no snapshot: the desk is unchanged
 pub returns-in-Err : goal.returns-in-Err
 returns-in-Err g c =
     let d = c.args.self in

@@ -4,14 +4,14 @@ use Rattle.mds_fronts.proofs.Views.{prefix_self}
 use Rattle.mds_world.proofs.Lasting.{fits_front}
 use Rattle.mds_desk.proofs.desk.Desk.telling.Goals as goal
 
--- what the book keeps stays right for a front that begins with all that is known
+-- the book's index stays right for a front that has all that is known as a prefix
 pub invariant_of-desk : goal.invariant_of-desk
 invariant_of-desk g c =
     let d = c.args.self in
     let left : c.leave-pane.result ≡ c.in-Ok.look = cc in
     record { limit = d.limit; fits = fits_front d.pane c.leave-pane.result d.book (subst (IsPrefix d.pane) (sym left) c.in-Ok.ensures) d.fits }
 
--- the front that was looked at is known from then on
+-- the front of the snapshot is known from then on
 pub returns-in-Ok-clause-learnt : goal.returns-in-Ok-clause-learnt
 returns-in-Ok-clause-learnt g c =
     let left : c.leave-pane.result ≡ c.in-Ok.look = cc in

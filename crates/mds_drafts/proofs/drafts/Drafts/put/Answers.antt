@@ -6,7 +6,7 @@ use Rattle.mds_text.specs.declared.draft_kind.DraftKind.{DraftKind}
 use Rattle.mds_drafts.proofs.Held.{is_held, held_at, none_at_position, answer_replaced, answer_full, answer_new}
 use Rattle.mds_drafts.proofs.drafts.Drafts.put.Goals as goal
 
--- the place of a key, by equal names of it
+-- the index of a key, by equal names of it
 same_place : (items : List Draft) (kind kind' : DraftKind) (id id' : List ℕ) (o : Option ℕ) → kind ≡ kind' → id ≡ id' → o ≡ position (λ d. is_of (document_of d) kind id) items → position (λ d. is_of (document_of d) kind' id') items ≡ o
 same_place items kind kind' id id' o e f h = sym (h ∙ ap (λ k. position (λ d. is_of (document_of d) k id) items) e ∙ ap (λ i. position (λ d. is_of (document_of d) kind' i) items) f)
 

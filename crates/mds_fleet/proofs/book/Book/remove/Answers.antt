@@ -26,7 +26,7 @@ pub returns-in-Some-clause-rows : goal.returns-in-Some-clause-rows
 returns-in-Some-clause-rows c =
     removed_row c.self.inside.vehicles c.remove.new.self c.args.device c.remove.ensures.updates.0 ∙ ap (λ b. finite.remove b.rows c.args.device) c.self.view_is
 
--- the device that went is taken out
+-- the device is taken out of the index
 pub returns-in-Some-clause-fits : goal.returns-in-Some-clause-fits
 returns-in-Some-clause-fits c published fits =
     let before = c.self.inside.vehicles in

@@ -10,7 +10,7 @@ use Rattle.mds_fleet.specs.declared.book.Taken.TheVariants.{Changed, New}
 use Rattle.mds_fleet.proofs.Fitting.{fits_book}
 use Rattle.mds_fleet.proofs.book.Book.report.Goals as goal
 
--- what became of an accepted report, read out of the outcome as the program does
+-- the result of an accepted report, read out of the outcome as the program does
 read : Result Taken BookFault → Taken
 read r = (values_d (enum taken.the_row fault.the_row) 0 (New, tt) r).0
 
@@ -20,7 +20,7 @@ as_read r is taken ok reads =
     let same : is ≡ taken = ap read (sym ok) ∙ reads in
     ok ∙ ap (λ t. Ok t) same
 
--- the device that came is put in
+-- a new device is put into the index
 pub returns-in-Ok-New-clause-fits : goal.returns-in-Ok-New-clause-fits
 unfolding read
 returns-in-Ok-New-clause-fits c published fits =
@@ -31,7 +31,7 @@ returns-in-Ok-New-clause-fits c published fits =
     fits_book published after (record { rows = rows_of after; limit = c.self.inside.limit; kept = c.arrive.new.self }) c.take-taken.ensures.kept.ordered refl
     (c.arrive.ensures published before after c.self.invariant.ordered (c.take-taken.ensures.arrived is) fitted)
 
--- the device is noted
+-- the index notes the device
 pub returns-in-Ok-Changed-clause-fits : goal.returns-in-Ok-Changed-clause-fits
 unfolding read
 returns-in-Ok-Changed-clause-fits c published fits =

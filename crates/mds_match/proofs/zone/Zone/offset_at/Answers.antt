@@ -9,12 +9,12 @@ use Rattle.mds_match.specs.declared.zone.Kind.TheVariants.{Fixed, Rule}
 use Rattle.mds_match.proofs.Offsets.{offset_in-is}
 use Rattle.mds_match.proofs.zone.Zone.offset_at.Goals as goal
 
--- the offset that is kept is that of the zone
+-- the stored offset is that of the zone
 of_fixed : (offset : ℤ) (kind : Kind) (zone : ZoneKind) (moment : ℕ) → kind ≡ Fixed offset → zone_kind kind ≡ zone → offset ≡ offset_in zone moment
 unfolding offset_in
 of_fixed offset kind zone moment is view_is = rw (← view_is, is) refl
 
--- and so is the offset of the rule that is kept
+-- and so is the offset of the stored rule
 of_rule : (rule : TimeZone) (kind : Kind) (zone : ZoneKind) (moment : ℕ) → kind ≡ Rule rule → IsKept kind → zone_kind kind ≡ zone → offset_at (plain_zone rule) (instant_of moment) ≡ offset_in zone moment
 of_rule rule kind zone moment is kept view_is = rw (← view_is, is) (offset_in-is (plain_zone rule) moment (subst IsKept is kept))
 

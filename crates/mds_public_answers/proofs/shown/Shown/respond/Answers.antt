@@ -15,7 +15,7 @@ use Rattle.mds_public_answers.specs.Response.{query_of}
 use Rattle.mds_public_answers.proofs.Telling.{refused_for, says_of_room}
 use Rattle.mds_public_answers.proofs.shown.Shown.respond.Goals as goal
 
--- why nothing was told, read out of an answer as the program does
+-- why there is no body, read out of an answer as the program does
 read : Denied × ⊤ → Result (List ℕ) Denied → Denied
 read given answer = (values_d (enum (bytes.the_row global.the_row allocator.ghosts) denied.the_row) 1 given answer).0
 

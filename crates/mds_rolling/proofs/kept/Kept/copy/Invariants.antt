@@ -1,7 +1,7 @@
 use Rattle.std.proofs.Common.{◌≡◌, ◌++◌, map, drop}
 use Rattle.mds_rolling.proofs.kept.Kept.copy.Given as goal
 
--- what is copied so far, and what is to be, are all
+-- those copied so far and those left are all
 abbrev pub invariant-loop-text : goal.invariant-loop-text
 invariant-loop-text l =
     record {

@@ -10,7 +10,7 @@ use Rattle.mds_desk.proofs.Desks.{desk_send}
 use Rattle.mds_server_tests.specs.contracts.desk.overlapping.RunningDesk as RunningDesk
 use Rattle.mds_server_tests.proofs.desk.overlapping.published_beside.Goals as goal
 
--- a desk that is lent, and the flags
+-- a running desk may go to another thread: its desk is borrowed, and the flags are shared
 running_send : (a : NamedLft) (K : RattleType) (g : Ghosts K.Denot) → IsSend (RunningDesk.the_row a K g)
 running_send a K g = let d = desk_send K g in declared_send (RunningDesk.the_type a K g) (search (sendable, crosses) depth 20, (search (sendable, crosses) depth 20, tt))
 

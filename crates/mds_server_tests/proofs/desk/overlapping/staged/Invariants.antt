@@ -1,6 +1,6 @@
 use Rattle.mds_snapshot.specs.Opening.{book_of}
 use Rattle.mds_server_tests.proofs.desk.overlapping.staged.Given as goal
 
--- the book of what was just prepared
+-- the book of the blank that was just prepared
 abbrev pub ghosts-overlapped : goal.ghosts-overlapped
 ghosts-overlapped g a = record { book = book_of a.blank }

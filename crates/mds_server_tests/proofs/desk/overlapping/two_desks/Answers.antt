@@ -10,7 +10,7 @@ use Rattle.mds_desk.proofs.Desks.{desk_send}
 use Rattle.mds_server_tests.specs.contracts.desk.overlapping.HeldDesk as HeldDesk
 use Rattle.mds_server_tests.proofs.desk.overlapping.two_desks.Goals as goal
 
--- a desk that is lent, and the flags
+-- a held desk may go to another thread: its desk is borrowed, and the flags are shared
 held_send : (a : NamedLft) (K : RattleType) (g : Ghosts K.Denot) → IsSend (HeldDesk.the_row a K g)
 held_send a K g = let d = desk_send K g in declared_send (HeldDesk.the_type a K g) (search (sendable, crosses) depth 20, (search (sendable, crosses) depth 20, tt))
 

@@ -11,7 +11,7 @@ use Rattle.mds_hall.proofs.Halls.{hall_sync}
 use Rattle.mds_server_tests.specs.contracts.hall.overlapping.HeldQuestion as HeldQuestion
 use Rattle.mds_server_tests.proofs.hall.overlapping.beside_a_held_question.Goals as goal
 
--- the runtime and the hall are shared, and so are the flags
+-- a question may go to another thread: the runtime, the hall and the flags are shared
 question_send : (a : NamedLft) (K R : RattleType) (n : Names K.Denot) (g : Ghosts K.Denot) → IsSync R → IsSend (HeldQuestion.the_row a K R n g)
 question_send a K R n g r =
     let h = hall_sync K n g in

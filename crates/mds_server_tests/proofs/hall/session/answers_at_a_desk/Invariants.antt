@@ -1,6 +1,6 @@
 use Rattle.mds_snapshot.specs.Opening.{book_of}
 use Rattle.mds_server_tests.proofs.hall.session.answers_at_a_desk.Given as goal
 
--- the book of what was just prepared
+-- the book of the blank that was just prepared
 abbrev pub ghosts-at_desk : goal.ghosts-at_desk
 ghosts-at_desk g a = record { book = book_of a.blank }

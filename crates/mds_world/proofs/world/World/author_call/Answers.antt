@@ -7,7 +7,7 @@ use Rattle.mds_world.specs.Lasting.{lasting_in}
 use Rattle.mds_world.proofs.Lasting.{all_fit_grown, lawful_extended}
 use Rattle.mds_world.proofs.world.World.author_call.Goals as goal
 
--- one publication more, where it is lawful
+-- one more publication, where it is lawful
 pub invariant_of-self-in-Publish : goal.invariant_of-self-in-Publish
 invariant_of-self-in-Publish g c =
     let now = c.args.self.now in
