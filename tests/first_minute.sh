@@ -136,11 +136,11 @@ try_serve() {
     end "$process"
 }
 
-# The numbers of a process and of all that it has started.
+# The numbers of a process and of all that it has started, as the root's /proc has them: the outer one has other numbers.
 all_of() {
     local child
     echo "$1"
-    for child in $(cat /proc/"$1"/task/*/children 2>/dev/null); do
+    for child in $(cat "$root/proc/$1"/task/*/children 2>/dev/null); do
         all_of "$child"
     done
 }

@@ -1,4 +1,4 @@
--- How an errand ends, and with which exit status (PROTOCOL, ruffletuff).
+-- How a job ends, and with which exit status (PROTOCOL, ruffletuff).
 use Rattle.std.specs.Prelude.{ℕ, ◌==◌, if◌then◌else◌}
 use Rattle.mds_errands.specs.declared.end.End.{End}
 use Rattle.mds_errands.specs.declared.end.End.TheVariants.{Done, SomeRefused, NoServer, BadReply, NotPrinted, BadPlace, NoToken, NoMemory, NotWritten, Barred}
@@ -22,7 +22,7 @@ exit_status NotWritten = 4
 exit_status SomeRefused = 9
 exit_status Barred = 10
 
--- how an errand ends that has no reply
+-- how a job ends without a response
 abbrev pub end_of_fault : ReplyFault → End
 end_of_fault Reply.NoMemory = NoMemory
 end_of_fault Reply.NoConnection = NoServer

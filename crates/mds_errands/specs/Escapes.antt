@@ -1,4 +1,4 @@
--- Bytes of elsewhere as they are shown on a terminal: those of printable ASCII (RFC 20) as they are, and each other one by its number.
+-- Bytes from elsewhere, escaped for a terminal: printable ASCII (RFC 20) as it is, and each other byte by its number.
 use Rattle.std.specs.Prelude.{ℕ, ◌+◌, ◌/◌, ◌%◌, ◌==◌, ◌&&◌, not, Bool, nat_le, nat_lt, if◌then◌else◌, List, [], ◌∷◌}
 use Rattle.std.specs.List.{flat_map}
 
@@ -9,7 +9,7 @@ is_shown byte = nat_le 32 byte && nat_le byte 126 && not (byte == 92)
 abbrev pub hex_digit : ℕ → ℕ
 hex_digit digit = if nat_lt digit 10 then 48 + digit else 87 + digit
 
--- a byte that isn't shown stands as `\x` and two digits, and the backslash so too
+-- a byte that isn't shown, the backslash among them, is written as `\x` and two digits
 abbrev pub escaped_byte : ℕ → List ℕ
 escaped_byte byte = if is_shown byte then byte ∷ [] else 92 ∷ 120 ∷ hex_digit (byte / 16) ∷ hex_digit (byte % 16) ∷ []
 

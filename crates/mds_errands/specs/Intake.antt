@@ -1,4 +1,4 @@
--- Which drafts are sent, and whom is asked.
+-- Limits on the drafts that are sent, and on what may stand in a request.
 use Rattle.std.specs.Prelude.{ℕ, List, length, ◌==◌, Bool, true, false, ◌&&◌, not, nat_le, nat_lt, bytes_eq, if◌then◌else◌, Option, Some, None}
 use Rattle.std.specs.List.{list_all, list_any}
 use Rattle.mds_text.specs.declared.draft_kind.DraftKind.{DraftKind}
@@ -13,12 +13,12 @@ is_same_kind Policy Policy = true
 is_same_kind Geography Geography = true
 is_same_kind kind other = false
 
--- two drafts have one place at the server
+-- two drafts are of one kind and identifier
 abbrev pub is_same : Draft → Draft → Bool
 is_same draft other = is_same_kind draft.kind other.kind && bytes_eq draft.id other.id
 
--- why a draft isn't sent behind others: its body is longer than the server reads, its place is taken by another of these files, or
--- there are as many as a city may have of both kinds
+-- why a draft isn't sent after others: its body is longer than the server reads, another of these files' drafts has its
+-- kind and identifier, or there are as many as a city may have of both kinds
 abbrev pub why_unkept : List Draft → Draft → Option Unkept
 why_unkept drafts draft =
     if nat_lt MOST_BODY (length draft.body.items) then Some Long

@@ -1,9 +1,10 @@
--- What a reply says of what was sent (PROTOCOL, refusals).
+-- What the status of a response means for what was sent (PROTOCOL, refusals).
 use Rattle.std.specs.Prelude.{ℕ, ◌==◌, ◌||◌, nat_le, if◌then◌else◌}
 use Rattle.mds_errands.specs.declared.meaning.Meaning.{Meaning}
 use Rattle.mds_errands.specs.declared.meaning.Meaning.TheVariants.{Taken, Refused, Barred, Unavailable}
 
--- 200: it is taken; 401 and 403: who sends it may send nothing; from 500 on the server can't take anything now; any other status refuses it alone
+-- 200: it is accepted; 401 and 403: the client may send nothing; from 500 on the server can't accept anything now; any
+-- other status refuses it alone
 abbrev pub meaning_of : ℕ → Meaning
 meaning_of status =
     if status == 200 then Taken

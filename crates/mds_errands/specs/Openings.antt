@@ -5,6 +5,7 @@ use Rattle.std.specs.Prelude.{ℕ, List, take, Bool, ◌||◌, bytes_eq, codes}
 abbrev pub is_given_open : (path : List ℕ) → Bool
 is_given_open path = bytes_eq path (codes "/dev/stdin") || bytes_eq (take 8 path) (codes "/dev/fd/")
 
--- a FIFO, a socket, a device or a folder is none of them by a path of its own
+-- a regular file, or one that was given open: no FIFO, socket, device or folder by a path of its
+-- own
 abbrev pub is_opened : (path : List ℕ) → (is_regular : Bool) → Bool
 is_opened path is_regular = is_regular || is_given_open path

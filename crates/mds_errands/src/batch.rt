@@ -1,4 +1,4 @@
-//! Many reports in one request, and what is answered of each.
+//! Batches of reports, each sent in one request, and the responses to them.
 
 use crate::end::{End, Tally};
 use crate::escape::escaped;
@@ -12,16 +12,16 @@ use mds_text::{TextFault, Tree, print_tree};
 use std::alloc::{AllocGlobal, Global};
 use std::io::{Eprint, Print};
 
-/// The most reports of a batch, and the most bytes.
+/// The most reports and the most bytes of a batch.
 const MOST_REPORTS: usize = 4_000;
 
 const MOST_BYTES: usize = 1_000_000;
 
-/// Reports of which each is a line.
+/// Reports that are sent in one request, a line each.
 #[derive(Drop)]
 pub(crate) struct Batch {
     body: Vec<u8>,
-    /// Where each stood.
+    /// Where each report comes from.
     origins: Vec<Origin>,
 }
 
@@ -39,7 +39,7 @@ impl Batch {
         &self.body
     }
 
-    /// Whether another report of so many bytes goes into it.
+    /// Whether a report of this many bytes still fits.
     fn has_room(&self, bytes: usize) -> bool {
         self.origins.len() < MOST_REPORTS && self.body.len().saturating_add(bytes) < MOST_BYTES
     }
@@ -59,7 +59,7 @@ impl Batch {
     }
 }
 
-/// Adds a report to a new batch behind these.
+/// Appends a new batch with a report.
 ///
 /// # Errors
 ///
@@ -78,7 +78,7 @@ fn put_behind(
     }
 }
 
-/// Adds a report to the last of these batches, or to a new one where that is full.
+/// Appends a report to the last of these batches, or to a new one where it has no room.
 ///
 /// # Errors
 ///
@@ -102,7 +102,7 @@ pub(crate) fn put_in(
     }
 }
 
-/// How many bytes stand in front of the first line end.
+/// The length of the first line, without its line end.
 fn line_len(bytes: &[u8]) -> usize {
     match bytes.iter().position(|byte| *byte == b'\n') {
         Some(end) => end,
@@ -110,19 +110,19 @@ fn line_len(bytes: &[u8]) -> usize {
     }
 }
 
-/// The first line of bytes.
+/// The first line, without its line end.
 fn line_in(bytes: &[u8]) -> &[u8] {
     bytes.get(..line_len(bytes)).unwrap_or_default()
 }
 
-/// What stands behind the first line of bytes.
+/// What follows the first line.
 fn behind_line(bytes: &[u8]) -> &[u8] {
     bytes
         .get(line_len(bytes).saturating_add(1)..)
         .unwrap_or_default()
 }
 
-/// Prints the requests of a batch's reports, a line each, with bytes of elsewhere as they are shown.
+/// Prints the requests of a batch's reports, a line each, with bytes from elsewhere escaped.
 ///
 /// # Errors
 ///
@@ -144,11 +144,11 @@ pub(crate) fn print_batch<R: Print + AllocGlobal>(
     Ok(())
 }
 
-/// What a line of an answer says of its report: the status and the body that it would have had by itself.
+/// Reads a line of a response: the status and the body that its report would have been answered with by itself.
 ///
 /// # Errors
 ///
-/// `NoMemory`, and `NoServer` where the line says nothing of the kind.
+/// `NoMemory`, and `NoServer` where the line doesn't say so.
 fn reply_in(alloc: Global, line: &[u8]) -> Result<Reply, End> {
     let tree = match read_tree(alloc, line) {
         Ok(tree) => tree,
@@ -167,7 +167,7 @@ fn reply_in(alloc: Global, line: &[u8]) -> Result<Reply, End> {
     }
 }
 
-/// The status that a line of an answer has.
+/// The status in a line of a response.
 fn status_in(line: &Tree) -> Option<u16> {
     match named(line, "status") {
         Some(Tree::Int(status)) => u16::try_from(*status).ok(),
@@ -175,7 +175,7 @@ fn status_in(line: &Tree) -> Option<u16> {
     }
 }
 
-/// Takes note of what is answered of each report.
+/// Counts what the lines of a response say of a batch's reports, and reports each refusal.
 ///
 /// # Errors
 ///
@@ -196,7 +196,8 @@ fn note_lines<R: Eprint + AllocGlobal>(
     Ok(())
 }
 
-/// Takes note of what is answered of a batch: a line of each report, or that it is refused as a whole.
+/// Counts what a response says of a batch, and reports each refusal: by a line for each report, or by its status where
+/// the batch is refused as a whole.
 ///
 /// # Errors
 ///

@@ -1,4 +1,4 @@
-//! Connections to a server, within a time.
+//! Connections to a server, with a deadline.
 
 use mds_client::Dial;
 use std::io::{self, ErrorKind, Read, Write};
@@ -6,10 +6,10 @@ use std::net::{Net, OpenStream, TcpStream};
 use std::thread;
 use std::time::{Clock, Duration};
 
-/// How many seconds a server has for an answer.
+/// How many seconds a server has for a response, and each single read or write.
 const ANSWER_SECONDS: u64 = 20;
 
-/// How many milliseconds are waited before a request is sent again.
+/// The pause before a request is sent again, in milliseconds.
 const PAUSE_MILLIS: u64 = 200;
 
 /// Opens connections to an address.
@@ -19,20 +19,20 @@ pub struct Dialer<'a, R> {
     pub address: &'a str,
 }
 
-/// A connection on which an answer has to be whole within a time behind its request.
+/// A connection with a deadline for reading, which each write sets anew.
 #[derive(Drop)]
 pub struct Timed<'a, R: Net> {
     rt: &'a R,
     stream: R::Stream,
-    /// When what is read last has to be there, by the clock that never goes back.
+    /// The deadline, by the monotonic clock: after it no read begins.
     until: Duration,
 }
 
-/// The end of the time that an answer has from now on.
+/// The deadline of a response that is waited for from now on.
 ///
 /// # Errors
 ///
-/// The clock can't be read.
+/// The clock can't be read, or has no such moment.
 fn deadline<R: Clock>(rt: &R) -> io::Result<Duration> {
     match rt
         .monotonic()?

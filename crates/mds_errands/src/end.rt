@@ -1,4 +1,4 @@
-//! How an errand ends.
+//! How a job ends.
 ghost use Rattle.std.specs.Prelude.{◌≡◌, ◌+◌, ◌-◌, ◌^◌, min};
 ghost use Rattle.mds_errands.specs.Ends.{end_of, exit_status};
 
@@ -6,20 +6,20 @@ use crate::token::TokenFault;
 use mds_client::ReplyFault;
 use std::alloc::AllocError;
 
-/// How an errand ends.
+/// How a job, an import or an export, ends.
 #[derive(Clone, Copy, Debug, PartialEq, Eq)]
 pub enum End {
     /// All of it is done.
     Done,
-    /// Something is refused, each time by name; all else is done.
+    /// Something is refused, and each refusal was reported; all else is done.
     SomeRefused,
-    /// No server answers.
+    /// No server answers, or its response is none that can be used.
     NoServer,
-    /// A server's reply isn't whole, or it can't be seen whether it is.
+    /// A response of the server isn't complete, or can't be seen to be.
     BadReply(ReplyFault),
     /// Standard output can't be written.
     NotPrinted,
-    /// The address or the access token is none.
+    /// The address or the access token may not stand in a request.
     BadPlace,
     /// The file of the access token has none.
     NoToken(TokenFault),
@@ -27,11 +27,11 @@ pub enum End {
     NoMemory,
     /// The folder can't be made or written.
     NotWritten,
-    /// The server takes nothing by this access token.
+    /// The server accepts nothing by this access token.
     Barred,
 }
 
-/// What was done.
+/// How many documents or vehicles were sent, or would be in a dry run, and how many were refused.
 #[derive(Clone, Copy, Debug, PartialEq, Eq)]
 pub struct Tally {
     pub sent: u64,
@@ -39,7 +39,7 @@ pub struct Tally {
 }
 
 impl Tally {
-    /// Nothing yet.
+    /// Nothing is counted yet.
     pub fn new() -> Tally
         ensures { result ≡ record { sent = 0; refused = 0 } }
     {
@@ -49,21 +49,21 @@ impl Tally {
         }
     }
 
-    /// One more is sent.
+    /// Counts one more that is sent.
     pub fn count_sent(&mut self)
         ensures { self.new ≡ record self.old { sent = min (self.old.sent + 1) (2 ^ 64 - 1) } }
     {
         self.sent = self.sent.saturating_add(1);
     }
 
-    /// One more is refused.
+    /// Counts one more that is refused.
     pub fn count_refused(&mut self)
         ensures { self.new ≡ record self.old { refused = min (self.old.refused + 1) (2 ^ 64 - 1) } }
     {
         self.refused = self.refused.saturating_add(1);
     }
 
-    /// How an errand ends that went to its end.
+    /// How a job ends that wasn't cut short.
     pub fn end(&self) -> End
         ensures { result ≡ end_of self.now }
     {
@@ -91,7 +91,7 @@ impl End {
         }
     }
 
-    /// What the program says of it on standard error; nothing where all is done.
+    /// The message on standard error; empty where all is done.
     pub fn message(self) -> &'static str {
         match self {
             End::Done => "",

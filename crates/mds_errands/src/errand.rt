@@ -1,7 +1,8 @@
-//! What is done between files and a server.
+//! Runs a job: an import or an export.
 
 use crate::end::End;
 use crate::export::export_published;
+use crate::host::ErrandHost;
 use crate::policies::import_policies;
 use crate::status::import_status;
 use crate::token::{server_for, server_of, token_for};
@@ -12,7 +13,7 @@ use std::io::{Eprint, Print};
 use std::net::Net;
 use std::time::Clock;
 
-/// Whom an errand asks, and where its access token stands; none, where nothing is sent.
+/// The server of a job, and where its access token comes from; `None` where nothing is sent.
 fn destination_of<'a>(errand: &Errand<'a>) -> Option<Destination<'a>> {
     match errand {
         Errand::Policies(import) => import.destination,
@@ -21,7 +22,8 @@ fn destination_of<'a>(errand: &Errand<'a>) -> Option<Destination<'a>> {
     }
 }
 
-/// The server that an errand asks, or the file of its access token where the end is about that.
+/// The address of a job's server, or the path of its access token's file where the end is about
+/// that.
 fn address_of<'a>(errand: &Errand<'a>, end: End) -> Option<&'a str> {
     match (destination_of(errand)?, end) {
         (
@@ -35,7 +37,7 @@ fn address_of<'a>(errand: &Errand<'a>, end: End) -> Option<&'a str> {
     }
 }
 
-/// Whom or what the end of an errand is about.
+/// The folder, file or address that the end of a job is about.
 fn place_in<'a>(errand: &Errand<'a>, end: End) -> Option<&'a str> {
     match errand {
         Errand::Published(export) if end == End::NotWritten => Some(export.folder),
@@ -43,15 +45,12 @@ fn place_in<'a>(errand: &Errand<'a>, end: End) -> Option<&'a str> {
     }
 }
 
-/// Does an errand. Its access token is read first.
+/// Runs a job, for which its access token is read first.
 ///
 /// # Errors
 ///
-/// `NoToken`, `BadPlace`, `NoMemory`, where there is no access token.
-fn run_by_token<R>(rt: &R, errand: &Errand<'_>) -> Result<End, End>
-where
-    R: Net + Clock + Files<File = File> + Print + Eprint + AllocGlobal,
-{
+/// `NoToken`, `BadPlace`, `NoMemory`, where the access token can't be had.
+fn run_by_token<R: ErrandHost>(rt: &R, errand: &Errand<'_>) -> Result<End, End> {
     let token = token_for(rt, destination_of(errand))?;
     let token = token.as_str();
     Ok(match errand {
@@ -65,11 +64,8 @@ where
     })
 }
 
-/// Does an errand, says on standard error how it ended, and gives the exit status.
-pub fn run_errand<R>(rt: &R, errand: &Errand<'_>) -> u8
-where
-    R: Net + Clock + Files<File = File> + Print + Eprint + AllocGlobal,
-{
+/// Runs a job, says on standard error how it ended, and gives the exit status.
+pub fn run_errand<R: ErrandHost>(rt: &R, errand: &Errand<'_>) -> u8 {
     let end = match run_by_token(rt, errand) {
         Ok(end) => end,
         Err(end) => end,

@@ -1,4 +1,4 @@
-//! Bytes of elsewhere, as they are shown on a terminal.
+//! Bytes from elsewhere, escaped for a terminal.
 ghost use Rattle.std.specs.Prelude.{◌≡◌, ◌++◌, ◌<◌, ◌≤◌, IfOk, OnOk, string_bytes};
 ghost use Rattle.mds_errands.specs.Escapes.{is_shown, hex_digit, escaped_byte, escaped};
 
@@ -23,7 +23,7 @@ fn hex_digit(digit: u8) -> u8
     }
 }
 
-/// Adds a byte as it is shown.
+/// Appends a byte, escaped where it isn't shown as it is.
 fn push_escaped(text: &mut String, byte: u8) -> Result<(), AllocError>
     ensures { OnOk result (string_bytes text.new ≡ string_bytes text.old ++ escaped_byte byte) }
 {
@@ -36,8 +36,8 @@ fn push_escaped(text: &mut String, byte: u8) -> Result<(), AllocError>
     }
 }
 
-/// Bytes as they are shown on a terminal: those of printable ASCII as they are, each other one, and the backslash, as `\x` and
-/// two hexadecimal digits. So nothing of a file or a server moves a cursor, changes a colour or begins a line.
+/// Bytes escaped for a terminal: printable ASCII as it is, each other byte, and the backslash, as `\x` and two
+/// hexadecimal digits. So nothing of a file or a server moves a cursor, changes a colour or begins a line.
 pub fn escaped(alloc: Global, bytes: &[u8]) -> Result<String, AllocError>
     ensures { IfOk result (λ text. string_bytes text ≡ escaped bytes.now) }
 {

@@ -1,6 +1,7 @@
-//! What is published at a server, as files.
+//! Writes what is published at a server as files.
 
 use crate::end::End;
+use crate::host::ErrandHost;
 use crate::meaning::{Meaning, meaning_of};
 use crate::sending::{answered, client_of, tell_refusal};
 use crate::told::Spot;
@@ -15,11 +16,11 @@ use std::io::{Eprint, Print};
 use std::net::Net;
 use std::time::Clock;
 
-/// What a reply holds.
+/// The body of a response as JSON.
 ///
 /// # Errors
 ///
-/// `NoServer` where it holds nothing that can be read, `NoMemory`.
+/// `NoServer` where it can't be read, `NoMemory`.
 fn tree_in(alloc: Global, reply: &Reply) -> Result<Tree, End> {
     match read_tree(alloc, &reply.body) {
         Ok(tree) => Ok(tree),
@@ -28,7 +29,7 @@ fn tree_in(alloc: Global, reply: &Reply) -> Result<Tree, End> {
     }
 }
 
-/// Says what a server answered that tells nothing, and how the errand ends by it.
+/// Reports a response other than 200, and gives the end of the job.
 ///
 /// # Errors
 ///
@@ -45,16 +46,12 @@ fn ended<R: Eprint + AllocGlobal>(rt: &R, target: &str, reply: &Reply) -> Result
     }
 }
 
-/// What a server tells of what is published at a path.
+/// Asks a server for what is published at a path.
 ///
 /// # Errors
 ///
-/// `BadPlace`, `NoServer` where it tells nothing, `BadReply`, `Barred`, `NoMemory`.
-fn asked<R: Net + Clock + Eprint + AllocGlobal>(
-    rt: &R,
-    server: &Server<'_>,
-    target: &str,
-) -> Result<Tree, End> {
+/// `BadPlace`, `NoServer` where the response is of no use, `BadReply`, `Barred`, `NoMemory`.
+fn asked<R: ErrandHost>(rt: &R, server: &Server<'_>, target: &str) -> Result<Tree, End> {
     let mut client = client_of(rt, server)?;
     let call = Call {
         method: "GET",
@@ -68,7 +65,7 @@ fn asked<R: Net + Clock + Eprint + AllocGlobal>(
     tree_in(rt.alloc(), &reply)
 }
 
-/// Writes a file of a folder.
+/// Writes a file in a folder.
 ///
 /// # Errors
 ///
@@ -86,7 +83,7 @@ fn write<R: Files<File = File> + AllocGlobal>(
     }
 }
 
-/// Writes the three files of what is published.
+/// Writes the three files of what is published, in a folder that is made where it isn't there.
 ///
 /// # Errors
 ///
@@ -108,15 +105,12 @@ fn write_all<R: Files<File = File> + AllocGlobal>(
     write(rt, folder, "geographies.geojson", &file)
 }
 
-/// Asks for what is published, and writes it.
+/// Asks for what is published, writes it, and prints how many documents there are.
 ///
 /// # Errors
 ///
 /// `BadPlace`, `NoServer`, `BadReply`, `Barred`, `NotWritten`, `NotPrinted`, `NoMemory`.
-fn exported<R>(rt: &R, folder: &str, server: &Server<'_>) -> Result<(), End>
-where
-    R: Net + Clock + Files<File = File> + Print + Eprint + AllocGlobal,
-{
+fn exported<R: ErrandHost>(rt: &R, folder: &str, server: &Server<'_>) -> Result<(), End> {
     let told_policies = asked(rt, server, "/policies")?;
     let told_geographies = asked(rt, server, "/geographies")?;
     let Some(policies) = list_named(&told_policies, "policies") else {
@@ -129,7 +123,7 @@ where
     print_counts(rt, policies.len(), geographies.len())
 }
 
-/// Says how many documents are written.
+/// Prints how many documents are written.
 ///
 /// # Errors
 ///
@@ -141,13 +135,10 @@ fn print_counts<R: Print>(rt: &R, policies: usize, geographies: usize) -> Result
     }
 }
 
-/// Writes what is published at a server into a folder, which is made where it isn't there: its policies as a file of MDS 2.0
-/// (`policies.json`), its geographies as one (`geographies.json`) and as GeoJSON (`geographies.geojson`). On standard output
-/// stands how many of each.
-pub fn export_published<R>(rt: &R, folder: &str, server: &Server<'_>) -> End
-where
-    R: Net + Clock + Files<File = File> + Print + Eprint + AllocGlobal,
-{
+/// Writes what is published at a server into a folder, which is made where it isn't there: its policies as a file of
+/// MDS 2.0 (`policies.json`), its geographies as one (`geographies.json`) and as GeoJSON (`geographies.geojson`).
+/// Prints how many of each on standard output.
+pub fn export_published<R: ErrandHost>(rt: &R, folder: &str, server: &Server<'_>) -> End {
     match exported(rt, folder, server) {
         Ok(()) => End::Done,
         Err(end) => end,

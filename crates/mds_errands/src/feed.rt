@@ -1,4 +1,4 @@
-//! The lists of feeds, and the entries that belong to a vehicle.
+//! The lists of a feed's files, and the entries for a vehicle in them.
 
 use crate::end::End;
 use crate::sources::Source;
@@ -7,27 +7,27 @@ use mds_text::{Id, Tree};
 use std::alloc::Global;
 use std::collections::BTreeMap;
 
-/// The most types of vehicles.
+/// The most vehicle types that are indexed.
 const MOST_TYPES: usize = 1_024;
 
-/// A file with what it holds.
+/// A file that was read.
 #[derive(Drop)]
 pub(crate) struct Sheet {
-    /// Its place among the files.
+    /// Its index among the files.
     pub file: usize,
     pub source: Source,
 }
 
-/// Where an entry of a list stands.
+/// The position of an entry in the files.
 #[derive(Clone, Copy)]
 pub(crate) struct Entry {
-    /// The place of its sheet.
+    /// The index of its file among those that were read.
     sheet: usize,
-    /// Its place in its list.
+    /// Its index in its list.
     place: usize,
 }
 
-/// A file's value, or what stands behind its `data`.
+/// The value of a file's member `data`, or the file itself.
 fn value_of(file: &Tree) -> &Tree {
     match named(file, "data") {
         Some(value) => value,
@@ -35,7 +35,7 @@ fn value_of(file: &Tree) -> &Tree {
     }
 }
 
-/// The entries of a list, none where it isn't there.
+/// The entries of a list; none where the file hasn't the list.
 fn entries<'t>(file: &'t Tree, name: &str) -> &'t [Tree] {
     match list_named(value_of(file), name) {
         Some(list) => list,
@@ -48,17 +48,17 @@ fn has(file: &Tree, name: &str) -> bool {
     list_named(value_of(file), name).is_some()
 }
 
-/// Whether a file has one of the lists.
+/// Whether a file has one of the lists of a feed.
 pub(crate) fn is_feed(file: &Tree) -> bool {
     has(file, "vehicles_status") || has(file, "vehicles") || has(file, "vehicle_types")
 }
 
-/// MDS: what vehicles do.
+/// MDS: the status of vehicles.
 pub(crate) fn statuses_in(file: &Tree) -> &[Tree] {
     entries(file, "vehicles_status")
 }
 
-/// MDS: what vehicles are. GBFS: what they are and do.
+/// MDS: vehicles, with their types. GBFS: vehicles, with their status.
 pub(crate) fn vehicles_in(file: &Tree) -> &[Tree] {
     entries(file, "vehicles")
 }
@@ -68,12 +68,12 @@ fn types_in(file: &Tree) -> &[Tree] {
     entries(file, "vehicle_types")
 }
 
-/// Whether an entry of vehicles is one of GBFS.
+/// Whether an entry of the list of vehicles is one of GBFS.
 pub(crate) fn is_gbfs(vehicle: &Tree) -> bool {
     named(vehicle, "device_id").is_none()
 }
 
-/// Where the entries of vehicles and of types stand.
+/// An index of the entries of MDS vehicles, and of vehicle types.
 #[derive(Drop)]
 pub(crate) struct Known {
     vehicles: BTreeMap<Id, Entry>,
@@ -81,7 +81,7 @@ pub(crate) struct Known {
 }
 
 impl Known {
-    /// None yet.
+    /// An empty index.
     pub(crate) fn new(alloc: Global) -> Known {
         Known {
             vehicles: BTreeMap::new(alloc),
@@ -89,7 +89,7 @@ impl Known {
         }
     }
 
-    /// Takes in a vehicle of MDS. Of two with one identifier the last counts.
+    /// Adds a vehicle of MDS. Of two with one identifier the last counts.
     ///
     /// # Errors
     ///
@@ -101,7 +101,7 @@ impl Known {
         }
     }
 
-    /// Takes in a type, unless there are 1,024. Of two with one identifier the first counts.
+    /// Adds a type, unless there are 1,024. Of two with one identifier the first counts.
     ///
     /// # Errors
     ///
@@ -116,7 +116,7 @@ impl Known {
         }
     }
 
-    /// Takes in the entries of a file.
+    /// Adds the entries of a file.
     ///
     /// # Errors
     ///
@@ -133,7 +133,7 @@ impl Known {
         Ok(())
     }
 
-    /// Where the entry of a vehicle of MDS stands.
+    /// The position of a vehicle of MDS, by its status.
     fn vehicle(&self, status: &Tree) -> Option<Entry> {
         let device = id_named(status, "device_id")?;
         match self.vehicles.get(&device) {
@@ -154,13 +154,13 @@ pub(crate) fn vehicle_of<'s>(
     vehicles_in(&sheet.source.tree).get(entry.place)
 }
 
-/// A type's entry.
+/// The entry of a vehicle type at this position.
 fn type_at(sheets: &[Sheet], entry: Entry) -> Option<&Tree> {
     let sheet = sheets.get(entry.sheet)?;
     types_in(&sheet.source.tree).get(entry.place)
 }
 
-/// Whether an entry is that of the type of this identifier.
+/// Whether an entry is that of the vehicle type of this identifier.
 fn is_type(entry: Option<&Tree>, name: &str) -> bool {
     match entry {
         Some(entry) => match text_named(entry, "vehicle_type_id") {

@@ -1,4 +1,4 @@
-//! Files that another server has.
+//! Files that are read from another server.
 
 use crate::dialing::{Dialer, Timed};
 use crate::end::End;
@@ -9,20 +9,20 @@ use std::io::{self, ErrorKind, Read, Write};
 use std::net::Net;
 use std::time::Clock;
 
-/// The most bytes of a file, and of an answer that has one.
+/// The most bytes of a file, and of a response that has one.
 pub(crate) const MOST_BYTES: u64 = 67_108_864;
 
-/// What is said of one with more.
+/// The message for one with more.
 pub(crate) const TOO_LONG: &str = "it has more than 67108864 bytes";
 
-/// Where a file is asked for: the host, with its port, and the path.
+/// The address of a file: its host, with the port, and its path.
 #[derive(Drop)]
 pub(crate) struct Link {
     host: String,
     target: String,
 }
 
-/// A host with its port.
+/// A host with its port, which is 80 where none is given.
 ///
 /// # Errors
 ///
@@ -35,7 +35,7 @@ fn with_port(alloc: Global, host: &str) -> Result<String, AllocError> {
     }
 }
 
-/// A path at a host.
+/// The address of a path at a host.
 ///
 /// # Errors
 ///
@@ -47,7 +47,7 @@ fn link_to(alloc: Global, host: &str, path: &str) -> Result<Link, AllocError> {
     })
 }
 
-/// The parts of an address `http://HOST/PATH`; `None` for any other word.
+/// Reads an address `http://HOST/PATH`; `None` for any other word.
 ///
 /// # Errors
 ///
@@ -65,11 +65,11 @@ pub(crate) fn link_of(alloc: Global, word: &str) -> Result<Option<Link>, AllocEr
     }
 }
 
-/// All that comes over a connection behind a request, up to so many bytes.
+/// Sends a request, and reads what comes over the connection up to its end or to this many bytes.
 ///
 /// # Errors
 ///
-/// The connection's, want of memory.
+/// The connection's; out of memory.
 fn exchanged<S: Read + Write + Drop>(
     alloc: Global,
     stream: S,
@@ -84,7 +84,7 @@ fn exchanged<S: Read + Write + Drop>(
     Ok(bytes)
 }
 
-/// The body of a reply that has one, and that is whole by its head; or in words why there is none.
+/// The body of a response of 200 that is complete by its head; or in words why there is none.
 ///
 /// # Errors
 ///
@@ -106,7 +106,7 @@ fn body_in(alloc: Global, bytes: &[u8]) -> Result<Result<Vec<u8>, &'static str>,
     }
 }
 
-/// The request for a file.
+/// The request for a file, of HTTP/1.0.
 ///
 /// # Errors
 ///
@@ -119,7 +119,7 @@ fn request_for(alloc: Global, link: &Link) -> Result<String, AllocError> {
     )
 }
 
-/// A connection to an address.
+/// Opens a connection to an address.
 ///
 /// # Errors
 ///
@@ -129,11 +129,12 @@ fn dialed<'a, R: Net + Clock>(rt: &'a R, address: &'a str) -> io::Result<Timed<'
     dialer.dial()
 }
 
-/// All that a server answers to a request, up to so many bytes.
+/// Sends a request to an address, and reads the response up to the end of its connection or to this
+/// many bytes.
 ///
 /// # Errors
 ///
-/// Nothing listens there; the connection's; want of memory.
+/// Nothing listens there; the connection's; out of memory.
 fn answer_of<R: Net + Clock + AllocGlobal>(
     rt: &R,
     address: &str,
@@ -144,7 +145,7 @@ fn answer_of<R: Net + Clock + AllocGlobal>(
     exchanged(rt.alloc(), stream, request.as_bytes(), most)
 }
 
-/// Asks for a file once; gives its bytes, or in words why they can't be had.
+/// Asks for a file once, and gives its bytes, or in words why they can't be had.
 ///
 /// # Errors
 ///

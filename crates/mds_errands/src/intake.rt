@@ -1,4 +1,4 @@
-//! Which drafts are sent, and whom is asked.
+//! Limits on the drafts that are sent, and on what may stand in a request.
 ghost use Rattle.std.specs.Prelude.{◌≡◌};
 ghost use Rattle.std.specs.List.{list_all, list_any};
 ghost use Rattle.mds_errands.specs.Intake.{is_same_kind, is_same, why_unkept, is_visible_byte, is_visible};
@@ -9,7 +9,7 @@ use mds_text::DraftKind;
 /// The most bytes of a document: a server reads no longer body.
 pub(crate) const MOST_BODY: usize = 1_048_576;
 
-/// The most documents at once: as many as a city may have published of both kinds.
+/// The most documents of an import: as many as a city may have published of both kinds.
 pub(crate) const MOST_DRAFTS: usize = 1_024;
 
 /// Why a draft isn't sent.
@@ -17,9 +17,9 @@ pub(crate) const MOST_DRAFTS: usize = 1_024;
 pub(crate) enum Unkept {
     /// It has more than 1,048,576 bytes.
     Long,
-    /// One of its kind and identifier stands before it.
+    /// Another of its kind and identifier comes before it.
     Twice,
-    /// There are 1,024 before it.
+    /// There are 1,024 others before it.
     Many,
 }
 
@@ -35,21 +35,21 @@ fn is_same_kind(kind: DraftKind, other: DraftKind) -> bool
     }
 }
 
-/// Whether two drafts have one place at the server.
+/// Whether two drafts are of one kind and identifier.
 fn is_same(draft: &Draft, other: &Draft) -> bool
     ensures { result ≡ is_same draft.now other.now }
 {
     is_same_kind(draft.kind, other.kind) && draft.id == other.id
 }
 
-/// Whether one of these drafts has the place of another.
+/// Whether a draft of this one's kind and identifier is among these.
 fn is_there(drafts: &[Draft], draft: &Draft) -> bool
     ensures { result ≡ list_any (is_same draft.now) drafts.now }
 {
     drafts.iter().any(|other| is_same(draft, other))
 }
 
-/// Why a draft isn't sent behind these; none, where it is.
+/// Why a draft isn't sent after these; `None` where it is.
 pub(crate) fn why_unkept(drafts: &[Draft], draft: &Draft) -> Option<Unkept>
     ensures { result ≡ why_unkept drafts.now draft.now }
 {
@@ -65,7 +65,7 @@ pub(crate) fn why_unkept(drafts: &[Draft], draft: &Draft) -> Option<Unkept>
 }
 
 impl Unkept {
-    /// In words.
+    /// The reason in words.
     pub(crate) fn words(self) -> &'static str {
         match self {
             Unkept::Long => "it has more than 1048576 bytes",

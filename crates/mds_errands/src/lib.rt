@@ -1,5 +1,5 @@
-//! What is done between files and a server: documents of MDS and GeoJSON as drafts, vehicles of feeds as reports, and what is
-//! published as files.
+//! What `import` and `export` do between files and a server: which drafts and reports are sent, what a response says of
+//! them, and what is written.
 #![tactic(auto)]
 
 mod batch;
@@ -10,6 +10,7 @@ mod escape;
 mod export;
 mod feed;
 mod fetching;
+mod host;
 mod intake;
 mod meaning;
 mod opening;
@@ -23,5 +24,6 @@ mod told;
 pub use end::{End, Tally};
 pub use errand::run_errand;
 pub use escape::escaped;
+pub use host::ErrandHost;
 pub use meaning::{Meaning, meaning_of};
 pub use token::TokenFault;

@@ -1,21 +1,21 @@
-//! What a reply says of what was sent.
+//! What the status of a response means for what was sent.
 ghost use Rattle.std.specs.Prelude.{◌≡◌};
 ghost use Rattle.mds_errands.specs.Meanings.{meaning_of};
 
-/// What a reply says of what was sent.
+/// What a response means for what was sent.
 #[derive(Clone, Copy, Debug, PartialEq, Eq)]
 pub enum Meaning {
-    /// It is taken.
+    /// It is accepted.
     Taken,
-    /// It is refused, and nothing is said of what else is sent.
+    /// It is refused, which says nothing about what else is sent.
     Refused,
-    /// Who sends it may send nothing.
+    /// The client may send nothing.
     Barred,
-    /// The server can't take anything now.
+    /// The server can't accept anything now.
     Unavailable,
 }
 
-/// What a reply of this status says.
+/// What a response of this status means.
 pub fn meaning_of(status: u16) -> Meaning
     ensures { result ≡ meaning_of status }
 {

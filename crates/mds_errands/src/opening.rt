@@ -1,10 +1,10 @@
-//! Files that are opened to be read.
+//! Opening files to read them.
 ghost use Rattle.std.specs.Prelude.{◌≡◌};
 ghost use Rattle.mds_errands.specs.Openings.{is_given_open, is_opened};
 
 use std::fs::{self, File, Files};
 
-/// What begins the path of a file that is open already, as a shell's `<(..)` has it.
+/// The beginning of the path of a file that is open already, as a shell's `<(..)` has it.
 const OPEN_FILES: &str = "/dev/fd/";
 
 /// The path of standard input.
@@ -19,14 +19,14 @@ pub enum OpenFault {
     Unreadable,
 }
 
-/// Whether a path names a file that whoever started the program has opened for it.
+/// Whether a path names a file that was opened for the program by whoever started it.
 fn is_given_open(path: &str) -> bool
     ensures { result ≡ is_given_open path.now }
 {
     path == STANDARD_INPUT || path.starts_with(OPEN_FILES)
 }
 
-/// Whether the file of a path is opened: a regular one, or one that the program was given open.
+/// Whether the file of a path may be opened: a regular one, or one that the program was given open.
 fn is_opened(path: &str, is_regular: bool) -> bool
     ensures { result ≡ is_opened path.now is_regular }
 {
@@ -50,7 +50,7 @@ pub(crate) fn open_source<R: Files<File = File>>(rt: &R, path: &str) -> Result<F
 }
 
 impl OpenFault {
-    /// In words.
+    /// The fault in words.
     pub(crate) fn words(self) -> &'static str {
         match self {
             OpenFault::NotRegular => "it isn't a regular file",

@@ -1,7 +1,8 @@
-//! Documents of policies and geographies, as drafts.
+//! Imports documents of policies and geographies as drafts.
 
 use crate::end::{End, Tally};
 use crate::escape::escaped;
+use crate::host::ErrandHost;
 use crate::intake::why_unkept;
 use crate::sending::send_drafts;
 use crate::sources::{Source, read_source};
@@ -19,18 +20,18 @@ use std::io::{Eprint, Print};
 use std::net::Net;
 use std::time::Clock;
 
-/// What was gathered of files.
+/// The drafts of the files read so far, and how many documents or files were refused.
 #[derive(Drop)]
 struct Gathered {
     drafts: Vec<Draft>,
     tally: Tally,
 }
 
-/// The file whose documents are gathered.
+/// A file whose documents are imported.
 #[derive(Clone, Copy)]
 struct Sheet<'a> {
     path: &'a str,
-    /// Its place among the files.
+    /// Its index among the files.
     place: usize,
     /// Whether it has numbers that aren't plain.
     decimals: bool,
@@ -52,7 +53,7 @@ impl<'a> Sheet<'a> {
     }
 }
 
-/// Why a document becomes no draft, in words.
+/// Why a document is refused, in words.
 fn refusal(alloc: Global, refused: &Refused<'_>) -> Result<String, AllocError> {
     let member = escaped(alloc, refused.member.as_bytes())?;
     let why = match refused.why {
@@ -62,7 +63,7 @@ fn refusal(alloc: Global, refused: &Refused<'_>) -> Result<String, AllocError> {
     format!(in alloc; "{}: {why}", member.as_str())
 }
 
-/// Says what of a policy is kept and has no effect.
+/// Reports the parts of a policy that the server stores and that have no effect.
 ///
 /// # Errors
 ///
@@ -93,7 +94,7 @@ fn tell_kept<R: Eprint + AllocGlobal>(
     Ok(())
 }
 
-/// Takes in what a document becomes, or says why it isn't sent.
+/// Adds a document's draft, or reports why it isn't sent.
 ///
 /// # Errors
 ///
@@ -124,7 +125,7 @@ fn take_in<R: Eprint + AllocGlobal>(
     Ok(())
 }
 
-/// Gathers the features of a file.
+/// Adds the features of a file.
 ///
 /// # Errors
 ///
@@ -142,7 +143,7 @@ fn gather_features<R: Eprint + AllocGlobal>(
     Ok(())
 }
 
-/// Gathers the documents of a list, of which so many stand in front of it in its file.
+/// Adds the documents of a list; `before` of them stand in front of it in its file.
 ///
 /// # Errors
 ///
@@ -173,7 +174,7 @@ fn is_policy(prepared: &Prepared<'_>) -> bool {
     }
 }
 
-/// Gathers what a file holds.
+/// Adds the documents of a file.
 ///
 /// # Errors
 ///
@@ -190,15 +191,12 @@ fn gather<R: Eprint + AllocGlobal>(
     gather_list(rt, gathered, sheet, lists.first.len(), lists.second)
 }
 
-/// Gathers what files hold. A file that can't be read is told and counts as refused.
+/// Reads all files. One that can't be read is reported, and counts as refused.
 ///
 /// # Errors
 ///
 /// `NoMemory`.
-fn gather_all<R: Net + Clock + Files<File = File> + Eprint + AllocGlobal>(
-    rt: &R,
-    files: &[String],
-) -> Result<Gathered, End> {
+fn gather_all<R: ErrandHost>(rt: &R, files: &[String]) -> Result<Gathered, End> {
     let mut gathered = Gathered {
         drafts: Vec::new(rt.alloc()),
         tally: Tally::new(),
@@ -220,7 +218,7 @@ fn gather_all<R: Net + Clock + Files<File = File> + Eprint + AllocGlobal>(
     Ok(gathered)
 }
 
-/// Says which drafts would be sent, in their order.
+/// Prints which drafts would be sent, in their order.
 ///
 /// # Errors
 ///
@@ -240,7 +238,7 @@ fn print_drafts<R: Print + AllocGlobal>(
     Ok(())
 }
 
-/// Says how many documents were sent, and how many refused.
+/// Prints how many documents were sent and how many refused, and gives the end of the job.
 fn printed<R: Print>(rt: &R, import: &Import<'_>, tally: &Tally) -> End {
     let Tally { sent, refused } = *tally;
     let said = match import.destination {
@@ -253,13 +251,15 @@ fn printed<R: Print>(rt: &R, import: &Import<'_>, tally: &Tally) -> End {
     }
 }
 
-/// Sends the documents of files to a server as drafts, geographies at first and each policy behind those that it supersedes;
-/// without a server it prints what would be sent. On standard error stands what isn't sent and why, and what of a policy
-/// is kept and has no effect; on standard output, at the end, how many were sent and how many refused.
-pub fn import_policies<R>(rt: &R, import: &Import<'_>, server: Option<Server<'_>>) -> End
-where
-    R: Net + Clock + Files<File = File> + Print + Eprint + AllocGlobal,
-{
+/// Sends the documents of files to a server as drafts, geographies first and each policy behind those that it
+/// supersedes; without a server it prints what would be sent. Reports on standard error what isn't sent and why, and
+/// what of a policy is stored and has no effect; prints on standard output, at the end, how many were sent and how many
+/// refused.
+pub fn import_policies<R: ErrandHost>(
+    rt: &R,
+    import: &Import<'_>,
+    server: Option<Server<'_>>,
+) -> End {
     let Gathered { drafts, mut tally } = match gather_all(rt, import.files) {
         Ok(gathered) => gathered,
         Err(end) => return end,

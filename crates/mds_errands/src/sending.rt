@@ -1,7 +1,8 @@
-//! Sending to a server.
+//! Sends drafts to a server, and reports its responses.
 
 use crate::dialing::Dialer;
 use crate::end::{End, Tally};
+use crate::host::ErrandHost;
 use crate::intake::is_visible;
 use crate::meaning::{Meaning, meaning_of};
 use crate::told::{Spot, spot_at, tell, word_of};
@@ -12,10 +13,10 @@ use std::io::Eprint;
 use std::net::Net;
 use std::time::Clock;
 
-/// Behind each so many documents it is said how many are through.
+/// After each so many documents progress is reported.
 const STEP: usize = 64;
 
-/// A client of a server.
+/// A client of this server, without a connection as yet.
 ///
 /// # Errors
 ///
@@ -34,7 +35,7 @@ pub(crate) fn client_of<'a, R: Net + Clock>(
     Ok(Client::new(dialer, *server))
 }
 
-/// The reply, if there is one.
+/// The response, or the end of a job that got none.
 ///
 /// # Errors
 ///
@@ -46,7 +47,7 @@ pub(crate) fn answered(asked: Result<Reply, ReplyFault>) -> Result<Reply, End> {
     }
 }
 
-/// Says with which status and word something was refused.
+/// Reports the status and the code of a refusal.
 ///
 /// # Errors
 ///
@@ -62,11 +63,11 @@ pub(crate) fn tell_refusal<R: Eprint + AllocGlobal>(
     tell(rt, spot, words.as_str())
 }
 
-/// Takes note of what a reply says.
+/// Counts what a response says of what was sent, and reports a refusal.
 ///
 /// # Errors
 ///
-/// `Barred` and `NoServer` where nothing else is taken either, `NoMemory`.
+/// `Barred` and `NoServer` where nothing else would be accepted either, `NoMemory`.
 pub(crate) fn note_reply<R: Eprint + AllocGlobal>(
     rt: &R,
     spot: Spot<'_>,
@@ -86,12 +87,12 @@ pub(crate) fn note_reply<R: Eprint + AllocGlobal>(
     Ok(())
 }
 
-/// Sends drafts in their order, and says what is refused and how far it is.
+/// Sends drafts in their order, and reports refusals and progress.
 ///
 /// # Errors
 ///
-/// `BadPlace`, `NoServer`, `BadReply`, `Barred` and `NoMemory`: what stands behind isn't sent then.
-pub(crate) fn send_drafts<R: Net + Clock + Eprint + AllocGlobal>(
+/// `BadPlace`, `NoServer`, `BadReply`, `Barred` and `NoMemory`: the drafts behind aren't sent then.
+pub(crate) fn send_drafts<R: ErrandHost>(
     rt: &R,
     server: &Server<'_>,
     files: &[String],

@@ -1,7 +1,8 @@
-//! Files that are read.
+//! The files of an import.
 
 use crate::end::End;
 use crate::fetching::{MOST_BYTES, TOO_LONG, fetched, link_of};
+use crate::host::ErrandHost;
 use crate::opening::{OpenFault, open_source};
 use crate::told::{Spot, tell};
 use mds_reading::read_counted;
@@ -20,7 +21,7 @@ pub struct Source {
     pub decimals: bool,
 }
 
-/// A file's bytes, or in words why they can't be had.
+/// The bytes of an open file, or in words why they can't be had.
 ///
 /// # Errors
 ///
@@ -40,7 +41,7 @@ fn bytes_in<S: Read + Drop>(alloc: Global, file: S) -> Result<Result<Vec<u8>, &'
     Ok(Ok(bytes))
 }
 
-/// What bytes hold, or in words why they hold nothing.
+/// Parses the bytes of a file, or says in words why they hold nothing.
 ///
 /// # Errors
 ///
@@ -61,10 +62,7 @@ fn source_in(alloc: Global, bytes: &[u8]) -> Result<Result<Source, &'static str>
 /// # Errors
 ///
 /// `NoMemory`.
-fn bytes_of<R: Net + Clock + Files<File = File> + AllocGlobal>(
-    rt: &R,
-    path: &str,
-) -> Result<Result<Vec<u8>, &'static str>, End> {
+fn bytes_of<R: ErrandHost>(rt: &R, path: &str) -> Result<Result<Vec<u8>, &'static str>, End> {
     let alloc = rt.alloc();
     match link_of(alloc, path)? {
         Some(link) => fetched(rt, &link),
@@ -75,15 +73,13 @@ fn bytes_of<R: Net + Clock + Files<File = File> + AllocGlobal>(
     }
 }
 
-/// What a file holds, or what a server has at an address `http://..`; none, where nothing can be read, which is told.
+/// What a file holds, or what a server has at an address `http://..`; `None` where nothing can be read, which is
+/// reported.
 ///
 /// # Errors
 ///
 /// `NoMemory`.
-pub fn read_source<R: Net + Clock + Files<File = File> + Eprint + AllocGlobal>(
-    rt: &R,
-    path: &str,
-) -> Result<Option<Source>, End> {
+pub fn read_source<R: ErrandHost>(rt: &R, path: &str) -> Result<Option<Source>, End> {
     let source = match bytes_of(rt, path)? {
         Ok(bytes) => source_in(rt.alloc(), &bytes)?,
         Err(words) => Err(words),

@@ -1,8 +1,9 @@
-//! Vehicles of feeds, as reports.
+//! Imports vehicles of feeds as reports and removals.
 
 use crate::batch::{Batch, note_batch, print_batch, put_in};
 use crate::end::{End, Tally};
 use crate::feed::{Known, Sheet, is_feed, is_gbfs, statuses_in, type_of, vehicle_of, vehicles_in};
+use crate::host::ErrandHost;
 use crate::sending::{answered, client_of, note_reply};
 use crate::sources::read_source;
 use crate::told::{Spot, spot_at, tell, word_of};
@@ -17,14 +18,14 @@ use std::io::{Eprint, Print};
 use std::net::Net;
 use std::time::Clock;
 
-/// A vehicle that is taken away.
+/// A vehicle that is removed from the fleet.
 #[derive(Clone, Copy)]
 struct Removal {
     origin: Origin,
     device: Id,
 }
 
-/// What vehicles become.
+/// The reports and removals of the files' vehicles, and how many vehicles or files were refused.
 #[derive(Drop)]
 struct Gathered {
     batches: Vec<Batch>,
@@ -32,7 +33,7 @@ struct Gathered {
     tally: Tally,
 }
 
-/// Takes in what a vehicle becomes, or says why nothing is sent.
+/// Adds what a vehicle becomes, or reports why nothing is sent.
 ///
 /// # Errors
 ///
@@ -60,7 +61,7 @@ fn take_in<R: Eprint + AllocGlobal>(
     }
 }
 
-/// What a vehicle of MDS becomes. Where its entry isn't known, its status may say as much.
+/// What a vehicle of MDS becomes, by its own entry, or by its status where no file has that entry.
 ///
 /// # Errors
 ///
@@ -77,7 +78,7 @@ fn status_meant(
     }
 }
 
-/// When a vehicle of GBFS was last seen: as it says itself, or else its file.
+/// When a vehicle of GBFS was last seen: as its entry says, or else as its file does.
 fn seen_at(file: &Tree, vehicle: &Tree) -> Option<i64> {
     match named(vehicle, "last_reported") {
         Some(seen) => instant_of(seen),
@@ -85,7 +86,7 @@ fn seen_at(file: &Tree, vehicle: &Tree) -> Option<i64> {
     }
 }
 
-/// Gathers the statuses of a file.
+/// Adds the MDS vehicles of a file, by their status.
 ///
 /// # Errors
 ///
@@ -106,7 +107,7 @@ fn gather_statuses<R: Eprint + AllocGlobal>(
     Ok(())
 }
 
-/// Gathers the vehicles of GBFS of a file.
+/// Adds the GBFS vehicles of a file.
 ///
 /// # Errors
 ///
@@ -132,7 +133,7 @@ fn gather_vehicles<R: Eprint + AllocGlobal>(
     Ok(())
 }
 
-/// Says that a file has none of the lists of a feed.
+/// Reports that a file has none of the lists of a feed.
 ///
 /// # Errors
 ///
@@ -145,16 +146,12 @@ fn tell_none<R: Eprint + AllocGlobal>(rt: &R, path: &str) -> Result<(), End> {
     tell(rt, spot, "it has no list of vehicles or of their types")
 }
 
-/// What a file holds; none, where it can't be read or has no list of a feed, which is told.
+/// Reads a file; `None` where it can't be read or has no list of a feed, which is reported.
 ///
 /// # Errors
 ///
 /// `NoMemory`.
-fn sheet_in<R: Net + Clock + Files<File = File> + Eprint + AllocGlobal>(
-    rt: &R,
-    file: usize,
-    path: &str,
-) -> Result<Option<Sheet>, End> {
+fn sheet_in<R: ErrandHost>(rt: &R, file: usize, path: &str) -> Result<Option<Sheet>, End> {
     let Some(source) = read_source(rt, path)? else {
         return Ok(None);
     };
@@ -165,16 +162,12 @@ fn sheet_in<R: Net + Clock + Files<File = File> + Eprint + AllocGlobal>(
     Ok(None)
 }
 
-/// Reads files. One that is told counts as refused.
+/// Reads all files. One that is reported counts as refused.
 ///
 /// # Errors
 ///
 /// `NoMemory`.
-fn read_all<R: Net + Clock + Files<File = File> + Eprint + AllocGlobal>(
-    rt: &R,
-    files: &[String],
-    tally: &mut Tally,
-) -> Result<Vec<Sheet>, End> {
+fn read_all<R: ErrandHost>(rt: &R, files: &[String], tally: &mut Tally) -> Result<Vec<Sheet>, End> {
     let mut sheets = Vec::new(rt.alloc());
     for (file, path) in files.iter().enumerate() {
         match sheet_in(rt, file, path.as_str())? {
@@ -189,7 +182,7 @@ fn read_all<R: Net + Clock + Files<File = File> + Eprint + AllocGlobal>(
     Ok(sheets)
 }
 
-/// Where the entries of these files stand.
+/// Indexes the entries of these files.
 ///
 /// # Errors
 ///
@@ -202,15 +195,12 @@ fn known_in(alloc: Global, sheets: &[Sheet]) -> Result<Known, End> {
     Ok(known)
 }
 
-/// Gathers what the vehicles of files become.
+/// Reads all files, and adds what their vehicles become.
 ///
 /// # Errors
 ///
 /// `NoMemory`.
-fn gather_all<R: Net + Clock + Files<File = File> + Eprint + AllocGlobal>(
-    rt: &R,
-    files: &[String],
-) -> Result<Gathered, End> {
+fn gather_all<R: ErrandHost>(rt: &R, files: &[String]) -> Result<Gathered, End> {
     let mut gathered = Gathered {
         batches: Vec::new(rt.alloc()),
         removals: Vec::new(rt.alloc()),
@@ -225,7 +215,7 @@ fn gather_all<R: Net + Clock + Files<File = File> + Eprint + AllocGlobal>(
     Ok(gathered)
 }
 
-/// The path under which a vehicle is taken away.
+/// The target of the request that removes a vehicle.
 ///
 /// # Errors
 ///
@@ -235,7 +225,7 @@ fn removal_target(alloc: Global, device: Id) -> Result<String, AllocError> {
     format!(in alloc; "/fleet/vehicles/{}", device.as_str())
 }
 
-/// Whether a vehicle that is taken away wasn't there.
+/// Whether a response to a removal says that the vehicle isn't there.
 ///
 /// # Errors
 ///
@@ -248,7 +238,7 @@ fn is_absent(alloc: Global, reply: &Reply) -> Result<bool, End> {
     Ok(word.as_str() == "not_found")
 }
 
-/// Takes note of what is answered of a removal. A vehicle that isn't there is away already.
+/// Counts what a response says of a removal, and reports a refusal. A vehicle that isn't there counts as removed.
 ///
 /// # Errors
 ///
@@ -266,12 +256,12 @@ fn note_removal<R: Eprint + AllocGlobal>(
     note_reply(rt, spot, reply, tally)
 }
 
-/// Sends what was gathered, at first whom it takes away, and says how far it is.
+/// Sends the removals, then the batches of reports, and reports refusals and progress.
 ///
 /// # Errors
 ///
-/// `BadPlace`, `NoServer`, `BadReply`, `Barred`, `NoMemory`: what stands behind isn't sent then.
-fn send_all<R: Net + Clock + Eprint + AllocGlobal>(
+/// `BadPlace`, `NoServer`, `BadReply`, `Barred`, `NoMemory`: the requests behind aren't sent then.
+fn send_all<R: ErrandHost>(
     rt: &R,
     server: &Server<'_>,
     files: &[String],
@@ -305,7 +295,7 @@ fn send_all<R: Net + Clock + Eprint + AllocGlobal>(
     Ok(())
 }
 
-/// Says which vehicles would be taken away, and which reports sent.
+/// Prints which vehicles would be removed, and which reports sent.
 ///
 /// # Errors
 ///
@@ -328,7 +318,7 @@ fn print_all<R: Print + AllocGlobal>(
     Ok(())
 }
 
-/// Says how many reports and removals were sent, and how many refused.
+/// Prints how many reports and removals were sent and how many refused, and gives the end of the job.
 fn printed<R: Print>(rt: &R, import: &Import<'_>, tally: &Tally) -> End {
     let Tally { sent, refused } = *tally;
     let said = match import.destination {
@@ -341,13 +331,14 @@ fn printed<R: Print>(rt: &R, import: &Import<'_>, tally: &Tally) -> End {
     }
 }
 
-/// Sends what the vehicles of files do to a server as reports, many in one request, and takes those away that aren't on the
-/// street; without a server it prints what would be sent. On standard error stands which vehicle isn't sent or is refused,
-/// and why; on standard output, at the end, how many were sent and how many refused.
-pub fn import_status<R>(rt: &R, import: &Import<'_>, server: Option<Server<'_>>) -> End
-where
-    R: Net + Clock + Files<File = File> + Print + Eprint + AllocGlobal,
-{
+/// Sends what the vehicles of files do to a server as reports, many in one request, and removes those that aren't on
+/// the street; without a server it prints what would be sent. Reports on standard error which vehicle isn't sent or is
+/// refused, and why; prints on standard output, at the end, how many were sent and how many refused.
+pub fn import_status<R: ErrandHost>(
+    rt: &R,
+    import: &Import<'_>,
+    server: Option<Server<'_>>,
+) -> End {
     let gathered = match gather_all(rt, import.files) {
         Ok(gathered) => gathered,
         Err(end) => return end,

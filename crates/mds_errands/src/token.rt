@@ -1,4 +1,4 @@
-//! The access token of who asks.
+//! The access token of an import or an export.
 ghost use Rattle.std.specs.Prelude.{◌≡◌, MatchResult, Ok, Err};
 ghost use Rattle.mds_errands.specs.Tokens.{without_line_end, token_in};
 
@@ -14,7 +14,7 @@ use std::str::from_utf8;
 /// The most bytes of an access token.
 const MOST_TOKEN: usize = 64;
 
-/// As many bytes of its file are read: of an access token, of a line end, and one more.
+/// How many bytes of its file are read: those of an access token and of a line end, and one more.
 const MOST_READ: u64 = 67;
 
 /// Why a file has no access token.
@@ -31,7 +31,7 @@ pub enum TokenFault {
 }
 
 impl TokenFault {
-    /// In words.
+    /// The fault in words.
     pub fn words(self) -> &'static str {
         match self {
             TokenFault::NotRegular => "the access token's file isn't a regular file",
@@ -42,7 +42,7 @@ impl TokenFault {
     }
 }
 
-/// Bytes without one line end, of LF or of CR and LF, behind them.
+/// The bytes without the one line end, LF or CR LF, behind them.
 fn without_line_end(bytes: &[u8]) -> &[u8]
     ensures { result.now ≡ without_line_end bytes.now }
 {
@@ -55,7 +55,7 @@ fn without_line_end(bytes: &[u8]) -> &[u8]
     }
 }
 
-/// The access token that the bytes of a file are.
+/// The access token in the bytes of a file.
 ///
 /// # Errors
 ///
@@ -75,7 +75,7 @@ fn token_in(bytes: &[u8]) -> Result<&[u8], TokenFault>
     }
 }
 
-/// The first bytes of a file.
+/// The first bytes of a file, up to `MOST_READ`.
 ///
 /// # Errors
 ///
@@ -92,7 +92,7 @@ fn front_of<S: Read + Drop>(alloc: Global, file: S) -> Result<Vec<u8>, End> {
     }
 }
 
-/// The access token of a file.
+/// Reads the access token in a file.
 ///
 /// # Errors
 ///
@@ -113,7 +113,7 @@ fn read_token<R: Files<File = File> + AllocGlobal>(rt: &R, path: &str) -> Result
     }
 }
 
-/// The access token that stands there.
+/// The access token, as it is given or from its file.
 ///
 /// # Errors
 ///
@@ -128,7 +128,7 @@ fn token_from<R: Files<File = File> + AllocGlobal>(
     }
 }
 
-/// The access token by which a server is asked; an empty text, where none is.
+/// The access token for a server; empty where nothing is sent.
 ///
 /// # Errors
 ///
@@ -143,7 +143,7 @@ pub(crate) fn token_for<R: Files<File = File> + AllocGlobal>(
     }
 }
 
-/// The server of a destination, as it is asked by this access token.
+/// The server of a destination, with this access token.
 pub(crate) fn server_of<'a>(destination: Destination<'a>, token: &'a str) -> Server<'a> {
     Server {
         host: destination.address,
@@ -151,7 +151,7 @@ pub(crate) fn server_of<'a>(destination: Destination<'a>, token: &'a str) -> Ser
     }
 }
 
-/// The server of a destination, if there is one.
+/// The server of a destination, if there is one, with this access token.
 pub(crate) fn server_for<'a>(
     destination: Option<Destination<'a>>,
     token: &'a str,

@@ -1,4 +1,4 @@
-//! What is said of a document.
+//! Messages on standard error about a document or a file.
 
 use crate::end::End;
 use crate::escape::escaped;
@@ -8,18 +8,18 @@ use mds_text::{TextFault, Tree};
 use std::alloc::{AllocGlobal, Global};
 use std::io::Eprint;
 
-/// As much of a server's reply is shown where it isn't one of the protocol.
+/// The most bytes of a response that are shown where it has no code of the protocol.
 const MOST_SHOWN: usize = 200;
 
-/// Where a document stands.
+/// A document, or a file as a whole.
 #[derive(Clone, Copy)]
 pub struct Spot<'a> {
     pub file: &'a str,
-    /// Its place in its file, from 0 on; none, of the file as a whole.
+    /// Its index in its file, from 0; `None` for the file as a whole.
     pub document: Option<usize>,
 }
 
-/// Where a document of these files stands.
+/// A document of these files.
 pub(crate) fn spot_at(files: &[String], origin: Origin) -> Spot<'_> {
     let file = match files.get(origin.file) {
         Some(file) => file.as_str(),
@@ -31,11 +31,11 @@ pub(crate) fn spot_at(files: &[String], origin: Origin) -> Spot<'_> {
     }
 }
 
-/// Says something of a document on standard error. The words are shown as they are.
+/// Prints a message about a document or a file on standard error. The words are printed as they are.
 ///
 /// # Errors
 ///
-/// `NoMemory`. A standard error that can't be written isn't told.
+/// `NoMemory`. That standard error can't be written isn't reported.
 pub fn tell<R: Eprint + AllocGlobal>(rt: &R, spot: Spot<'_>, words: &str) -> Result<(), End> {
     let file = escaped(rt.alloc(), spot.file.as_bytes())?;
     let _ = match spot.document {
@@ -48,7 +48,7 @@ pub fn tell<R: Eprint + AllocGlobal>(rt: &R, spot: Spot<'_>, words: &str) -> Res
     Ok(())
 }
 
-/// The code of a refusal, as it is shown.
+/// The code of a refusal, escaped.
 fn code_in(alloc: Global, tree: &Tree) -> Result<Option<String>, End> {
     let Tree::Object(members) = tree else {
         return Ok(None);
@@ -61,7 +61,7 @@ fn code_in(alloc: Global, tree: &Tree) -> Result<Option<String>, End> {
     Ok(None)
 }
 
-/// The server's word in a reply, as it is shown: the code of its refusal, or the front of a reply that has none.
+/// What a response says, escaped: the code of its refusal, or else its first bytes.
 ///
 /// # Errors
 ///

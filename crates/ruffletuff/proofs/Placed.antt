@@ -1,4 +1,4 @@
--- The room and desks of a server that is started again are those of its configuration.
+-- The room and desks of a server that is started from a log are those of its configuration.
 use Rattle.mds_request.specs.Configuration.{Configuration}
 use Rattle.mds_hall.specs.Turn.{AreDesksOf}
 use Rattle.mds_recovery.specs.Laws.{IsServerOf}

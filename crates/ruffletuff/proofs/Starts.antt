@@ -1,4 +1,4 @@
--- A server that is started again from a journal's entries is started from its texts.
+-- A server that replays a journal's entries is started from the journal's payloads.
 use Rattle.std.proofs.Common.{◌≡◌, ℕ, List, [], ◌∷◌, map, refl, sym, ap, subst, Result, Ok, Err, IfOk}
 use Rattle.mds_request.specs.Configuration.{Configuration}
 use Rattle.mds_entries.specs.Entries.{Entry, entry_of, entry_text}
@@ -8,7 +8,7 @@ use Rattle.mds_recovery.specs.Laws.{IsStartedAgain}
 use Rattle.mds_recovery.specs.Recovery.{Server}
 use Rattle.ruffletuff.specs.Starting.{HasHead, IsStartedFrom}
 
--- what holds of a result may be more
+-- a weaker property of a result holds where a stronger one does
 pub if_ok : {X E : Type 0} (P Q : X → Type 0) (r : Result X E) → ((x : X) → P x → Q x) → IfOk r P → IfOk r Q
 if_ok P Q (Ok x) more holds = more x holds
 if_ok P Q (Err e) more holds = tt

@@ -1,11 +1,11 @@
--- What is told of a journal that is looked at.
+-- The fault of a journal that is checked.
 use Rattle.std.specs.Prelude.{Option, Some, None, Result, Ok, Err}
 use Rattle.mds_folder.specs.declared.fault.Damage.{Damage}
 use Rattle.mds_folder.specs.declared.fault.FolderFault.TheVariants.{Damaged}
 use Rattle.ruffletuff.specs.declared.ending.Ending.{Ending}
 use Rattle.ruffletuff.specs.declared.ending.Ending.TheVariants.{Folder}
 
--- the fault, where something is wrong with it
+-- the fault with this damage; none without damage
 abbrev pub refused_for : Option Damage → Result (Unit {0}) Ending
 refused_for None = Ok tt
 refused_for (Some damage) = Err (Folder (Damaged damage))

@@ -3,6 +3,6 @@ use Rattle.std.specs.Prelude.{Bool, Result, Ok, Err, if◌then◌else◌}
 use Rattle.ruffletuff.specs.declared.ending.Ending.{Ending}
 use Rattle.ruffletuff.specs.declared.ending.Ending.TheVariants.{NoListener, NotKept}
 
--- A journal that wasn't written to its end is told before all else.
+-- That a journal wasn't written to its end is reported before all else.
 abbrev pub outcome_of : (is_kept is_served : Bool) → Result (Unit {0}) Ending
 outcome_of is_kept is_served = if is_kept then (if is_served then Ok tt else Err NoListener) else Err NotKept

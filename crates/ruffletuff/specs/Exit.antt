@@ -1,4 +1,4 @@
--- The exit statuses, and what is said first of each end.
+-- The exit statuses, and the first line on standard error at each end.
 use Rattle.std.specs.Prelude.{ℕ, ◌==◌, List, codes, if◌then◌else◌, Result, Ok, Err}
 use Rattle.mds_folder.specs.Exit as folder
 use Rattle.mds_folder.specs.declared.fault.FolderFault.{FolderFault}
@@ -12,13 +12,13 @@ use Rattle.mds_thinning.specs.declared.fault.ThinFault.TheVariants as thin
 use Rattle.ruffletuff.specs.declared.ending.Ending.{Ending}
 use Rattle.ruffletuff.specs.declared.ending.Ending.TheVariants.{Usage, Misconfigured, NoMemory, NoListener, NoControl, NotStopped, NotPrinted, Folder, Refused, NotKept, NotThinned, Differs}
 
--- an entry that isn't answered again: 503 is want of memory, and any other is one of another configuration
+-- an entry that can't be replayed: 503 is out of memory, and any other is one of another configuration
 abbrev pub cause_status : Cause → ℕ
 cause_status causes.NoDesk = 6
 cause_status (causes.Refused status) = if status == 503 then 3 else 6
 
--- 1 for what can't be listened to or written to, 2 for wrong arguments or a wrong configuration, 3 for want of memory, 4 to 6 for a folder,
--- 7 where a journal couldn't be written, 8 where a thinned one leads to another city
+-- 1 for what can't be listened to or written to, 2 for wrong arguments or a wrong configuration, 3 for out of memory, 4
+-- to 6 for a folder, 7 where a journal couldn't be written, 8 where a compacted one leads to another state
 abbrev pub exit_status : Ending → ℕ
 exit_status NoListener = 1
 exit_status NoControl = 1
@@ -69,12 +69,12 @@ message_of NotKept = codes "ruffletuff: the journal couldn't be written any more
 message_of NotThinned = codes "ruffletuff: the thinned journal couldn't be written"
 message_of Differs = codes "ruffletuff: the thinned journal leads to another city"
 
--- why a program ends whose server isn't started again
+-- why a program ends whose server can't be started from its journal
 abbrev pub ending_of : StartFault → Ending
 ending_of (Opening fault) = NoMemory
 ending_of (Stopped fault) = Refused fault
 
--- why it ends where an entry of a thinned journal isn't answered again
+-- why it ends where an entry of a compacted journal can't be replayed
 abbrev pub cause_of_thinned : Cause → Ending
 cause_of_thinned causes.NoDesk = Differs
 cause_of_thinned (causes.Refused status) = if status == 503 then NoMemory else Differs
@@ -83,7 +83,7 @@ abbrev pub ending_of_thinned : StartFault → Ending
 ending_of_thinned (Opening fault) = NoMemory
 ending_of_thinned (Stopped fault) = cause_of_thinned fault.cause
 
--- why it ends where a journal isn't thinned by a configuration that was read before
+-- why it ends where a journal isn't compacted, by a configuration that was read before
 abbrev pub ending_of_thinning : ThinFault → Ending
 ending_of_thinning thin.NoMemory = NoMemory
 ending_of_thinning (thin.Configuration fault) = NoMemory

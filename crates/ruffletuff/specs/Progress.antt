@@ -1,4 +1,4 @@
--- When it is said how far the journal is answered again.
+-- When the progress of replaying the journal is reported.
 use Rattle.std.specs.Prelude.{ℕ, ◌%◌, ◌==◌, Bool}
 use Rattle.ruffletuff.specs.declared.progress.TheConstants.{STEP}
 

@@ -6,6 +6,6 @@ use Rattle.mds_entries.specs.Entries.{Entry}
 use Rattle.mds_entries.specs.Requests.{request_by}
 use Rattle.mds_folder.specs.Script.{request_text}
 
--- the line of an entry: of the request that it is with the access token of the configuration
+-- the line of an entry: of its request, with the client's access token of the configuration
 abbrev pub IsLineOf : Configuration → Entry → List ℕ → Type 0
 IsLineOf configuration entry line = (request : Request) × (request_by configuration entry ≡ Some request) × (line ≡ request_text request)

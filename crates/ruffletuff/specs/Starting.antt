@@ -1,4 +1,4 @@
--- From which log a room and desks are started again.
+-- The log from which a room and desks are started.
 use Rattle.std.specs.Prelude.{◌≡◌, ℕ, Bool, true, false, List, [], ◌∷◌, map, None}
 use Rattle.mds_request.specs.Configuration.{Configuration}
 use Rattle.mds_request.specs.declared.request.Verb.{Verb}
@@ -11,30 +11,31 @@ use Rattle.mds_recovery.specs.Laws.{IsStartedAgain}
 use Rattle.mds_recovery.specs.Recovery.{Server}
 use Rattle.mds_folder.specs.Choosing.{needed, without}
 
--- the texts of a journal's entries: those behind its head
+-- the payloads of a journal's entries: those behind its head
 abbrev pub behind_head : List (List ℕ) → List (List ℕ)
 behind_head [] = []
 behind_head (head ∷ texts) = texts
 
--- The first text is a head, which the configuration has room for but for the operators that are left out; behind it stand these.
+-- The first payload is a head, for whose operators the configuration has room, but for those that are left out; behind
+-- it stand these.
 pub record HasHead (configuration : Configuration) (dropped : List (List ℕ)) (texts rest : List (List ℕ)) : Type 0 where
   pub shares : List Share
   pub are_shares : AreShares shares
   pub whole : texts ≡ head_text shares ∷ rest
   pub fits : unfit configuration (needed dropped shares) ≡ None
 
--- The texts are a head, which the configuration has room for, and those of entries; from these, but for those of the operators that are left
--- out, the room and desks are started again.
+-- The payloads are a head, for whose operators the configuration has room, and those of entries; the room and desks are
+-- started from these, but for those of the operators that are left out.
 pub record IsStartedFrom (configuration : Configuration) (dropped : List (List ℕ)) (texts : List (List ℕ)) (s : Server) : Type 0 where
   pub entries : List Entry
   pub head : HasHead configuration dropped texts (map entry_text entries)
   pub started : IsStartedAgain configuration (without dropped entries) s
 
--- The log may be of texts that are so.
+-- The log may be of such payloads.
 abbrev pub IsStartedFromLog : (List (List ℕ) → Type 0) → Configuration → List (List ℕ) → Server → Type 0
 IsStartedFromLog may_be configuration dropped s = (texts : List (List ℕ)) × may_be texts × IsStartedFrom configuration dropped texts s
 
--- whether one who asks so publishes: to publish is the one POST of the author's
+-- whether a client's request with this verb publishes: to publish is the author's only POST
 abbrev pub publishes : Asker → Verb → Bool
 publishes Author Post = true
 publishes asker verb = false

@@ -1,4 +1,4 @@
--- The file, folder or address at which a fault is.
+-- The file, folder or address that a fault is about.
 use Rattle.std.specs.Prelude.{ℕ, List, Option, Some, None}
 use Rattle.mds_command.specs.Asked.{Request, serve, check, check_config, audit, thin, stop}
 use Rattle.ruffletuff.specs.declared.ending.Ending.{Ending}
@@ -15,7 +15,7 @@ abbrev pub listener_of : Request → Option (List ℕ)
 listener_of (serve config state listen control control_host dropped thin_at) = Some listen
 listener_of asked = None
 
--- the address of the control port, to serve it or to stop its server
+-- the address of the control port, which is served or whose server is stopped
 abbrev pub control_of : Request → Option (List ℕ)
 control_of (serve config state listen control control_host dropped thin_at) = control
 control_of (stop address) = Some address

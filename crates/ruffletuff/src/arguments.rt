@@ -1,11 +1,11 @@
-//! The words behind the program's name.
+//! The program's arguments.
 
 use crate::ending::Ending;
 use std::alloc::AllocGlobal;
 use std::env;
 use std::env::Env;
 
-/// The words behind the program's name.
+/// The arguments behind the program's name.
 ///
 /// # Errors
 ///

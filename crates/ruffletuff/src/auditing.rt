@@ -1,4 +1,4 @@
-//! A folder's journal as a script, which mds_replay answers.
+//! Prints a folder's journal as a script, which `mds_replay` answers.
 ghost use Rattle.std.specs.Prelude.{◌≡◌, ◌++◌, ◌∷◌, [], ℕ, List, map, IfOk, OnOk};
 ghost use Rattle.std.specs.Io.KnownBytes.{Appends};
 ghost use Rattle.mds_entries.specs.Entries.{entry_of};
@@ -34,7 +34,7 @@ fn put<W: Write>(out: &mut W, bytes: &[u8]) -> Result<(), Ending>
     }
 }
 
-/// The configuration's line, with its end.
+/// The script's first line: the configuration, with a line end.
 ///
 /// # Errors
 ///
@@ -48,7 +48,7 @@ fn first_line(alloc: Global, text: &[u8]) -> Result<Vec<u8>, AllocError>
     Ok(line)
 }
 
-/// Why an entry is no request of a configuration: its operator isn't there. The author always is.
+/// Why an entry is no request of a configuration: its operator isn't in it. The author always is.
 fn without_token(asker: Asker) -> Ending {
     match asker {
         Asker::Author => Ending::NoMemory,
@@ -56,7 +56,7 @@ fn without_token(asker: Asker) -> Ending {
     }
 }
 
-/// The line of an entry, as the request that it is with the access token of a configuration.
+/// The line of an entry: its request, with its client's access token in a configuration.
 ///
 /// # Errors
 ///
@@ -108,7 +108,7 @@ fn print_lines<W: Write>(
     Ok(())
 }
 
-/// The texts behind a journal's head, which are those of its entries.
+/// The payloads behind a journal's head, which are those of its entries.
 pub fn behind_head<'a>(texts: &'a [Vec<u8>]) -> &'a [Vec<u8>]
     ensures { map (λ t. t.items) result.now ≡ behind_head (map (λ t. t.items) texts.now) }
 {
@@ -118,12 +118,12 @@ pub fn behind_head<'a>(texts: &'a [Vec<u8>]) -> &'a [Vec<u8>]
     }
 }
 
-/// Writes the script of a configuration's text and a journal's texts.
+/// Writes the script of a configuration's text and a journal's payloads.
 ///
 /// # Errors
 ///
-/// `Misconfigured`; `Folder` where a text is no entry, or an entry's operator isn't in the configuration; `NotPrinted`,
-/// `NoMemory`. What was written by then is a front of the script.
+/// `Misconfigured`; `Folder` where a payload is no entry, or an entry's operator isn't in the configuration;
+/// `NotPrinted`, `NoMemory`. What was written by then is a prefix of the script.
 fn print_script<W: Write>(
     alloc: Global,
     out: &mut W,
@@ -144,12 +144,12 @@ fn print_script<W: Write>(
     print_lines(alloc, out, &config, &entries)
 }
 
-/// Prints the journal of a folder as a script: the configuration on one line, then each entry that is asked for as a
-/// request. Nothing is locked or changed.
+/// Prints the journal of a folder as a script: the configuration on one line, then the request of each entry that is
+/// asked for. Nothing is locked or changed.
 ///
 /// # Errors
 ///
-/// `Misconfigured`, `Folder`, `NotPrinted` or `NoMemory`. What was printed by then is a front of the script.
+/// `Misconfigured`, `Folder`, `NotPrinted` or `NoMemory`. What was printed by then is a prefix of the script.
 pub fn audit<R: Files<File = File> + Print + AllocGlobal>(
     rt: &R,
     asked: &Audit<'_>,

@@ -1,20 +1,21 @@
-//! What a server shows, and what ends it.
+//! The admin state of a server.
 
 use mds_control::{Control, Counters};
 use mds_doors::Closing;
 use std::sync::Arc;
 
-/// What a server shows to who controls it, and what ends it.
+/// The admin state of a server: what its control port shows, what ends it, and the text of its
+/// configuration.
 #[derive(Clone, Copy)]
 pub struct Board<'a> {
     /// Ends the server.
     pub closing: &'a Closing,
-    /// Says how far the server is.
+    /// How far the server is.
     pub control: &'a Control,
-    /// What the server counts.
+    /// The server's counters.
     pub counters: &'a Counters,
-    /// The same, for who keeps a share of it.
+    /// The same, for those that need an `Arc`.
     pub shared: &'a Arc<Counters>,
-    /// The text of its configuration.
+    /// The text of the server's configuration.
     pub configuration: &'a [u8],
 }

@@ -1,4 +1,4 @@
-//! How a folder's journal ends, for who looks at it alone.
+//! Checks a folder's journal, without locking or changing it.
 ghost use Rattle.std.specs.Prelude.{◌≡◌, IsTrue, false, Ok};
 ghost use Rattle.mds_records.specs.Endings.{is_opened};
 ghost use Rattle.mds_folder.specs.Damages.{damage_of};
@@ -14,7 +14,7 @@ use std::fs::{File, Files};
 use std::io::Print;
 use std::mem::drop;
 
-/// How a journal ends, in words.
+/// The end of a journal, in words.
 fn end_of(ending: Ends) -> &'static str {
     match ending {
         Ends::Whole => "whole",
@@ -26,7 +26,8 @@ fn end_of(ending: Ends) -> &'static str {
     }
 }
 
-/// Whether a journal that ends so behind this many whole bytes ends as one that was written and perhaps killed.
+/// Whether a journal that ends so, behind this many whole bytes, is one that was written and perhaps cut short by a
+/// kill.
 ///
 /// # Errors
 ///
@@ -40,7 +41,7 @@ fn intact(whole: u64, ending: Ends) -> Result<(), Ending>
     }
 }
 
-/// Whether a journal that ends so behind this many whole bytes is one that a server starts from.
+/// Whether a server can start from a journal that ends so, behind this many whole bytes.
 ///
 /// # Errors
 ///
@@ -55,7 +56,7 @@ pub fn startable(whole: u64, ending: Ends) -> Result<(), Ending>
     intact(whole, ending)
 }
 
-/// Whether a text is a head.
+/// Whether a payload is a journal's head.
 ///
 /// # Errors
 ///
@@ -67,11 +68,11 @@ fn is_head(alloc: Global, text: &[u8]) -> Result<(), Ending> {
     }
 }
 
-/// Whether texts are a head and entries, or none at all.
+/// Whether payloads are a head and entries, or none at all.
 ///
 /// # Errors
 ///
-/// `Folder` with the first text that isn't one of a known version, `NoMemory`.
+/// `Folder` with the first payload that isn't one of a known version, `NoMemory`.
 fn readable(alloc: Global, texts: &[Vec<u8>]) -> Result<(), Ending> {
     let Some(head) = texts.first() else {
         return Ok(());
@@ -85,12 +86,12 @@ fn readable(alloc: Global, texts: &[Vec<u8>]) -> Result<(), Ending> {
     Ok(())
 }
 
-/// Says how many records and bytes the journal of a folder has, and how it ends. Nothing is locked or changed.
+/// Prints how many records and bytes the journal of a folder has, and how it ends. Nothing is locked or changed.
 ///
 /// # Errors
 ///
-/// `Folder` where the journal can't be read, or with where it is damaged, no journal or of another version, or that nothing explains
-/// what stands behind its records; `NoMemory`.
+/// `Folder` where the journal can't be read, or where it is damaged, no journal, of another version, or followed by
+/// bytes that nothing explains; `NoMemory`. `NotPrinted` where nothing is wrong with it.
 pub fn check<R: Files<File = File> + Print + AllocGlobal>(
     rt: &R,
     folder: &str,

@@ -1,4 +1,4 @@
-//! The configuration, from its file.
+//! Reads the configuration from its file.
 ghost use Rattle.std.specs.Prelude.{◌≡◌, ◌≤◌, length, IfOk, Ok};
 ghost use Rattle.mds_lines.specs.declared.gather.TheConstants.{LINE_LIMIT};
 ghost use Rattle.mds_app.specs.Badges.{badges_view, read_badges};
@@ -15,7 +15,7 @@ use std::alloc::{AllocGlobal, Global};
 use std::fs::{File, Files};
 use std::io::{Eprint, ErrorKind, Read};
 
-/// The text of a source, as a configuration may be long.
+/// Reads a text that is at most as long as a configuration may be.
 ///
 /// # Errors
 ///
@@ -34,7 +34,7 @@ pub fn text_in<S: Read + Drop>(alloc: Global, source: S) -> Result<Vec<u8>, Endi
     check_length(text)
 }
 
-/// A text that is no longer than a configuration may be.
+/// The text, if it isn't longer than a configuration may be.
 ///
 /// # Errors
 ///
@@ -48,7 +48,7 @@ pub fn check_length(text: Vec<u8>) -> Result<Vec<u8>, Ending>
     Ok(text)
 }
 
-/// The text of a configuration's file, with the rule in the place of its zone's name.
+/// The text of a configuration's file, with a rule in the place of its zone's name.
 ///
 /// # Errors
 ///
@@ -64,7 +64,7 @@ pub fn configuration_text<R: Files<File = File> + AllocGlobal>(
     source.resolve(alloc)
 }
 
-/// The same, where a server starts. What nobody reads in it is said on standard error.
+/// The same, where a server starts: findings in it, as members that nobody reads, are reported on standard error.
 ///
 /// # Errors
 ///
@@ -81,7 +81,7 @@ pub fn told_text<R: Files<File = File> + Eprint + AllocGlobal>(
     source.resolve(alloc)
 }
 
-/// The configuration that a text is. Line ends in it are no matter.
+/// Reads the configuration in a text. Line ends in it don't matter.
 ///
 /// # Errors
 ///
@@ -98,7 +98,7 @@ pub fn configuration_in(alloc: Global, text: &[u8]) -> Result<Config, Ending>
     }
 }
 
-/// How people know the operators of the configuration that a text is: see `mds_app::laws::configurations_are_badged`.
+/// Reads the operators' names for people in a configuration's text: see `mds_app::laws::configurations_are_badged`.
 ///
 /// # Errors
 ///

@@ -1,9 +1,9 @@
-//! A server with a control port.
+//! Serves a city with a control port.
 
 use crate::board::Board;
 use crate::ending::Ending;
 use crate::errand::{Errand, beside};
-use crate::host::Host;
+use crate::host::ServerHost;
 use crate::opening::{Given, serve_city};
 use mds_command::Service;
 use mds_control::{Port, PortWaker, Stop, serve_control};
@@ -15,7 +15,7 @@ use std::sync::Wait;
 use std::thread::Threads;
 use std::time::Clock;
 
-/// Ends the server of a closing.
+/// Stops a server by its shutdown handle.
 #[derive(Drop)]
 struct Stopping<'a> {
     closing: &'a Closing,
@@ -27,7 +27,7 @@ impl Stop for Stopping<'_> {
     }
 }
 
-/// Answers at the control port until the server has ended.
+/// The thread of the control port, which answers until the server has ended.
 #[derive(Drop)]
 struct Controlling<'a, R> {
     rt: R,
@@ -48,22 +48,22 @@ impl<R: Clock + AllocGlobal + Drop> Errand for Controlling<'_, R> {
     }
 }
 
-/// A city that is served beside its control port.
+/// A city that is served while its control port answers.
 #[derive(Drop)]
 struct Controlled<'a> {
     service: &'a Service<'a>,
     given: Given<'a>,
     board: Board<'a>,
-    /// Ends the control port.
+    /// Wakes the control port, so that it ends.
     waker: PortWaker,
 }
 
-/// Serves a city, and ends the control port behind it. Gives how the server ended, and what wakes the port: a waker that is closed
-/// before the port has woken wakes nobody.
-fn serve_and_end<R>(rt: &R, controlled: Controlled<'_>) -> (Result<(), Ending>, PortWaker)
-where
-    R: Host + Wait + Threads + Net + Files<File = File>,
-{
+/// Serves a city, and ends the control port after it. Gives how the server ended, and the waker of the port: a waker
+/// that is closed before the port has woken wakes nobody.
+fn serve_and_end<R: ServerHost>(
+    rt: &R,
+    controlled: Controlled<'_>,
+) -> (Result<(), Ending>, PortWaker) {
     let Controlled {
         service,
         given,
@@ -75,21 +75,19 @@ where
     (served, waker)
 }
 
-/// Serves a city with a control port at this address, from before its folder is opened until the server has ended.
+/// Serves a city with a control port at this address, which answers from before the folder is opened until the server
+/// has ended.
 ///
 /// # Errors
 ///
-/// `NoControl` where nothing can be listened to there, or as the server ends.
-pub fn serve_controlled<R>(
+/// `NoControl` where nothing can be listened to there, or the fault with which the server ends.
+pub fn serve_controlled<R: ServerHost>(
     rt: &R,
     service: &Service<'_>,
     address: &str,
     given: Given<'_>,
     board: Board<'_>,
-) -> Result<(), Ending>
-where
-    R: Host + Wait + Threads + Net<Listener = TcpListener, Stream = TcpStream> + Files<File = File>,
-{
+) -> Result<(), Ending> {
     let Ok(port) = Port::bind(rt, address, service.control_host) else {
         return Err(Ending::NoControl);
     };

@@ -1,4 +1,4 @@
-//! What is counted of a city's connections, and of its operators' vehicles.
+//! Counters of a city's connections, and of its operators' vehicles.
 
 use mds_control::{Counters, Fleet};
 use mds_doors::Closing;
@@ -7,8 +7,8 @@ use mds_request::Config;
 use std::alloc::{AllocError, Global};
 use std::sync::Wait;
 
-/// Counters of a server that has counted nothing: of the connections that this closing ends, and of the vehicles of each
-/// operator.
+/// New counters of a server: for the connections that this shutdown handle ends, and for the vehicles of each operator
+/// of a configuration.
 ///
 /// # Errors
 ///
@@ -26,11 +26,11 @@ pub fn counters_of(
     Counters::new(alloc, closing.connections()?, fleets)
 }
 
-/// From now on these counters, which are of the hall's configuration, tell how many vehicles each operator has.
+/// Has these counters, which are of the hall's configuration, show from now on how many vehicles each operator has.
 ///
 /// # Errors
 ///
-/// There are too many shares of a number.
+/// A number has too many references.
 pub fn count_vehicles<K: Named, R: Wait>(
     rt: &R,
     hall: &Hall<K>,

@@ -1,4 +1,4 @@
-//! Why the program ends other than as it was asked to.
+//! Why the program ends other than as it was asked to, with the exit status and the message of each.
 ghost use Rattle.std.specs.Prelude.{◌≡◌};
 ghost use Rattle.ruffletuff.specs.Exit.{cause_status, exit_status, cause_message, folder_message, message_of, cause_of_thinned, ending_of_thinned};
 
@@ -12,33 +12,33 @@ use std::alloc::AllocError;
 /// Why the program ends.
 #[derive(Clone, Copy)]
 pub enum Ending {
-    /// The arguments ask for nothing that the program does.
+    /// The arguments are none that the program knows.
     Usage,
-    /// The configuration's file is no configuration.
+    /// The configuration's file isn't a configuration.
     Misconfigured(Detail),
     /// Memory ran out.
     NoMemory,
-    /// Nothing can be listened to at the server's address, or threads or the waiting for events couldn't be had.
+    /// The server's address can't be listened to, or threads or the polling of events couldn't be had.
     NoListener,
-    /// Nothing can be listened to at the control port's address.
+    /// The control port's address can't be listened to.
     NoControl,
     /// No server with a control port at this address says that it stops.
     NotStopped,
     /// Standard output couldn't be written.
     NotPrinted,
-    /// The city's folder isn't opened.
+    /// The city's folder can't be opened, or its journal can't be used.
     Folder(FolderFault),
-    /// An entry of the journal isn't answered again.
+    /// An entry of the journal can't be replayed.
     Refused(Fault),
     /// The journal couldn't be written any more.
     NotKept,
-    /// The thinned journal couldn't be written beside the journal, which stays.
+    /// The compacted journal couldn't be written next to the journal, which stays.
     NotThinned,
-    /// The thinned journal leads to another city than the journal, which stays.
+    /// The compacted journal leads to another state than the journal, which stays.
     Differs,
 }
 
-/// The exit status where an entry isn't answered again.
+/// The exit status where an entry can't be replayed.
 fn cause_status(cause: Cause) -> u8
     ensures { result ≡ cause_status cause }
 {
@@ -48,7 +48,7 @@ fn cause_status(cause: Cause) -> u8
     }
 }
 
-/// What is said where an entry isn't answered again.
+/// The message where an entry can't be replayed.
 fn cause_message(cause: Cause) -> &'static str
     ensures { result.now ≡ cause_message cause }
 {
@@ -60,7 +60,7 @@ fn cause_message(cause: Cause) -> &'static str
     }
 }
 
-/// What is said of a folder that isn't opened.
+/// The message where a folder can't be opened.
 fn folder_message(fault: &FolderFault) -> &'static str
     ensures { result.now ≡ folder_message fault.now }
 {
@@ -90,7 +90,7 @@ impl Ending {
         }
     }
 
-    /// What the program says of it first on standard error.
+    /// The first line on standard error.
     pub fn message(&self) -> &'static str
         ensures { result.now ≡ message_of self.now }
     {
@@ -158,7 +158,7 @@ impl From<StartFault> for Ending {
     }
 }
 
-/// Why the program ends where an entry of the thinned journal isn't answered again.
+/// Why the program ends where an entry of the compacted journal can't be replayed.
 fn cause_of_thinned(cause: Cause) -> Ending
     ensures { result ≡ cause_of_thinned cause }
 {
@@ -168,7 +168,7 @@ fn cause_of_thinned(cause: Cause) -> Ending
     }
 }
 
-/// Why the program ends where no server is started from the thinned journal.
+/// Why the program ends where no server starts from the compacted journal.
 fn ending_of_thinned(fault: StartFault) -> Ending
     ensures { result ≡ ending_of_thinned fault }
 {
@@ -184,7 +184,7 @@ impl From<ThinFault> for Ending {
 
     ghost from_gives = { λ fault e. e ≡ ending_of_thinning fault };
 
-    // A configuration is thinned by that was read once, so that it is want of memory where it isn't read again.
+    // The configuration was read before the compaction began: reading it again can only fail for memory.
     fn from(fault: ThinFault) -> Ending {
         match fault {
             ThinFault::NoMemory | ThinFault::Configuration(_) => Ending::NoMemory,

@@ -1,17 +1,17 @@
-//! What is done in a thread of its own.
+//! Jobs that run in a thread of their own.
 
 use std::thread::{Threads, join};
 
-/// What is done in a thread of its own.
+/// A job that runs in a thread of its own.
 pub trait Errand {
-    /// What comes of it.
+    /// The job's result.
     type Outcome;
 
-    /// Does it, once.
+    /// Runs the job, once.
     fn run(self) -> Self::Outcome;
 }
 
-/// Runs an errand in a thread of its own, and does something else meanwhile.
+/// Runs a job in a thread of its own and `meanwhile` in this one, and gives both results.
 pub fn beside<R: Threads, E: Errand<Outcome = A> + Send + Drop, A: Send, B, F: FnOnce() -> B>(
     rt: &R,
     errand: E,

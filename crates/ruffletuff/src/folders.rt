@@ -1,13 +1,14 @@
-//! The files of folders by their names, in any thread.
+//! File operations by path, in any thread.
 
 use std::fs::{self, File};
 use std::io;
 use std::os::unix::fs::OpenOptionsExt;
 
-/// Who may read and write a file that is made: its owner alone.
+/// The mode of a new file: its owner alone may read and write it.
 const MODE: u32 = 0o600;
 
-/// What may name files, in any thread: std's `Files` may do so in the thread alone to which it is given.
+/// Opens, makes, renames and removes files by their paths in any thread: std's `Files` may do so in the one thread
+/// alone to which it is given.
 pub trait Folders {
     /// Opens a file, or a folder, to read it.
     ///
@@ -16,14 +17,14 @@ pub trait Folders {
     /// The system's.
     fn open(&self, path: &str) -> io::Result<File>;
 
-    /// Makes a file to read and write it. What has its name, a link too, is removed before.
+    /// Makes a file to read and write it. A file or link that has its name is removed first.
     ///
     /// # Errors
     ///
     /// The system's.
     fn make(&self, path: &str) -> io::Result<File>;
 
-    /// Gives a file another's name, which it takes at once.
+    /// Gives a file the name of another, in the place of that one, atomically.
     ///
     /// # Errors
     ///
@@ -44,7 +45,7 @@ impl Folders for HostRuntime {
     }
 
     fn make(&self, path: &str) -> io::Result<File> {
-        // Where nothing has the name, there is nothing to remove.
+        // If nothing has the name, there is nothing to remove.
         let _ = fs::remove_file(self, path);
         let mut how = File::options();
         how.read(true).write(true).create_new(true).mode(MODE);

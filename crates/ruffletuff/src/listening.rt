@@ -1,4 +1,4 @@
-//! Where a server is connected to.
+//! The socket at which a server listens, and the threads that serve its connections.
 ghost use Rattle.std.specs.Prelude.{◌≡◌, IfErr};
 ghost use Rattle.ruffletuff.specs.declared.ending.Ending.TheVariants.{NoListener};
 
@@ -9,8 +9,8 @@ use std::net::Net;
 use tokio::net::TcpListener;
 use tokio::runtime::Runtime;
 
-/// A socket that is listened to, and the threads that are to serve its connections. Those that come before it is served wait
-/// in its backlog.
+/// A listening socket, and the threads that are to serve its connections. Connections that come before it is served
+/// wait in its backlog.
 #[derive(Drop)]
 pub struct Listening {
     /// The threads.
@@ -19,11 +19,11 @@ pub struct Listening {
     pub listener: TcpListener,
 }
 
-/// Listens at this address, for so many threads to serve, or one where that is none.
+/// Listens at this address, for so many threads to serve; for one where the number is 0.
 ///
 /// # Errors
 ///
-/// `NoListener` where nothing can be listened to there, or the waiting for events couldn't be had.
+/// `NoListener` where the address can't be listened to, or the polling of events couldn't be had.
 pub fn listen<R: Host + Net>(rt: &R, address: &str, threads: usize) -> Result<Listening, Ending>
     ensures { IfErr result (λ ending. ending ≡ NoListener) }
 {

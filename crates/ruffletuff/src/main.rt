@@ -1,5 +1,5 @@
-//! Serves one city over HTTP and forgets nothing: each accepted change is in a journal before it is told. It also says how a
-//! journal ends, prints one as a script, thins one, and stops a server.
+//! Serves one city over HTTP and persists what it accepts: each accepted change is in a journal, synced, before it is
+//! answered. It also checks how a journal ends, prints one as a script, compacts one, and stops a server.
 #![tactic(auto)]
 
 mod arguments;
@@ -29,8 +29,8 @@ mod words;
 use running::run;
 use std::process::ExitCode;
 
-/// Does what the arguments ask for, and ends with the status that `--help` tells. After a fault standard error says which and
-/// where, and what is wrong in a second line.
+/// Does what the arguments ask for, and ends with the exit status that `--help` lists. After a fault standard error
+/// says which and where, and in a second line what is wrong.
 fn main(rt: HostRuntime) -> ExitCode {
     ExitCode::from(run(&rt))
 }

@@ -1,4 +1,4 @@
-//! A city is opened: its folder, where it is connected to, its journal, its room and desks.
+//! Opens a city: its folder, its listener, its journal, its room and desks.
 ghost use Rattle.std.specs.Prelude.{◌≡◌, ℕ, List, IfOk};
 ghost use Rattle.mds_request.specs.Configuration.{configuration};
 ghost use Rattle.mds_snapshot.specs.Opening.{book_of};
@@ -9,7 +9,7 @@ use crate::board::Board;
 use crate::ending::Ending;
 use crate::errand::beside;
 use crate::folders::Folders;
-use crate::host::Host;
+use crate::host::{CityHost, ServerHost};
 use crate::listening::{Listening, listen};
 use crate::room::ReportedRoom;
 use crate::serving::{Stage, keep_and_serve};
@@ -39,21 +39,21 @@ use std::net::Net;
 use std::sync::{Arc, Wait};
 use std::thread::{Threads, available_parallelism};
 
-/// How many bytes a folder's journal has; none, where it can't be seen.
+/// How many bytes a folder's journal has; `None` where that can't be found out.
 pub fn journal_length<R: Files<File = File> + AllocGlobal>(rt: &R, folder: &str) -> Option<u64> {
     let path = format!(in rt.alloc(); "{folder}/journal").ok()?;
     let metadata = fs::metadata(rt, path.as_str()).ok()?;
     Some(metadata.len())
 }
 
-/// Counts the bytes of a folder's journal.
+/// Sets the metric of the journal's bytes.
 fn count_bytes<R: Files<File = File> + AllocGlobal>(rt: &R, folder: &str, counters: &Counters) {
     if let Some(length) = journal_length(rt, folder) {
         counters.set(Figure::JournalBytes, length);
     }
 }
 
-/// Says what was cut off a journal.
+/// Reports what was cut off a journal.
 fn tell_cut<R: Eprint>(rt: &R, cut: Option<Cut>) {
     if let Some(Cut { from, count }) = cut {
         let _ = eprintln!(rt;
@@ -62,13 +62,13 @@ fn tell_cut<R: Eprint>(rt: &R, cut: Option<Cut>) {
     }
 }
 
-/// By how many threads a city is served here.
+/// How many threads serve a city on this machine.
 fn threads_for<R: Threads>(rt: &R, config: &Config) -> usize {
     let processors = available_parallelism(rt).map_or(1, |n| n.get());
     workers(processors, config)
 }
 
-/// A configuration, and its text.
+/// A configuration with its text.
 #[derive(Drop)]
 pub struct Given<'a> {
     /// The configuration.
@@ -77,25 +77,25 @@ pub struct Given<'a> {
     pub text: &'a [u8],
 }
 
-/// A city that is to be served, with the files of its folder.
+/// A city that is to be served, with the open files of its folder.
 #[derive(Drop)]
 struct Opening<'a> {
     /// The city's folder.
     folder: &'a str,
-    /// Where the server is connected to.
+    /// The listener, and the threads that are to serve its connections.
     listening: Listening,
     /// The operator whose entries are left out.
     dropped: Option<Id>,
     config: Config,
     board: Board<'a>,
-    /// Where the flusher and who thins the journal meet.
+    /// Where the flusher and the compaction hand over.
     meeting: &'a Arc<Table>,
     journal: File,
     ballast: File,
 }
 
 impl Opening<'_> {
-    /// What stands beside the journal.
+    /// What swaps the journal's file for compacted ones.
     ///
     /// # Errors
     ///
@@ -110,14 +110,14 @@ impl Opening<'_> {
     }
 }
 
-/// Opens the city of a service's folder, which it locks, and serves it until it is to end. Where it is connected to is known
-/// before its journal is read: connections that come meanwhile wait until the city is open. Its journal is thinned while it is
-/// served, in a thread of its own, each time that it has grown enough.
+/// Locks and opens the city of a service's folder, and serves it until it is to end. It listens before the journal is
+/// read: connections that come meanwhile wait until the city is open. While it is served its journal is compacted, in a
+/// thread of its own, each time that it has grown enough.
 ///
 /// # Errors
 ///
-/// The first fault, in the order in which things are opened: the folder with its files, the listener, the ballast,
-/// the journal, what a server starts from; then what ended the server.
+/// The first fault, in the order in which things are opened: the folder with its files, the listener, the ballast, the
+/// journal, what a server starts from; then what ended the server.
 pub fn serve_city<'a, R>(
     rt: &R,
     service: &'a Service<'a>,
@@ -125,7 +125,7 @@ pub fn serve_city<'a, R>(
     board: Board<'a>,
 ) -> Result<(), Ending>
 where
-    R: Host + Wait + Threads + Net + Files<File = File>,
+    R: ServerHost,
 {
     let Given { config, text } = given;
     let Folder {
@@ -158,15 +158,12 @@ where
     served
 }
 
-/// Serves a city whose folder is open, and ends the thinning of its journal behind it.
+/// Serves a city whose folder is open, and then ends the compaction of its journal.
 ///
 /// # Errors
 ///
 /// As `serve_city`.
-fn serve_and_close<R: Host + Wait + Threads + Files<File = File>>(
-    rt: &R,
-    opening: Opening<'_>,
-) -> Result<(), Ending> {
+fn serve_and_close<R: CityHost>(rt: &R, opening: Opening<'_>) -> Result<(), Ending> {
     let meeting = opening.meeting;
     let served = open_and_serve(rt, opening);
     meeting.close(rt);
@@ -178,23 +175,20 @@ fn serve_and_close<R: Host + Wait + Threads + Files<File = File>>(
 /// # Errors
 ///
 /// As `serve_city`.
-fn open_and_serve<R: Host + Wait + Threads + Files<File = File>>(
-    rt: &R,
-    opening: Opening<'_>,
-) -> Result<(), Ending> {
+fn open_and_serve<R: CityHost>(rt: &R, opening: Opening<'_>) -> Result<(), Ending> {
     match opening.standing(rt) {
         Ok(standing) => serve_beside(rt, opening, standing),
         Err(ending) => Err(ending),
     }
 }
 
-/// Opens the journal of a city whose folder is open, and serves the city until it is to end; what stands beside the journal has
-/// its file exchanged.
+/// Opens the journal of a city whose folder is open, and serves the city until it is to end. `beside` swaps the
+/// journal's file for compacted ones.
 ///
 /// # Errors
 ///
 /// As `serve_city`.
-fn serve_beside<B: Beside<Filed, Found> + Send, R: Host + Wait + Threads + Files<File = File>>(
+fn serve_beside<B: Beside<Filed, Found> + Send, R: CityHost>(
     rt: &R,
     opening: Opening<'_>,
     beside: B,
@@ -209,7 +203,7 @@ fn serve_beside<B: Beside<Filed, Found> + Send, R: Host + Wait + Threads + Files
         journal,
         ballast,
     } = opening;
-    // What was set aside is given back first, so that on a full disk there is room for what is cut.
+    // Ballast is given back first, so that on a full disk there is room to keep what is cut off the journal.
     let Ok(space) = Ballast::new(ballast) else {
         return Err(Ending::Folder(FolderFault::Unusable));
     };
@@ -239,7 +233,7 @@ fn serve_journal<B: Beside<Filed, Found> + Send, S: Space + Send, R>(
     stage: Stage<'_>,
 ) -> Result<(), Ending>
 where
-    R: Host + Wait + Threads + Files<File = File>,
+    R: CityHost,
     requires { S.aside space ≡ 0 }
 {
     let mut aside = CutFiles::new(*rt, rt.alloc(), stage.folder)?;
@@ -252,7 +246,7 @@ where
     serve_rolling(rt, log, beside, space, config, stage)
 }
 
-/// Starts the server of a log again whose file is exchanged from now on by what stands beside it, and serves it.
+/// Starts a server from a log, whose file is swapped from now on for compacted ones by `beside`, and serves it.
 ///
 /// # Errors
 ///
@@ -266,7 +260,7 @@ fn serve_rolling<L: Sealed + Send, B: Beside<L, Found> + Send, S: Space + Send, 
     stage: Stage<'_>,
 ) -> Result<(), Ending>
 where
-    R: Host + Wait + Threads,
+    R: CityHost,
     requires listed { (first : List (List ℕ)) × L.may_be log first }
     requires space { S.aside space ≡ 0 }
 {
@@ -274,7 +268,7 @@ where
     serve_log::<Rolling<L, Found, B>, S, R>(rt, log, space, config, stage)
 }
 
-/// Starts the server of a log again and serves it.
+/// Starts a server from a log and serves it.
 ///
 /// # Errors
 ///
@@ -287,7 +281,7 @@ fn serve_log<L: Log + Send, S: Space + Send, R>(
     stage: Stage<'_>,
 ) -> Result<(), Ending>
 where
-    R: Host + Wait + Threads,
+    R: CityHost,
     requires listed { (first : List (List ℕ)) × L.may_be log first }
     requires space { S.aside space ≡ 0 }
 {
@@ -295,8 +289,8 @@ where
     serve_opening::<Brand, L, S, R>(rt, log, space, config, blank, stage)
 }
 
-/// The author's room and the desks, as the server left them whose log this is. Of an empty log the configuration's head is the
-/// first text.
+/// The author's room and the desks, as the server that wrote this log left them. An empty log gets the configuration's
+/// head as its first payload.
 ///
 /// # Errors
 ///
@@ -320,11 +314,11 @@ fn resume<K: Named, L: Log, R: Wait + Eprint + AllocGlobal + Copy>(
     start::<K, R>(rt, &texts, config, blank, dropped, counters)
 }
 
-/// Starts the server of a log again, as this opening, and serves it.
+/// Starts a server from a log, under the name of one opening, and serves it.
 ///
 /// # Errors
 ///
-/// As `resume`, `Folder` where the log couldn't be gone on from, or as `keep_and_serve`.
+/// As `resume`, `Folder` where the log couldn't be continued, or as `keep_and_serve`.
 fn serve_opening<K: Named + Send + Sync, L: Log + Send, S: Space + Send, R>(
     rt: &R,
     log: L,
@@ -334,7 +328,7 @@ fn serve_opening<K: Named + Send + Sync, L: Log + Send, S: Space + Send, R>(
     stage: Stage<'_>,
 ) -> Result<(), Ending>
 where
-    R: Host + Wait + Threads,
+    R: CityHost,
     requires book { book_of blank ≡ K.book }
     requires configured { configuration config ≡ K.configuration }
     requires listed { (first : List (List ℕ)) × L.may_be log first }

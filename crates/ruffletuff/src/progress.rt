@@ -1,21 +1,21 @@
-//! How far the journal is answered again.
+//! Reports the progress of replaying the journal.
 ghost use Rattle.std.specs.Prelude.{◌≡◌};
 ghost use Rattle.ruffletuff.specs.Progress.{is_told};
 
 use mds_recovery::Progress;
 use std::io::Eprint;
 
-/// Each so many entries it is said how many were answered again.
+/// Progress is reported after every so many entries.
 const STEP: usize = 100_000;
 
-/// Whether it is said that so many entries were answered again.
+/// Whether progress is reported after this many entries.
 fn is_told(entries: usize) -> bool
     ensures { result ≡ is_told entries }
 {
     entries % STEP == 0
 }
 
-/// Says on standard error how far the journal is answered again.
+/// Reports the progress of replaying the journal on standard error.
 #[derive(Drop)]
 pub struct Told<R>(pub R);
 

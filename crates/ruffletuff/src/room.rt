@@ -1,15 +1,15 @@
-//! Room on the disk, of which standard error tells once that there is none.
+//! Disk room, with a message on standard error once the disk is full.
 ghost use Rattle.std.specs.Prelude.{◌≡◌};
 ghost use Rattle.ruffletuff.specs.Full.{is_full, is_told};
 
 use mds_commit::{NoRoom, Space};
 use std::io::Eprint;
 
-/// So many bytes are asked for at once where there are as many; where they are refused, what is needed alone is asked for.
+/// How many bytes are asked for at once. Where they are refused, only what is needed is asked for.
 const PLENTY: u64 = 4_194_304;
 
-/// Whether the disk is taken for full, once so many bytes were set aside or refused: it is where what is needed alone was
-/// refused, until there is plenty again.
+/// Whether the disk counts as full, after so many bytes were set aside or refused: it does once less than `PLENTY` was
+/// refused, until `PLENTY` is set aside.
 fn is_full(was_full: bool, bytes: u64, is_done: bool) -> bool
     ensures { result ≡ is_full was_full bytes is_done }
 {
@@ -20,24 +20,24 @@ fn is_full(was_full: bool, bytes: u64, is_done: bool) -> bool
     }
 }
 
-/// Whether it is said that the disk is full: where it is from now on.
+/// Whether it is reported that the disk is full: where it has just become so.
 fn is_told(was_full: bool, is_full: bool) -> bool
     ensures { result ≡ is_told was_full is_full }
 {
     is_full && !was_full
 }
 
-/// Room that says on standard error that the disk is full: once, until there is plenty again.
+/// Disk room that reports on standard error that the disk is full: once, until `PLENTY` is set aside again.
 #[derive(Drop)]
 pub struct ReportedRoom<R, S: Space> {
     rt: R,
-    /// The room.
+    /// The disk room.
     pub space: S,
     is_full: bool,
 }
 
 impl<R: Eprint, S: Space> ReportedRoom<R, S> {
-    /// This room, of which nothing was said.
+    /// This room, of which nothing was reported as yet.
     pub fn new(rt: R, space: S) -> ReportedRoom<R, S>
         ensures { result.space ≡ space }
     {
@@ -48,7 +48,7 @@ impl<R: Eprint, S: Space> ReportedRoom<R, S> {
         }
     }
 
-    /// Takes note of bytes that were set aside or refused, and says it where the disk is full from now on.
+    /// Takes note of bytes that were set aside or refused, and reports it where the disk has become full.
     fn note(&mut self, bytes: u64, is_done: bool)
         ensures { self.new.space ≡ self.old.space }
     {

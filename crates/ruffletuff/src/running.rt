@@ -1,4 +1,4 @@
-//! From the arguments to what they ask for.
+//! Runs what the arguments ask for.
 ghost use Rattle.std.specs.Prelude.{◌≡◌};
 ghost use Rattle.ruffletuff.specs.Exit.{status_of};
 
@@ -10,7 +10,7 @@ use crate::configuration::{configuration_in, told_text};
 use crate::controlling::serve_controlled;
 use crate::counting::counters_of;
 use crate::ending::Ending;
-use crate::host::Host;
+use crate::host::ServerHost;
 use crate::opening::{Given, serve_city};
 use crate::source::Source;
 use crate::thinning::thin;
@@ -38,16 +38,8 @@ fn status_of(done: Result<u8, Ending>) -> u8
     }
 }
 
-/// Does what the arguments ask for, says on standard error what went wrong, and gives the exit status.
-pub fn run<R>(rt: &R) -> u8
-where
-    R: Host
-        + Wait
-        + Threads
-        + Net<Listener = TcpListener, Stream = TcpStream>
-        + Files<File = File>
-        + Env,
-{
+/// Runs what the arguments ask for, reports faults on standard error, and gives the exit status.
+pub fn run<R: ServerHost + Env>(rt: &R) -> u8 {
     let words = match read_words(rt) {
         Ok(words) => words,
         Err(ending) => {
@@ -66,11 +58,8 @@ where
     status_of(done)
 }
 
-/// Does what is asked for, and gives the exit status that comes of it.
-fn carry_out<R>(rt: &R, asked: &Asked<'_>) -> Result<u8, Ending>
-where
-    R: Host + Wait + Threads + Net<Listener = TcpListener, Stream = TcpStream> + Files<File = File>,
-{
+/// Runs what the arguments ask for, and gives the exit status.
+fn carry_out<R: ServerHost>(rt: &R, asked: &Asked<'_>) -> Result<u8, Ending> {
     let done = match asked {
         Asked::Help => print_text(rt, HELP),
         Asked::Version => print_version(rt),
@@ -113,11 +102,11 @@ fn print_version<R: Print + AllocGlobal>(rt: &R) -> Result<(), Ending> {
     }
 }
 
-/// Says that a file is a configuration.
+/// Checks that a file is a configuration, and prints so.
 ///
 /// # Errors
 ///
-/// `Misconfigured` with what is wrong, where it is none; `NotPrinted`, `NoMemory`.
+/// `Misconfigured` with what is wrong, where it isn't one; `NotPrinted`, `NoMemory`.
 fn check_configuration<R: Files<File = File> + Print + Eprint + AllocGlobal>(
     rt: &R,
     path: &str,
@@ -133,7 +122,7 @@ fn check_configuration<R: Files<File = File> + Print + Eprint + AllocGlobal>(
 ///
 /// # Errors
 ///
-/// `NotStopped` where nothing there says that it stops.
+/// `NotStopped` where no server there answers that it stops.
 fn stop_server<R: Net + AllocGlobal>(rt: &R, address: &str) -> Result<(), Ending> {
     match stop(rt, address) {
         Ok(true) => Ok(()),
@@ -145,11 +134,8 @@ fn stop_server<R: Net + AllocGlobal>(rt: &R, address: &str) -> Result<(), Ending
 ///
 /// # Errors
 ///
-/// The configuration's, the control port's, or as the city isn't opened or its server ends.
-fn serve<R>(rt: &R, service: &Service<'_>) -> Result<(), Ending>
-where
-    R: Host + Wait + Threads + Net<Listener = TcpListener, Stream = TcpStream> + Files<File = File>,
-{
+/// The configuration's, the control port's, or the fault with which the city can't be opened or its server ends.
+fn serve<R: ServerHost>(rt: &R, service: &Service<'_>) -> Result<(), Ending> {
     let text = told_text(rt, rt.alloc(), service.config)?;
     let config = configuration_in(rt.alloc(), &text)?;
     let closing = Closing::new(rt.alloc())?;

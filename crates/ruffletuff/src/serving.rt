@@ -1,4 +1,4 @@
-//! A city that is open is served: by one thread that writes its journal, and by those that answer.
+//! Serves an open city: one thread writes its journal, others answer.
 ghost use Rattle.std.specs.Prelude.{◌≡◌, ℕ, List};
 ghost use Rattle.ruffletuff.specs.Ends.{outcome_of};
 
@@ -7,7 +7,7 @@ use crate::configuration::badges_in;
 use crate::counting::count_vehicles;
 use crate::ending::Ending;
 use crate::errand::{Errand, beside};
-use crate::host::Host;
+use crate::host::CityHost;
 use crate::listening::Listening;
 use mds_city::City;
 use mds_commit::{FlushFault, Flusher, Keeper, Naming, Opened, Space, open};
@@ -21,22 +21,23 @@ use std::io::{self, Print};
 use std::sync::{Arc, Wait};
 use std::thread::Threads;
 
-/// What it takes to serve a city, besides the city.
+/// What serving a city needs besides its state.
 #[derive(Drop)]
 pub struct Stage<'a> {
     /// The city's folder.
     pub folder: &'a str,
-    /// Where the server is connected to.
+    /// The listener, and the threads that are to serve its connections.
     pub listening: Listening,
     /// The operators whose entries are left out.
     pub dropped: &'a [Id],
-    /// How many requests may wait, of each of those who ask.
+    /// How many requests of each client may wait.
     pub queues: Queues,
-    /// What the server shows to who controls it.
+    /// The server's admin state.
     pub board: Board<'a>,
 }
 
-/// Writes and syncs the journal until the keeper is stopped. Where it can't be written any more, the server ends.
+/// The thread that writes and syncs the journal, until the commit log is stopped. Where the journal can't be written
+/// any more, it ends the server.
 #[derive(Drop)]
 struct Flushing<'a, N: Naming, L: Log, S: Space, R> {
     rt: R,
@@ -58,7 +59,7 @@ impl<N: Naming, L: Log, S: Space, R: Wait + Drop> Errand for Flushing<'_, N, L, 
     }
 }
 
-/// A site, and what it takes to have it answer.
+/// A site, and what answering its requests needs.
 #[derive(Drop)]
 struct Serving<'a, K: Named, N: Naming, L: Log, S: Space, R> {
     listening: Listening,
@@ -68,7 +69,7 @@ struct Serving<'a, K: Named, N: Naming, L: Log, S: Space, R> {
     closing: &'a Closing,
 }
 
-/// Answers until the server is to end. Then the keeper is stopped, so that the journal is written to its end.
+/// Answers until the server is to end. Then it stops the commit log, so that the journal is written to its end.
 ///
 /// # Errors
 ///
@@ -82,7 +83,7 @@ where
     N: Naming + Send + Sync,
     L: Log + Send,
     S: Space + Send,
-    R: Host + Wait + Threads,
+    R: CityHost,
 {
     let Serving {
         listening,
@@ -98,11 +99,12 @@ where
     ended
 }
 
-/// Keeps what a hall accepts in a log behind this history, and serves it. N names the history.
+/// Persists what a hall accepts in a log that continues this history, and serves the hall. N names the history.
 ///
 /// # Errors
 ///
-/// `NoMemory`, `NoListener` where what waits for events failed, or `NotKept` where the log couldn't be written any more.
+/// `NoMemory`, `NoListener` where the polling of events failed, or `NotKept` where the log couldn't be written any
+/// more.
 pub fn keep_and_serve<K, N, L, S, R>(
     rt: &R,
     hall: Hall<K>,
@@ -116,7 +118,7 @@ where
     N: Naming + Send + Sync,
     L: Log + Send,
     S: Space + Send,
-    R: Host + Wait + Threads,
+    R: CityHost,
     requires book { history.seen.book ≡ N.book }
     requires listed { (first : List (List ℕ)) × L.may_be log first }
     requires space { S.aside space ≡ 0 }
@@ -133,7 +135,7 @@ where
     serve_kept(rt, city, &*keeper, flusher, stage)
 }
 
-/// Says that a city is served, to who controls it too, and whether everyone may read what is published.
+/// Announces that a city is served, to the control port too, and whether everyone may read what is published.
 fn announce<R: Print>(rt: &R, board: Board<'_>, is_public: bool) {
     board.control.serves();
     if is_public {
@@ -142,7 +144,7 @@ fn announce<R: Print>(rt: &R, board: Board<'_>, is_public: bool) {
     let _ = println!(rt; "ready");
 }
 
-/// Opens the site of a city, says that it is served, serves it until it is to end, and ends it.
+/// Opens the site of a city, announces it, serves it until it is to end, and closes it.
 ///
 /// # Errors
 ///
@@ -159,7 +161,7 @@ where
     N: Naming + Send + Sync,
     L: Log + Send,
     S: Space + Send,
-    R: Host + Wait + Threads,
+    R: CityHost,
 {
     let board = stage.board;
     let site = Site::open(rt, city, Chunked(*rt), board.configuration, board.counters)?;
@@ -181,7 +183,7 @@ where
     finish(rt, flushed, ended)
 }
 
-/// Ends the city of a server that has ended, and says how it went.
+/// Closes the city of a server that has ended, and gives how that went.
 ///
 /// # Errors
 ///
@@ -204,11 +206,12 @@ fn finish<K: Named, N: Naming, L: Log, S: Space, R: Wait + Drop>(
     outcome_of(flushed.is_ok(), is_served)
 }
 
-/// How a server ended, of whose journal it is known whether it was written to its end.
+/// How a server ended, by whether its journal was written to the end and whether it could be served.
 ///
 /// # Errors
 ///
-/// `NotKept` where it wasn't; else `NoListener` where it couldn't be served or what waits for events failed.
+/// `NotKept` where the journal wasn't; else `NoListener` where the server couldn't be started or the polling of events
+/// failed.
 fn outcome_of(is_kept: bool, is_served: bool) -> Result<(), Ending>
     ensures { result ≡ outcome_of is_kept is_served }
 {

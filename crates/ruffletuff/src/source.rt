@@ -1,4 +1,4 @@
-//! A configuration's file: its text, what is found in it, and the rule in the place of its zone's name.
+//! A configuration's file: its text, findings in it, and the rule in the place of its zone's name.
 ghost use Rattle.std.specs.Prelude.{◌≤◌, length, IfOk};
 ghost use Rattle.mds_lines.specs.declared.gather.TheConstants.{LINE_LIMIT};
 
@@ -14,16 +14,16 @@ use std::io::{Eprint, Read};
 /// The most bytes of a zone's file that are read.
 const MOST_OF_ZONE: u64 = 1_048_576;
 
-/// The text of a configuration's file as it stands there, with how its zone goes.
+/// The text of a configuration's file as it stands there, and the rule of its zone where that goes by a name.
 #[derive(Drop)]
 pub struct Source {
     text: Vec<u8>,
-    /// The name by which the zone goes.
+    /// The name of the zone, where it goes by a name.
     zone: Option<ZoneName>,
     zoned: Zoned,
 }
 
-/// The bytes of a zone's file; none, where it isn't there or can't be read.
+/// The bytes of a zone's file; `None` where it isn't there or can't be read.
 fn zone_bytes<R: Files<File = File>>(rt: &R, alloc: Global, path: &str) -> Option<Vec<u8>> {
     let file = File::open(rt, path).ok()?;
     let mut bytes = Vec::new(alloc);
@@ -34,7 +34,7 @@ fn zone_bytes<R: Files<File = File>>(rt: &R, alloc: Global, path: &str) -> Optio
     }
 }
 
-/// How a zone of this name goes: by the rule of its file, if it has one.
+/// The rule of the zone of this name, from the zone's file, or why there is none.
 fn zoned_by<R: Files<File = File>>(
     rt: &R,
     alloc: Global,
@@ -50,13 +50,14 @@ fn zoned_by<R: Files<File = File>>(
     })
 }
 
-/// Whether a finding is told where a server starts: a configuration that is none is told by its fault.
+/// Whether a finding is reported where a server starts: what makes the text no configuration is reported as a fault
+/// instead.
 fn is_told_at_start(what: What) -> bool {
     !matches!(what, What::Wrong(_))
 }
 
 impl Source {
-    /// Reads a configuration's file, and the file of its zone where that goes by a name.
+    /// Reads a configuration's file, and its zone's file where the zone goes by a name.
     ///
     /// # Errors
     ///
@@ -75,7 +76,7 @@ impl Source {
         Ok(Source { text, zone, zoned })
     }
 
-    /// The text that is read as a configuration: with the rule in the place of the zone's name.
+    /// The text to be read as a configuration: with the rule in the place of the zone's name.
     ///
     /// # Errors
     ///
@@ -90,7 +91,7 @@ impl Source {
         check_length(text)
     }
 
-    /// What is found in it.
+    /// Findings in the text.
     ///
     /// # Errors
     ///
@@ -99,7 +100,7 @@ impl Source {
         review(alloc, &self.text, &self.zoned)
     }
 
-    /// Says on standard error by which rule the zone goes, if it goes by a name.
+    /// Reports on standard error by which rule the zone goes, if it goes by a name.
     fn tell_zone<R: Eprint + AllocGlobal>(&self, rt: &R) -> Result<(), AllocError> {
         if let (Some(name), Zoned::Rule(rule)) = (&self.zone, &self.zoned) {
             let told = zone_told(rt.alloc(), name, rule)?;
@@ -108,8 +109,8 @@ impl Source {
         Ok(())
     }
 
-    /// Says on standard error what is found in the file at this path, a line each, and by which rule its zone goes. Where a server
-    /// starts, what makes the text no configuration is left out: its fault tells it.
+    /// Reports on standard error the findings in the file at this path, a line each, and by which rule its zone goes.
+    /// Where a server starts, findings that make the text no configuration are left out: they are reported as a fault.
     ///
     /// # Errors
     ///

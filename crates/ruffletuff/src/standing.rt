@@ -1,4 +1,4 @@
-//! What stands beside the journal of a city that is served.
+//! Swaps the journal's file of a served city for compacted ones.
 
 use crate::ending::Ending;
 use crate::folders::Folders;
@@ -14,26 +14,26 @@ use std::sync::{Arc, Wait};
 /// A journal in a file.
 pub type Filed = Journal<Stored<File>>;
 
-/// Where the flusher and who thins the journal meet.
+/// Where the flusher and the compaction hand over.
 pub type Table = Meeting<Filed, Found>;
 
-/// What stands beside the journal of a city's folder: who thins it has shorter ones, one of which is renamed over it. What
-/// the journal has is counted.
+/// Swaps the journal's file in a city's folder: takes compacted journals from the compaction, and renames them over the
+/// journal. It also counts the journal's bytes and syncs.
 #[derive(Drop)]
 pub struct Standing<R> {
     rt: R,
     meeting: Arc<Table>,
     counters: Arc<Counters>,
-    /// The folder, whose names are synced.
+    /// The folder, which is synced after a file in it is renamed.
     folder: File,
-    /// Where the journal stands.
+    /// The path of the journal.
     journal: String,
-    /// Where the shorter one stands.
+    /// The path of the compacted journal.
     thinned: String,
 }
 
 impl<R: Folders + Drop> Standing<R> {
-    /// What stands beside the journal of this folder.
+    /// Swaps the file of this folder's journal.
     ///
     /// # Errors
     ///

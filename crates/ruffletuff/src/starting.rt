@@ -1,4 +1,4 @@
-//! A server's room and desks, from its log.
+//! Starts a server's room and desks from its log.
 ghost use Rattle.std.specs.Prelude.{◌≡◌, map, count_by, IfOk, option_to_list};
 ghost use Rattle.mds_request.specs.Configuration.{configuration};
 ghost use Rattle.mds_snapshot.specs.Opening.{book_of};
@@ -22,10 +22,10 @@ use std::alloc::{AllocError, AllocGlobal, Global};
 use std::io::Eprint;
 use std::sync::Wait;
 
-/// The status of a report for which the fleet is full (409).
+/// The status of a report that a full fleet refuses: 409.
 const CONFLICT: u16 = 409;
 
-/// The operators that are left out: the one that is named, or none.
+/// The operators that are left out: the one that is given, or none.
 pub fn ids_left_out(alloc: Global, dropped: Option<Id>) -> Result<Vec<Id>, AllocError>
     ensures { IfOk result (λ ids. ids.items ≡ option_to_list dropped) }
 {
@@ -36,11 +36,12 @@ pub fn ids_left_out(alloc: Global, dropped: Option<Id>) -> Result<Vec<Id>, Alloc
     Ok(ids)
 }
 
-/// The texts of a journal's entries, behind its head, where a server may go on from it with this configuration.
+/// The payloads of a journal's entries, behind its head, where a server with this configuration may continue the
+/// journal.
 ///
 /// # Errors
 ///
-/// `Folder` where the first text is no head of a known version or the configuration isn't one for it; `NoMemory`.
+/// `Folder` where the first payload is no head of a known version or the configuration doesn't fit it; `NoMemory`.
 fn fitting_texts<'a>(
     alloc: Global,
     config: &Config,
@@ -58,14 +59,14 @@ fn fitting_texts<'a>(
     }
 }
 
-/// Whether an entry is a publication: it is the one request of the author's that has this verb.
+/// Whether an entry is a publication: to publish is the author's only request with this verb.
 fn is_publication(entry: &Entry<'_>) -> bool
     ensures { result ≡ is_publication (entry_of entry.now) }
 {
     matches!((entry.asker, entry.verb), (Asker::Author, Verb::Post))
 }
 
-/// How many publications are among these entries.
+/// How many of these entries are publications.
 fn publications(entries: &[Entry<'_>]) -> usize
     ensures { result ≡ count_by (λ entry. is_publication (entry_of entry)) entries.now }
 {
@@ -75,15 +76,16 @@ fn publications(entries: &[Entry<'_>]) -> usize
         .count()
 }
 
-/// The author's room and the desks, in the configuration's order, as the server left them that wrote a journal of these texts:
-/// each of its entries is answered again, but for those of the operators that are left out. K names the opening.
+/// The author's room and the desks, in the configuration's order, as the server that wrote a journal of these payloads
+/// left them: each of its entries is replayed, but for those of the operators that are left out. K names the opening.
 ///
-/// What was told before and what is done from here on are what one server did. The publications among them are counted.
+/// What was answered before and what is done from here on are what one server did. The publications among the entries
+/// are counted.
 ///
 /// # Errors
 ///
-/// `Folder` where the texts aren't a journal's of this configuration; `Refused` at the first entry that isn't answered with
-/// success; `NoMemory`.
+/// `Folder` where the payloads aren't those of a journal of this configuration; `Refused` at the first entry that isn't
+/// answered with success; `NoMemory`.
 pub fn start<K: Naming, R: Wait + Eprint + AllocGlobal + Copy>(
     rt: &R,
     texts: &[Vec<u8>],
@@ -110,7 +112,7 @@ pub fn start<K: Naming, R: Wait + Eprint + AllocGlobal + Copy>(
     answer_again(rt, config, blank, &entries, counters)
 }
 
-/// The operator whose report isn't answered again since its fleet is full, where that is the fault.
+/// The operator whose report can't be replayed because its fleet is full, where that is the fault.
 fn full_fleet(entries: &[Entry<'_>], fault: &StartFault) -> Option<Id> {
     let StartFault::Stopped(stopped) = fault else {
         return None;
@@ -124,18 +126,18 @@ fn full_fleet(entries: &[Entry<'_>], fault: &StartFault) -> Option<Id> {
     }
 }
 
-/// Says that the limit of an operator is too low.
+/// Reports that the limit of an operator is too low.
 fn tell_limit<R: Eprint + AllocGlobal>(rt: &R, limits: &Limits, id: Id) {
     if let Ok(Some(told)) = limits.too_low(rt.alloc(), id) {
         let _ = eprintln!(rt; "{told}");
     }
 }
 
-/// The author's room and the desks that answer these entries again.
+/// The author's room and the desks after these entries are replayed.
 ///
 /// # Errors
 ///
-/// `Refused` at the first that isn't answered with success, `NoMemory`.
+/// `Refused` at the first entry that isn't answered with success, `NoMemory`.
 fn answer_again<K: Naming, R: Wait + Eprint + AllocGlobal + Copy>(
     rt: &R,
     config: Config,

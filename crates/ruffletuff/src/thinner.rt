@@ -1,4 +1,4 @@
-//! The journal of a city is thinned while the city is served.
+//! Compacts the journal of a city while the city is served.
 
 use crate::errand::Errand;
 use crate::folders::Folders;
@@ -14,15 +14,15 @@ use std::io::{Eprint, Read};
 use std::sync::Wait;
 use std::time::Clock;
 
-/// How often a shorter journal is brought up, at the most, until it lacks little.
+/// How often a compacted journal is brought up to date, at the most, until it lacks little.
 const MOST_ROUNDS: u32 = 16;
 
-/// Why no shorter journal is offered.
+/// Why no compacted journal is offered.
 #[derive(Clone, Copy)]
 enum Ceased {
     /// The server is to end.
     Closed,
-    /// The journal isn't thinned.
+    /// The journal can't be compacted.
     Fault(ThinFault),
 }
 
@@ -32,22 +32,22 @@ impl From<ThinFault> for Ceased {
     }
 }
 
-/// Thins the journal of a city's folder while the city is served, in a thread of its own: it waits until the journal is due,
-/// writes a shorter one beside it, as `mds_thinning` does, brings that up to what is appended meanwhile, and hands it to who
-/// writes the journal.
+/// Compacts the journal of a city's folder while the city is served, in a thread of its own: it waits until the journal
+/// is due, writes a shorter one next to it, as `mds_thinning` does, brings that up to what is appended meanwhile, and
+/// hands it to the flusher.
 #[derive(Drop)]
 pub struct Thinner<'a, R> {
-    /// By what locks are waited for.
+    /// The runtime, by which it waits for locks.
     pub rt: R,
     /// The city's folder.
     pub folder: &'a str,
     /// The text of the configuration.
     pub config: &'a [u8],
-    /// Where shorter journals are handed over.
+    /// Where the compacted journal is handed over.
     pub meeting: &'a Table,
 }
 
-/// The next bytes of a file, so many.
+/// The next `count` bytes of a file.
 ///
 /// # Errors
 ///
@@ -60,7 +60,7 @@ fn next_bytes(alloc: Global, file: &mut File, count: u64) -> Result<Vec<u8>, Thi
     }
 }
 
-/// Why a shorter journal that can't be brought up isn't offered.
+/// Why a compacted journal that can't be brought up to date isn't offered.
 fn catching_fault(fault: CatchFault) -> ThinFault {
     match fault {
         CatchFault::Damaged => ThinFault::Folder(FolderFault::Unusable),
@@ -70,12 +70,12 @@ fn catching_fault(fault: CatchFault) -> ThinFault {
 }
 
 impl<R: Folders + Wait + Clock + AllocGlobal + Eprint + Copy> Thinner<'_, R> {
-    /// The path of a file of the folder.
+    /// The path of a file in the folder.
     fn path(&self, name: &str) -> Result<String, AllocError> {
         format!(in self.rt.alloc(); "{}/{name}", self.folder)
     }
 
-    /// The journal's file.
+    /// Opens the journal's file.
     fn journal(&self) -> Result<File, ThinFault> {
         let path = self.path("journal")?;
         match self.rt.open(path.as_str()) {
@@ -84,7 +84,7 @@ impl<R: Folders + Wait + Clock + AllocGlobal + Eprint + Copy> Thinner<'_, R> {
         }
     }
 
-    /// The file of the shorter journal, cut to nothing. It is locked before it gets the journal's name, so that whoever opens
+    /// Makes the compacted journal's file, empty. It is locked before it gets the journal's name, so that whoever opens
     /// the journal finds a locked file.
     fn beside(&self) -> Result<File, ThinFault> {
         let path = self.path("journal.thinned")?;
@@ -97,14 +97,14 @@ impl<R: Folders + Wait + Clock + AllocGlobal + Eprint + Copy> Thinner<'_, R> {
         }
     }
 
-    /// Removes what is left of a shorter journal, if it can be.
+    /// Removes what is left of a compacted journal, if that can be done.
     fn clear(&self) {
         if let Ok(path) = self.path("journal.thinned") {
             let _ = self.rt.remove(path.as_str());
         }
     }
 
-    /// A shorter journal of what a journal's file has up to a seal.
+    /// A compacted journal of what a journal's file has up to a log end.
     fn shorten(&self, file: &mut File, seal: Seal) -> Result<Shorter<Filed, Found>, ThinFault> {
         let alloc = self.rt.alloc();
         let bytes = next_bytes(alloc, file, seal.position)?;
@@ -121,7 +121,8 @@ impl<R: Folders + Wait + Clock + AllocGlobal + Eprint + Copy> Thinner<'_, R> {
         thin_front(&self.rt, alloc, &front, log)
     }
 
-    /// Brings a shorter journal up to the next seal up to which the journal is synced, and says how many bytes it lacked.
+    /// Brings a compacted journal up to the log end at which the journal is synced next, and gives how many bytes it
+    /// lacked.
     fn bring_up(
         &self,
         file: &mut File,
@@ -140,9 +141,9 @@ impl<R: Folders + Wait + Clock + AllocGlobal + Eprint + Copy> Thinner<'_, R> {
         }
     }
 
-    /// Makes a shorter journal of what the journal has up to a seal, brings it up until it lacks little, or often enough, and
-    /// offers it. Gives the file of the journal, which is to stay open until the shorter one has its place: what it takes on
-    /// the disk is given back by who closes it last.
+    /// Makes a compacted journal of what the journal has up to a log end, brings it up to date until it lacks little,
+    /// or often enough, and offers it. Gives the journal's file, which is to stay open until the compacted one has its
+    /// place: whoever closes it last frees its room on the disk.
     fn offer(&self, seal: Seal) -> Result<File, Ceased> {
         let mut file = self.journal()?;
         let mut shorter = self.shorten(&mut file, seal)?;
@@ -157,7 +158,7 @@ impl<R: Folders + Wait + Clock + AllocGlobal + Eprint + Copy> Thinner<'_, R> {
         Ok(file)
     }
 
-    /// Thins the journal by what it has up to a seal. What can't be finished is cleared away, and said.
+    /// Compacts what the journal has up to a log end. What can't be finished is removed, and the outcome is reported.
     fn thin(&self, seal: Seal) {
         match self.offer(seal) {
             Ok(_file) => match self.meeting.settled(&self.rt) {
@@ -181,7 +182,7 @@ impl<R: Folders + Wait + Clock + AllocGlobal + Eprint + Copy> Thinner<'_, R> {
         }
     }
 
-    /// Says why the journal isn't thinned.
+    /// Reports why the journal can't be compacted.
     fn tell(&self, fault: &ThinFault) {
         let _ = eprintln!(self.rt; "ruffletuff: the journal isn't thinned: {fault}");
     }

@@ -1,4 +1,4 @@
-//! A folder's journal is thinned.
+//! Compacts a folder's journal that no server has open.
 ghost use Rattle.std.specs.Prelude.{◌≡◌};
 ghost use Rattle.ruffletuff.specs.Thinning.{may_leave_remains};
 
@@ -17,15 +17,15 @@ use std::mem::drop;
 use std::sync::Wait;
 use std::time::Clock;
 
-/// Whether something may be left of a thinned journal beside the journal. Where another program has the folder, what stands
-/// there may be that one's.
+/// Whether a fault may leave remains of a compacted journal next to the journal. Where another program has the folder,
+/// what stands there may be that one's.
 fn may_leave_remains(fault: &ThinFault) -> bool
     ensures { result ≡ may_leave_remains fault.now }
 {
     !matches!(fault, ThinFault::Folder(FolderFault::Locked))
 }
 
-/// Removes what is left of a thinned journal beside the journal, if it can be.
+/// Removes what is left of a compacted journal next to the journal, if that can be done.
 pub fn clear<R: Files<File = File> + AllocGlobal>(rt: &R, folder: &str) {
     if let Ok(path) = format!(in rt.alloc(); "{folder}/journal.thinned") {
         let _ = fs::remove_file(rt, path.as_str());
@@ -36,7 +36,7 @@ pub fn clear<R: Files<File = File> + AllocGlobal>(rt: &R, folder: &str) {
 ///
 /// # Errors
 ///
-/// `Folder` where there is none.
+/// `Folder` where that can't be found out.
 fn bytes_of<R: Files<File = File> + AllocGlobal>(rt: &R, folder: &str) -> Result<u64, Ending> {
     match journal_length(rt, folder) {
         Some(length) => Ok(length),
@@ -44,8 +44,8 @@ fn bytes_of<R: Files<File = File> + AllocGlobal>(rt: &R, folder: &str) -> Result
     }
 }
 
-/// The moment at which both servers are asked: that of the machine's clock, or the first one, since what is asked doesn't go
-/// by it.
+/// The moment at which servers from both journals are asked: that of the machine's clock, or else the Unix epoch, since
+/// nothing that is asked depends on it.
 pub fn moment<R: Clock + Copy>(rt: &R) -> Moment {
     match MachineClock(*rt).now() {
         Some(now) => now,
@@ -53,7 +53,7 @@ pub fn moment<R: Clock + Copy>(rt: &R) -> Moment {
     }
 }
 
-/// Thins the journal of a folder, by the text of its configuration. What can't be finished is cleared away.
+/// Compacts the journal of a folder, by the text of its configuration. What can't be finished is removed.
 ///
 /// # Errors
 ///
@@ -74,13 +74,14 @@ fn thin_journal<R: Wait + Files<File = File> + Clock + AllocGlobal + Copy>(
     }
 }
 
-/// Thins the journal of a folder that no server has meanwhile, and says how many records and bytes it had before, and has now.
+/// Compacts the journal of a folder that no server has meanwhile, and prints how many records and bytes it had before,
+/// and has now.
 ///
 /// # Errors
 ///
-/// `Misconfigured`; `Folder` where there is no journal, another program has the folder, or the journal is damaged; `Refused`
-/// where the configuration doesn't fit it; `NotThinned` where the disk has no room for the thinned one; `Differs`; `NoMemory`.
-/// The journal stays as it was. `NotPrinted` where it is thinned.
+/// `Misconfigured`; `Folder` where there is no journal, another program has the folder, or the journal is damaged;
+/// `Refused` where the configuration doesn't fit it; `NotThinned` where the disk has no room for the compacted one;
+/// `Differs`; `NoMemory`. The journal stays as it was. `NotPrinted` where it is compacted.
 pub fn thin<R: Wait + Files<File = File> + Clock + Print + AllocGlobal + Copy>(
     rt: &R,
     asked: &Thinning<'_>,

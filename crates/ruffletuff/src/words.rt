@@ -1,4 +1,4 @@
-//! What is said on standard error after a fault: what, where, and what is wrong.
+//! Messages on standard error after a fault: what, where, and what is wrong.
 ghost use Rattle.std.specs.Prelude.{◌≡◌, option_map};
 ghost use Rattle.mds_command.specs.Asked.{asked_view};
 ghost use Rattle.ruffletuff.specs.Words.{config_of, listener_of, control_of, folder_of, place_in};
@@ -24,7 +24,7 @@ fn config_of<'a>(asked: &Asked<'a>) -> Option<&'a str>
     }
 }
 
-/// Where is listened.
+/// The address that is listened to.
 fn listener_of<'a>(asked: &Asked<'a>) -> Option<&'a str>
     ensures { option_map (λ place. place.now) result ≡ listener_of (asked_view asked.now) }
 {
@@ -58,7 +58,7 @@ fn folder_of<'a>(asked: &Asked<'a>) -> Option<&'a str>
     }
 }
 
-/// The file, folder or address at which the fault is.
+/// The file, folder or address that the fault is about.
 fn place_in<'a>(asked: &Asked<'a>, ending: &Ending) -> Option<&'a str>
     ensures { option_map (λ place. place.now) result ≡ place_in (asked_view asked.now) ending.now }
 {
@@ -75,7 +75,7 @@ fn place_in<'a>(asked: &Asked<'a>, ending: &Ending) -> Option<&'a str>
     }
 }
 
-/// Says what went wrong, and where.
+/// Reports what went wrong, and where.
 pub fn tell<R: Eprint + AllocGlobal>(rt: &R, asked: &Asked<'_>, ending: &Ending) {
     let message = ending.message();
     let _ = match place_in(asked, ending) {
@@ -85,14 +85,14 @@ pub fn tell<R: Eprint + AllocGlobal>(rt: &R, asked: &Asked<'_>, ending: &Ending)
     explain(rt, ending);
 }
 
-/// Says that the arguments are wrong, and how the program is called.
+/// Reports that the arguments are wrong, and prints the usage.
 pub fn tell_usage<R: Eprint>(rt: &R, ending: &Ending) {
     let message = ending.message();
     let _ = eprintln!(rt; "{message}");
     let _ = eprintln!(rt; "{USAGE}");
 }
 
-/// Says more of a fault, where there is more to say.
+/// Reports the details of a fault, where there are any.
 fn explain<R: Eprint + AllocGlobal>(rt: &R, ending: &Ending) {
     match ending {
         Ending::Misconfigured(detail) => {
@@ -107,7 +107,7 @@ fn explain<R: Eprint + AllocGlobal>(rt: &R, ending: &Ending) {
     }
 }
 
-/// Says which operator a configuration has no room for.
+/// Reports the operator that a configuration lacks, or whose limit in it is too low.
 fn explain_unfit<R: Eprint + AllocGlobal>(rt: &R, unfit: &Unfit) {
     let (id, flaw) = match unfit {
         Unfit::Missing(id) => (id, "has entries in it and isn't in the configuration"),
@@ -118,7 +118,7 @@ fn explain_unfit<R: Eprint + AllocGlobal>(rt: &R, unfit: &Unfit) {
     }
 }
 
-/// Says which entry isn't answered again.
+/// Reports the entry that can't be replayed.
 fn explain_refusal<R: Eprint>(rt: &R, fault: &Fault) {
     let number = fault.entry;
     let _ = match fault.cause {
