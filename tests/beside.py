@@ -101,8 +101,8 @@ class Watch(threading.Thread):
         return 1024 * int(found[0]) if found else 0
 
     def files(self):
-        """How many files it has open; none, once it has ended."""
-        with contextlib.suppress(FileNotFoundError, ProcessLookupError):
+        """How many files it has open; none, once it has ended: until it is waited for, only root may look there then."""
+        with contextlib.suppress(FileNotFoundError, PermissionError, ProcessLookupError):
             return len(os.listdir(f"/proc/{self.pid}/fd"))
         return 0
 
