@@ -1,6 +1,7 @@
 """What the tests of a server send and receive by: connections, responses by the grammar of RFC 9112, and the program, running."""
 
 import contextlib
+import fcntl
 import os
 import random
 import re
@@ -9,6 +10,7 @@ import selectors
 import socket
 import struct
 import subprocess
+import tempfile
 import time
 
 # How many times as long as for the proved program is waited for one that isn't proved, which is slower (tests/unproved.py).
@@ -201,13 +203,25 @@ def may_open(count):
 
 
 def free_port():
-    """A port that nobody listens at, below those of which the system gives one to each connection: so no connection takes it meanwhile."""
-    choice = random.SystemRandom()
-    while True:
-        port = choice.randrange(10_000, 32_000)
-        with socket.socket() as probe, contextlib.suppress(OSError):
-            probe.bind(("127.0.0.1", port))
-            return port
+    """A port that nobody listens at, below those of which the system gives one to each connection: so no connection takes it meanwhile.
+
+    Nor does another test: the last number that was given stands in a file that all tests of a user share, and numbers go round.
+    """
+    first, last = 10_000, 31_999
+    name = os.path.join(tempfile.gettempdir(), f"ruffletuff-test-ports-{os.getuid()}")
+    counter = os.open(name, os.O_RDWR | os.O_CREAT | os.O_NOFOLLOW | os.O_CLOEXEC, 0o600)
+    with open(counter, "r+", encoding="ascii") as given:
+        fcntl.flock(given, fcntl.LOCK_EX)
+        text = given.read()
+        port = int(text) if text.isdigit() and first <= int(text) <= last else random.SystemRandom().randint(first, last)
+        while True:
+            port = port + 1 if port < last else first
+            with socket.socket() as probe, contextlib.suppress(OSError):
+                probe.bind(("127.0.0.1", port))
+                given.seek(0)
+                given.truncate()
+                given.write(str(port))
+                return port
 
 
 def first_line(stream):
