@@ -7,7 +7,8 @@
 
 What a crate is, is the first sentence of its src/lib.rt or src/main.rt. Of the crates that crates.txt lists for it, the table has those
 that no other of them stands on. Each crate stands in one layer of LAYERS, and uses crates of that layer and of those before it alone.
-The last line of --write and --check is 'N passed, M failed', over the rows of the table and whatever is wrong with the crates.
+No crate is listed for one whose files don't name it. The last line of --write and --check is 'N passed, M failed', over the rows of
+the table and whatever is wrong with the crates.
 """
 import difflib
 import re
@@ -86,6 +87,17 @@ def table(crates):
     return lines, wrong
 
 
+def unnamed(crates):
+    """The crates that crates.txt lists for one whose files don't name them: each doubles what rt sums over."""
+    found = []
+    for name, used in crates.items():
+        folder = ROOT / "crates" / name
+        files = [it for part in ("src", "specs", "proofs") for it in (folder / part).rglob("*") if it.suffix in (".rt", ".antt")]
+        text = "\n".join(it.read_text(encoding="utf-8") for it in files)
+        found += [f"crates.txt: {name} names nothing of {it}" for it in used if not re.search(rf"\b{it}::|\bRattle\.{it}\b|\buse {it}\b", text)]
+    return found
+
+
 def compared(made, found):
     """How many rows of the table the document has, and the lines that differ: those it lacks by '+', those it has in their place by '-'."""
     differing = [it for it in difflib.ndiff(found, made) if it[0] in "+-"]
@@ -110,6 +122,7 @@ def main():
             found = "\n" + "\n".join(lines) + "\n"
             PAGE.write_text(before + BEGIN + found + END + after)
         passed, differing = compared(lines, found.strip("\n").split("\n"))
+    wrong += unnamed(own_crates())
     for line in wrong + differing:
         print(line)
     print(f"{passed} passed, {len(wrong) + len(differing)} failed")
