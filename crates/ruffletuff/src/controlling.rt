@@ -3,7 +3,7 @@
 use crate::board::Board;
 use crate::ending::Ending;
 use crate::errand::{Errand, beside};
-use crate::host::ServerHost;
+use crate::host::Host;
 use crate::opening::{Given, serve_city};
 use mds_command::Service;
 use mds_control::{Port, PortWaker, Stop, serve_control};
@@ -60,10 +60,10 @@ struct Controlled<'a> {
 
 /// Serves a city, and ends the control port after it. Gives how the server ended, and the waker of the port: a waker
 /// that is closed before the port has woken wakes nobody.
-fn serve_and_end<R: ServerHost>(
-    rt: &R,
-    controlled: Controlled<'_>,
-) -> (Result<(), Ending>, PortWaker) {
+fn serve_and_end<R>(rt: &R, controlled: Controlled<'_>) -> (Result<(), Ending>, PortWaker)
+where
+    R: Host + Wait + Threads + Net + Files<File = File>,
+{
     let Controlled {
         service,
         given,
@@ -81,13 +81,16 @@ fn serve_and_end<R: ServerHost>(
 /// # Errors
 ///
 /// `NoControl` where nothing can be listened to there, or the fault with which the server ends.
-pub fn serve_controlled<R: ServerHost>(
+pub fn serve_controlled<R>(
     rt: &R,
     service: &Service<'_>,
     address: &str,
     given: Given<'_>,
     board: Board<'_>,
-) -> Result<(), Ending> {
+) -> Result<(), Ending>
+where
+    R: Host + Wait + Threads + Net<Listener = TcpListener, Stream = TcpStream> + Files<File = File>,
+{
     let Ok(port) = Port::bind(rt, address, service.control_host) else {
         return Err(Ending::NoControl);
     };

@@ -9,7 +9,7 @@ use crate::board::Board;
 use crate::ending::Ending;
 use crate::errand::beside;
 use crate::folders::Folders;
-use crate::host::{CityHost, ServerHost};
+use crate::host::Host;
 use crate::listening::{Listening, listen};
 use crate::room::ReportedRoom;
 use crate::serving::{Stage, keep_and_serve};
@@ -125,7 +125,7 @@ pub fn serve_city<'a, R>(
     board: Board<'a>,
 ) -> Result<(), Ending>
 where
-    R: ServerHost,
+    R: Host + Wait + Threads + Net + Files<File = File>,
 {
     let Given { config, text } = given;
     let Folder {
@@ -163,7 +163,10 @@ where
 /// # Errors
 ///
 /// As `serve_city`.
-fn serve_and_close<R: CityHost>(rt: &R, opening: Opening<'_>) -> Result<(), Ending> {
+fn serve_and_close<R: Host + Wait + Threads + Files<File = File>>(
+    rt: &R,
+    opening: Opening<'_>,
+) -> Result<(), Ending> {
     let meeting = opening.meeting;
     let served = open_and_serve(rt, opening);
     meeting.close(rt);
@@ -175,7 +178,10 @@ fn serve_and_close<R: CityHost>(rt: &R, opening: Opening<'_>) -> Result<(), Endi
 /// # Errors
 ///
 /// As `serve_city`.
-fn open_and_serve<R: CityHost>(rt: &R, opening: Opening<'_>) -> Result<(), Ending> {
+fn open_and_serve<R: Host + Wait + Threads + Files<File = File>>(
+    rt: &R,
+    opening: Opening<'_>,
+) -> Result<(), Ending> {
     match opening.standing(rt) {
         Ok(standing) => serve_beside(rt, opening, standing),
         Err(ending) => Err(ending),
@@ -188,7 +194,7 @@ fn open_and_serve<R: CityHost>(rt: &R, opening: Opening<'_>) -> Result<(), Endin
 /// # Errors
 ///
 /// As `serve_city`.
-fn serve_beside<B: Beside<Filed, Found> + Send, R: CityHost>(
+fn serve_beside<B: Beside<Filed, Found> + Send, R: Host + Wait + Threads + Files<File = File>>(
     rt: &R,
     opening: Opening<'_>,
     beside: B,
@@ -233,7 +239,7 @@ fn serve_journal<B: Beside<Filed, Found> + Send, S: Space + Send, R>(
     stage: Stage<'_>,
 ) -> Result<(), Ending>
 where
-    R: CityHost,
+    R: Host + Wait + Threads + Files<File = File>,
     requires { S.aside space ≡ 0 }
 {
     let mut aside = CutFiles::new(*rt, rt.alloc(), stage.folder)?;
@@ -260,7 +266,7 @@ fn serve_rolling<L: Sealed + Send, B: Beside<L, Found> + Send, S: Space + Send, 
     stage: Stage<'_>,
 ) -> Result<(), Ending>
 where
-    R: CityHost,
+    R: Host + Wait + Threads,
     requires listed { (first : List (List ℕ)) × L.may_be log first }
     requires space { S.aside space ≡ 0 }
 {
@@ -281,7 +287,7 @@ fn serve_log<L: Log + Send, S: Space + Send, R>(
     stage: Stage<'_>,
 ) -> Result<(), Ending>
 where
-    R: CityHost,
+    R: Host + Wait + Threads,
     requires listed { (first : List (List ℕ)) × L.may_be log first }
     requires space { S.aside space ≡ 0 }
 {
@@ -328,7 +334,7 @@ fn serve_opening<K: Named + Send + Sync, L: Log + Send, S: Space + Send, R>(
     stage: Stage<'_>,
 ) -> Result<(), Ending>
 where
-    R: CityHost,
+    R: Host + Wait + Threads,
     requires book { book_of blank ≡ K.book }
     requires configured { configuration config ≡ K.configuration }
     requires listed { (first : List (List ℕ)) × L.may_be log first }

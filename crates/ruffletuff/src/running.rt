@@ -10,7 +10,7 @@ use crate::configuration::{configuration_in, told_text};
 use crate::controlling::serve_controlled;
 use crate::counting::counters_of;
 use crate::ending::Ending;
-use crate::host::ServerHost;
+use crate::host::Host;
 use crate::opening::{Given, serve_city};
 use crate::source::Source;
 use crate::thinning::thin;
@@ -39,7 +39,15 @@ fn status_of(done: Result<u8, Ending>) -> u8
 }
 
 /// Runs what the arguments ask for, reports faults on standard error, and gives the exit status.
-pub fn run<R: ServerHost + Env>(rt: &R) -> u8 {
+pub fn run<R>(rt: &R) -> u8
+where
+    R: Host
+        + Wait
+        + Threads
+        + Net<Listener = TcpListener, Stream = TcpStream>
+        + Files<File = File>
+        + Env,
+{
     let words = match read_words(rt) {
         Ok(words) => words,
         Err(ending) => {
@@ -59,7 +67,10 @@ pub fn run<R: ServerHost + Env>(rt: &R) -> u8 {
 }
 
 /// Runs what the arguments ask for, and gives the exit status.
-fn carry_out<R: ServerHost>(rt: &R, asked: &Asked<'_>) -> Result<u8, Ending> {
+fn carry_out<R>(rt: &R, asked: &Asked<'_>) -> Result<u8, Ending>
+where
+    R: Host + Wait + Threads + Net<Listener = TcpListener, Stream = TcpStream> + Files<File = File>,
+{
     let done = match asked {
         Asked::Help => print_text(rt, HELP),
         Asked::Version => print_version(rt),
@@ -135,7 +146,10 @@ fn stop_server<R: Net + AllocGlobal>(rt: &R, address: &str) -> Result<(), Ending
 /// # Errors
 ///
 /// The configuration's, the control port's, or the fault with which the city can't be opened or its server ends.
-fn serve<R: ServerHost>(rt: &R, service: &Service<'_>) -> Result<(), Ending> {
+fn serve<R>(rt: &R, service: &Service<'_>) -> Result<(), Ending>
+where
+    R: Host + Wait + Threads + Net<Listener = TcpListener, Stream = TcpStream> + Files<File = File>,
+{
     let text = told_text(rt, rt.alloc(), service.config)?;
     let config = configuration_in(rt.alloc(), &text)?;
     let closing = Closing::new(rt.alloc())?;

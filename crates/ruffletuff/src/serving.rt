@@ -7,7 +7,7 @@ use crate::configuration::badges_in;
 use crate::counting::count_vehicles;
 use crate::ending::Ending;
 use crate::errand::{Errand, beside};
-use crate::host::CityHost;
+use crate::host::Host;
 use crate::listening::Listening;
 use mds_city::City;
 use mds_commit::{FlushFault, Flusher, Keeper, Naming, Opened, Space, open};
@@ -83,7 +83,7 @@ where
     N: Naming + Send + Sync,
     L: Log + Send,
     S: Space + Send,
-    R: CityHost,
+    R: Host + Wait + Threads,
 {
     let Serving {
         listening,
@@ -118,7 +118,7 @@ where
     N: Naming + Send + Sync,
     L: Log + Send,
     S: Space + Send,
-    R: CityHost,
+    R: Host + Wait + Threads,
     requires book { history.seen.book ≡ N.book }
     requires listed { (first : List (List ℕ)) × L.may_be log first }
     requires space { S.aside space ≡ 0 }
@@ -161,7 +161,7 @@ where
     N: Naming + Send + Sync,
     L: Log + Send,
     S: Space + Send,
-    R: CityHost,
+    R: Host + Wait + Threads,
 {
     let board = stage.board;
     let site = Site::open(rt, city, Chunked(*rt), board.configuration, board.counters)?;
