@@ -10,10 +10,10 @@ ruffletuff on the messages that wait for no deadline and on the short loads (htt
 (journals.py, damages.py, thinning.py), the control port (control.py), configurations (config.py), many reports at once (many.py), also
 beside the changes of others (shares.py), each path by each method and asker (routes.py), files that are imported (exchange.py), what
 people are told (app.py), what everyone is told (public.py), the counts in docs/audit/DEFINITIONS.md (definitions.py), the table of
-crates in docs/ARCHITECTURE.md (crates.py), links and lengths of all documents (documents.py), whether each edit can be
-made (mutations.py), nginx before a server (nginx.py), the
-page (page.py), in a browser too (web/run.py), a short stress (stress.py), some refused growths of memory (growths.py) and the check of
-docs/openapi.yaml (openapi.py). The other messages, and mds_serve, which serves by the same crates, are tried by `make prove` alone.
+crates in docs/ARCHITECTURE.md (crates.py), links and lengths of all documents (documents.py), whether each edit can be made
+(mutations.py), nginx before a server (nginx.py), the page (page.py), in a browser too (web/run.py), a short stress (stress.py), some
+refused growths of memory (growths.py) and the check of docs/openapi.yaml (openapi.py). The other messages, and mds_serve, which serves
+by the same crates, are tried by `make prove` alone.
 
 What wants a package that isn't there is left out, which the last line but one names, with the command that gets it; with GATE=1 it has
 failed (packages.py). What a part prints comes once the part is over, and of one that failed the last lines again behind all parts. Last
