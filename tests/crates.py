@@ -27,7 +27,7 @@ LAYERS = (
     ("Journal", "what a disk keeps", """
         mds_restarts mds_records mds_rolling mds_entries mds_keeping mds_commit mds_recovery mds_folder mds_thinning"""),
     ("Server", "from a socket to the core", """
-        mds_limits mds_public mds_app mds_responses mds_hall mds_connections mds_doors mds_routes mds_control mds_city mds_page
+        mds_limits mds_public mds_app mds_responses mds_hall mds_connections mds_routes mds_control mds_city mds_page
         mds_public_answers mds_meter mds_refusals mds_site"""),
     ("Command line", "what a shell asks for", """
         mds_start mds_command mds_client mds_import mds_feeds mds_errands"""),

@@ -6,6 +6,7 @@ use crate::door::Door;
 use crate::ending::Ending;
 use crate::house::{Answers, House};
 use crate::paced::Paced;
+use crate::runtime::ConnectionRuntime;
 use crate::seats::Seat;
 use crate::sits::Sits;
 use crate::sitting::Sitting;
@@ -17,12 +18,9 @@ use futures::{Future, Stream};
 use http_body_util::Full;
 use hyper::rt::Timer;
 use hyper::server::conn::http1::{Builder, Connection};
-use std::alloc::{AllocError, AllocGlobal, Global};
+use std::alloc::{AllocError, Global};
 use std::io;
-use std::random::RandomSource;
-use std::sync::{Arc, Wait};
-use std::thread::Threads;
-use std::time::Clock;
+use std::sync::Arc;
 use tokio::io::{AsyncRead, AsyncWrite};
 use tokio::runtime::Runtime;
 use tokio::sync::OwnedNotified;
@@ -189,7 +187,7 @@ impl<S: Stream, H: Host<S::Item>> Stream for Tasks<S, H> {
 /// Runs all tasks of a server to their end.
 fn run_tasks<R, S, H>(rt: &R, runtime: &mut Runtime, tasks: Tasks<S, H>) -> io::Result<()>
 where
-    R: Wait + Threads + Clock + RandomSource + AllocGlobal + Sync,
+    R: ConnectionRuntime,
     S: Stream,
     H: Host<S::Item>,
     H::Task: Send,
@@ -209,7 +207,7 @@ pub fn serve_all<R, S, I, A, T>(
     seating: Seating,
 ) -> io::Result<()>
 where
-    R: Wait + Threads + Clock + RandomSource + AllocGlobal + Send + Sync + Drop,
+    R: ConnectionRuntime,
     S: Stream<Item = I>,
     I: AsyncRead + AsyncWrite + Send,
     A: Answers + Send + Sync,
@@ -234,7 +232,7 @@ fn serve_with<R, S, I, P, T>(
     watch: Watch,
 ) -> io::Result<()>
 where
-    R: Wait + Threads + Clock + RandomSource + AllocGlobal + Sync,
+    R: ConnectionRuntime,
     S: Stream<Item = I>,
     I: AsyncRead + AsyncWrite + Send,
     P: Sits + Send,

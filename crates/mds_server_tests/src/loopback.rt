@@ -3,10 +3,11 @@ ghost use Rattle.std.specs.Prelude.{◌≡◌};
 ghost use Rattle.mds_request.specs.Configuration.{configuration};
 ghost use Rattle.mds_snapshot.specs.Opening.{book_of};
 
-use mds_doors::{Moments, Queues, Reception, bound, serve};
+use mds_connections::{Moments, Queues, bound};
 use mds_hall::{Hall, Named};
 use mds_request::Config;
 use mds_snapshot::{Blank, prepare};
+use mds_start::{Reception, serve};
 use mds_text::Moment;
 use std::alloc::{AllocGlobal, Global};
 use std::io::{self, Read, Write};

@@ -4,8 +4,8 @@ ghost use Rattle.mds_public_answers.specs.Configured.{is_public};
 
 use mds_city::{City, CityReception};
 use mds_commit::{Naming, Space};
+use mds_connections::MachineClock;
 use mds_control::Counters;
-use mds_doors::MachineClock;
 use mds_hall::Named;
 use mds_page::Page;
 use mds_public::Face;

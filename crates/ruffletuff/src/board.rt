@@ -1,7 +1,7 @@
 //! The admin state of a server.
 
+use mds_connections::Closing;
 use mds_control::{Control, Counters};
-use mds_doors::Closing;
 use std::sync::Arc;
 
 /// The admin state of a server: what its control port shows, what ends it, and the text of its

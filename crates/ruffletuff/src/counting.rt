@@ -1,7 +1,7 @@
 //! Counters of a city's connections, and of its operators' vehicles.
 
+use mds_connections::Closing;
 use mds_control::{Counters, Fleet};
-use mds_doors::Closing;
 use mds_hall::{Hall, Named};
 use mds_request::Config;
 use std::alloc::{AllocError, Global};

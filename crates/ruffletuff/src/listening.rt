@@ -4,7 +4,7 @@ ghost use Rattle.ruffletuff.specs.declared.ending.Ending.TheVariants.{NoListener
 
 use crate::ending::Ending;
 use crate::host::Host;
-use mds_doors::bound;
+use mds_connections::bound;
 use std::net::Net;
 use tokio::net::TcpListener;
 use tokio::runtime::Runtime;

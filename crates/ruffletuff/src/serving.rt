@@ -11,7 +11,7 @@ use crate::host::Host;
 use crate::listening::Listening;
 use mds_city::City;
 use mds_commit::{FlushFault, Flusher, Keeper, Naming, Opened, Space, open};
-use mds_doors::{Closing, Ended, Queues, serve_by};
+use mds_connections::{Closing, Ended, Queues, serve_by};
 use mds_hall::{Hall, Named};
 use mds_parallel::Chunked;
 use mds_records::Log;

@@ -6,7 +6,7 @@ use crate::configuration::{configuration_in, configuration_text};
 use crate::ending::Ending;
 use crate::opening::journal_length;
 use mds_command::Thinning;
-use mds_doors::{MachineClock, Moments};
+use mds_connections::{MachineClock, Moments};
 use mds_folder::FolderFault;
 use mds_text::Moment;
 use mds_thinning::{Counts, ThinFault, thin_folder};

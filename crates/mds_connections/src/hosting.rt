@@ -1,21 +1,19 @@
-//! Serves a listener, until so many connections are over or the server is to end.
+//! Serves a listener by any service, until so many connections are over or the server is to end.
 
-use crate::moments::Moments;
-use crate::reception::Reception;
+use crate::admission::Admission;
+use crate::ending::Closing;
+use crate::house::{Answers, House};
+use crate::queues::Queues;
+use crate::runtime::ConnectionRuntime;
+use crate::seats::Register;
+use crate::serving::{Seating, serve_all};
 use futures::StreamExt;
 use hyper::rt::TokioTimer;
 use hyper::server::conn::http1::Builder;
-use mds_connections::{Admission, Answers, Closing, House, Queues, Register, Seating, serve_all};
-use mds_hall::Named;
-use mds_parallel::Chunked;
-use std::alloc::AllocGlobal;
 use std::hash::RandomState;
 use std::io;
 use std::net::{Net, ToSocketAddrs};
-use std::random::RandomSource;
-use std::sync::{Arc, Mutex, Wait};
-use std::thread::Threads;
-use std::time::Clock;
+use std::sync::{Arc, Mutex};
 use tokio::net::TcpListener;
 use tokio::reactor;
 use tokio::runtime::Runtime;
@@ -44,7 +42,7 @@ struct Fittings<R> {
     seating: Seating,
 }
 
-impl<R: Clock + RandomSource + AllocGlobal + Copy> Fittings<R> {
+impl<R: ConnectionRuntime + Copy> Fittings<R> {
     fn new(rt: &R, runtime: &Runtime) -> io::Result<Fittings<R>> {
         let timers = runtime.handle().time().clone()?;
         let pauses = timers.clone()?;
@@ -71,15 +69,12 @@ struct Opened<A, R> {
 }
 
 /// What connections share, for this service and these queues, with no connection yet.
-fn open_house<A: Drop, R>(
+fn open_house<A: Drop, R: ConnectionRuntime + Copy>(
     rt: &R,
     runtime: &Runtime,
     answers: A,
     queues: Queues,
-) -> io::Result<Opened<A, R>>
-where
-    R: Clock + RandomSource + AllocGlobal + Copy + Drop,
-{
+) -> io::Result<Opened<A, R>> {
     let Fittings {
         timers,
         pauses,
@@ -107,21 +102,34 @@ where
     })
 }
 
-/// Serves so many connections of a listener, or all, by this service, and ends its hall.
+/// A server that has ended.
+#[derive(Drop)]
+pub struct Ended<A> {
+    /// The service; none, where something still holds it.
+    pub answers: Option<A>,
+    /// Whether it ended in order, or waiting for events failed.
+    pub outcome: io::Result<()>,
+}
+
+/// Serves so many connections of a listener, or all, by this service.
 ///
 /// # Errors
 ///
-/// The server couldn't be started, or waiting for events failed.
-pub fn serve<K: Named + Send + Sync, R, M: Moments + Send + Sync>(
+/// The server couldn't be started.
+pub fn serve_up_to<A, R>(
     rt: &R,
     runtime: &mut Runtime,
     listener: TcpListener,
-    reception: Reception<K, R, Chunked<R>, M>,
+    answers: A,
     queues: Queues,
     connections: Option<usize>,
-) -> io::Result<()>
+) -> io::Result<Ended<A>>
 where
-    R: Wait + Threads + Clock + RandomSource + AllocGlobal + Sync + Send + Copy + Drop,
+    A: Answers + Send + Sync,
+    A::Head: Send,
+    A::Reply: Send,
+    R: ConnectionRuntime + Copy,
+    requires ready { A.may_answer }
 {
     let Opened {
         http,
@@ -129,25 +137,14 @@ where
         pauses,
         house,
         shared,
-    } = open_house(rt, runtime, reception, queues)?;
+    } = open_house(rt, runtime, answers, queues)?;
     let sockets = listener
         .incoming()
         .take(connections.unwrap_or(usize::MAX))
         .filter_map(|accepted| Admission::new(accepted, rt, &pauses));
-    let served = serve_all(rt, runtime, http, sockets, shared, seating);
-    if let Some(house) = Arc::into_inner(house) {
-        house.answers.hall.finish(rt);
-    }
-    served
-}
-
-/// A server that has ended.
-#[derive(Drop)]
-pub struct Ended<A> {
-    /// The service; none, where something still holds it.
-    pub answers: Option<A>,
-    /// Whether it was shut down, or waiting for events failed.
-    pub outcome: io::Result<()>,
+    let outcome = serve_all(rt, runtime, http, sockets, shared, seating);
+    let answers = Arc::into_inner(house).map(|house| house.answers);
+    Ok(Ended { answers, outcome })
 }
 
 /// Serves the connections of a listener by this service until it is to end, and then what has
@@ -168,7 +165,7 @@ where
     A: Answers + Send + Sync,
     A::Head: Send,
     A::Reply: Send,
-    R: Wait + Threads + Clock + RandomSource + AllocGlobal + Sync + Send + Copy + Drop,
+    R: ConnectionRuntime + Copy,
     requires ready { A.may_answer }
 {
     let Opened {

@@ -8,7 +8,7 @@ use Rattle.std.proofs.Crossing.{send, sync}
 use Rattle.mds_snapshot.specs.declared.history.Naming.{Ghosts}
 use Rattle.mds_hall.specs.declared.named.Named.{Ghosts as Names}
 use Rattle.mds_hall.proofs.Halls.{hall_send, hall_sync}
-use Rattle.mds_doors.specs.contracts.reception.Reception as Reception
+use Rattle.mds_start.specs.contracts.reception.Reception as Reception
 
 module _ (K R E M : RattleType) (n : Names K.Denot) (g : Ghosts K.Denot) where
   pub reception_send : IsSend R → IsSend E → IsSend M → IsSend (Reception.the_row K R E M n g)

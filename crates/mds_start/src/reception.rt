@@ -5,11 +5,10 @@ ghost use Rattle.mds_hall.specs.Asked.{token_of};
 ghost use Rattle.mds_hall.specs.Resolved.{call_in, cost_in};
 ghost use Rattle.mds_hall.specs.Respond.{Responds};
 
-use crate::moments::Moments;
 use futures::future::{Ready, ready};
 use http::request::Parts;
 use mds_catalog::Catalogue;
-use mds_connections::{Answers, Crowded};
+use mds_connections::{Answers, Crowded, Moments};
 use mds_hall::{Hall, HallContext, Named, ResolvedCall};
 use mds_limits::{Arrived, Cost};
 use mds_parallel::Chunked;
@@ -32,8 +31,11 @@ pub struct Reception<K: Named, R, E, M> {
 
 impl<K: Named, R: Threads + Sync + AllocGlobal + Copy, M> Reception<K, R, Chunked<R>, M> {
     /// The service of a hall whose vehicles are judged by as many threads as there are processors,
-    /// each request at the moment of this clock.
-    pub fn new(rt: R, hall: Hall<K>, moments: M) -> Reception<K, R, Chunked<R>, M> {
+    /// each request at the moment of this clock. Its hall and its clock are those given.
+    pub fn new(rt: R, hall: Hall<K>, moments: M) -> Reception<K, R, Chunked<R>, M>
+        ensures hall { result.hall ≡ hall }
+        ensures moments { result.moments ≡ moments }
+    {
         Reception {
             rt,
             alloc: rt.alloc(),
