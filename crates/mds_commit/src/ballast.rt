@@ -11,13 +11,13 @@ const CHUNK: usize = 4096;
 /// A file of zeros on the log's disk. It grows where disk space is reserved, and is cut just before as much is written
 /// to the log. Nothing else writes to it. The proofs don't know that the disk gives the freed space to the next write.
 #[derive(Debug, Drop)]
-pub struct Ballast<F: Write + Seek + OpenFile + Drop> {
+pub struct Ballast<F> {
     file: F,
     /// How many bytes it has.
     pub bytes: u64,
 }
 
-impl<F: Write + Seek + OpenFile + Drop> Ballast<F> {
+impl<F: OpenFile + Drop> Ballast<F> {
     /// The disk space reserved in this file, which is emptied.
     ///
     /// # Errors

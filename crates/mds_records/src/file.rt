@@ -7,11 +7,11 @@ use std::io::{Read, Seek, SeekFrom, Write};
 /// Storage in a file, which is open for reading and for writing and to which nothing else writes. The proofs know
 /// nothing of its contents: that the disk keeps what it reported as synced is a premise.
 #[derive(Debug, Drop)]
-pub struct Stored<F: Read + Write + Seek + OpenFile + Drop> {
+pub struct Stored<F> {
     file: F,
 }
 
-impl<F: Read + Write + Seek + OpenFile + Drop> Stored<F> {
+impl<F> Stored<F> {
     /// Storage in this file.
     pub fn new(file: F) -> Stored<F> {
         Stored { file }
