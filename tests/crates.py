@@ -30,7 +30,7 @@ LAYERS = (
         mds_limits mds_public mds_app mds_responses mds_hall mds_connections mds_routes mds_control mds_city mds_page
         mds_public_answers mds_meter mds_refusals mds_site"""),
     ("Command line", "what a shell asks for", """
-        mds_start mds_command mds_client mds_import mds_feeds mds_errands"""),
+        mds_start mds_command mds_client mds_import mds_feeds mds_errands cli_journal"""),
     ("Programs", "what is run", """
         mds_replay mds_serve ruffletuff"""),
     ("Tests", "tests and worked examples", """

@@ -1,7 +1,7 @@
 -- How a server ended.
 use Rattle.std.specs.Prelude.{Bool, Result, Ok, Err, if◌then◌else◌}
-use Rattle.ruffletuff.specs.declared.ending.Ending.{Ending}
-use Rattle.ruffletuff.specs.declared.ending.Ending.TheVariants.{NoListener, NotKept}
+use Rattle.cli_journal.specs.declared.ending.Ending.{Ending}
+use Rattle.cli_journal.specs.declared.ending.Ending.TheVariants.{NoListener, NotKept}
 
 -- That a journal wasn't written to its end is reported before all else.
 abbrev pub outcome_of : (is_kept is_served : Bool) → Result (Unit {0}) Ending

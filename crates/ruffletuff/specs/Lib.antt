@@ -1,9 +1,4 @@
-pub mod Checks
 pub mod Ends
-pub mod Exit
 pub mod Full
 pub mod Progress
-pub mod Script
 pub mod Starting
-pub mod Thinning
-pub mod Words

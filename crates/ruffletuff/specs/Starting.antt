@@ -1,5 +1,5 @@
 -- The log from which a room and desks are started.
-use Rattle.std.specs.Prelude.{◌≡◌, ℕ, Bool, true, false, List, [], ◌∷◌, map, None}
+use Rattle.std.specs.Prelude.{◌≡◌, ℕ, Bool, true, false, List, ◌∷◌, map, None}
 use Rattle.mds_request.specs.Configuration.{Configuration}
 use Rattle.mds_request.specs.declared.request.Verb.{Verb}
 use Rattle.mds_request.specs.declared.request.Verb.TheVariants.{Post}
@@ -10,11 +10,6 @@ use Rattle.mds_entries.specs.Heads.{Share, AreShares, head_text, unfit}
 use Rattle.mds_recovery.specs.Laws.{IsStartedAgain}
 use Rattle.mds_recovery.specs.Recovery.{Server}
 use Rattle.mds_folder.specs.Choosing.{needed, without}
-
--- the payloads of a journal's entries: those behind its head
-abbrev pub behind_head : List (List ℕ) → List (List ℕ)
-behind_head [] = []
-behind_head (head ∷ texts) = texts
 
 -- The first payload is a head, for whose operators the configuration has room, but for those that are left out; behind
 -- it stand these.

@@ -1,6 +1,6 @@
 //! The program's arguments.
 
-use crate::ending::Ending;
+use cli_journal::Ending;
 use std::alloc::AllocGlobal;
 use std::env;
 use std::env::Env;

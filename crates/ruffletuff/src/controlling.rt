@@ -1,10 +1,10 @@
 //! Serves a city with a control port.
 
 use crate::board::Board;
-use crate::ending::Ending;
 use crate::errand::{Errand, beside};
 use crate::host::Host;
 use crate::opening::{Given, serve_city};
+use cli_journal::Ending;
 use mds_command::Service;
 use mds_connections::Closing;
 use mds_control::{Port, PortWaker, Stop, serve_control};

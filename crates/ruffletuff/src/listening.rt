@@ -1,9 +1,9 @@
 //! The socket at which a server listens, and the threads that serve its connections.
 ghost use Rattle.std.specs.Prelude.{◌≡◌, IfErr};
-ghost use Rattle.ruffletuff.specs.declared.ending.Ending.TheVariants.{NoListener};
+ghost use Rattle.cli_journal.specs.declared.ending.Ending.TheVariants.{NoListener};
 
-use crate::ending::Ending;
 use crate::host::Host;
+use cli_journal::Ending;
 use mds_connections::bound;
 use std::net::Net;
 use tokio::net::TcpListener;

@@ -3,13 +3,9 @@
 #![tactic(auto)]
 
 mod arguments;
-mod auditing;
 mod board;
-mod checking;
-mod configuration;
 mod controlling;
 mod counting;
-mod ending;
 mod errand;
 mod folders;
 mod host;
@@ -19,12 +15,9 @@ mod progress;
 mod room;
 mod running;
 mod serving;
-mod source;
 mod standing;
 mod starting;
 mod thinner;
-mod thinning;
-mod words;
 
 use running::run;
 use std::process::ExitCode;

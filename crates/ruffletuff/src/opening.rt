@@ -6,7 +6,6 @@ ghost use Rattle.mds_recovery.specs.Recovery.{server_of};
 ghost use Rattle.ruffletuff.specs.Starting.{IsStartedFromLog};
 
 use crate::board::Board;
-use crate::ending::Ending;
 use crate::errand::beside;
 use crate::folders::Folders;
 use crate::host::Host;
@@ -16,7 +15,7 @@ use crate::serving::{Stage, keep_and_serve};
 use crate::standing::{Filed, Standing, Table};
 use crate::starting::{ids_left_out, start};
 use crate::thinner::Thinner;
-use crate::thinning::clear;
+use cli_journal::{Ending, clear, journal_length};
 use mds_command::Service;
 use mds_commit::{Ballast, Opened, Space};
 use mds_connections::Queues;
@@ -32,19 +31,12 @@ use mds_start::workers;
 use mds_text::Id;
 use mds_thinning::Found;
 use std::alloc::AllocGlobal;
-use std::fs::{self, File, Files};
+use std::fs::{File, Files};
 use std::io::Eprint;
 use std::marker::Brand;
 use std::net::Net;
 use std::sync::{Arc, Wait};
 use std::thread::{Threads, available_parallelism};
-
-/// How many bytes a folder's journal has; `None` where that can't be found out.
-pub fn journal_length<R: Files<File = File> + AllocGlobal>(rt: &R, folder: &str) -> Option<u64> {
-    let path = format!(in rt.alloc(); "{folder}/journal").ok()?;
-    let metadata = fs::metadata(rt, path.as_str()).ok()?;
-    Some(metadata.len())
-}
 
 /// Sets the metric of the journal's bytes.
 fn count_bytes<R: Files<File = File> + AllocGlobal>(rt: &R, folder: &str, counters: &Counters) {

@@ -1,20 +1,16 @@
 //! Runs what the arguments ask for.
 ghost use Rattle.std.specs.Prelude.{◌≡◌};
-ghost use Rattle.ruffletuff.specs.Exit.{status_of};
+ghost use Rattle.cli_journal.specs.Exit.{status_of};
 
 use crate::arguments::read_words;
-use crate::auditing::audit;
 use crate::board::Board;
-use crate::checking::check;
-use crate::configuration::{configuration_in, told_text};
 use crate::controlling::serve_controlled;
 use crate::counting::counters_of;
-use crate::ending::Ending;
 use crate::host::Host;
 use crate::opening::{Given, serve_city};
-use crate::source::Source;
-use crate::thinning::thin;
-use crate::words::{tell, tell_usage};
+use cli_journal::{
+    Ending, Source, audit, check, configuration_in, tell, tell_usage, thin, told_text,
+};
 use mds_command::{Asked, COMMIT, HELP, Service, VERSION, asked_by, version_line};
 use mds_connections::Closing;
 use mds_control::{Control, stop};

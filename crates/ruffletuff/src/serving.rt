@@ -1,14 +1,15 @@
 //! Serves an open city: one thread writes its journal, others answer.
-ghost use Rattle.std.specs.Prelude.{◌≡◌, ℕ, List};
+ghost use Rattle.std.specs.Prelude.{◌≡◌, ℕ, List, IfOk, Ok};
+ghost use Rattle.mds_app.specs.Badges.{badges_view, read_badges};
 ghost use Rattle.ruffletuff.specs.Ends.{outcome_of};
 
 use crate::board::Board;
-use crate::configuration::badges_in;
 use crate::counting::count_vehicles;
-use crate::ending::Ending;
 use crate::errand::{Errand, beside};
 use crate::host::Host;
 use crate::listening::Listening;
+use cli_journal::Ending;
+use mds_app::Badges;
 use mds_city::City;
 use mds_commit::{FlushFault, Flusher, Keeper, Naming, Opened, Space, open};
 use mds_connections::{Closing, Ended, Queues, serve_by};
@@ -17,6 +18,7 @@ use mds_parallel::Chunked;
 use mds_records::Log;
 use mds_site::Site;
 use mds_text::Id;
+use std::alloc::Global;
 use std::io::{self, Print};
 use std::sync::{Arc, Wait};
 use std::thread::Threads;
@@ -97,6 +99,20 @@ where
     let ended = serve_by(rt, &mut runtime, listener, site, queues, closing);
     keeper.stop(rt);
     ended
+}
+
+/// Reads the operators' names for people in a configuration's text: see `mds_app::laws::configurations_are_badged`.
+///
+/// # Errors
+///
+/// `NoMemory`.
+fn badges_in(alloc: Global, text: &[u8]) -> Result<Badges, Ending>
+    ensures { IfOk result (λ badges. read_badges text.now ≡ Ok (badges_view badges)) }
+{
+    match Badges::read(alloc, text) {
+        Ok(badges) => Ok(badges),
+        Err(_) => Err(Ending::NoMemory),
+    }
 }
 
 /// Persists what a hall accepts in a log that continues this history, and serves the hall. N names the history.

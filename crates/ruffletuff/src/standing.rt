@@ -1,7 +1,7 @@
 //! Swaps the journal's file of a served city for compacted ones.
 
-use crate::ending::Ending;
 use crate::folders::Folders;
+use cli_journal::Ending;
 use mds_control::{Counters, Figure};
 use mds_folder::FolderFault;
 use mds_records::{Journal, Seal, Stored};

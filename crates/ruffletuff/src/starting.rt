@@ -7,8 +7,8 @@ ghost use Rattle.mds_recovery.specs.Laws.{IsStartedAgain};
 ghost use Rattle.mds_recovery.specs.Recovery.{server_of};
 ghost use Rattle.ruffletuff.specs.Starting.{HasHead, IsStartedFrom, is_publication};
 
-use crate::ending::Ending;
 use crate::progress::Told;
+use cli_journal::Ending;
 use mds_configuration::Limits;
 use mds_control::{Counters, Figure};
 use mds_desk::{AuthorRoom, Desk};

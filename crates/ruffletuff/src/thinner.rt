@@ -3,7 +3,7 @@
 use crate::errand::Errand;
 use crate::folders::Folders;
 use crate::standing::{Filed, Table};
-use crate::thinning::moment;
+use cli_journal::moment;
 use mds_folder::{FolderFault, lock_file};
 use mds_records::{Journal, Seal, Stored};
 use mds_rolling::{CatchFault, Shorter, is_little};

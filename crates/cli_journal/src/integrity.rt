@@ -2,10 +2,10 @@
 ghost use Rattle.std.specs.Prelude.{◌≡◌, IsTrue, false, Ok};
 ghost use Rattle.mds_records.specs.Endings.{is_opened};
 ghost use Rattle.mds_folder.specs.Damages.{damage_of};
-ghost use Rattle.ruffletuff.specs.Checks.{refused_for};
+ghost use Rattle.cli_journal.specs.Checks.{refused_for};
 
-use crate::auditing::behind_head;
 use crate::ending::Ending;
+use crate::script::behind_head;
 use mds_entries::read_head;
 use mds_folder::{FolderFault, Survey, damage_of, entries_in, journal_bytes, surveyed};
 use mds_records::Ending as Ends;

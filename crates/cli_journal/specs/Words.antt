@@ -1,8 +1,8 @@
 -- The file, folder or address that a fault is about.
 use Rattle.std.specs.Prelude.{ℕ, List, Option, Some, None}
 use Rattle.mds_command.specs.Asked.{Request, serve, check, check_config, audit, thin, stop}
-use Rattle.ruffletuff.specs.declared.ending.Ending.{Ending}
-use Rattle.ruffletuff.specs.declared.ending.Ending.TheVariants.{Misconfigured, NoListener, NoControl, NotStopped, Folder, Refused, NotKept, NotThinned, Differs}
+use Rattle.cli_journal.specs.declared.ending.Ending.{Ending}
+use Rattle.cli_journal.specs.declared.ending.Ending.TheVariants.{Misconfigured, NoListener, NoControl, NotStopped, Folder, Refused, NotKept, NotThinned, Differs}
 
 abbrev pub config_of : Request → Option (List ℕ)
 config_of (serve config state listen control control_host dropped thin_at) = Some config

@@ -1,6 +1,6 @@
 //! Why the program ends other than as it was asked to, with the exit status and the message of each.
 ghost use Rattle.std.specs.Prelude.{◌≡◌};
-ghost use Rattle.ruffletuff.specs.Exit.{cause_status, exit_status, cause_message, folder_message, message_of, cause_of_thinned, ending_of_thinned};
+ghost use Rattle.cli_journal.specs.Exit.{cause_status, exit_status, cause_message, folder_message, message_of, cause_of_thinned, ending_of_thinned};
 
 use mds_diagnosis::Detail;
 use mds_folder::FolderFault;
@@ -113,7 +113,7 @@ impl Ending {
 
 impl From<AllocError> for Ending {
     ghost use Rattle.std.specs.Prelude.{◌≡◌};
-    ghost use Rattle.ruffletuff.specs.declared.ending.Ending.TheVariants.{NoMemory};
+    ghost use Rattle.cli_journal.specs.declared.ending.Ending.TheVariants.{NoMemory};
 
     ghost from_gives = { λ _ e. e ≡ NoMemory };
 
@@ -124,7 +124,7 @@ impl From<AllocError> for Ending {
 
 impl From<OpenFault> for Ending {
     ghost use Rattle.std.specs.Prelude.{◌≡◌};
-    ghost use Rattle.ruffletuff.specs.declared.ending.Ending.TheVariants.{NoMemory};
+    ghost use Rattle.cli_journal.specs.declared.ending.Ending.TheVariants.{NoMemory};
 
     ghost from_gives = { λ _ e. e ≡ NoMemory };
 
@@ -135,7 +135,7 @@ impl From<OpenFault> for Ending {
 
 impl From<FolderFault> for Ending {
     ghost use Rattle.std.specs.Prelude.{◌≡◌};
-    ghost use Rattle.ruffletuff.specs.declared.ending.Ending.TheVariants.{Folder};
+    ghost use Rattle.cli_journal.specs.declared.ending.Ending.TheVariants.{Folder};
 
     ghost from_gives = { λ fault e. e ≡ Folder fault };
 
@@ -146,7 +146,7 @@ impl From<FolderFault> for Ending {
 
 impl From<StartFault> for Ending {
     ghost use Rattle.std.specs.Prelude.{◌≡◌};
-    ghost use Rattle.ruffletuff.specs.Exit.{ending_of};
+    ghost use Rattle.cli_journal.specs.Exit.{ending_of};
 
     ghost from_gives = { λ fault e. e ≡ ending_of fault };
 
@@ -180,7 +180,7 @@ fn ending_of_thinned(fault: StartFault) -> Ending
 
 impl From<ThinFault> for Ending {
     ghost use Rattle.std.specs.Prelude.{◌≡◌};
-    ghost use Rattle.ruffletuff.specs.Exit.{ending_of_thinning};
+    ghost use Rattle.cli_journal.specs.Exit.{ending_of_thinning};
 
     ghost from_gives = { λ fault e. e ≡ ending_of_thinning fault };
 

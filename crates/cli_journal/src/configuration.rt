@@ -1,12 +1,10 @@
 //! Reads the configuration from its file.
 ghost use Rattle.std.specs.Prelude.{◌≡◌, ◌≤◌, length, IfOk, Ok};
 ghost use Rattle.mds_lines.specs.declared.gather.TheConstants.{LINE_LIMIT};
-ghost use Rattle.mds_app.specs.Badges.{badges_view, read_badges};
 ghost use Rattle.mds_request.specs.Configuration.{configuration, read_configuration};
 
 use crate::ending::Ending;
 use crate::source::Source;
-use mds_app::Badges;
 use mds_diagnosis::Detail;
 use mds_lines::LINE_LIMIT;
 use mds_request::{Config, ConfigFault};
@@ -95,19 +93,5 @@ pub fn configuration_in(alloc: Global, text: &[u8]) -> Result<Config, Ending>
             Err(Ending::NoMemory)
         }
         Err(_) => Err(Ending::Misconfigured(Detail::of(alloc, text))),
-    }
-}
-
-/// Reads the operators' names for people in a configuration's text: see `mds_app::laws::configurations_are_badged`.
-///
-/// # Errors
-///
-/// `NoMemory`.
-pub fn badges_in(alloc: Global, text: &[u8]) -> Result<Badges, Ending>
-    ensures { IfOk result (λ badges. read_badges text.now ≡ Ok (badges_view badges)) }
-{
-    match Badges::read(alloc, text) {
-        Ok(badges) => Ok(badges),
-        Err(_) => Err(Ending::NoMemory),
     }
 }

@@ -9,8 +9,8 @@ use Rattle.mds_recovery.specs.declared.fault.StartFault.{StartFault}
 use Rattle.mds_recovery.specs.declared.fault.StartFault.TheVariants.{Opening, Stopped}
 use Rattle.mds_thinning.specs.declared.fault.ThinFault.{ThinFault}
 use Rattle.mds_thinning.specs.declared.fault.ThinFault.TheVariants as thin
-use Rattle.ruffletuff.specs.declared.ending.Ending.{Ending}
-use Rattle.ruffletuff.specs.declared.ending.Ending.TheVariants.{Usage, Misconfigured, NoMemory, NoListener, NoControl, NotStopped, NotPrinted, Folder, Refused, NotKept, NotThinned, Differs}
+use Rattle.cli_journal.specs.declared.ending.Ending.{Ending}
+use Rattle.cli_journal.specs.declared.ending.Ending.TheVariants.{Usage, Misconfigured, NoMemory, NoListener, NoControl, NotStopped, NotPrinted, Folder, Refused, NotKept, NotThinned, Differs}
 
 -- an entry that can't be replayed: 503 is out of memory, and any other is one of another configuration
 abbrev pub cause_status : Cause → ℕ

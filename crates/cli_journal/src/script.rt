@@ -4,12 +4,11 @@ ghost use Rattle.std.specs.Io.KnownBytes.{Appends};
 ghost use Rattle.mds_entries.specs.Entries.{entry_of};
 ghost use Rattle.mds_folder.specs.Script.{blanked};
 ghost use Rattle.mds_request.specs.Configuration.{configuration};
-ghost use Rattle.ruffletuff.specs.Script.{IsLineOf};
-ghost use Rattle.ruffletuff.specs.Starting.{behind_head};
+ghost use Rattle.cli_journal.specs.Script.{IsLineOf, behind_head};
 
-use crate::checking::startable;
 use crate::configuration::{configuration_in, configuration_text};
 use crate::ending::Ending;
+use crate::integrity::startable;
 use mds_command::Audit;
 use mds_entries::{Asker, Entry, Unfit, request_by};
 use mds_folder::{

@@ -2,8 +2,8 @@
 use Rattle.std.specs.Prelude.{Option, Some, None, Result, Ok, Err}
 use Rattle.mds_folder.specs.declared.fault.Damage.{Damage}
 use Rattle.mds_folder.specs.declared.fault.FolderFault.TheVariants.{Damaged}
-use Rattle.ruffletuff.specs.declared.ending.Ending.{Ending}
-use Rattle.ruffletuff.specs.declared.ending.Ending.TheVariants.{Folder}
+use Rattle.cli_journal.specs.declared.ending.Ending.{Ending}
+use Rattle.cli_journal.specs.declared.ending.Ending.TheVariants.{Folder}
 
 -- the fault with this damage; none without damage
 abbrev pub refused_for : Option Damage → Result (Unit {0}) Ending

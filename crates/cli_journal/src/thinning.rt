@@ -1,13 +1,12 @@
 //! Compacts a folder's journal that no server has open.
 ghost use Rattle.std.specs.Prelude.{◌≡◌};
-ghost use Rattle.ruffletuff.specs.Thinning.{may_leave_remains};
+ghost use Rattle.cli_journal.specs.Thinning.{may_leave_remains};
 
 use crate::configuration::{configuration_in, configuration_text};
 use crate::ending::Ending;
-use crate::opening::journal_length;
 use mds_command::Thinning;
-use mds_connections::{MachineClock, Moments};
 use mds_folder::FolderFault;
+use mds_limits::moment_of;
 use mds_text::Moment;
 use mds_thinning::{Counts, ThinFault, thin_folder};
 use std::alloc::AllocGlobal;
@@ -15,7 +14,7 @@ use std::fs::{self, File, Files};
 use std::io::Print;
 use std::mem::drop;
 use std::sync::Wait;
-use std::time::Clock;
+use std::time::{Clock, SystemTime, UNIX_EPOCH};
 
 /// Whether a fault may leave remains of a compacted journal next to the journal. Where another program has the folder,
 /// what stands there may be that one's.
@@ -32,6 +31,13 @@ pub fn clear<R: Files<File = File> + AllocGlobal>(rt: &R, folder: &str) {
     }
 }
 
+/// How many bytes a folder's journal has; `None` where that can't be found out.
+pub fn journal_length<R: Files<File = File> + AllocGlobal>(rt: &R, folder: &str) -> Option<u64> {
+    let path = format!(in rt.alloc(); "{folder}/journal").ok()?;
+    let metadata = fs::metadata(rt, path.as_str()).ok()?;
+    Some(metadata.len())
+}
+
 /// How many bytes a folder's journal has.
 ///
 /// # Errors
@@ -44,10 +50,17 @@ fn bytes_of<R: Files<File = File> + AllocGlobal>(rt: &R, folder: &str) -> Result
     }
 }
 
+/// The moment of the machine's clock; none, where it is out of range or can't be read.
+fn clock_moment<R: Clock>(rt: &R) -> Option<Moment> {
+    let now = SystemTime::now(rt).ok()?;
+    let since = now.duration_since(UNIX_EPOCH).ok()?;
+    moment_of(since.as_secs(), since.subsec_millis())
+}
+
 /// The moment at which servers from both journals are asked: that of the machine's clock, or else the Unix epoch, since
 /// nothing that is asked depends on it.
 pub fn moment<R: Clock + Copy>(rt: &R) -> Moment {
-    match MachineClock(*rt).now() {
+    match clock_moment(rt) {
         Some(now) => now,
         None => Moment::new(0).unwrap(),
     }

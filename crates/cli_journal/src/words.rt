@@ -1,7 +1,7 @@
 //! Messages on standard error after a fault: what, where, and what is wrong.
 ghost use Rattle.std.specs.Prelude.{◌≡◌, option_map};
 ghost use Rattle.mds_command.specs.Asked.{asked_view};
-ghost use Rattle.ruffletuff.specs.Words.{config_of, listener_of, control_of, folder_of, place_in};
+ghost use Rattle.cli_journal.specs.Words.{config_of, listener_of, control_of, folder_of, place_in};
 
 use crate::ending::Ending;
 use mds_command::{Asked, USAGE};
