@@ -21,20 +21,18 @@ BEGIN, END = "<!-- crates: begin (tests/crates.py --write) -->", "<!-- crates: e
 HEAD = ["| Crate | What it says it is | Stands on |", "|---|---|---|"]
 LAYERS = (
     ("Core", "the protocol and its state", """
-        mds_text mds_reading mds_geometry mds_geography mds_policy mds_match mds_verdict mds_masks mds_kept mds_fleet mds_parallel
-        mds_catalog mds_drafts mds_snapshot mds_request mds_diagnosis mds_zones mds_configuration mds_machine mds_fronts mds_world
-        mds_shelf mds_desk mds_lines"""),
+        mds_text mds_reading mds_geometry mds_geography mds_policy mds_match mds_verdict mds_kept mds_fleet mds_parallel mds_catalog
+        mds_drafts mds_snapshot mds_request mds_diagnosis mds_zones mds_configuration mds_machine mds_world mds_desk mds_lines"""),
     ("Journal", "what a disk keeps", """
-        mds_restarts mds_records mds_rolling mds_entries mds_keeping mds_commit mds_recovery mds_folder mds_thinning"""),
+        mds_restarts mds_records mds_rolling mds_entries mds_commit mds_recovery mds_folder mds_thinning"""),
     ("Server", "from a socket to the core", """
-        mds_limits mds_public mds_app mds_responses mds_hall mds_connections mds_routes mds_control mds_city mds_page
-        mds_public_answers mds_meter mds_refusals mds_site"""),
+        mds_limits mds_public mds_app mds_responses mds_hall mds_connections mds_routes mds_control mds_city mds_page mds_site"""),
     ("Command line", "what a shell asks for", """
         mds_start mds_command mds_client mds_import mds_feeds mds_errands cli_journal"""),
     ("Programs", "what is run", """
         mds_replay mds_serve ruffletuff"""),
     ("Tests", "tests and worked examples", """
-        mds_exchanges mds_core_tests mds_examples mds_server_tests mds_server_examples mds_keeping_tests mds_thinning_tests"""),
+        mds_exchanges mds_core_tests mds_examples mds_server_tests mds_server_examples mds_thinning_tests"""),
 )
 
 

@@ -8,10 +8,10 @@ use Rattle.mds_fleet.specs.Books.{Rows}
 use Rattle.mds_request.specs.Configuration.{Configuration, Operator}
 use Rattle.mds_request.specs.Request.{Request}
 use Rattle.mds_request.specs.Reply.{Reply}
-use Rattle.mds_fronts.specs.Desks.{IsRun}
-use Rattle.mds_fronts.specs.Fronts.{Turn, last_front, replies_in, requests_in}
-use Rattle.mds_fronts.proofs.Runs.{turns_are_joined, turns_are_meant}
-use Rattle.mds_fronts.proofs.Views.{last_on, prefix_self}
+use Rattle.mds_machine.specs.Desks.{IsRun}
+use Rattle.mds_machine.specs.Fronts.{Turn, last_front, replies_in, requests_in}
+use Rattle.mds_machine.proofs.Runs.{turns_are_joined, turns_are_meant}
+use Rattle.mds_machine.proofs.Views.{last_on, prefix_self}
 use Rattle.mds_desk.specs.Desk.{DeskState, IsSameDesk, TakesRun}
 use Rattle.mds_hall.specs.Turn.{IsTold, TakesToldRun}
 

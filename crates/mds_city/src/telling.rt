@@ -8,7 +8,7 @@ use bytes::Bytes;
 use http::header::CONTENT_TYPE;
 use http::{HeaderValue, Response, StatusCode};
 use http_body_util::Full;
-use mds_shelf::Answer;
+use mds_desk::Answer;
 use std::alloc::{AllocError, Global};
 
 /// How many bytes a line has besides the body of its answer.

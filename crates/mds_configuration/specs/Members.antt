@@ -1,5 +1,5 @@
 -- Which members of a configuration are read, by which crate, and the warnings about the others.
---   author, operators, zone: mds_request (configuration), mds_app (answers), mds_diagnosis; public: mds_public_answers
+--   author, operators, zone: mds_request (configuration), mds_app (answers), mds_diagnosis; public: mds_public
 --   id, limit, token of an operator: mds_request and mds_diagnosis; name of an operator: mds_app
 use Rattle.std.specs.Prelude.{ℕ, List, Bool, true, false, nat_le, length, if◌then◌else◌, Option, Some, None}
 use Rattle.mds_configuration.specs.declared.finding.What.{What}

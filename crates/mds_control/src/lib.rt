@@ -1,4 +1,5 @@
-//! The control port: whether the server serves, its metrics, and its stop.
+//! The control port: whether the server serves, its metrics, and its stop; and responses that are counted as they
+//! leave.
 #![tactic(auto)]
 
 mod admission;
@@ -10,6 +11,7 @@ mod families;
 mod fleets;
 mod hosts;
 mod lines;
+mod metered;
 mod pages;
 mod port;
 mod request;
@@ -22,6 +24,7 @@ pub use families::Family;
 pub use fleets::Fleet;
 pub use hosts::Hosts;
 pub use lines::{Line, Metadata, metrics};
+pub use metered::{MeteredReply, Ticket};
 pub use pages::{Answer, answer_for};
 pub use port::{Port, PortWaker};
 pub use request::{Heading, answer_due, heading_of};

@@ -1,9 +1,9 @@
 //! A pending response that is counted as it leaves.
 ghost use Rattle.std.specs.Prelude.{◌≡◌};
 
+use crate::counters::{Counters, Figure, Kind};
 use futures::Future;
 use futures::task::{Context, Poll};
-use mds_control::{Counters, Figure, Kind};
 use mds_responses::HttpResult;
 use std::time::{Clock, Instant};
 

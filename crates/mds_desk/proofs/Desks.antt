@@ -7,7 +7,7 @@ use Rattle.mds_snapshot.specs.declared.history.Naming.{Ghosts}
 use Rattle.mds_desk.proofs.Crossing.{drafts_send, pane_send, publisher_send}
 use Rattle.mds_desk.proofs.Routing.{routes_send, routes_sync}
 use Rattle.mds_request.proofs.config.Config.TheSendSync as config
-use Rattle.mds_shelf.proofs.shared.SharedShelf.TheSendSync as shelf
+use Rattle.mds_desk.proofs.shared.SharedShelf.TheSendSync as shelf
 use Rattle.mds_fleet.proofs.book.Book.TheSendSync as book
 use Rattle.mds_desk.specs.contracts.desk.Desk as Desk
 use Rattle.mds_desk.specs.contracts.seat.Seat as Seat

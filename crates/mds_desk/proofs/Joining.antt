@@ -8,13 +8,13 @@ use Rattle.mds_request.specs.Configuration.{Configuration, Operator}
 use Rattle.mds_request.specs.Request.{Request}
 use Rattle.mds_request.specs.Reply.{Reply}
 use Rattle.mds_machine.specs.Step.{Exchange, new_state}
-use Rattle.mds_fronts.specs.Desks.{AreTurns}
-use Rattle.mds_fronts.specs.Fronts.{Turn, last_front, requests_in, replies_in}
-use Rattle.mds_fronts.specs.OneHistory.{AreItsTurns, HasServed}
-use Rattle.mds_fronts.specs.Room.{AreRoomTurns}
-use Rattle.mds_fronts.proofs.Runs.{turns_are_joined}
-use Rattle.mds_fronts.proofs.Together.{is_one_history}
-use Rattle.mds_fronts.proofs.Views.{prefix_on, prefix_self, last_on}
+use Rattle.mds_machine.specs.Desks.{AreTurns}
+use Rattle.mds_machine.specs.Fronts.{Turn, last_front, requests_in, replies_in}
+use Rattle.mds_machine.specs.OneHistory.{AreItsTurns, HasServed}
+use Rattle.mds_machine.specs.Room.{AreRoomTurns}
+use Rattle.mds_machine.proofs.Runs.{turns_are_joined}
+use Rattle.mds_machine.proofs.Together.{is_one_history}
+use Rattle.mds_machine.proofs.Views.{prefix_on, prefix_self, last_on}
 use Rattle.mds_desk.specs.Desk.{DeskState, IsSameDesk, new_desk}
 use Rattle.mds_desk.specs.Laws.{Event, answered, ran, learnt, Becomes, asked_in, told_in, RoomBecomes, DeskTakesItsTurns, RoomTakesItsTurns, IsOneHistoryOfAll}
 use Rattle.mds_desk.specs.Room.{RoomState, held_in, new_room}

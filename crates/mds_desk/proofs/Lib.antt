@@ -8,3 +8,4 @@ pub mod Routing
 pub mod Running
 mod Shelving
 pub mod Turning
+pub mod Answering

@@ -21,8 +21,8 @@ use Rattle.mds_machine.specs.Author.{author_does}
 use Rattle.mds_machine.specs.Meaning.{own_call, own_step}
 use Rattle.mds_machine.specs.Operator.{operator_does}
 use Rattle.mds_machine.specs.Views.{is_of, is_place}
-use Rattle.mds_fronts.specs.Desks.{desk_does, refusal_of}
-use Rattle.mds_fronts.specs.Room.{authors_call, is_authors, is_the_author, room_does}
+use Rattle.mds_machine.specs.Desks.{desk_does, refusal_of}
+use Rattle.mds_machine.specs.Room.{authors_call, is_authors, is_the_author, room_does}
 use Rattle.mds_desk.specs.Desk.{IsRefusedAt}
 use Rattle.mds_desk.specs.Room.{IsRefusedInRoom}
 

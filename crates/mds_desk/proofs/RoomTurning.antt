@@ -8,7 +8,7 @@ use Rattle.mds_request.specs.declared.call.Call.TheVariants as call
 use Rattle.mds_request.specs.declared.code.Code.{Code}
 use Rattle.mds_machine.specs.Answer.{Gives, settled}
 use Rattle.mds_machine.specs.Author.{author_does}
-use Rattle.mds_fronts.specs.Room.{IsRoomTurn}
+use Rattle.mds_machine.specs.Room.{IsRoomTurn}
 use Rattle.mds_desk.specs.Room.{RoomState, held_in, IsRefusedInRoom, TakesRoomTurn}
 use Rattle.mds_desk.proofs.Resolved.{room_calls}
 

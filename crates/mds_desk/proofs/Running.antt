@@ -7,9 +7,9 @@ use Rattle.mds_request.specs.Configuration.{Operator}
 use Rattle.mds_request.specs.Request.{Request, request_of}
 use Rattle.mds_request.specs.declared.request.Request.{Request as Lent}
 use Rattle.mds_request.specs.Reply.{Reply}
-use Rattle.mds_fronts.specs.Desks.{IsTurn}
-use Rattle.mds_fronts.specs.Fronts.{Turn}
-use Rattle.mds_fronts.proofs.Runs.{no_turns, one_more_turn}
+use Rattle.mds_machine.specs.Desks.{IsTurn}
+use Rattle.mds_machine.specs.Fronts.{Turn}
+use Rattle.mds_machine.proofs.Runs.{no_turns, one_more_turn}
 use Rattle.mds_desk.specs.Desk.{DeskState, IsSameDesk, TakesTurn, TakesRun}
 
 pub begins : (d : DeskState) → TakesRun d [] [] d

@@ -15,8 +15,8 @@ use Rattle.mds_request.specs.declared.code.Code.TheVariants.{NoMemory}
 use Rattle.mds_machine.specs.Answer.{Gives, settled}
 use Rattle.mds_machine.specs.Author.{author_does}
 use Rattle.mds_machine.specs.Operator.{operator_does}
-use Rattle.mds_shelf.specs.Ready.{IsBodyOf, IsFound, IsReplyTo, AnswersOperator, AnswersAuthor}
-use Rattle.mds_shelf.specs.declared.ready.Ready.{Ready}
+use Rattle.mds_desk.specs.Ready.{IsBodyOf, IsFound, IsReplyTo, AnswersOperator, AnswersAuthor}
+use Rattle.mds_desk.specs.declared.ready.Ready.{Ready}
 
 abbrev body_in : Result Reply Code → List ℕ
 body_in (Ok reply) = reply.body

@@ -15,7 +15,7 @@ use Rattle.mds_request.specs.declared.code.Code.{Code}
 use Rattle.mds_request.specs.declared.code.Code.TheVariants.{NoMemory, NoSnapshot}
 use Rattle.mds_machine.specs.Answer.{Gives}
 use Rattle.mds_machine.specs.Operator.{operator_does}
-use Rattle.mds_fronts.specs.Desks.{desk_does}
+use Rattle.mds_machine.specs.Desks.{desk_does}
 use Rattle.mds_desk.specs.Desk.{DeskState, IsRefusedAt, TakesTurn}
 use Rattle.mds_desk.proofs.Resolved.{desk_calls}
 

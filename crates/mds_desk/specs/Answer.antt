@@ -1,7 +1,7 @@
 -- The reply of an answer: one that was made, or a success with a cached body.
 use Rattle.mds_request.specs.Reply.{Reply, success}
-use Rattle.mds_shelf.specs.declared.answer.Source.{Source}
-use Rattle.mds_shelf.specs.declared.answer.Source.TheVariants.{Made, Ready}
+use Rattle.mds_desk.specs.declared.answer.Source.{Source}
+use Rattle.mds_desk.specs.declared.answer.Source.TheVariants.{Made, Ready}
 
 abbrev pub reply_of : Source → Reply
 reply_of (Made reply) = reply

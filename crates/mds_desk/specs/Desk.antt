@@ -10,7 +10,7 @@ use Rattle.mds_request.specs.Request.{Request}
 use Rattle.mds_request.specs.Reply.{Reply, refused}
 use Rattle.mds_request.specs.declared.code.Code.{Code}
 use Rattle.mds_request.specs.declared.code.Code.TheVariants.{NoMemory, NoSnapshot}
-use Rattle.mds_fronts.specs.Desks.{desk_does, IsTurn, IsRun}
+use Rattle.mds_machine.specs.Desks.{desk_does, IsTurn, IsRun}
 use Rattle.mds_snapshot.specs.declared.history.Naming.{Ghosts}
 use Rattle.mds_desk.specs.declared.desk.Desk.{Desk}
 

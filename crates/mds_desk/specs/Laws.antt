@@ -6,9 +6,9 @@ use Rattle.mds_request.specs.Configuration.{Configuration, Operator}
 use Rattle.mds_request.specs.Request.{Request}
 use Rattle.mds_request.specs.Reply.{Reply}
 use Rattle.mds_machine.specs.Step.{State, Exchange, new_state}
-use Rattle.mds_fronts.specs.Fronts.{Turn, last_front, requests_in, replies_in}
-use Rattle.mds_fronts.specs.OneHistory.{AreItsTurns, IsHistoryOfAll}
-use Rattle.mds_fronts.specs.Room.{AreRoomTurns}
+use Rattle.mds_machine.specs.Fronts.{Turn, last_front, requests_in, replies_in}
+use Rattle.mds_machine.specs.OneHistory.{AreItsTurns, IsHistoryOfAll}
+use Rattle.mds_machine.specs.Room.{AreRoomTurns}
 use Rattle.mds_desk.specs.Desk.{DeskState, TakesTurn, TakesRun, Learns, new_desk}
 use Rattle.mds_desk.specs.Room.{RoomState, held_in, TakesRoomTurn, new_room}
 

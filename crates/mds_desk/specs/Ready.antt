@@ -17,8 +17,8 @@ use Rattle.mds_machine.specs.Author.{author_does}
 use Rattle.mds_machine.specs.Bodies.{list_json, revised_json}
 use Rattle.mds_machine.specs.Operator.{operator_does}
 use Rattle.mds_machine.specs.Published.{policy_json, policies_reply, policy_answer, geographies_reply, geography_answer}
-use Rattle.mds_shelf.specs.declared.ready.Ready.{Ready}
-use Rattle.mds_shelf.specs.declared.ready.Ready.TheVariants.{AllPolicies, EveryonesPolicies, PoliciesFor, Policy as PolicyAt, Geographies, Geography as GeographyAt}
+use Rattle.mds_desk.specs.declared.ready.Ready.{Ready}
+use Rattle.mds_desk.specs.declared.ready.Ready.TheVariants.{AllPolicies, EveryonesPolicies, PoliciesFor, Policy as PolicyAt, Geographies, Geography as GeographyAt}
 
 -- a policy is meant for everyone: it names no operator (MDS 2.0 Policy, `provider_ids`)
 abbrev pub is_everyones : Published Policy → Bool

@@ -9,7 +9,7 @@ use Rattle.mds_request.specs.Reply.{Reply, refused}
 use Rattle.mds_request.specs.declared.code.Code.{Code}
 use Rattle.mds_request.specs.declared.code.Code.TheVariants.{NoMemory}
 use Rattle.mds_machine.specs.Step.{new_state}
-use Rattle.mds_fronts.specs.Room.{IsRoomTurn, room_does}
+use Rattle.mds_machine.specs.Room.{IsRoomTurn, room_does}
 use Rattle.mds_desk.specs.declared.author.AuthorRoom.{AuthorRoom}
 
 -- the author's room between two requests

@@ -2,8 +2,8 @@
 use Rattle.std.specs.Prelude.{List}
 use Rattle.std.specs.List.{All}
 use Rattle.mds_catalog.specs.Publication.{Publication}
-use Rattle.mds_shelf.specs.declared.shelf.Entry.{Entry}
-use Rattle.mds_shelf.specs.Ready.{IsBodyOf}
+use Rattle.mds_desk.specs.declared.shelf.Entry.{Entry}
+use Rattle.mds_desk.specs.Ready.{IsBodyOf}
 
 -- each body is that of its key at this front
 abbrev pub AreBodies : List Publication → List Entry → Type 0

@@ -25,7 +25,7 @@ impl Model for Answer {
 
     ghost Value = { Reply };
 
-    ghost use Rattle.mds_shelf.specs.Answer.{reply_of};
+    ghost use Rattle.mds_desk.specs.Answer.{reply_of};
 
     ghost view = { λ a. reply_of a.source };
 }

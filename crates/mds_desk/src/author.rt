@@ -1,13 +1,15 @@
 //! The author's room: the author's session, with its drafts and the publisher.
 ghost use Rattle.std.specs.Prelude.{◌≡◌, ◌⊎◌};
 
+use crate::answer::Answer;
 use crate::desk::Desk;
 use crate::leave::{Always, Leave};
+use crate::ready::{Ready, ready_for_author};
 use crate::resolving::refusal_of_another;
+use crate::shared::SharedShelf;
 use crate::telling::AuthorTelling;
 use mds_drafts::Drafts;
 use mds_request::{Actor, AuthorCall, Call, Code, Config, Request, Routes, read_call};
-use mds_shelf::{Answer, Ready, SharedShelf, ready_for_author};
 use mds_snapshot::{Naming, Note, Publisher};
 use mds_world::{AuthorAct, author_step};
 use std::alloc::{AllocError, Global};
@@ -36,7 +38,7 @@ impl<K: Naming> AuthorRoom<K> {
     ghost use Rattle.mds_snapshot.specs.Publishing.{IsShorterFront};
     ghost use Rattle.mds_machine.specs.Answer.{Gives};
     ghost use Rattle.mds_machine.specs.Author.{author_does};
-    ghost use Rattle.mds_shelf.specs.Ready.{AnswersAuthor};
+    ghost use Rattle.mds_desk.specs.Ready.{AnswersAuthor};
     ghost use Rattle.mds_desk.specs.Desk.{state_of};
     ghost use Rattle.mds_desk.specs.Room.{room_of, new_room, held_in, IsNoted, IsRefusedInRoom, TakesRoomTurn};
 

@@ -8,6 +8,7 @@ ghost use Rattle.mds_request.specs.declared.call.Call.TheVariants.{Operator as O
 ghost use Rattle.mds_request.specs.declared.code.Code.TheVariants.{NoMemory, NoSnapshot};
 ghost use Rattle.mds_world.specs.Lasting.{fits_prop, lasting_in};
 
+use crate::answer::Answer;
 use crate::gate::Gate;
 use crate::operator::answer_call;
 use crate::seat::Seat;
@@ -16,7 +17,6 @@ use core::mem::replace_with;
 use mds_catalog::Catalogue;
 use mds_fleet::Book;
 use mds_request::{Code, OperatorCall, Request};
-use mds_shelf::Answer;
 use mds_snapshot::{Look, Naming, Note, Pane};
 use mds_verdict::Evaluator;
 use std::alloc::{AllocError, Global};

@@ -7,11 +7,12 @@ ghost use Rattle.mds_machine.specs.Answer.{Gives};
 ghost use Rattle.mds_machine.specs.Operator.{operator_does};
 ghost use Rattle.mds_world.specs.Lasting.{lasting_in};
 
+use crate::answer::Answer;
+use crate::ready::ready_for_operator;
 use crate::seat::Seat;
 use mds_catalog::Catalogue;
 use mds_fleet::Book;
 use mds_request::{OperatorCall, Request};
-use mds_shelf::{Answer, ready_for_operator};
 use mds_snapshot::{Look, Naming};
 use mds_verdict::Evaluator;
 use mds_world::operator_step;

@@ -6,7 +6,7 @@ ghost use Rattle.mds_catalog.specs.Catalogue.{publications_of, lent_policy};
 ghost use Rattle.mds_catalog.specs.Publication.{find_policy, is_geography_published};
 ghost use Rattle.mds_machine.specs.Published.{is_shown};
 ghost use Rattle.mds_request.specs.declared.call.OperatorCall.TheVariants as called;
-ghost use Rattle.mds_shelf.specs.Ready.{is_everyones, AnswersOperator, AnswersAuthor};
+ghost use Rattle.mds_desk.specs.Ready.{is_everyones, AnswersOperator, AnswersAuthor};
 
 use mds_catalog::{Catalogue, Published, is_meant_for};
 use mds_policy::Policy;

@@ -4,7 +4,7 @@ ghost use Rattle.mds_request.specs.Call.{call_of};
 ghost use Rattle.mds_request.specs.Configuration.{configuration};
 ghost use Rattle.mds_request.specs.Request.{request_of};
 ghost use Rattle.mds_request.specs.declared.call.Call.TheVariants.{Operator as OperatorAt};
-ghost use Rattle.mds_fronts.specs.Desks.{refusal_of};
+ghost use Rattle.mds_machine.specs.Desks.{refusal_of};
 ghost use Rattle.mds_desk.specs.Desk.{IsRefusedAt};
 
 use crate::seat::Seat;

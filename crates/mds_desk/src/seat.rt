@@ -2,8 +2,8 @@
 ghost use Rattle.std.specs.Prelude.{◌≡◌, ◌<◌, length, Some, option_map, slice_get};
 ghost use Rattle.mds_request.specs.Configuration.{configuration};
 
+use crate::shared::SharedShelf;
 use mds_request::{Config, Routes};
-use mds_shelf::SharedShelf;
 use mds_snapshot::Naming;
 use mds_text::Id;
 use std::alloc::Global;

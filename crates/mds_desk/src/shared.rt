@@ -2,7 +2,7 @@
 ghost use Rattle.std.specs.Prelude.{◌≡◌, ◌⊎◌, IfSome, IsSome};
 ghost use Rattle.mds_request.specs.Reply.{refused};
 ghost use Rattle.mds_request.specs.declared.code.Code.TheVariants.{NoMemory};
-ghost use Rattle.mds_shelf.specs.Ready.{IsBodyOf, IsFound, IsReplyTo};
+ghost use Rattle.mds_desk.specs.Ready.{IsBodyOf, IsFound, IsReplyTo};
 
 use crate::answer::Answer;
 use crate::ready::Ready;

@@ -1,7 +1,7 @@
 //! The response cache: bodies of one front.
 ghost use Rattle.std.specs.Prelude.{◌≡◌, ◌⊎◌, IfSome};
 ghost use mathlib.Core.List.{IsPrefix};
-ghost use Rattle.mds_shelf.specs.Ready.{IsBodyOf};
+ghost use Rattle.mds_desk.specs.Ready.{IsBodyOf};
 
 use crate::ready::Ready;
 use bytes::Bytes;
@@ -32,7 +32,7 @@ impl<K: Naming> Model for Shelf<K> {
 
     ghost coded = { coded_publications };
 
-    ghost use Rattle.mds_shelf.specs.Shelf.{AreBodies};
+    ghost use Rattle.mds_desk.specs.Shelf.{AreBodies};
 
     ghost view = { λ s. s.note };
 

@@ -8,7 +8,7 @@ use Rattle.mds_request.specs.Reply.{Reply, refused}
 use Rattle.mds_request.specs.declared.code.Code.{Code}
 use Rattle.mds_request.specs.declared.config.Actor.{Actor}
 use Rattle.mds_request.specs.declared.config.Actor.TheVariants.{Author, Operator, Nobody}
-use Rattle.mds_fronts.specs.Room.{is_the_author}
+use Rattle.mds_machine.specs.Room.{is_the_author}
 use Rattle.mds_desk.specs.Desk.{new_desk}
 use Rattle.mds_desk.specs.Room.{new_room}
 use Rattle.mds_desk.proofs.Resolved.{desk_refuses, is_its, room_refuses}

@@ -3,8 +3,8 @@ ghost use Rattle.std.specs.Prelude.{IfOk};
 ghost use Rattle.mds_hall.specs.Response.{Says};
 
 use http::StatusCode;
+use mds_desk::Answer;
 use mds_responses::{HttpResult, json_response};
-use mds_shelf::Answer;
 use std::alloc::{AllocError, Global};
 
 /// The response with this answer's status and body, as JSON.

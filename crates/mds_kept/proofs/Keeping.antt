@@ -13,9 +13,9 @@ use Rattle.mds_geometry.specs.declared.position.Position.{Position}
 use Rattle.mds_policy.specs.Policy.{Policy}
 use Rattle.mds_match.specs.Row.{Row, row_of}
 use Rattle.mds_match.specs.declared.vehicle.Vehicle.{Vehicle}
-use Rattle.mds_masks.specs.Masked.{IsMasked, masked_matches}
-use Rattle.mds_masks.specs.Masks.{HasBits, IsMask, matches}
-use Rattle.mds_masks.specs.declared.masked.MaskedPolicy.{MaskedPolicy}
+use Rattle.mds_kept.specs.Masked.{IsMasked, masked_matches}
+use Rattle.mds_kept.specs.Masks.{HasBits, IsMask, matches}
+use Rattle.mds_kept.specs.declared.masked.MaskedPolicy.{MaskedPolicy}
 use Rattle.mds_verdict.proofs.Numbered.{by_places}
 use Rattle.mds_kept.proofs.Counted.{some_in}
 use Rattle.mds_kept.proofs.Walking.{found_at, kept_when_read}

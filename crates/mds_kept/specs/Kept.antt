@@ -13,9 +13,9 @@ use Rattle.mds_geometry.specs.declared.position.Position.{Position}
 use Rattle.mds_policy.specs.Policy.{Policy}
 use Rattle.mds_match.specs.declared.vehicle.Vehicle.{Vehicle}
 use Rattle.mds_match.specs.Row.{Row, row_of}
-use Rattle.mds_masks.specs.Masked.{IsMasked}
-use Rattle.mds_masks.specs.Masks.{HasBits, IsMask, matches}
-use Rattle.mds_masks.specs.declared.masked.MaskedPolicy.{MaskedPolicy}
+use Rattle.mds_kept.specs.Masked.{IsMasked}
+use Rattle.mds_kept.specs.Masks.{HasBits, IsMask, matches}
+use Rattle.mds_kept.specs.declared.masked.MaskedPolicy.{MaskedPolicy}
 use Rattle.mds_kept.specs.declared.kept.Column.{Column}
 use Rattle.mds_kept.specs.declared.kept.Kept.{Kept}
 use Rattle.mds_kept.specs.declared.kept.Listed.{Listed}

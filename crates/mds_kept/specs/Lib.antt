@@ -1,2 +1,4 @@
 pub mod Columns
 pub mod Kept
+pub mod Masked
+pub mod Masks

@@ -8,8 +8,9 @@ ghost use Rattle.mds_verdict.specs.Verdict.{status_of, verdict_document, verdict
 ghost use Rattle.mds_verdict.specs.Gathered.{gathered_rule, gathered, shown};
 ghost use Rattle.mds_kept.specs.Columns.{AreOf, AreOfSome};
 
+use crate::bits::first_of;
 use crate::bounds::{adds_since, status_of};
-use mds_masks::{first_of, open_mask};
+use crate::opening::open_mask;
 use mds_match::{Local, open_at};
 use mds_policy::{Kind, Policy, Rule};
 use mds_text::{Id, Moment};

@@ -1,13 +1,14 @@
 ghost use Rattle.std.specs.Prelude.{◌≡◌, ◌≤◌, ◌∷◌, ◌++◌, [], List, ℕ, true, All, IfSome, drop, length};
 ghost use Rattle.std.specs.BTreeMap.{IsOrdered, btree_map_len, keys};
 ghost use Rattle.mds_policy.specs.Policy.{policy_document};
-ghost use Rattle.mds_masks.specs.Masks.{IsMask};
+ghost use Rattle.mds_kept.specs.Masks.{IsMask};
 ghost use Rattle.mds_kept.specs.Kept.{AreKept, AreRead, AreRows, HasRoom, IsChanged, IsColumn, IsListed, IsSince, Published, Vehicles, device_cmp, has_column, rows_in};
 
+use crate::bits::MOST_RULES;
 use crate::columns::{Columns, verdicts_by};
+use crate::masked::MaskedPolicy;
 use crate::places::{arrived, departed};
 use crate::words::{Mask, Since, fresh};
-use mds_masks::{MOST_RULES, MaskedPolicy};
 use mds_match::{LocalMoment, Places, Vehicle};
 use mds_policy::Policy;
 use mds_text::Id;

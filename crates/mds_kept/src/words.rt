@@ -2,7 +2,7 @@ ghost use Rattle.std.specs.Prelude.{◌≡◌, ◌≤◌, IfOk, IfSome, [], true
 ghost use Rattle.std.specs.BTreeMap.{IsOrdered, keys};
 ghost use Rattle.mds_kept.specs.Kept.{AreKept, AreRead, device_cmp, rows_in};
 
-use mds_masks::MaskedPolicy;
+use crate::masked::MaskedPolicy;
 use mds_match::Vehicle;
 use mds_text::Id;
 use std::alloc::{AllocError, Global};

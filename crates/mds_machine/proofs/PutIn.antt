@@ -20,10 +20,10 @@ use Rattle.mds_machine.specs.Step.{State, Exchange, Step, Run, with_rows}
 use Rattle.mds_machine.specs.Views.{Seen, asked, published, is_place, is_of, seen_in, as_publication, publications_of, view}
 use Rattle.mds_machine.proofs.Histories.{now_published, after_one, after_none, goes_by_history}
 use Rattle.mds_machine.proofs.Isolated.{rows_stay, whose, published_only}
-use Rattle.mds_fronts.specs.Fronts.{Turn, AreRising, last_front, continued, is_served}
-use Rattle.mds_fronts.specs.OneHistory.{exchanges_in, exchanges_of, exchanges_but_of, IsPutInto}
-use Rattle.mds_fronts.proofs.Moves.{with_fleets, own_moves, others_move}
-use Rattle.mds_fronts.proofs.Views.{both_true, last_past, followed_is}
+use Rattle.mds_machine.specs.Fronts.{Turn, AreRising, last_front, continued, is_served}
+use Rattle.mds_machine.specs.OneHistory.{exchanges_in, exchanges_of, exchanges_but_of, IsPutInto}
+use Rattle.mds_machine.proofs.Moves.{with_fleets, own_moves, others_move}
+use Rattle.mds_machine.proofs.Views.{both_true, last_past, followed_is}
 
 -- ---- lists
 

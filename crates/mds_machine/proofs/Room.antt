@@ -21,9 +21,9 @@ use Rattle.mds_machine.specs.Step.{State, Exchange, Step, Run, new_state}
 use Rattle.mds_machine.proofs.Callers.{IsBy, call_by}
 use Rattle.mds_machine.proofs.Steps.{call_step, authored}
 use Rattle.mds_machine.proofs.Successes.{refused_leaves}
-use Rattle.mds_fronts.specs.Desks.{refusal_of}
-use Rattle.mds_fronts.specs.Laws.{RoomIsHistory}
-use Rattle.mds_fronts.specs.Room.{is_the_author, is_authors, authors_call, IsRoomTurn, AreRoomTurns, authors_in}
+use Rattle.mds_machine.specs.Desks.{refusal_of}
+use Rattle.mds_machine.specs.DeskLaws.{RoomIsHistory}
+use Rattle.mds_machine.specs.Room.{is_the_author, is_authors, authors_call, IsRoomTurn, AreRoomTurns, authors_in}
 
 abbrev Held : Type 0
 Held = Drafts × List Publication

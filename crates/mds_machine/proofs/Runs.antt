@@ -20,11 +20,11 @@ use Rattle.mds_machine.specs.Operator.{operator_does}
 use Rattle.mds_machine.specs.Views.{Seen, asked, is_of, as_request, publications_of, requests_of}
 use Rattle.mds_machine.proofs.Meaning.{rows_go_on}
 use Rattle.mds_machine.proofs.Successes.{succeeds_on, operator_succeeds, settled_leaves}
-use Rattle.mds_fronts.specs.Desks.{refusal_of, IsTurn, AreTurns, IsRun}
-use Rattle.mds_fronts.specs.Fronts.{Turn, AreRising, last_front, followed, continued, AreAnswers, is_served, served_in, requests_in, replies_in}
-use Rattle.mds_fronts.specs.Laws.{TurnsAreMeant, TurnsAreJoined, ServedAreTurns}
-use Rattle.mds_fronts.proofs.PutIn.{AreOwn}
-use Rattle.mds_fronts.proofs.Views.{prefix_on, prefix_self, both_true, rise_from, last_on, front_shown, requests_left, then, rise_then}
+use Rattle.mds_machine.specs.Desks.{refusal_of, IsTurn, AreTurns, IsRun}
+use Rattle.mds_machine.specs.Fronts.{Turn, AreRising, last_front, followed, continued, AreAnswers, is_served, served_in, requests_in, replies_in}
+use Rattle.mds_machine.specs.DeskLaws.{TurnsAreMeant, TurnsAreJoined, ServedAreTurns}
+use Rattle.mds_machine.proofs.PutIn.{AreOwn}
+use Rattle.mds_machine.proofs.Views.{prefix_on, prefix_self, both_true, rise_from, last_on, front_shown, requests_left, then, rise_then}
 
 -- ---- turns that are served
 

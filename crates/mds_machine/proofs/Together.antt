@@ -26,14 +26,14 @@ use Rattle.mds_machine.proofs.Isolated.{whose, is_meant_throughout}
 use Rattle.mds_machine.proofs.Meaning.{has_one_answer, same_rows}
 use Rattle.mds_machine.proofs.Steps.{set_there, set_here}
 use Rattle.mds_machine.proofs.TwoWorlds.{is_isolated_throughout}
-use Rattle.mds_fronts.specs.Fronts.{Turn, last_front, followed, continued, AreAnswers, is_served, served_in, replies_in}
-use Rattle.mds_fronts.specs.Laws.{TurnsArePutIn, IsOneHistory, DesksAreIsolated}
-use Rattle.mds_fronts.specs.OneHistory.{exchanges_in, exchanges_of, exchanges_but_of, IsPutInto, AreItsTurns, is_operator, exchanges_of_none, HasServed, HasPart}
-use Rattle.mds_fronts.specs.Room.{is_the_author, is_authors, authors_in}
-use Rattle.mds_fronts.proofs.PutIn.{AreOwn, not_there, are_put_in}
-use Rattle.mds_fronts.proofs.Room.{author_is, all_left, room_is_history}
-use Rattle.mds_fronts.proofs.Runs.{not_unavailable, own_of, rise_of, answers_of, served_are_turns}
-use Rattle.mds_fronts.proofs.Views.{prefix_on, both_true, then}
+use Rattle.mds_machine.specs.Fronts.{Turn, last_front, followed, continued, AreAnswers, is_served, served_in, replies_in}
+use Rattle.mds_machine.specs.DeskLaws.{TurnsArePutIn, IsOneHistory, DesksAreIsolated}
+use Rattle.mds_machine.specs.OneHistory.{exchanges_in, exchanges_of, exchanges_but_of, IsPutInto, AreItsTurns, is_operator, exchanges_of_none, HasServed, HasPart}
+use Rattle.mds_machine.specs.Room.{is_the_author, is_authors, authors_in}
+use Rattle.mds_machine.proofs.PutIn.{AreOwn, not_there, are_put_in}
+use Rattle.mds_machine.proofs.Room.{author_is, all_left, room_is_history}
+use Rattle.mds_machine.proofs.Runs.{not_unavailable, own_of, rise_of, answers_of, served_are_turns}
+use Rattle.mds_machine.proofs.Views.{prefix_on, both_true, then}
 
 -- ---- tests that no element passes both
 

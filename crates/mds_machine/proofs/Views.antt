@@ -7,8 +7,8 @@ use Rattle.std.proofs.lemmas.List.{append-nil, append_assoc, drop_at}
 use Rattle.std.proofs.lemmas.List.Elements.{filter_map-append}
 use Rattle.mds_catalog.specs.Publication.{Publication}
 use Rattle.mds_machine.specs.Views.{Seen, asked, published, as_publication, as_request, publications_of, requests_of}
-use Rattle.mds_fronts.specs.Fronts.{Turn, AreRising, last_front, followed, continued, requests_in}
-use Rattle.mds_fronts.specs.Laws.{ShowsLastFront, ViewsAreJoined}
+use Rattle.mds_machine.specs.Fronts.{Turn, AreRising, last_front, followed, continued, requests_in}
+use Rattle.mds_machine.specs.DeskLaws.{ShowsLastFront, ViewsAreJoined}
 
 -- ---- lists
 

@@ -9,10 +9,10 @@ use Rattle.mds_request.specs.Configuration.{Configuration, Operator}
 use Rattle.mds_machine.specs.History.{publications_after}
 use Rattle.mds_machine.specs.Step.{State, Exchange, Run, new_state, with_rows}
 use Rattle.mds_machine.specs.Views.{Seen, publications_of, requests_of}
-use Rattle.mds_fronts.specs.Desks.{AreTurns, AreMeant}
-use Rattle.mds_fronts.specs.Fronts.{Turn, AreRising, last_front, continued, requests_in, replies_in, is_served, served_in}
-use Rattle.mds_fronts.specs.OneHistory.{exchanges_in, exchanges_of, IsPutInto, HasPart, AreItsTurns, HasServed, IsHistoryOfAll}
-use Rattle.mds_fronts.specs.Room.{AreRoomTurns, authors_in}
+use Rattle.mds_machine.specs.Desks.{AreTurns, AreMeant}
+use Rattle.mds_machine.specs.Fronts.{Turn, AreRising, last_front, continued, requests_in, replies_in, is_served, served_in}
+use Rattle.mds_machine.specs.OneHistory.{exchanges_in, exchanges_of, IsPutInto, HasPart, AreItsTurns, HasServed, IsHistoryOfAll}
+use Rattle.mds_machine.specs.Room.{AreRoomTurns, authors_in}
 
 -- the fronts of turns rise, and turns have their meaning
 abbrev pub TurnsAreMeant : Type 0

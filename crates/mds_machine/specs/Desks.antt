@@ -13,7 +13,7 @@ use Rattle.mds_request.specs.declared.code.Code.{Code}
 use Rattle.mds_request.specs.declared.code.Code.TheVariants.{TooLarge, Token, NoSnapshot, NoMemory}
 use Rattle.mds_machine.specs.Meaning.{own_step, AreRows}
 use Rattle.mds_machine.specs.Views.{Seen, is_of, publications_of, requests_of}
-use Rattle.mds_fronts.specs.Fronts.{Turn, AreRising, last_front, continued, AreAnswers, is_served, requests_in, replies_in}
+use Rattle.mds_machine.specs.Fronts.{Turn, AreRising, last_front, continued, AreAnswers, is_served, requests_in, replies_in}
 
 -- A request with another client's access token is refused, at an operator's desk and in the author's room: it is too
 -- large, or the token isn't the one that is served there.

@@ -10,3 +10,8 @@ pub mod Operator
 pub mod Published
 pub mod Step
 pub mod Views
+pub mod Desks
+pub mod Fronts
+pub mod DeskLaws
+pub mod OneHistory
+pub mod Room

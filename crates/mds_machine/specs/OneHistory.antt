@@ -12,9 +12,9 @@ use Rattle.mds_machine.specs.History.{publications_after}
 use Rattle.mds_machine.specs.Isolation.{HasMemory, IsIsolatedFrom, IsMeantFrom}
 use Rattle.mds_machine.specs.Step.{State, Exchange, Run, new_state}
 use Rattle.mds_machine.specs.Views.{published, is_of, view}
-use Rattle.mds_fronts.specs.Desks.{AreTurns}
-use Rattle.mds_fronts.specs.Fronts.{Turn, last_front, continued, served_in}
-use Rattle.mds_fronts.specs.Room.{AreRoomTurns, authors_in}
+use Rattle.mds_machine.specs.Desks.{AreTurns}
+use Rattle.mds_machine.specs.Fronts.{Turn, last_front, continued, served_in}
+use Rattle.mds_machine.specs.Room.{AreRoomTurns, authors_in}
 
 -- the requests of turns with their replies
 abbrev pub exchanges_in : List Turn → List Exchange

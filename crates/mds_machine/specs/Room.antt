@@ -16,7 +16,7 @@ use Rattle.mds_request.specs.declared.config.Actor.TheVariants as actor
 use Rattle.mds_machine.specs.Answer.{Gives, ◌>>=◌}
 use Rattle.mds_machine.specs.Author.{author_does}
 use Rattle.mds_machine.specs.Step.{Exchange}
-use Rattle.mds_fronts.specs.Desks.{refusal_of}
+use Rattle.mds_machine.specs.Desks.{refusal_of}
 
 abbrev pub is_the_author : Actor → Bool
 is_the_author actor.Author = true

@@ -1,5 +1,5 @@
 //! Laws of running desks. Each function's contract is the law; the functions do nothing.
-ghost use Rattle.mds_fronts.specs.Laws.{TurnsAreMeant, TurnsAreJoined, ServedAreTurns, ShowsLastFront, ViewsAreJoined, TurnsArePutIn, RoomIsHistory, IsOneHistory, DesksAreIsolated};
+ghost use Rattle.mds_machine.specs.DeskLaws.{TurnsAreMeant, TurnsAreJoined, ServedAreTurns, ShowsLastFront, ViewsAreJoined, TurnsArePutIn, RoomIsHistory, IsOneHistory, DesksAreIsolated};
 
 /// The fronts of a desk's turns rise. Where every request is the operator's and no reply is 503: for each view whose
 /// publications the desk knew and whose rows it had, each reply is the answer that this view, continued up to the

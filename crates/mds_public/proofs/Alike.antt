@@ -19,9 +19,9 @@ use Rattle.mds_public.specs.Withdrawn.{earlier, ended_at, ends, withdrawn_from}
 use Rattle.mds_public.specs.declared.asked.Asked.{Asked}
 use Rattle.mds_public.specs.declared.refusal.Refusal.{Refusal}
 use Rattle.mds_public.specs.declared.refusal.Refusal.TheVariants.{Method, NotAcceptable}
-use Rattle.mds_public_answers.specs.Laws.{for_everyone}
-use Rattle.mds_public_answers.specs.Response.{query_of}
-use Rattle.mds_public_answers.specs.Told.{answer_to}
+use Rattle.mds_public.specs.Laws.{for_everyone}
+use Rattle.mds_public.specs.Response.{query_of}
+use Rattle.mds_public.specs.Told.{answer_to}
 
 -- these lines of `accept` accept the response
 abbrev takes : List FieldValue → Bool

@@ -6,3 +6,6 @@ mod Members
 mod Moments
 mod Numbers
 mod Whole
+mod Alike
+pub mod Publics
+mod Telling

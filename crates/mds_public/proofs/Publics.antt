@@ -7,8 +7,8 @@ use Rattle.mds_snapshot.specs.declared.history.Naming.{Ghosts as Openings}
 use Rattle.mds_hall.specs.declared.named.Named.{Ghosts as Names}
 use Rattle.mds_snapshot.proofs.note.Note.TheSendSync as note
 use Rattle.mds_public.proofs.face.Face.TheSendSync as face
-use Rattle.mds_public_answers.specs.contracts.shown.Shown as Shown
-use Rattle.mds_public_answers.specs.contracts.window.Window as Window
+use Rattle.mds_public.specs.contracts.shown.Shown as Shown
+use Rattle.mds_public.specs.contracts.window.Window as Window
 
 module _ (K : RattleType) (k : Names K.Denot) (o : Openings K.Denot) where
   shown_send : IsSend (Shown.the_row K k o)

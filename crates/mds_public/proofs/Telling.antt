@@ -13,8 +13,8 @@ use Rattle.mds_public.specs.declared.refusal.Denied.{Denied}
 use Rattle.mds_public.specs.declared.refusal.Denied.TheVariants.{Refused}
 use Rattle.mds_public.specs.declared.refusal.Refusal.{Refusal}
 use Rattle.mds_request.specs.Configuration.{Configuration}
-use Rattle.mds_public_answers.specs.Response.{Says, query_of}
-use Rattle.mds_public_answers.specs.Told.{IsFace, IsTold}
+use Rattle.mds_public.specs.Response.{Says, query_of}
+use Rattle.mds_public.specs.Told.{IsFace, IsTold}
 
 -- the refusal is the expected one
 pub refused_for : (expected : Result (List ℕ) Refusal) (answer : Result (List ℕ) Denied) (denied : Denied) (refusal : Refusal)

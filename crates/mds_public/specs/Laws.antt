@@ -6,7 +6,7 @@ use Rattle.mds_catalog.specs.Publication.{Publication}
 use Rattle.mds_desk.specs.Room.{RoomState}
 use Rattle.mds_public.specs.Face.{face_of}
 use Rattle.mds_public.specs.declared.asked.Asked.{Asked}
-use Rattle.mds_public_answers.specs.Told.{answer_to}
+use Rattle.mds_public.specs.Told.{answer_to}
 
 -- Two author's rooms with the same publications give the same answer to requests with the same method, target and
 -- `accept`: whatever their drafts, their configurations and the other fields are, an access token among them.

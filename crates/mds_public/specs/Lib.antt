@@ -6,3 +6,7 @@ pub mod Face
 pub mod Period
 pub mod View
 pub mod Withdrawn
+pub mod Configured
+pub mod Response
+pub mod Told
+pub mod Laws

@@ -12,7 +12,7 @@ use Rattle.mds_public.specs.declared.face.Face as program
 use Rattle.mds_public.specs.declared.refusal.Refusal.{Refusal}
 use Rattle.mds_request.specs.Configuration.{Configuration}
 use Rattle.mds_hall.specs.Told.{RoomTells}
-use Rattle.mds_public_answers.specs.Response.{Says, query_of}
+use Rattle.mds_public.specs.Response.{Says, query_of}
 
 -- all public documents of publications
 abbrev pub IsFaceOf : List Publication → program.Face → Type 0

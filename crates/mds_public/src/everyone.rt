@@ -1,7 +1,7 @@
 //! Makes the public documents of the publications alone.
+use crate::face::Face;
 use mds_catalog::Catalogue;
 use mds_desk::Telling;
-use mds_public::Face;
 use std::alloc::{AllocError, Global};
 
 /// Makes the public documents. It looks at what is published, and at nothing else: at no drafts, and at no operator's
@@ -10,7 +10,7 @@ use std::alloc::{AllocError, Global};
 pub struct Everyone;
 
 impl Telling for Everyone {
-    ghost use Rattle.mds_public_answers.specs.Told.{IsFaceOf};
+    ghost use Rattle.mds_public.specs.Told.{IsFaceOf};
 
     type Told = Face;
 

@@ -1,12 +1,14 @@
 //! The public documents at one front of what is published.
 ghost use Rattle.std.specs.Prelude.{◌≡◌, IfOk};
-ghost use Rattle.mds_public_answers.specs.Response.{query_of};
-ghost use Rattle.mds_public_answers.specs.Told.{IsFace, IsTold};
+ghost use Rattle.mds_public.specs.Response.{query_of};
+ghost use Rattle.mds_public.specs.Told.{IsFace, IsTold};
 
+use crate::asked::Asked;
+use crate::face::Face;
+use crate::refusal::Denied;
 use crate::response::response_of;
 use http::request::Parts;
 use mds_hall::Named;
-use mds_public::{Asked, Denied, Face};
 use mds_responses::HttpResult;
 use mds_snapshot::Note;
 use std::alloc::{AllocError, Global};
@@ -23,7 +25,7 @@ pub struct Shown<K: Named> {
 /// A source of the public documents.
 pub trait Shows<K: Named> {
     ghost use Rattle.std.specs.Prelude.{IfOk};
-    ghost use Rattle.mds_public_answers.specs.Told.{IsFace};
+    ghost use Rattle.mds_public.specs.Told.{IsFace};
 
     /// The latest note; none where nothing was published since the start.
     fn note(&self) -> Option<Note<K>>;

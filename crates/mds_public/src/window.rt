@@ -1,13 +1,13 @@
 //! The cache of the public documents.
 ghost use Rattle.std.specs.Prelude.{◌≡◌, is_some, IfOk};
-ghost use Rattle.mds_public_answers.specs.Configured.{is_public};
-ghost use Rattle.mds_public_answers.specs.Told.{IsTold};
+ghost use Rattle.mds_public.specs.Configured.{is_public};
+ghost use Rattle.mds_public.specs.Told.{IsTold};
 
+use crate::asked::Asked;
 use crate::configured::is_public;
 use crate::shown::{Shown, Shows};
 use http::request::Parts;
 use mds_hall::Named;
-use mds_public::Asked;
 use mds_responses::HttpResult;
 use std::alloc::{AllocError, Global};
 use std::sync::{Arc, Mutex, Wait};

@@ -14,9 +14,9 @@ use Rattle.mds_request.specs.Reply.{Reply}
 use Rattle.mds_request.specs.declared.config.Actor.{Actor}
 use Rattle.mds_request.specs.declared.config.Actor.TheVariants.{Author, Operator as OperatorAt, Nobody}
 use Rattle.mds_machine.specs.Step.{Exchange}
-use Rattle.mds_fronts.specs.Desks.{AreTurns, IsTurn}
-use Rattle.mds_fronts.specs.Fronts.{Turn, last_front}
-use Rattle.mds_fronts.specs.Room.{AreRoomTurns, IsRoomTurn, authors_in, is_authors, is_the_author}
+use Rattle.mds_machine.specs.Desks.{AreTurns, IsTurn}
+use Rattle.mds_machine.specs.Fronts.{Turn, last_front}
+use Rattle.mds_machine.specs.Room.{AreRoomTurns, IsRoomTurn, authors_in, is_authors, is_the_author}
 use Rattle.mds_desk.specs.Desk.{DeskState, TakesTurn}
 use Rattle.mds_desk.specs.Room.{RoomState, IsNoted, held_in}
 use Rattle.mds_entries.specs.Entries.{Entry}

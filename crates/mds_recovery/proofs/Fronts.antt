@@ -6,8 +6,8 @@ use Rattle.mds_request.specs.Configuration.{Configuration, Operator}
 use Rattle.mds_request.specs.Request.{Request}
 use Rattle.mds_request.specs.declared.config.Actor.TheVariants.{Author, Operator as OperatorAt}
 use Rattle.mds_machine.specs.Step.{Exchange}
-use Rattle.mds_fronts.specs.Fronts.{Turn, requests_in}
-use Rattle.mds_fronts.specs.Room.{is_authors, authors_in}
+use Rattle.mds_machine.specs.Fronts.{Turn, requests_in}
+use Rattle.mds_machine.specs.Room.{is_authors, authors_in}
 use Rattle.mds_restarts.specs.Kept.{is_kept, kept}
 use Rattle.mds_restarts.specs.Kept.{requests_in as room_requests_in}
 use Rattle.mds_restarts.specs.Servers.{kept_turns}

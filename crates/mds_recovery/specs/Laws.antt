@@ -10,10 +10,10 @@ use Rattle.mds_request.specs.declared.config.Actor.{Actor}
 use Rattle.mds_request.specs.declared.config.Actor.TheVariants.{Author, Operator as OperatorAt, Nobody}
 use Rattle.mds_machine.specs.Step.{Exchange}
 use Rattle.mds_machine.specs.Views.{is_of}
-use Rattle.mds_fronts.specs.Desks.{AreTurns}
-use Rattle.mds_fronts.specs.Fronts.{Turn, last_front, requests_in}
-use Rattle.mds_fronts.specs.OneHistory.{HasServed}
-use Rattle.mds_fronts.specs.Room.{AreRoomTurns, is_authors, authors_in}
+use Rattle.mds_machine.specs.Desks.{AreTurns}
+use Rattle.mds_machine.specs.Fronts.{Turn, last_front, requests_in}
+use Rattle.mds_machine.specs.OneHistory.{HasServed}
+use Rattle.mds_machine.specs.Room.{AreRoomTurns, is_authors, authors_in}
 use Rattle.mds_restarts.specs.Kept.{AreSuccesses, is_kept, kept}
 use Rattle.mds_restarts.specs.Kept.{requests_in as room_requests_in}
 use Rattle.mds_restarts.specs.Servers.{AreServed, kept_turns}

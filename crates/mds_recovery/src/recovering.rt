@@ -11,10 +11,9 @@ ghost use Rattle.mds_recovery.specs.Recovery.{IsAnsweredAgain, AreAnswered, IsRe
 
 use crate::fault::{Cause, Fault};
 use crate::progress::Progress;
-use mds_desk::{AuthorRoom, Desk, OpenGate};
+use mds_desk::{Answer, AuthorRoom, Desk, OpenGate};
 use mds_entries::{Entry, actor_by, request_by};
 use mds_request::{Actor, Config, Request};
-use mds_shelf::Answer;
 use mds_snapshot::{Naming, Note};
 use mds_verdict::Plain;
 use std::sync::Wait;

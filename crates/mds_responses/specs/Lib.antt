@@ -1,2 +1,4 @@
 pub mod Field
 pub mod Json
+pub mod Guided
+pub mod Methods

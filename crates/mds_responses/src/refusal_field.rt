@@ -3,14 +3,14 @@ ghost use Rattle.std.specs.Prelude.{◌≡◌, IfOk, IsTrue};
 ghost use Rattle.std.specs.Option.{is_some};
 ghost use Rattle.http_header.specs.FieldValue.{is_visible_text};
 ghost use Rattle.http_header.specs.HeaderMap.{get};
-ghost use Rattle.mds_refusals.specs.Guided.{IsGuided, IsNamed};
+ghost use Rattle.mds_responses.specs.Guided.{IsGuided, IsNamed};
 
+use crate::fields::{HttpResult, with_field};
 use crate::guide::Guide;
 use bytes::Bytes;
 use http::header::{ALLOW, WWW_AUTHENTICATE};
 use http::{HeaderMap, HeaderName, HeaderValue, Response};
 use http_body_util::Full;
-use mds_responses::{HttpResult, with_field};
 
 /// The status of a request without valid credentials (RFC 9110, section 15.5.2).
 const UNAUTHORIZED: u16 = 401;

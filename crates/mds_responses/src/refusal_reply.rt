@@ -1,12 +1,12 @@
 //! A pending response that gets the header field of its refusal.
 ghost use Rattle.std.specs.Prelude.{◌≡◌};
-ghost use Rattle.mds_refusals.specs.Guided.{Follows};
+ghost use Rattle.mds_responses.specs.Guided.{Follows};
 
+use crate::fields::HttpResult;
 use crate::guide::Guide;
-use crate::response::guided;
+use crate::refusal_field::guided;
 use futures::Future;
 use futures::task::{Context, Poll};
-use mds_responses::HttpResult;
 
 /// A pending response that gets the header field of its refusal.
 #[derive(Drop)]

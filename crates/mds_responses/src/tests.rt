@@ -1,8 +1,8 @@
 //! Tests of refusals and their header fields.
 use crate::guide::Guide;
 use crate::methods::{Methods, methods_of};
-use crate::reply::GuidedReply;
-use crate::response::guided;
+use crate::refusal_field::guided;
+use crate::refusal_reply::GuidedReply;
 use bytes::Bytes;
 use futures::executor::block_on;
 use futures::future::ready;

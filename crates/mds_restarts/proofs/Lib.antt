@@ -1,2 +1,3 @@
 mod Kept
 mod Servers
+pub mod Grown

@@ -20,9 +20,9 @@ use Rattle.mds_machine.specs.Meaning.{own_step, own_call}
 use Rattle.mds_machine.specs.Operator.{operator_does}
 use Rattle.mds_machine.specs.Views.{is_of}
 use Rattle.mds_machine.proofs.Successes.{succeeds_on, operator_succeeds, settled_leaves}
-use Rattle.mds_fronts.specs.Desks.{AreTurns, IsTurn, IsUnavailable, desk_does, refusal_of}
-use Rattle.mds_fronts.specs.Fronts.{Turn, last_front, requests_in, replies_in}
-use Rattle.mds_fronts.proofs.Views.{prefix_on}
+use Rattle.mds_machine.specs.Desks.{AreTurns, IsTurn, IsUnavailable, desk_does, refusal_of}
+use Rattle.mds_machine.specs.Fronts.{Turn, last_front, requests_in, replies_in}
+use Rattle.mds_machine.proofs.Views.{prefix_on}
 use Rattle.mds_restarts.specs.Kept.{may_change, is_kept}
 use Rattle.mds_restarts.proofs.Kept.{changes_apart}
 use Rattle.mds_restarts.specs.Servers.{kept_turns, AreServed}

@@ -8,10 +8,10 @@ use Rattle.mds_drafts.specs.Drafts.{Drafts}
 use Rattle.mds_fleet.specs.Books.{Rows}
 use Rattle.mds_request.specs.Configuration.{Configuration, Operator}
 use Rattle.mds_machine.specs.Step.{Exchange, new_state}
-use Rattle.mds_fronts.specs.Desks.{AreTurns}
-use Rattle.mds_fronts.specs.Fronts.{Turn, last_front, requests_in, replies_in}
-use Rattle.mds_fronts.specs.OneHistory.{HasServed}
-use Rattle.mds_fronts.specs.Room.{AreRoomTurns, authors_in}
+use Rattle.mds_machine.specs.Desks.{AreTurns}
+use Rattle.mds_machine.specs.Fronts.{Turn, last_front, requests_in, replies_in}
+use Rattle.mds_machine.specs.OneHistory.{HasServed}
+use Rattle.mds_machine.specs.Room.{AreRoomTurns, authors_in}
 use Rattle.mds_restarts.specs.Kept.{is_kept, AreAnsweredAgain}
 
 -- a desk's turns that are persisted: their requests and replies decide, not their fronts

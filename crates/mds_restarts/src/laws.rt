@@ -3,8 +3,7 @@
 ghost use Rattle.mds_restarts.specs.Kept.{KeptLeadsThere, AnsweredAgainLeadsThere, FrontsAreFronts, IsOneHistory, RowsStandApart, ChangesStandApart, ThinnedIsTheSame};
 ghost use Rattle.mds_restarts.specs.Servers.{DeskIsRecovered, DeskGoesOn, RoomIsRecovered, IsOneServer};
 
-use mds_fronts::laws as fronts;
-use mds_machine::laws as machine;
+use mds_machine::{desk_laws as fronts, laws as machine};
 
 /// The persisted exchanges of a history are a history with the same replies, to the same state.
 pub fn kept_leads_there()
@@ -72,7 +71,8 @@ pub fn room_is_recovered()
 }
 
 /// What a server answered before a restart and what is done after it is what one server did. So the laws of isolation
-/// and meaning hold for its one history as for any other (`mds_fronts::laws::is_one_history`, `desks_are_isolated`).
+/// and meaning hold for its one history as for any other (`mds_machine::desk_laws::is_one_history`,
+/// `desks_are_isolated`).
 pub fn is_one_server()
     ensures { IsOneServer }
 {}

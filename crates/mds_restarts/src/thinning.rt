@@ -1,13 +1,13 @@
 //! Which reports of a device compaction keeps: those that are enough for its row.
 ghost use Rattle.std.specs.Prelude.{◌≡◌, [], map, MatchOption, bytes_eq};
 ghost use Rattle.mds_fleet.specs.Books.{report_document};
-ghost use Rattle.mds_keeping.specs.Thinning.{ThinsTo};
+ghost use Rattle.mds_restarts.specs.Thinning.{ThinsTo};
 
 use mds_fleet::Report;
 
 /// The reports of a device that compaction keeps, by index: a single one where the last report began its run.
 #[derive(Clone, Copy, Debug, PartialEq, Eq)]
-pub struct Kept {
+pub struct KeptReports {
     /// The report that began the run of the last one's state.
     pub begun: usize,
     /// The last report.
@@ -23,8 +23,8 @@ fn is_same_state(report: &Report, other: &Report) -> bool
 
 /// Which of a device's accepted reports compaction keeps, given in the order in which they were accepted, since the
 /// device was last removed: the last one, and the one that began the run of its state. They lead to the same row as all
-/// of them (`mds_restarts::laws::thinned_is_the_same`). `None` where there is no report.
-pub fn thinned(reports: &[Report]) -> Option<Kept>
+/// of them (`crate::laws::thinned_is_the_same`). `None` where there is no report.
+pub fn thinned(reports: &[Report]) -> Option<KeptReports>
     ensures { MatchOption result (reports.now ≡ []) (λ kept. ThinsTo (map report_document reports.now) kept.begun kept.last) }
 {
     if reports.is_empty() {
@@ -36,7 +36,7 @@ pub fn thinned(reports: &[Report]) -> Option<Kept>
             begun = place;
         }
     }
-    Some(Kept {
+    Some(KeptReports {
         begun,
         last: reports.len() - 1,
     })

@@ -7,9 +7,9 @@ use Rattle.mds_machine.specs.Meaning.{AreRows}
 use Rattle.mds_machine.specs.Views.{requests_of}
 use Rattle.mds_request.specs.Call.{call_of}
 use Rattle.mds_request.specs.declared.request.Verb.TheVariants.{Post}
-use Rattle.mds_fronts.specs.Desks.{desk_does, IsTurn, AreTurns, AreMeant}
-use Rattle.mds_fronts.specs.Fronts.{AreAnswers}
-use Rattle.mds_fronts.proofs.Runs.{turns_are_meant}
+use Rattle.mds_machine.specs.Desks.{desk_does, IsTurn, AreTurns, AreMeant}
+use Rattle.mds_machine.specs.Fronts.{AreAnswers}
+use Rattle.mds_machine.proofs.Runs.{turns_are_meant}
 use Rattle.mds_examples.proofs.Rows.{no_rows, none_first, none_count, one_entry}
 use Rattle.mds_examples.proofs.Session.{report_call}
 use Rattle.mds_examples.specs.Computed.{documents, places, zones}

@@ -2,7 +2,7 @@
 use Rattle.std.proofs.Common.{◌≡◌, [], Some, inl, inr, refl, sym, ap, subst}
 use Rattle.std.specs.Prelude.{unwrap_or, slice_get}
 use Rattle.mds_request.specs.Configuration.{Operator}
-use Rattle.mds_fronts.specs.Desks.{IsTurn}
+use Rattle.mds_machine.specs.Desks.{IsTurn}
 use Rattle.mds_desk.specs.Desk.{IsAnsweredAt, Learns, TakesTurn}
 use Rattle.mds_examples.proofs.Rows.{no_rows}
 use Rattle.mds_examples.specs.Histories.{question, answer}

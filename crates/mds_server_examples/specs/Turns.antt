@@ -1,7 +1,7 @@
 -- Turns at the first operator's desk, and histories that they are part of.
 use Rattle.std.specs.Prelude.{ℕ, zero, suc, List, [], ◌∷◌, codes}
 use Rattle.mds_catalog.specs.Publication.{Publication}
-use Rattle.mds_fronts.specs.Fronts.{Turn}
+use Rattle.mds_machine.specs.Fronts.{Turn}
 use Rattle.mds_machine.specs.Step.{Exchange}
 use Rattle.mds_machine.specs.Views.{Seen, asked, published}
 use Rattle.mds_request.specs.Reply.{Reply}

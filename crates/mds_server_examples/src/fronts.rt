@@ -3,7 +3,7 @@
 
 ghost use Rattle.std.specs.Prelude.{◌≡◌, ◌∷◌, [], true, false, codes};
 ghost use Rattle.mds_machine.specs.Views.{published};
-ghost use Rattle.mds_fronts.specs.Fronts.{AreRising, AreAnswers, last_front, followed, continued, is_served, served_in, requests_in, replies_in};
+ghost use Rattle.mds_machine.specs.Fronts.{AreRising, AreAnswers, last_front, followed, continued, is_served, served_in, requests_in, replies_in};
 ghost use Rattle.mds_examples.specs.Histories.{question, answer};
 ghost use Rattle.mds_examples.specs.Ids.{cap_id};
 ghost use Rattle.mds_examples.specs.Machine.{done, report};

@@ -2,8 +2,8 @@
 #![tactic(auto, unfolding(mds_examples::specs::Computed::documents))]
 
 ghost use Rattle.std.specs.Prelude.{◌≡◌, ◌∷◌, [], codes};
-ghost use Rattle.mds_fronts.specs.OneHistory.{exchanges_in, exchanges_of, exchanges_but_of, exchanges_of_none, IsPutInto, HasPart, HasServed};
-ghost use Rattle.mds_fronts.specs.Room.{authors_in};
+ghost use Rattle.mds_machine.specs.OneHistory.{exchanges_in, exchanges_of, exchanges_but_of, exchanges_of_none, IsPutInto, HasPart, HasServed};
+ghost use Rattle.mds_machine.specs.Room.{authors_in};
 ghost use Rattle.mds_machine.specs.Step.{new_state};
 ghost use Rattle.mds_examples.specs.Histories.{exchange};
 ghost use Rattle.mds_examples.specs.Machine.{ask, error};

@@ -2,7 +2,7 @@
 #![tactic(auto, unfolding(mds_examples::specs::Computed::documents))]
 
 ghost use Rattle.std.specs.Prelude.{[], codes};
-ghost use Rattle.mds_fronts.specs.Room.{IsRoomTurn, AreRoomTurns};
+ghost use Rattle.mds_machine.specs.Room.{IsRoomTurn, AreRoomTurns};
 ghost use Rattle.mds_examples.specs.Histories.{no_drafts};
 ghost use Rattle.mds_examples.specs.Machine.{ask, done, error, put_square, square_drafted};
 ghost use Rattle.mds_examples.specs.Requests.{configuration};

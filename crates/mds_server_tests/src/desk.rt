@@ -4,9 +4,8 @@ ghost use Rattle.std.specs.Prelude.{◌≡◌};
 ghost use Rattle.mds_snapshot.specs.Opening.{book_of};
 
 use crate::city::{BOTH, CAP, CONFIGURATION, NEW, SQUARE};
-use mds_desk::{AuthorRoom, Desk, OpenGate, furnish};
+use mds_desk::{Answer, AuthorRoom, Desk, OpenGate, furnish};
 use mds_request::{Config, Request, Verb};
-use mds_shelf::Answer;
 use mds_snapshot::{Blank, Naming, Note, OpenFault, prepare};
 use mds_text::Moment;
 use mds_verdict::Plain;

@@ -13,7 +13,7 @@ use Rattle.mds_commit.specs.declared.space.Space.{Ghosts as Spaces}
 use Rattle.mds_control.proofs.counters.Counters.TheSendSync as counters
 use Rattle.mds_page.proofs.page.Page.TheSendSync as page
 use Rattle.mds_connections.proofs.moments.MachineClock.TheSendSync as clock
-use Rattle.mds_public_answers.proofs.Publics.{window_send, window_sync}
+use Rattle.mds_public.proofs.Publics.{window_send, window_sync}
 use Rattle.mds_city.proofs.Cities.{reception_send, reception_sync}
 use Rattle.mds_site.specs.contracts.site.Site as Site
 

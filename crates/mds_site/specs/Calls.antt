@@ -2,7 +2,7 @@
 use Rattle.std.specs.Prelude.{ℕ, List, Option, None, Result, Ok, Err, if◌then◌else◌}
 use Rattle.mds_control.specs.declared.counters.Kind.{Kind}
 use Rattle.mds_control.specs.declared.counters.Kind.TheVariants.{Read, Change, Publish}
-use Rattle.mds_refusals.specs.Methods.{methods_at}
+use Rattle.mds_responses.specs.Methods.{methods_at}
 use Rattle.mds_request.specs.Call.{segments_in}
 use Rattle.mds_request.specs.declared.call.AuthorCall.TheVariants as author
 use Rattle.mds_request.specs.declared.call.Call.{Call}

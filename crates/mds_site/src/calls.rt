@@ -1,12 +1,12 @@
 //! How a call of the city's state is counted, and what its refusal names.
 ghost use Rattle.std.specs.Prelude.{◌≡◌, option_map};
-ghost use Rattle.mds_refusals.specs.Methods.{text_of};
+ghost use Rattle.mds_responses.specs.Methods.{text_of};
 ghost use Rattle.mds_site.specs.Calls.{kind_of, kind_of_own, methods_for};
 
 use mds_control::Kind;
-use mds_keeping::may_change;
-use mds_refusals::Guide;
 use mds_request::{AuthorCall, Call, Code};
+use mds_responses::Guide;
+use mds_restarts::may_change;
 use mds_routes::StateCall;
 
 /// The kind as which a call of the protocol is counted.

@@ -1,6 +1,6 @@
 //! A site: all that answers the requests of a server.
 ghost use Rattle.std.specs.Prelude.{◌≡◌, is_some, IfOk};
-ghost use Rattle.mds_public_answers.specs.Configured.{is_public};
+ghost use Rattle.mds_public.specs.Configured.{is_public};
 
 use mds_city::{City, CityReception};
 use mds_commit::{Naming, Space};
@@ -8,8 +8,7 @@ use mds_connections::MachineClock;
 use mds_control::Counters;
 use mds_hall::Named;
 use mds_page::Page;
-use mds_public::Face;
-use mds_public_answers::{Everyone, Shows, Window};
+use mds_public::{Everyone, Face, Shows, Window};
 use mds_records::Log;
 use mds_snapshot::Note;
 use std::alloc::{AllocError, AllocGlobal};

@@ -1,7 +1,7 @@
 //! Whether two servers' answers are equal.
 ghost use Rattle.std.specs.Prelude.{◌≡◌, ◌↔◌, IsTrue};
 
-use mds_shelf::Answer;
+use mds_desk::Answer;
 
 /// Whether two answers have the same status, and the same body byte for byte.
 fn is_same(one: &Answer, other: &Answer) -> bool

@@ -10,11 +10,10 @@ ghost use Rattle.mds_recovery.specs.Recovery.{server_of, DeskAnswers};
 ghost use Rattle.mds_thinning.specs.Replies.{RoomTells, Tells, IsTold, AreTold, AreReplies};
 
 use crate::fault::ThinFault;
-use mds_desk::{AuthorRoom, Desk, OpenGate};
+use mds_desk::{Answer, AuthorRoom, Desk, OpenGate};
 use mds_entries::{Entry, actor_by, request_by};
 use mds_recovery::{Cause, Fault, Silent, StartFault, start_again};
 use mds_request::{Actor, Config, Request};
-use mds_shelf::Answer;
 use mds_snapshot::{Blank, Naming, OpenFault};
 use mds_verdict::Plain;
 use std::alloc::Global;

@@ -1,14 +1,18 @@
-//! Tests of restarts and of compaction: journals whose outcome is worked out by hand, and a disk that fails at each
-//! of its calls. They use public items alone, and are a crate of their own, so that proving them doesn't prove the
-//! tested crates again.
+//! Tests of group commit over a log whose calls fail, of a log whose file is replaced, of restarts and of compaction:
+//! journals whose outcome is worked out by hand, and a disk that fails at each of its calls. They use public items
+//! alone, and are a crate of their own, so that proving them doesn't prove the tested crates again.
 #![tactic(auto)]
 
+#[cfg(test)]
+mod commits;
 #[cfg(test)]
 mod disk;
 #[cfg(test)]
 mod failing;
 #[cfg(test)]
 mod journal;
+#[cfg(test)]
+mod rolling;
 #[cfg(test)]
 mod starting;
 #[cfg(test)]

@@ -3,14 +3,13 @@ ghost use Rattle.std.specs.Prelude.{◌≡◌};
 ghost use Rattle.mds_snapshot.specs.Opening.{book_of};
 
 use crate::journal::{Asked, configuration, entries, request};
-use mds_desk::{AuthorRoom, Desk, OpenGate};
+use mds_desk::{Answer, AuthorRoom, Desk, OpenGate};
 use mds_exchanges::{
     EXCEEDED, Exchange, GEOGRAPHIES, NONE_FOR_BRAVO, PUBLISH, PUT_CAP, PUT_SQUARE, REPORT_FIRST,
     REPORT_SECOND, VEHICLES, WITHDRAW,
 };
 use mds_recovery::{Silent, start_again};
 use mds_request::Config;
-use mds_shelf::Answer;
 use mds_snapshot::{Blank, Naming, prepare};
 use mds_verdict::Plain;
 use std::alloc::AllocGlobal;

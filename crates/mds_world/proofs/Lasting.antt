@@ -13,7 +13,7 @@ use Rattle.mds_policy.specs.Policy.{Policy, Rule}
 use Rattle.mds_match.specs.Matching.{in_place, is_evaluated}
 use Rattle.mds_match.specs.Resolved.{is_meant}
 use Rattle.mds_match.specs.Row.{Row}
-use Rattle.mds_masks.specs.Masks.{matches}
+use Rattle.mds_kept.specs.Masks.{matches}
 use Rattle.mds_kept.specs.Kept as kept
 use Rattle.mds_kept.specs.Kept.{Grows, IsPublished}
 use Rattle.mds_kept.proofs.Keeping.{grown}

@@ -5,7 +5,7 @@ use Rattle.std.specs.Coded.{Π_prop}
 use Rattle.std.specs.List.{list_all}
 use Rattle.std.specs.Option.{option_map_or}
 use Rattle.mds_policy.specs.Policy.{Policy}
-use Rattle.mds_masks.specs.Masks.{matches}
+use Rattle.mds_kept.specs.Masks.{matches}
 use Rattle.mds_kept.specs.Kept as kept
 use Rattle.mds_kept.specs.Kept.{IsListed}
 use Rattle.mds_kept.specs.declared.kept.Listed.{Listed}

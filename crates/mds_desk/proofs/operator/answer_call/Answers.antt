@@ -7,7 +7,7 @@ use Rattle.mds_request.specs.Request.{request_of}
 use Rattle.mds_request.specs.declared.config.Config.{Config}
 use Rattle.mds_machine.specs.Answer.{Gives}
 use Rattle.mds_machine.specs.Operator.{operator_does}
-use Rattle.mds_shelf.specs.Ready.{AnswersOperator, IsFound, IsReplyTo}
+use Rattle.mds_desk.specs.Ready.{AnswersOperator, IsFound, IsReplyTo}
 use Rattle.mds_world.specs.Lasting.{lasting_in}
 use Rattle.mds_desk.proofs.Shelving.{operator_found, operator_laid, operator_told}
 use Rattle.mds_desk.proofs.operator.answer_call.Goals as goal

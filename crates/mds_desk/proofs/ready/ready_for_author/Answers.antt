@@ -1,10 +1,10 @@
 use Rattle.std.proofs.Common.{◌≡◌, sym, subst, ◌∙◌}
 use Rattle.mds_catalog.specs.Catalogue.{publications_of}
 use Rattle.mds_request.specs.declared.call.AuthorCall.TheVariants as author
-use Rattle.mds_shelf.specs.Ready.{AnswersAuthor}
-use Rattle.mds_shelf.specs.declared.ready.Ready.TheVariants as ready
-use Rattle.mds_shelf.proofs.Answering.{authors_policies, authors_policy, authors_geographies, authors_geography}
-use Rattle.mds_shelf.proofs.ready.ready_for_author.Goals as goal
+use Rattle.mds_desk.specs.Ready.{AnswersAuthor}
+use Rattle.mds_desk.specs.declared.ready.Ready.TheVariants as ready
+use Rattle.mds_desk.proofs.Answering.{authors_policies, authors_policy, authors_geographies, authors_geography}
+use Rattle.mds_desk.proofs.ready.ready_for_author.Goals as goal
 
 pub returns-in-Policies : goal.returns-in-Policies
 returns-in-Policies c =

@@ -1,10 +1,10 @@
 use Rattle.std.proofs.Common.{◌≡◌, sym, subst, ◌∙◌}
 use Rattle.mds_catalog.specs.Catalogue.{publications_of}
 use Rattle.mds_request.specs.declared.call.OperatorCall.TheVariants as operator
-use Rattle.mds_shelf.specs.Ready.{AnswersOperator}
-use Rattle.mds_shelf.specs.declared.ready.Ready.TheVariants as ready
-use Rattle.mds_shelf.proofs.Answering.{policy, geographies, geography}
-use Rattle.mds_shelf.proofs.ready.ready_for_operator.Goals as goal
+use Rattle.mds_desk.specs.Ready.{AnswersOperator}
+use Rattle.mds_desk.specs.declared.ready.Ready.TheVariants as ready
+use Rattle.mds_desk.proofs.Answering.{policy, geographies, geography}
+use Rattle.mds_desk.proofs.ready.ready_for_operator.Goals as goal
 
 pub returns-in-Policy : goal.returns-in-Policy
 returns-in-Policy c =

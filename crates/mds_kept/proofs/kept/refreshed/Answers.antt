@@ -1,5 +1,5 @@
 use Rattle.mds_policy.specs.Policy.{policy_document}
-use Rattle.mds_masks.specs.Masks.{IsMask}
+use Rattle.mds_kept.specs.Masks.{IsMask}
 use Rattle.mds_kept.specs.Kept.{IsMaskBy, rows_in}
 use Rattle.mds_kept.proofs.Keeping.{few_rules, from_masked, read_as}
 use Rattle.mds_kept.proofs.kept.refreshed.Goals as goal

@@ -1,9 +1,9 @@
 use Rattle.std.proofs.Common.{◌≡◌, map, take}
 use Rattle.mds_policy.specs.Policy.{rule_document}
 use Rattle.mds_match.specs.Row.{Row}
-use Rattle.mds_masks.specs.Masks.{matches}
-use Rattle.mds_masks.specs.Masked.{masked_matches}
-use Rattle.mds_masks.proofs.masked.masked_rules.Given as goal
+use Rattle.mds_kept.specs.Masks.{matches}
+use Rattle.mds_kept.specs.Masked.{masked_matches}
+use Rattle.mds_kept.proofs.masked.masked_rules.Given as goal
 
 -- the rules so far
 abbrev pub invariant-loop-rule : goal.invariant-loop-rule

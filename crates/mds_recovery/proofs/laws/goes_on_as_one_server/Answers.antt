@@ -2,9 +2,9 @@ use Rattle.std.proofs.Common.{List, [], subst}
 use Rattle.mds_catalog.specs.Publication.{Publication}
 use Rattle.mds_drafts.specs.Drafts.{Drafts}
 use Rattle.mds_fleet.specs.Books.{Rows}
-use Rattle.mds_fronts.specs.Desks.{AreTurns}
-use Rattle.mds_fronts.specs.Fronts.{last_front}
-use Rattle.mds_fronts.specs.Room.{AreRoomTurns}
+use Rattle.mds_machine.specs.Desks.{AreTurns}
+use Rattle.mds_machine.specs.Fronts.{last_front}
+use Rattle.mds_machine.specs.Room.{AreRoomTurns}
 use Rattle.mds_recovery.proofs.Answered.{prefix_on}
 use Rattle.mds_recovery.proofs.laws.goes_on_as_one_server.Goals as goal
 

@@ -1,6 +1,6 @@
 use Rattle.std.proofs.Common.{subst}
 use Rattle.mds_fleet.specs.Books.{Rows}
-use Rattle.mds_fronts.specs.Desks.{AreTurns}
+use Rattle.mds_machine.specs.Desks.{AreTurns}
 use Rattle.mds_restarts.proofs.Servers.{recovered, joined}
 use Rattle.mds_restarts.proofs.laws.desk_goes_on.Goals as goal
 

@@ -4,9 +4,9 @@ use Rattle.mds_catalog.specs.Publication.{Publication}
 use Rattle.mds_drafts.specs.Drafts.{Drafts}
 use Rattle.mds_machine.specs.Step.{Exchange, new_state}
 use Rattle.mds_request.specs.Configuration.{Configuration}
-use Rattle.mds_fronts.specs.Fronts.{Turn, last_front}
-use Rattle.mds_fronts.specs.Room.{AreRoomTurns}
-use Rattle.mds_fronts.proofs.Views.{prefix_on}
+use Rattle.mds_machine.specs.Fronts.{Turn, last_front}
+use Rattle.mds_machine.specs.Room.{AreRoomTurns}
+use Rattle.mds_machine.proofs.Views.{prefix_on}
 use Rattle.mds_restarts.proofs.Servers.{joined}
 use Rattle.mds_restarts.proofs.laws.is_one_server.Goals as goal
 

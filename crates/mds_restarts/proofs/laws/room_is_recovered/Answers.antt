@@ -1,5 +1,5 @@
 use Rattle.std.proofs.Common.{ap}
-use Rattle.mds_fronts.specs.Room.{authors_in}
+use Rattle.mds_machine.specs.Room.{authors_in}
 use Rattle.mds_restarts.proofs.laws.room_is_recovered.Goals as goal
 
 pub returns : goal.returns

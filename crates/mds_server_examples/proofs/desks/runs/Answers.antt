@@ -1,5 +1,5 @@
 use Rattle.std.proofs.Common.{[]}
-use Rattle.mds_fronts.proofs.Runs.{run_of_turns}
+use Rattle.mds_machine.proofs.Runs.{run_of_turns}
 use Rattle.mds_examples.proofs.Rows.{no_rows}
 use Rattle.mds_examples.specs.Requests.{alfa, configuration}
 use Rattle.mds_examples.specs.Vehicles.{one_row}

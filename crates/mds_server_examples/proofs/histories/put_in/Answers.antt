@@ -4,8 +4,8 @@ use Rattle.std.specs.List.{list_all}
 use Rattle.mds_machine.specs.Isolation.{HasMemory}
 use Rattle.mds_machine.specs.Step.{Exchange}
 use Rattle.mds_request.specs.declared.code.Code.TheVariants.{NoMemory}
-use Rattle.mds_fronts.proofs.Runs.{not_unavailable}
-use Rattle.mds_fronts.proofs.Views.{both_true}
+use Rattle.mds_machine.proofs.Runs.{not_unavailable}
+use Rattle.mds_machine.proofs.Views.{both_true}
 use Rattle.mds_examples.specs.Computed.{documents}
 use Rattle.mds_examples.specs.Requests.{configuration}
 use Rattle.mds_server_examples.specs.Turns.{whole}

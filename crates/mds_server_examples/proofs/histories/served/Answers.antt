@@ -3,8 +3,8 @@ use Rattle.std.proofs.Common.{◌≡◌, ℕ, zero, suc, [], Some, refl, ap, sub
 use Rattle.std.specs.Prelude.{unwrap_or, slice_get}
 use Rattle.mds_fleet.specs.Books.{Rows}
 use Rattle.mds_request.specs.Configuration.{Operator}
-use Rattle.mds_fronts.specs.Fronts.{last_front}
-use Rattle.mds_fronts.specs.OneHistory.{AreItsTurns}
+use Rattle.mds_machine.specs.Fronts.{last_front}
+use Rattle.mds_machine.specs.OneHistory.{AreItsTurns}
 use Rattle.mds_examples.proofs.Rows.{no_rows}
 use Rattle.mds_examples.specs.Histories.{no_drafts}
 use Rattle.mds_examples.specs.Requests.{alfa, configuration}

@@ -3,7 +3,7 @@ use Rattle.std.proofs.Common.{◌≡◌, ◌==◌, Bool, true, not, List, map, s
 use Rattle.std.specs.List.{list_all}
 use Rattle.mds_request.specs.Request.{request_of}
 use Rattle.mds_request.specs.Reply.{Reply}
-use Rattle.mds_fronts.proofs.Views.{prefix_self}
+use Rattle.mds_machine.proofs.Views.{prefix_self}
 use Rattle.mds_city.proofs.Reports.{refused_are_recorded}
 use Rattle.mds_city.proofs.city.City.carry_out_refused.Goals as goal
 

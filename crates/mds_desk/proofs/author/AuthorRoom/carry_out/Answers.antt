@@ -1,7 +1,7 @@
 use Rattle.std.proofs.Common.{IfSome, inl, refl, subst}
 use Rattle.mds_drafts.specs.Shelf.{drafts_of}
 use Rattle.mds_request.specs.Request.{request_of}
-use Rattle.mds_shelf.specs.Ready.{AnswersAuthor, IsFound}
+use Rattle.mds_desk.specs.Ready.{AnswersAuthor, IsFound}
 use Rattle.mds_desk.specs.Room.{room_of}
 use Rattle.mds_desk.proofs.RoomTurning.{given_by_call}
 use Rattle.mds_desk.proofs.Shelving.{author_found}

@@ -1,6 +1,6 @@
 use mathlib.Core.List.{IsPrefix}
 use Rattle.std.proofs.Common.{◌≡◌, inr, refl, sym, subst}
-use Rattle.mds_fronts.proofs.Views.{prefix_self}
+use Rattle.mds_machine.proofs.Views.{prefix_self}
 use Rattle.mds_world.proofs.Lasting.{fits_front}
 use Rattle.mds_desk.proofs.desk.Desk.telling.Goals as goal
 

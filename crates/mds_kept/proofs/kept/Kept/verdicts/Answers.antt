@@ -5,7 +5,7 @@ use Rattle.std.specs.Option.{IfSome}
 use Rattle.mds_geometry.specs.declared.position.Position.{Position}
 use Rattle.mds_policy.specs.Policy.{policy_document}
 use Rattle.mds_match.specs.Row.{Row}
-use Rattle.mds_masks.specs.Masks.{IsMask}
+use Rattle.mds_kept.specs.Masks.{IsMask}
 use Rattle.mds_verdict.specs.Verdict.{verdict_document, verdicts}
 use Rattle.mds_verdict.specs.declared.verdict.RuleVerdict.{RuleVerdict}
 use Rattle.mds_kept.specs.Columns.{AreOf}

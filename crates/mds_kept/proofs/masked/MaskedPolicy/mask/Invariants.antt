@@ -1,8 +1,8 @@
 use Rattle.std.proofs.Common.{map, take}
 use Rattle.mds_match.specs.Row.{row_of}
-use Rattle.mds_masks.specs.Masks.{HasBits}
-use Rattle.mds_masks.specs.Masked.{masked_matches}
-use Rattle.mds_masks.proofs.masked.MaskedPolicy.mask.Given as goal
+use Rattle.mds_kept.specs.Masks.{HasBits}
+use Rattle.mds_kept.specs.Masked.{masked_matches}
+use Rattle.mds_kept.proofs.masked.MaskedPolicy.mask.Given as goal
 
 -- the bits of the rules so far
 abbrev pub invariant-loop-number : goal.invariant-loop-number

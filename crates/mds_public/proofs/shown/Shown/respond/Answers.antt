@@ -11,9 +11,9 @@ use Rattle.mds_public.specs.contracts.refusal.Denied as denied
 use Rattle.mds_public.specs.declared.refusal.Denied.{Denied}
 use Rattle.mds_public.specs.declared.refusal.Denied.TheVariants.{Refused}
 use Rattle.mds_public.specs.declared.refusal.Refusal.{Refusal}
-use Rattle.mds_public_answers.specs.Response.{query_of}
-use Rattle.mds_public_answers.proofs.Telling.{refused_for, says_of_room}
-use Rattle.mds_public_answers.proofs.shown.Shown.respond.Goals as goal
+use Rattle.mds_public.specs.Response.{query_of}
+use Rattle.mds_public.proofs.Telling.{refused_for, says_of_room}
+use Rattle.mds_public.proofs.shown.Shown.respond.Goals as goal
 
 -- why there is no body, read out of an answer as the program does
 read : Denied × ⊤ → Result (List ℕ) Denied → Denied

@@ -1,2 +1,0 @@
-pub mod Masked
-pub mod Masks

@@ -1,3 +1,0 @@
-mod Alike
-pub mod Publics
-mod Telling

@@ -1,4 +1,0 @@
-pub mod Configured
-pub mod Response
-pub mod Told
-pub mod Laws

@@ -1,2 +1,0 @@
-pub mod Guided
-pub mod Methods
