@@ -2,10 +2,10 @@
 use Rattle.std.specs.Prelude.{Option, Some, None, Result, Ok, Err}
 use Rattle.mds_folder.specs.declared.fault.Damage.{Damage}
 use Rattle.mds_folder.specs.declared.fault.FolderFault.TheVariants.{Damaged}
-use Rattle.cli_journal.specs.declared.ending.Ending.{Ending}
-use Rattle.cli_journal.specs.declared.ending.Ending.TheVariants.{Folder}
+use Rattle.cli_journal.specs.declared.exit_cause.ExitCause.{ExitCause}
+use Rattle.cli_journal.specs.declared.exit_cause.ExitCause.TheVariants.{Folder}
 
 -- the fault with this damage; none without damage
-abbrev pub refused_for : Option Damage → Result (Unit {0}) Ending
+abbrev pub refused_for : Option Damage → Result (Unit {0}) ExitCause
 refused_for None = Ok tt
 refused_for (Some damage) = Err (Folder (Damaged damage))

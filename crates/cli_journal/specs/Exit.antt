@@ -7,10 +7,10 @@ use Rattle.mds_recovery.specs.declared.fault.Cause.{Cause}
 use Rattle.mds_recovery.specs.declared.fault.Cause.TheVariants as causes
 use Rattle.mds_recovery.specs.declared.fault.StartFault.{StartFault}
 use Rattle.mds_recovery.specs.declared.fault.StartFault.TheVariants.{Opening, Stopped}
-use Rattle.mds_thinning.specs.declared.fault.ThinFault.{ThinFault}
-use Rattle.mds_thinning.specs.declared.fault.ThinFault.TheVariants as thin
-use Rattle.cli_journal.specs.declared.ending.Ending.{Ending}
-use Rattle.cli_journal.specs.declared.ending.Ending.TheVariants.{Usage, Misconfigured, NoMemory, NoListener, NoControl, NotStopped, NotPrinted, Folder, Refused, NotKept, NotThinned, Differs}
+use Rattle.mds_thinning.specs.declared.fault.CompactFault.{CompactFault}
+use Rattle.mds_thinning.specs.declared.fault.CompactFault.TheVariants as thin
+use Rattle.cli_journal.specs.declared.exit_cause.ExitCause.{ExitCause}
+use Rattle.cli_journal.specs.declared.exit_cause.ExitCause.TheVariants.{Usage, Misconfigured, NoMemory, NoListener, NoControl, NotStopped, NotPrinted, Folder, Refused, NotKept, NotThinned, Differs}
 
 -- an entry that can't be replayed: 503 is out of memory, and any other is one of another configuration
 abbrev pub cause_status : Cause → ℕ
@@ -19,7 +19,7 @@ cause_status (causes.Refused status) = if status == 503 then 3 else 6
 
 -- 1 for what can't be listened to or written to, 2 for wrong arguments or a wrong configuration, 3 for out of memory, 4
 -- to 6 for a folder, 7 where a journal couldn't be written, 8 where a compacted one leads to another state
-abbrev pub exit_status : Ending → ℕ
+abbrev pub exit_status : ExitCause → ℕ
 exit_status NoListener = 1
 exit_status NoControl = 1
 exit_status NotStopped = 1
@@ -33,7 +33,7 @@ exit_status NotKept = 7
 exit_status NotThinned = 7
 exit_status Differs = 8
 
-abbrev pub status_of : Result ℕ Ending → ℕ
+abbrev pub status_of : Result ℕ ExitCause → ℕ
 status_of (Ok status) = status
 status_of (Err ending) = exit_status ending
 
@@ -55,7 +55,7 @@ folder_message faults.Locked = codes "ruffletuff: another program has the folder
 folder_message (faults.Damaged damage) = codes "ruffletuff: the journal is damaged, or of another version"
 folder_message (faults.Unfitting unfit) = does_not_fit
 
-abbrev pub message_of : Ending → List ℕ
+abbrev pub message_of : ExitCause → List ℕ
 message_of Usage = codes "ruffletuff: the arguments are wrong"
 message_of (Misconfigured detail) = codes "ruffletuff: the configuration is wrong"
 message_of NoMemory = out_of_memory
@@ -70,21 +70,21 @@ message_of NotThinned = codes "ruffletuff: the thinned journal couldn't be writt
 message_of Differs = codes "ruffletuff: the thinned journal leads to another city"
 
 -- why a program ends whose server can't be started from its journal
-abbrev pub ending_of : StartFault → Ending
+abbrev pub ending_of : StartFault → ExitCause
 ending_of (Opening fault) = NoMemory
 ending_of (Stopped fault) = Refused fault
 
 -- why it ends where an entry of a compacted journal can't be replayed
-abbrev pub cause_of_thinned : Cause → Ending
+abbrev pub cause_of_thinned : Cause → ExitCause
 cause_of_thinned causes.NoDesk = Differs
 cause_of_thinned (causes.Refused status) = if status == 503 then NoMemory else Differs
 
-abbrev pub ending_of_thinned : StartFault → Ending
+abbrev pub ending_of_thinned : StartFault → ExitCause
 ending_of_thinned (Opening fault) = NoMemory
 ending_of_thinned (Stopped fault) = cause_of_thinned fault.cause
 
 -- why it ends where a journal isn't compacted, by a configuration that was read before
-abbrev pub ending_of_thinning : ThinFault → Ending
+abbrev pub ending_of_thinning : CompactFault → ExitCause
 ending_of_thinning thin.NoMemory = NoMemory
 ending_of_thinning (thin.Configuration fault) = NoMemory
 ending_of_thinning (thin.Folder fault) = Folder fault

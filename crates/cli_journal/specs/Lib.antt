@@ -1,5 +1,5 @@
 pub mod Checks
 pub mod Exit
 pub mod Script
-pub mod Thinning
-pub mod Words
+pub mod Compaction
+pub mod Messages

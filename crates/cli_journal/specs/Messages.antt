@@ -1,8 +1,8 @@
 -- The file, folder or address that a fault is about.
 use Rattle.std.specs.Prelude.{ℕ, List, Option, Some, None}
-use Rattle.mds_command.specs.Asked.{Request, serve, check, check_config, audit, thin, stop}
-use Rattle.cli_journal.specs.declared.ending.Ending.{Ending}
-use Rattle.cli_journal.specs.declared.ending.Ending.TheVariants.{Misconfigured, NoListener, NoControl, NotStopped, Folder, Refused, NotKept, NotThinned, Differs}
+use Rattle.mds_command.specs.Commands.{Request, serve, check, check_config, audit, thin, stop}
+use Rattle.cli_journal.specs.declared.exit_cause.ExitCause.{ExitCause}
+use Rattle.cli_journal.specs.declared.exit_cause.ExitCause.TheVariants.{Misconfigured, NoListener, NoControl, NotStopped, Folder, Refused, NotKept, NotThinned, Differs}
 
 abbrev pub config_of : Request → Option (List ℕ)
 config_of (serve config state listen control control_host dropped thin_at) = Some config
@@ -28,7 +28,7 @@ folder_of (audit folder config until operator) = Some folder
 folder_of (thin folder config) = Some folder
 folder_of asked = None
 
-abbrev pub place_in : Request → Ending → Option (List ℕ)
+abbrev pub place_in : Request → ExitCause → Option (List ℕ)
 place_in asked (Misconfigured detail) = config_of asked
 place_in asked NoListener = listener_of asked
 place_in asked NoControl = control_of asked

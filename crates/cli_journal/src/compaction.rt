@@ -1,14 +1,14 @@
 //! Compacts a folder's journal that no server has open.
 ghost use Rattle.std.specs.Prelude.{◌≡◌};
-ghost use Rattle.cli_journal.specs.Thinning.{may_leave_remains};
+ghost use Rattle.cli_journal.specs.Compaction.{may_leave_remains};
 
 use crate::configuration::{configuration_in, configuration_text};
-use crate::ending::Ending;
-use mds_command::Thinning;
+use crate::exit_cause::ExitCause;
+use mds_command::ThinOptions;
 use mds_folder::FolderFault;
 use mds_limits::moment_of;
 use mds_text::Moment;
-use mds_thinning::{Counts, ThinFault, thin_folder};
+use mds_thinning::{Counts, CompactFault, compact_folder};
 use std::alloc::AllocGlobal;
 use std::fs::{self, File, Files};
 use std::io::Print;
@@ -18,10 +18,10 @@ use std::time::{Clock, SystemTime, UNIX_EPOCH};
 
 /// Whether a fault may leave remains of a compacted journal next to the journal. Where another program has the folder,
 /// what stands there may be that one's.
-fn may_leave_remains(fault: &ThinFault) -> bool
+fn may_leave_remains(fault: &CompactFault) -> bool
     ensures { result ≡ may_leave_remains fault.now }
 {
-    !matches!(fault, ThinFault::Folder(FolderFault::Locked))
+    !matches!(fault, CompactFault::Folder(FolderFault::Locked))
 }
 
 /// Removes what is left of a compacted journal next to the journal, if that can be done.
@@ -43,10 +43,10 @@ pub fn journal_length<R: Files<File = File> + AllocGlobal>(rt: &R, folder: &str)
 /// # Errors
 ///
 /// `Folder` where that can't be found out.
-fn bytes_of<R: Files<File = File> + AllocGlobal>(rt: &R, folder: &str) -> Result<u64, Ending> {
+fn bytes_of<R: Files<File = File> + AllocGlobal>(rt: &R, folder: &str) -> Result<u64, ExitCause> {
     match journal_length(rt, folder) {
         Some(length) => Ok(length),
-        None => Err(Ending::Folder(FolderFault::Unusable)),
+        None => Err(ExitCause::Folder(FolderFault::Unusable)),
     }
 }
 
@@ -71,18 +71,18 @@ pub fn moment<R: Clock + Copy>(rt: &R) -> Moment {
 /// # Errors
 ///
 /// As `Ending::from` says.
-fn thin_journal<R: Wait + Files<File = File> + Clock + AllocGlobal + Copy>(
+fn compact_or_clear<R: Wait + Files<File = File> + Clock + AllocGlobal + Copy>(
     rt: &R,
     folder: &str,
     text: &[u8],
-) -> Result<Counts, Ending> {
-    match thin_folder(rt, rt.alloc(), folder, text, moment(rt)) {
+) -> Result<Counts, ExitCause> {
+    match compact_folder(rt, rt.alloc(), folder, text, moment(rt)) {
         Ok(counts) => Ok(counts),
         Err(fault) => {
             if may_leave_remains(&fault) {
                 clear(rt, folder);
             }
-            Err(Ending::from(fault))
+            Err(ExitCause::from(fault))
         }
     }
 }
@@ -95,15 +95,15 @@ fn thin_journal<R: Wait + Files<File = File> + Clock + AllocGlobal + Copy>(
 /// `Misconfigured`; `Folder` where there is no journal, another program has the folder, or the journal is damaged;
 /// `Refused` where the configuration doesn't fit it; `NotThinned` where the disk has no room for the compacted one;
 /// `Differs`; `NoMemory`. The journal stays as it was. `NotPrinted` where it is compacted.
-pub fn thin<R: Wait + Files<File = File> + Clock + Print + AllocGlobal + Copy>(
+pub fn compact<R: Wait + Files<File = File> + Clock + Print + AllocGlobal + Copy>(
     rt: &R,
-    asked: &Thinning<'_>,
-) -> Result<(), Ending> {
+    asked: &ThinOptions<'_>,
+) -> Result<(), ExitCause> {
     let alloc = rt.alloc();
     let text = configuration_text(rt, alloc, asked.config)?;
     drop(configuration_in(alloc, &text)?);
     let length = bytes_of(rt, asked.folder)?;
-    let counts = thin_journal(rt, asked.folder, &text)?;
+    let counts = compact_or_clear(rt, asked.folder, &text)?;
     let left = bytes_of(rt, asked.folder)?;
     // The head is a record too.
     let before = counts.before.saturating_add(1);
@@ -112,6 +112,6 @@ pub fn thin<R: Wait + Files<File = File> + Clock + Print + AllocGlobal + Copy>(
         "{before} records, {length} bytes before; {after} records, {left} bytes now"
     ) {
         Ok(()) => Ok(()),
-        Err(_) => Err(Ending::NotPrinted),
+        Err(_) => Err(ExitCause::NotPrinted),
     }
 }

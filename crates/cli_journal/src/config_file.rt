@@ -3,10 +3,10 @@ ghost use Rattle.std.specs.Prelude.{◌≤◌, length, IfOk};
 ghost use Rattle.mds_lines.specs.declared.gather.TheConstants.{LINE_LIMIT};
 
 use crate::configuration::{check_length, text_in};
-use crate::ending::Ending;
-use mds_configuration::{Finding, What, Zoned, named_zone, review, with_zone};
+use crate::exit_cause::ExitCause;
+use mds_configuration::{ConfigFinding, FindingKind, ResolvedZone, zone_name_in, review, with_zone};
 use mds_diagnosis::Detail;
-use mds_zones::{ZoneFault, ZoneName, rule_in, zone_told};
+use mds_zones::{ZoneFileFault, ZoneName, rule_in, zone_message};
 use std::alloc::{AllocError, AllocGlobal, Global};
 use std::fs::{File, Files};
 use std::io::{Eprint, Read};
@@ -16,11 +16,11 @@ const MOST_OF_ZONE: u64 = 1_048_576;
 
 /// The text of a configuration's file as it stands there, and the rule of its zone where that goes by a name.
 #[derive(Drop)]
-pub struct Source {
+pub struct ConfigFile {
     text: Vec<u8>,
     /// The name of the zone, where it goes by a name.
     zone: Option<ZoneName>,
-    zoned: Zoned,
+    zoned: ResolvedZone,
 }
 
 /// The bytes of a zone's file; `None` where it isn't there or can't be read.
@@ -35,45 +35,45 @@ fn zone_bytes<R: Files<File = File>>(rt: &R, alloc: Global, path: &str) -> Optio
 }
 
 /// The rule of the zone of this name, from the zone's file, or why there is none.
-fn zoned_by<R: Files<File = File>>(
+fn resolve_zone<R: Files<File = File>>(
     rt: &R,
     alloc: Global,
     name: &ZoneName,
-) -> Result<Zoned, AllocError> {
+) -> Result<ResolvedZone, AllocError> {
     let path = name.path(alloc)?;
     let Some(bytes) = zone_bytes(rt, alloc, path.as_str()) else {
-        return Ok(Zoned::Fault(ZoneFault::Unreadable));
+        return Ok(ResolvedZone::Fault(ZoneFileFault::Unreadable));
     };
     Ok(match rule_in(alloc, &bytes) {
-        Ok(rule) => Zoned::Rule(rule),
-        Err(fault) => Zoned::Fault(fault),
+        Ok(rule) => ResolvedZone::Rule(rule),
+        Err(fault) => ResolvedZone::Fault(fault),
     })
 }
 
 /// Whether a finding is reported where a server starts: what makes the text no configuration is reported as a fault
 /// instead.
-fn is_told_at_start(what: What) -> bool {
-    !matches!(what, What::Wrong(_))
+fn is_reported_at_start(what: FindingKind) -> bool {
+    !matches!(what, FindingKind::Wrong(_))
 }
 
-impl Source {
+impl ConfigFile {
     /// Reads a configuration's file, and its zone's file where the zone goes by a name.
     ///
     /// # Errors
     ///
     /// `Misconfigured` where it can't be read or is longer than a line of a script may be, `NoMemory`.
-    pub fn read<R: Files<File = File> + AllocGlobal>(rt: &R, path: &str) -> Result<Source, Ending> {
+    pub fn read<R: Files<File = File> + AllocGlobal>(rt: &R, path: &str) -> Result<ConfigFile, ExitCause> {
         let alloc = rt.alloc();
         let text = match File::open(rt, path) {
             Ok(file) => text_in(alloc, file)?,
-            Err(_) => return Err(Ending::Misconfigured(Detail::Unreadable)),
+            Err(_) => return Err(ExitCause::Misconfigured(Detail::Unreadable)),
         };
-        let zone = named_zone(alloc, &text)?;
+        let zone = zone_name_in(alloc, &text)?;
         let zoned = match &zone {
-            Some(name) => zoned_by(rt, alloc, name)?,
-            None => Zoned::Plain,
+            Some(name) => resolve_zone(rt, alloc, name)?,
+            None => ResolvedZone::Plain,
         };
-        Ok(Source { text, zone, zoned })
+        Ok(ConfigFile { text, zone, zoned })
     }
 
     /// The text to be read as a configuration: with the rule in the place of the zone's name.
@@ -81,12 +81,12 @@ impl Source {
     /// # Errors
     ///
     /// `Misconfigured` where it is longer than a line of a script may be, `NoMemory`.
-    pub fn resolve(&self, alloc: Global) -> Result<Vec<u8>, Ending>
+    pub fn resolve(&self, alloc: Global) -> Result<Vec<u8>, ExitCause>
         ensures { IfOk result (λ text. length text.items ≤ LINE_LIMIT) }
     {
         let text = match &self.zoned {
-            Zoned::Rule(rule) => with_zone(alloc, &self.text, rule)?,
-            Zoned::Plain | Zoned::Fault(_) => Vec::from_slice(alloc, &self.text)?,
+            ResolvedZone::Rule(rule) => with_zone(alloc, &self.text, rule)?,
+            ResolvedZone::Plain | ResolvedZone::Fault(_) => Vec::from_slice(alloc, &self.text)?,
         };
         check_length(text)
     }
@@ -96,14 +96,14 @@ impl Source {
     /// # Errors
     ///
     /// Memory ran out.
-    fn findings(&self, alloc: Global) -> Result<Vec<Finding>, AllocError> {
+    fn findings(&self, alloc: Global) -> Result<Vec<ConfigFinding>, AllocError> {
         review(alloc, &self.text, &self.zoned)
     }
 
     /// Reports on standard error by which rule the zone goes, if it goes by a name.
-    fn tell_zone<R: Eprint + AllocGlobal>(&self, rt: &R) -> Result<(), AllocError> {
-        if let (Some(name), Zoned::Rule(rule)) = (&self.zone, &self.zoned) {
-            let told = zone_told(rt.alloc(), name, rule)?;
+    fn report_zone<R: Eprint + AllocGlobal>(&self, rt: &R) -> Result<(), AllocError> {
+        if let (Some(name), ResolvedZone::Rule(rule)) = (&self.zone, &self.zoned) {
+            let told = zone_message(rt.alloc(), name, rule)?;
             let _ = eprintln!(rt; "ruffletuff: {told}");
         }
         Ok(())
@@ -115,18 +115,18 @@ impl Source {
     /// # Errors
     ///
     /// Memory ran out.
-    pub fn tell<R: Eprint + AllocGlobal>(
+    pub fn report_findings<R: Eprint + AllocGlobal>(
         &self,
         rt: &R,
         path: &str,
         is_start: bool,
     ) -> Result<(), AllocError> {
         for finding in self.findings(rt.alloc())? {
-            if !is_start || is_told_at_start(finding.what) {
+            if !is_start || is_reported_at_start(finding.what) {
                 let line = finding.line(rt.alloc(), path)?;
                 let _ = eprintln!(rt; "{line}");
             }
         }
-        self.tell_zone(rt)
+        self.report_zone(rt)
     }
 }

@@ -3,8 +3,8 @@ ghost use Rattle.std.specs.Prelude.{◌≡◌, ◌≤◌, length, IfOk, Ok};
 ghost use Rattle.mds_lines.specs.declared.gather.TheConstants.{LINE_LIMIT};
 ghost use Rattle.mds_request.specs.Configuration.{configuration, read_configuration};
 
-use crate::ending::Ending;
-use crate::source::Source;
+use crate::exit_cause::ExitCause;
+use crate::config_file::ConfigFile;
 use mds_diagnosis::Detail;
 use mds_lines::LINE_LIMIT;
 use mds_request::{Config, ConfigFault};
@@ -18,15 +18,15 @@ use std::io::{Eprint, ErrorKind, Read};
 /// # Errors
 ///
 /// `Misconfigured` where it can't be read or is longer than a line of a script may be, `NoMemory`.
-pub fn text_in<S: Read + Drop>(alloc: Global, source: S) -> Result<Vec<u8>, Ending>
+pub fn text_in<S: Read + Drop>(alloc: Global, source: S) -> Result<Vec<u8>, ExitCause>
     ensures { IfOk result (λ text. length text.items ≤ LINE_LIMIT) }
 {
     let mut text = Vec::new(alloc);
     let mut front = source.take(LINE_LIMIT as u64 + 1);
     if let Err(error) = front.read_to_end(&mut text) {
         return Err(match error.kind() {
-            ErrorKind::OutOfMemory => Ending::NoMemory,
-            _ => Ending::Misconfigured(Detail::Unreadable),
+            ErrorKind::OutOfMemory => ExitCause::NoMemory,
+            _ => ExitCause::Misconfigured(Detail::Unreadable),
         });
     }
     check_length(text)
@@ -37,11 +37,11 @@ pub fn text_in<S: Read + Drop>(alloc: Global, source: S) -> Result<Vec<u8>, Endi
 /// # Errors
 ///
 /// `Misconfigured` where it is longer.
-pub fn check_length(text: Vec<u8>) -> Result<Vec<u8>, Ending>
+pub fn check_length(text: Vec<u8>) -> Result<Vec<u8>, ExitCause>
     ensures { IfOk result (λ text. length text.items ≤ LINE_LIMIT) }
 {
     if text.len() > LINE_LIMIT {
-        return Err(Ending::Misconfigured(Detail::TooLong));
+        return Err(ExitCause::Misconfigured(Detail::TooLong));
     }
     Ok(text)
 }
@@ -55,10 +55,10 @@ pub fn configuration_text<R: Files<File = File> + AllocGlobal>(
     rt: &R,
     alloc: Global,
     path: &str,
-) -> Result<Vec<u8>, Ending>
+) -> Result<Vec<u8>, ExitCause>
     ensures { IfOk result (λ text. length text.items ≤ LINE_LIMIT) }
 {
-    let source = Source::read(rt, path)?;
+    let source = ConfigFile::read(rt, path)?;
     source.resolve(alloc)
 }
 
@@ -67,15 +67,15 @@ pub fn configuration_text<R: Files<File = File> + AllocGlobal>(
 /// # Errors
 ///
 /// `Misconfigured` where it can't be read or is longer than a line of a script may be, `NoMemory`.
-pub fn told_text<R: Files<File = File> + Eprint + AllocGlobal>(
+pub fn read_text_and_report<R: Files<File = File> + Eprint + AllocGlobal>(
     rt: &R,
     alloc: Global,
     path: &str,
-) -> Result<Vec<u8>, Ending>
+) -> Result<Vec<u8>, ExitCause>
     ensures { IfOk result (λ text. length text.items ≤ LINE_LIMIT) }
 {
-    let source = Source::read(rt, path)?;
-    source.tell(rt, path, true)?;
+    let source = ConfigFile::read(rt, path)?;
+    source.report_findings(rt, path, true)?;
     source.resolve(alloc)
 }
 
@@ -84,14 +84,14 @@ pub fn told_text<R: Files<File = File> + Eprint + AllocGlobal>(
 /// # Errors
 ///
 /// `Misconfigured` with what is wrong, where it is none; `NoMemory`.
-pub fn configuration_in(alloc: Global, text: &[u8]) -> Result<Config, Ending>
+pub fn configuration_in(alloc: Global, text: &[u8]) -> Result<Config, ExitCause>
     ensures { IfOk result (λ config. read_configuration text.now ≡ Ok (configuration config)) }
 {
     match Config::read(alloc, text) {
         Ok(config) => Ok(config),
         Err(ConfigFault::NoMemory | ConfigFault::Text(TextFault::NoMemory)) => {
-            Err(Ending::NoMemory)
+            Err(ExitCause::NoMemory)
         }
-        Err(_) => Err(Ending::Misconfigured(Detail::of(alloc, text))),
+        Err(_) => Err(ExitCause::Misconfigured(Detail::of(alloc, text))),
     }
 }

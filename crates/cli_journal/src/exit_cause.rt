@@ -6,12 +6,12 @@ use mds_diagnosis::Detail;
 use mds_folder::FolderFault;
 use mds_recovery::{Cause, Fault, StartFault};
 use mds_snapshot::OpenFault;
-use mds_thinning::ThinFault;
+use mds_thinning::CompactFault;
 use std::alloc::AllocError;
 
 /// Why the program ends.
 #[derive(Clone, Copy)]
-pub enum Ending {
+pub enum ExitCause {
     /// The arguments are none that the program knows.
     Usage,
     /// The configuration's file isn't a configuration.
@@ -74,19 +74,19 @@ fn folder_message(fault: &FolderFault) -> &'static str
     }
 }
 
-impl Ending {
+impl ExitCause {
     /// The program's exit status.
     pub fn status(self) -> u8
         ensures { result ≡ exit_status self }
     {
         match self {
-            Ending::NoListener | Ending::NoControl | Ending::NotStopped | Ending::NotPrinted => 1,
-            Ending::Usage | Ending::Misconfigured(_) => 2,
-            Ending::NoMemory => 3,
-            Ending::Folder(fault) => fault.status(),
-            Ending::Refused(fault) => cause_status(fault.cause),
-            Ending::NotKept | Ending::NotThinned => 7,
-            Ending::Differs => 8,
+            ExitCause::NoListener | ExitCause::NoControl | ExitCause::NotStopped | ExitCause::NotPrinted => 1,
+            ExitCause::Usage | ExitCause::Misconfigured(_) => 2,
+            ExitCause::NoMemory => 3,
+            ExitCause::Folder(fault) => fault.status(),
+            ExitCause::Refused(fault) => cause_status(fault.cause),
+            ExitCause::NotKept | ExitCause::NotThinned => 7,
+            ExitCause::Differs => 8,
         }
     }
 
@@ -95,104 +95,104 @@ impl Ending {
         ensures { result.now ≡ message_of self.now }
     {
         match self {
-            Ending::Usage => "ruffletuff: the arguments are wrong",
-            Ending::Misconfigured(_) => "ruffletuff: the configuration is wrong",
-            Ending::NoMemory => "ruffletuff: memory ran out",
-            Ending::NoListener => "ruffletuff: nothing can be listened to",
-            Ending::NoControl => "ruffletuff: nothing can be listened to for control",
-            Ending::NotStopped => "ruffletuff: no server says that it stops",
-            Ending::NotPrinted => "ruffletuff: standard output can't be written",
-            Ending::Folder(fault) => folder_message(fault),
-            Ending::Refused(fault) => cause_message(fault.cause),
-            Ending::NotKept => "ruffletuff: the journal couldn't be written any more",
-            Ending::NotThinned => "ruffletuff: the thinned journal couldn't be written",
-            Ending::Differs => "ruffletuff: the thinned journal leads to another city",
+            ExitCause::Usage => "ruffletuff: the arguments are wrong",
+            ExitCause::Misconfigured(_) => "ruffletuff: the configuration is wrong",
+            ExitCause::NoMemory => "ruffletuff: memory ran out",
+            ExitCause::NoListener => "ruffletuff: nothing can be listened to",
+            ExitCause::NoControl => "ruffletuff: nothing can be listened to for control",
+            ExitCause::NotStopped => "ruffletuff: no server says that it stops",
+            ExitCause::NotPrinted => "ruffletuff: standard output can't be written",
+            ExitCause::Folder(fault) => folder_message(fault),
+            ExitCause::Refused(fault) => cause_message(fault.cause),
+            ExitCause::NotKept => "ruffletuff: the journal couldn't be written any more",
+            ExitCause::NotThinned => "ruffletuff: the thinned journal couldn't be written",
+            ExitCause::Differs => "ruffletuff: the thinned journal leads to another city",
         }
     }
 }
 
-impl From<AllocError> for Ending {
+impl From<AllocError> for ExitCause {
     ghost use Rattle.std.specs.Prelude.{◌≡◌};
-    ghost use Rattle.cli_journal.specs.declared.ending.Ending.TheVariants.{NoMemory};
+    ghost use Rattle.cli_journal.specs.declared.exit_cause.ExitCause.TheVariants.{NoMemory};
 
     ghost from_gives = { λ _ e. e ≡ NoMemory };
 
-    fn from(_: AllocError) -> Ending {
-        Ending::NoMemory
+    fn from(_: AllocError) -> ExitCause {
+        ExitCause::NoMemory
     }
 }
 
-impl From<OpenFault> for Ending {
+impl From<OpenFault> for ExitCause {
     ghost use Rattle.std.specs.Prelude.{◌≡◌};
-    ghost use Rattle.cli_journal.specs.declared.ending.Ending.TheVariants.{NoMemory};
+    ghost use Rattle.cli_journal.specs.declared.exit_cause.ExitCause.TheVariants.{NoMemory};
 
     ghost from_gives = { λ _ e. e ≡ NoMemory };
 
-    fn from(_: OpenFault) -> Ending {
-        Ending::NoMemory
+    fn from(_: OpenFault) -> ExitCause {
+        ExitCause::NoMemory
     }
 }
 
-impl From<FolderFault> for Ending {
+impl From<FolderFault> for ExitCause {
     ghost use Rattle.std.specs.Prelude.{◌≡◌};
-    ghost use Rattle.cli_journal.specs.declared.ending.Ending.TheVariants.{Folder};
+    ghost use Rattle.cli_journal.specs.declared.exit_cause.ExitCause.TheVariants.{Folder};
 
     ghost from_gives = { λ fault e. e ≡ Folder fault };
 
-    fn from(fault: FolderFault) -> Ending {
-        Ending::Folder(fault)
+    fn from(fault: FolderFault) -> ExitCause {
+        ExitCause::Folder(fault)
     }
 }
 
-impl From<StartFault> for Ending {
+impl From<StartFault> for ExitCause {
     ghost use Rattle.std.specs.Prelude.{◌≡◌};
     ghost use Rattle.cli_journal.specs.Exit.{ending_of};
 
     ghost from_gives = { λ fault e. e ≡ ending_of fault };
 
-    fn from(fault: StartFault) -> Ending {
+    fn from(fault: StartFault) -> ExitCause {
         match fault {
-            StartFault::Opening(_) => Ending::NoMemory,
-            StartFault::Stopped(fault) => Ending::Refused(fault),
+            StartFault::Opening(_) => ExitCause::NoMemory,
+            StartFault::Stopped(fault) => ExitCause::Refused(fault),
         }
     }
 }
 
 /// Why the program ends where an entry of the compacted journal can't be replayed.
-fn cause_of_thinned(cause: Cause) -> Ending
+fn exit_of_compacted_entry(cause: Cause) -> ExitCause
     ensures { result ≡ cause_of_thinned cause }
 {
     match cause {
-        Cause::Refused(503) => Ending::NoMemory,
-        Cause::Refused(_) | Cause::NoDesk => Ending::Differs,
+        Cause::Refused(503) => ExitCause::NoMemory,
+        Cause::Refused(_) | Cause::NoDesk => ExitCause::Differs,
     }
 }
 
 /// Why the program ends where no server starts from the compacted journal.
-fn ending_of_thinned(fault: StartFault) -> Ending
+fn exit_of_compacted(fault: StartFault) -> ExitCause
     ensures { result ≡ ending_of_thinned fault }
 {
     match fault {
-        StartFault::Opening(_) => Ending::NoMemory,
-        StartFault::Stopped(fault) => cause_of_thinned(fault.cause),
+        StartFault::Opening(_) => ExitCause::NoMemory,
+        StartFault::Stopped(fault) => exit_of_compacted_entry(fault.cause),
     }
 }
 
-impl From<ThinFault> for Ending {
+impl From<CompactFault> for ExitCause {
     ghost use Rattle.std.specs.Prelude.{◌≡◌};
     ghost use Rattle.cli_journal.specs.Exit.{ending_of_thinning};
 
     ghost from_gives = { λ fault e. e ≡ ending_of_thinning fault };
 
     // The configuration was read before the compaction began: reading it again can only fail for memory.
-    fn from(fault: ThinFault) -> Ending {
+    fn from(fault: CompactFault) -> ExitCause {
         match fault {
-            ThinFault::NoMemory | ThinFault::Configuration(_) => Ending::NoMemory,
-            ThinFault::Folder(fault) => Ending::Folder(fault),
-            ThinFault::OldRefused(fault) => Ending::from(fault),
-            ThinFault::NotWritten => Ending::NotThinned,
-            ThinFault::NewRefused(fault) => ending_of_thinned(fault),
-            ThinFault::Differs => Ending::Differs,
+            CompactFault::NoMemory | CompactFault::Configuration(_) => ExitCause::NoMemory,
+            CompactFault::Folder(fault) => ExitCause::Folder(fault),
+            CompactFault::OldRefused(fault) => ExitCause::from(fault),
+            CompactFault::NotWritten => ExitCause::NotThinned,
+            CompactFault::NewRefused(fault) => exit_of_compacted(fault),
+            CompactFault::Differs => ExitCause::Differs,
         }
     }
 }

@@ -4,11 +4,11 @@ ghost use Rattle.mds_records.specs.Endings.{is_opened};
 ghost use Rattle.mds_folder.specs.Damages.{damage_of};
 ghost use Rattle.cli_journal.specs.Checks.{refused_for};
 
-use crate::ending::Ending;
+use crate::exit_cause::ExitCause;
 use crate::script::behind_head;
 use mds_entries::read_head;
-use mds_folder::{FolderFault, Survey, damage_of, entries_in, journal_bytes, surveyed};
-use mds_records::Ending as Ends;
+use mds_folder::{FolderFault, Survey, damage_of, entries_in, journal_bytes, survey_of};
+use mds_records::JournalEnding as Ends;
 use std::alloc::{AllocGlobal, Global};
 use std::fs::{File, Files};
 use std::io::Print;
@@ -32,12 +32,12 @@ fn end_of(ending: Ends) -> &'static str {
 /// # Errors
 ///
 /// `Folder` with what is wrong.
-fn intact(whole: u64, ending: Ends) -> Result<(), Ending>
+fn check_intact(whole: u64, ending: Ends) -> Result<(), ExitCause>
     ensures { result ≡ refused_for (damage_of whole ending) }
 {
     match damage_of(whole, ending) {
         None => Ok(()),
-        Some(damage) => Err(Ending::Folder(FolderFault::Damaged(damage))),
+        Some(damage) => Err(ExitCause::Folder(FolderFault::Damaged(damage))),
     }
 }
 
@@ -46,14 +46,14 @@ fn intact(whole: u64, ending: Ends) -> Result<(), Ending>
 /// # Errors
 ///
 /// `Folder` with what is wrong.
-pub fn startable(whole: u64, ending: Ends) -> Result<(), Ending>
+pub fn check_startable(whole: u64, ending: Ends) -> Result<(), ExitCause>
     ensures started { IsTrue (is_opened ending) → result ≡ Ok tt }
     ensures refused { is_opened ending ≡ false → result ≡ refused_for (damage_of whole ending) }
 {
     if ending.is_opened() {
         return Ok(());
     }
-    intact(whole, ending)
+    check_intact(whole, ending)
 }
 
 /// Whether a payload is a journal's head.
@@ -61,10 +61,10 @@ pub fn startable(whole: u64, ending: Ends) -> Result<(), Ending>
 /// # Errors
 ///
 /// `Folder` where it isn't one of a known version, `NoMemory`.
-fn is_head(alloc: Global, text: &[u8]) -> Result<(), Ending> {
+fn check_head(alloc: Global, text: &[u8]) -> Result<(), ExitCause> {
     match read_head(alloc, text) {
         Ok(_) => Ok(()),
-        Err(fault) => Err(Ending::Folder(FolderFault::from(fault))),
+        Err(fault) => Err(ExitCause::Folder(FolderFault::from(fault))),
     }
 }
 
@@ -73,14 +73,14 @@ fn is_head(alloc: Global, text: &[u8]) -> Result<(), Ending> {
 /// # Errors
 ///
 /// `Folder` with the first payload that isn't one of a known version, `NoMemory`.
-fn readable(alloc: Global, texts: &[Vec<u8>]) -> Result<(), Ending> {
+fn check_readable(alloc: Global, texts: &[Vec<u8>]) -> Result<(), ExitCause> {
     let Some(head) = texts.first() else {
         return Ok(());
     };
-    is_head(alloc, head)?;
+    check_head(alloc, head)?;
     let entries = match entries_in(alloc, 1, behind_head(texts)) {
         Ok(entries) => entries,
-        Err(fault) => return Err(Ending::Folder(fault)),
+        Err(fault) => return Err(ExitCause::Folder(fault)),
     };
     drop(entries);
     Ok(())
@@ -95,23 +95,23 @@ fn readable(alloc: Global, texts: &[Vec<u8>]) -> Result<(), Ending> {
 pub fn check<R: Files<File = File> + Print + AllocGlobal>(
     rt: &R,
     folder: &str,
-) -> Result<(), Ending> {
+) -> Result<(), ExitCause> {
     let bytes = journal_bytes(rt, rt.alloc(), folder)?;
     let Survey {
         texts,
         whole,
         ending,
-    } = surveyed(rt.alloc(), &bytes)?;
+    } = survey_of(rt.alloc(), &bytes)?;
     let records = texts.len();
     let behind = (bytes.len() as u64).saturating_sub(whole);
     let printed = println!(rt;
         "{records} records, {whole} bytes, {behind} behind them, {}",
         end_of(ending)
     );
-    intact(whole, ending)?;
-    readable(rt.alloc(), &texts)?;
+    check_intact(whole, ending)?;
+    check_readable(rt.alloc(), &texts)?;
     match printed {
         Ok(()) => Ok(()),
-        Err(_) => Err(Ending::NotPrinted),
+        Err(_) => Err(ExitCause::NotPrinted),
     }
 }

@@ -3,17 +3,17 @@
 #![tactic(auto)]
 
 mod configuration;
-mod ending;
+mod exit_cause;
 mod integrity;
 mod script;
-mod source;
-mod thinning;
-mod words;
+mod config_file;
+mod compaction;
+mod messages;
 
-pub use configuration::{configuration_in, told_text};
-pub use ending::Ending;
+pub use configuration::{configuration_in, read_text_and_report};
+pub use exit_cause::ExitCause;
 pub use integrity::check;
 pub use script::audit;
-pub use source::Source;
-pub use thinning::{clear, journal_length, moment, thin};
-pub use words::{tell, tell_usage};
+pub use config_file::ConfigFile;
+pub use compaction::{clear, journal_length, moment, compact};
+pub use messages::{report_exit, report_usage};

@@ -1,10 +1,10 @@
 //! Messages on standard error after a fault: what, where, and what is wrong.
 ghost use Rattle.std.specs.Prelude.{◌≡◌, option_map};
-ghost use Rattle.mds_command.specs.Asked.{asked_view};
-ghost use Rattle.cli_journal.specs.Words.{config_of, listener_of, control_of, folder_of, place_in};
+ghost use Rattle.mds_command.specs.Commands.{asked_view};
+ghost use Rattle.cli_journal.specs.Messages.{config_of, listener_of, control_of, folder_of, place_in};
 
-use crate::ending::Ending;
-use mds_command::{Asked, USAGE};
+use crate::exit_cause::ExitCause;
+use mds_command::{CliCommand, USAGE};
 use mds_entries::Unfit;
 use mds_folder::FolderFault;
 use mds_recovery::{Cause, Fault};
@@ -12,71 +12,71 @@ use std::alloc::AllocGlobal;
 use std::io::Eprint;
 
 /// The file of the configuration.
-fn config_of<'a>(asked: &Asked<'a>) -> Option<&'a str>
+fn config_of<'a>(asked: &CliCommand<'a>) -> Option<&'a str>
     ensures { option_map (λ place. place.now) result ≡ config_of (asked_view asked.now) }
 {
     match asked {
-        Asked::Serve(service) => Some(service.config),
-        Asked::Audit(audit) => Some(audit.config),
-        Asked::Thin(thinning) => Some(thinning.config),
-        Asked::CheckConfig(config) => Some(*config),
+        CliCommand::Serve(service) => Some(service.config),
+        CliCommand::Audit(audit) => Some(audit.config),
+        CliCommand::Thin(thinning) => Some(thinning.config),
+        CliCommand::CheckConfig(config) => Some(*config),
         _ => None,
     }
 }
 
 /// The address that is listened to.
-fn listener_of<'a>(asked: &Asked<'a>) -> Option<&'a str>
+fn listener_of<'a>(asked: &CliCommand<'a>) -> Option<&'a str>
     ensures { option_map (λ place. place.now) result ≡ listener_of (asked_view asked.now) }
 {
     match asked {
-        Asked::Serve(service) => Some(service.listen),
+        CliCommand::Serve(service) => Some(service.listen),
         _ => None,
     }
 }
 
 /// The address of the control port.
-fn control_of<'a>(asked: &Asked<'a>) -> Option<&'a str>
+fn control_of<'a>(asked: &CliCommand<'a>) -> Option<&'a str>
     ensures { option_map (λ place. place.now) result ≡ control_of (asked_view asked.now) }
 {
     match asked {
-        Asked::Serve(service) => service.control,
-        Asked::Stop(address) => Some(*address),
+        CliCommand::Serve(service) => service.control,
+        CliCommand::Stop(address) => Some(*address),
         _ => None,
     }
 }
 
 /// The city's folder.
-fn folder_of<'a>(asked: &Asked<'a>) -> Option<&'a str>
+fn folder_of<'a>(asked: &CliCommand<'a>) -> Option<&'a str>
     ensures { option_map (λ place. place.now) result ≡ folder_of (asked_view asked.now) }
 {
     match asked {
-        Asked::Serve(service) => Some(service.state),
-        Asked::Check(folder) => Some(*folder),
-        Asked::Audit(audit) => Some(audit.folder),
-        Asked::Thin(thinning) => Some(thinning.folder),
+        CliCommand::Serve(service) => Some(service.state),
+        CliCommand::Check(folder) => Some(*folder),
+        CliCommand::Audit(audit) => Some(audit.folder),
+        CliCommand::Thin(thinning) => Some(thinning.folder),
         _ => None,
     }
 }
 
 /// The file, folder or address that the fault is about.
-fn place_in<'a>(asked: &Asked<'a>, ending: &Ending) -> Option<&'a str>
+fn place_in<'a>(asked: &CliCommand<'a>, ending: &ExitCause) -> Option<&'a str>
     ensures { option_map (λ place. place.now) result ≡ place_in (asked_view asked.now) ending.now }
 {
     match ending {
-        Ending::Misconfigured(_) => config_of(asked),
-        Ending::NoListener => listener_of(asked),
-        Ending::NoControl | Ending::NotStopped => control_of(asked),
-        Ending::Folder(_)
-        | Ending::Refused(_)
-        | Ending::NotKept
-        | Ending::NotThinned
-        | Ending::Differs => folder_of(asked),
-        Ending::Usage | Ending::NoMemory | Ending::NotPrinted => None,
+        ExitCause::Misconfigured(_) => config_of(asked),
+        ExitCause::NoListener => listener_of(asked),
+        ExitCause::NoControl | ExitCause::NotStopped => control_of(asked),
+        ExitCause::Folder(_)
+        | ExitCause::Refused(_)
+        | ExitCause::NotKept
+        | ExitCause::NotThinned
+        | ExitCause::Differs => folder_of(asked),
+        ExitCause::Usage | ExitCause::NoMemory | ExitCause::NotPrinted => None,
     }
 }
 
 /// Reports what went wrong, and where.
-pub fn tell<R: Eprint + AllocGlobal>(rt: &R, asked: &Asked<'_>, ending: &Ending) {
+pub fn report_exit<R: Eprint + AllocGlobal>(rt: &R, asked: &CliCommand<'_>, ending: &ExitCause) {
     let message = ending.message();
     let _ = match place_in(asked, ending) {
         Some(place) => eprintln!(rt; "{message}: {place}"),
@@ -86,23 +86,23 @@ pub fn tell<R: Eprint + AllocGlobal>(rt: &R, asked: &Asked<'_>, ending: &Ending)
 }
 
 /// Reports that the arguments are wrong, and prints the usage.
-pub fn tell_usage<R: Eprint>(rt: &R, ending: &Ending) {
+pub fn report_usage<R: Eprint>(rt: &R, ending: &ExitCause) {
     let message = ending.message();
     let _ = eprintln!(rt; "{message}");
     let _ = eprintln!(rt; "{USAGE}");
 }
 
 /// Reports the details of a fault, where there are any.
-fn explain<R: Eprint + AllocGlobal>(rt: &R, ending: &Ending) {
+fn explain<R: Eprint + AllocGlobal>(rt: &R, ending: &ExitCause) {
     match ending {
-        Ending::Misconfigured(detail) => {
+        ExitCause::Misconfigured(detail) => {
             let _ = eprintln!(rt; "{detail}");
         }
-        Ending::Folder(FolderFault::Damaged(damage)) => {
+        ExitCause::Folder(FolderFault::Damaged(damage)) => {
             let _ = eprintln!(rt; "{damage}");
         }
-        Ending::Folder(FolderFault::Unfitting(unfit)) => explain_unfit(rt, unfit),
-        Ending::Refused(fault) => explain_refusal(rt, fault),
+        ExitCause::Folder(FolderFault::Unfitting(unfit)) => explain_unfit(rt, unfit),
+        ExitCause::Refused(fault) => explain_refusal(rt, fault),
         _ => {}
     }
 }

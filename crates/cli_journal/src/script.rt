@@ -7,12 +7,12 @@ ghost use Rattle.mds_request.specs.Configuration.{configuration};
 ghost use Rattle.cli_journal.specs.Script.{IsLineOf, behind_head};
 
 use crate::configuration::{configuration_in, configuration_text};
-use crate::ending::Ending;
-use crate::integrity::startable;
-use mds_command::Audit;
-use mds_entries::{Asker, Entry, Unfit, request_by};
+use crate::exit_cause::ExitCause;
+use crate::integrity::check_startable;
+use mds_command::AuditOptions;
+use mds_entries::{EntryClient, JournalEntry, Unfit, request_by};
 use mds_folder::{
-    Extract, FolderFault, entries_in, journal_bytes, push_blanked, request_line, surveyed, told,
+    Extract, FolderFault, entries_in, journal_bytes, push_blanked, request_line, survey_of, extract_entries,
 };
 use mds_request::Config;
 use std::alloc::{AllocError, AllocGlobal, Global};
@@ -24,12 +24,12 @@ use std::io::{self, BufWriter, Print, Write};
 /// # Errors
 ///
 /// `NotPrinted`.
-fn put<W: Write>(out: &mut W, bytes: &[u8]) -> Result<(), Ending>
+fn put<W: Write>(out: &mut W, bytes: &[u8]) -> Result<(), ExitCause>
     ensures { OnOk result (Appends (W.contents out.old) (W.contents out.new) bytes.now) }
 {
     match out.write_all(bytes) {
         Ok(()) => Ok(()),
-        Err(_) => Err(Ending::NotPrinted),
+        Err(_) => Err(ExitCause::NotPrinted),
     }
 }
 
@@ -48,10 +48,10 @@ fn first_line(alloc: Global, text: &[u8]) -> Result<Vec<u8>, AllocError>
 }
 
 /// Why an entry is no request of a configuration: its operator isn't in it. The author always is.
-fn without_token(asker: Asker) -> Ending {
+fn without_token(asker: EntryClient) -> ExitCause {
     match asker {
-        Asker::Author => Ending::NoMemory,
-        Asker::Operator(id) => Ending::Folder(FolderFault::Unfitting(Unfit::Missing(id))),
+        EntryClient::Author => ExitCause::NoMemory,
+        EntryClient::Operator(id) => ExitCause::Folder(FolderFault::Unfitting(Unfit::Missing(id))),
     }
 }
 
@@ -60,13 +60,13 @@ fn without_token(asker: Asker) -> Ending {
 /// # Errors
 ///
 /// `Folder` where its operator isn't in the configuration, `NoMemory`.
-fn line_of(alloc: Global, config: &Config, entry: &Entry<'_>) -> Result<Vec<u8>, Ending>
+fn line_of(alloc: Global, config: &Config, entry: &JournalEntry<'_>) -> Result<Vec<u8>, ExitCause>
     ensures { IfOk result (λ line. IsLineOf (configuration config.now) (entry_of entry.now) line.items) }
 {
     match request_by(config, entry) {
         Some(request) => match request_line(alloc, &request) {
             Ok(line) => Ok(line),
-            Err(_) => Err(Ending::NoMemory),
+            Err(_) => Err(ExitCause::NoMemory),
         },
         None => Err(without_token(entry.asker)),
     }
@@ -81,8 +81,8 @@ fn print_line<W: Write>(
     alloc: Global,
     out: &mut W,
     config: &Config,
-    entry: &Entry<'_>,
-) -> Result<(), Ending>
+    entry: &JournalEntry<'_>,
+) -> Result<(), ExitCause>
     ensures { OnOk result ((line : List ℕ) × IsLineOf (configuration config.now) (entry_of entry.now) line
         × Appends (W.contents out.old) (W.contents out.new) line) }
 {
@@ -99,8 +99,8 @@ fn print_lines<W: Write>(
     alloc: Global,
     out: &mut W,
     config: &Config,
-    entries: &[Entry<'_>],
-) -> Result<(), Ending> {
+    entries: &[JournalEntry<'_>],
+) -> Result<(), ExitCause> {
     for entry in entries {
         print_line(alloc, out, config, entry)?;
     }
@@ -129,15 +129,15 @@ fn print_script<W: Write>(
     text: &[u8],
     texts: &[Vec<u8>],
     extract: &Extract,
-) -> Result<(), Ending> {
+) -> Result<(), ExitCause> {
     let config = configuration_in(alloc, text)?;
     let all = match entries_in(alloc, 1, behind_head(texts)) {
         Ok(all) => all,
-        Err(fault) => return Err(Ending::Folder(fault)),
+        Err(fault) => return Err(ExitCause::Folder(fault)),
     };
-    let entries = match told(alloc, &all, extract) {
+    let entries = match extract_entries(alloc, &all, extract) {
         Ok(entries) => entries,
-        Err(_) => return Err(Ending::NoMemory),
+        Err(_) => return Err(ExitCause::NoMemory),
     };
     put(out, &first_line(alloc, text)?)?;
     print_lines(alloc, out, &config, &entries)
@@ -151,23 +151,23 @@ fn print_script<W: Write>(
 /// `Misconfigured`, `Folder`, `NotPrinted` or `NoMemory`. What was printed by then is a prefix of the script.
 pub fn audit<R: Files<File = File> + Print + AllocGlobal>(
     rt: &R,
-    asked: &Audit<'_>,
-) -> Result<(), Ending> {
+    asked: &AuditOptions<'_>,
+) -> Result<(), ExitCause> {
     let alloc = rt.alloc();
     let text = configuration_text(rt, alloc, asked.config)?;
     let bytes = journal_bytes(rt, alloc, asked.folder)?;
-    let survey = surveyed(alloc, &bytes)?;
-    startable(survey.whole, survey.ending)?;
+    let survey = survey_of(alloc, &bytes)?;
+    check_startable(survey.whole, survey.ending)?;
     let extract = Extract {
         until: asked.until,
         operator: asked.operator,
     };
     let Ok(mut out) = BufWriter::new(alloc, io::writer(rt)) else {
-        return Err(Ending::NoMemory);
+        return Err(ExitCause::NoMemory);
     };
     print_script(alloc, &mut out, &text, &survey.texts, &extract)?;
     match out.flush() {
         Ok(()) => Ok(()),
-        Err(_) => Err(Ending::NotPrinted),
+        Err(_) => Err(ExitCause::NotPrinted),
     }
 }

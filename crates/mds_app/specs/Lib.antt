@@ -1,5 +1,5 @@
-pub mod Badges
+pub mod OperatorNames
 pub mod Whoami
 pub mod Withdrawals
-pub mod Listed
+pub mod DraftList
 pub mod Laws

@@ -12,7 +12,7 @@ use std::alloc::{AllocError, Global};
 
 /// A success with this value as its body.
 #[tactic(auto, using(crate::proofs::OneLine::one_line))]
-pub(crate) fn told(alloc: Global, value: &Tree) -> Result<Reply, AllocError>
+pub(crate) fn json_reply(alloc: Global, value: &Tree) -> Result<Reply, AllocError>
     ensures { IfOk result (λ r. r ≡ told (view value.now)) }
 {
     let body = print_tree(alloc, value)?;
@@ -20,10 +20,10 @@ pub(crate) fn told(alloc: Global, value: &Tree) -> Result<Reply, AllocError>
 }
 
 /// A success with a list under this name: `{"name":[..]}`.
-pub(crate) fn told_list(alloc: Global, name: &str, trees: Vec<Tree>) -> Result<Reply, AllocError>
+pub(crate) fn list_reply(alloc: Global, name: &str, trees: Vec<Tree>) -> Result<Reply, AllocError>
     ensures { IfOk result (λ r. r ≡ told (object (members_of ((name.now, list_json (map view trees.items)) ∷ [])))) }
 {
     let mut members = Vec::new(alloc);
     add_member(&mut members, name, list_tree(trees))?;
-    told(alloc, &object_tree(members))
+    json_reply(alloc, &object_tree(members))
 }

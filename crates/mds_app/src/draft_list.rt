@@ -4,10 +4,10 @@ ghost use Rattle.std.specs.BTreeMap.{insert_entry, keys};
 ghost use Rattle.mds_text.specs.View.{view};
 ghost use Rattle.mds_drafts.specs.Drafts.{id_cmp};
 ghost use Rattle.mds_drafts.specs.Entries.{document_of, drafts_in};
-ghost use Rattle.mds_drafts.specs.Shelf.{drafts_of};
-ghost use Rattle.mds_app.specs.Listed.{drafts_reply, ids_of, kind_word, listed_json, own_id};
+ghost use Rattle.mds_drafts.specs.Values.{drafts_of};
+ghost use Rattle.mds_app.specs.DraftList.{drafts_reply, ids_of, kind_word, listed_json, own_id};
 
-use crate::bodies::told_list;
+use crate::bodies::list_reply;
 use mds_drafts::{Draft, Drafts};
 use mds_request::Reply;
 use mds_text::{DraftKind, Id, Tree, add_member, id_tree, object_tree, text_tree};
@@ -18,7 +18,7 @@ use std::collections::BTreeMap;
 type Ids = BTreeMap<Id, ()>;
 
 /// Inserts an identifier in its order.
-fn place(ids: &mut Ids, id: Id) -> Result<(), AllocError>
+fn insert_id(ids: &mut Ids, id: Id) -> Result<(), AllocError>
     ensures { OnOk result (ids.new.entries ≡ insert_entry id_cmp ids.old.entries id tt) }
 {
     match ids.insert(id, ()) {
@@ -28,7 +28,7 @@ fn place(ids: &mut Ids, id: Id) -> Result<(), AllocError>
 }
 
 /// The identifiers, in their order.
-fn in_order(alloc: Global, ids: &Ids) -> Result<Vec<Id>, AllocError>
+fn ids_in_order(alloc: Global, ids: &Ids) -> Result<Vec<Id>, AllocError>
     ensures { IfOk result (λ v. v.items ≡ keys ids.now) }
 {
     ids.keys().copied().collect(alloc)
@@ -54,10 +54,10 @@ fn ids_of(alloc: Global, drafts: &[Draft], kind: DraftKind) -> Result<Vec<Id>, A
     while left > 0 {
         left -= 1;
         if let Some(id) = own_id(&drafts[left], kind) {
-            place(&mut ids, id)?;
+            insert_id(&mut ids, id)?;
         }
     }
-    in_order(alloc, &ids)
+    ids_in_order(alloc, &ids)
 }
 
 /// The name of a kind.
@@ -71,7 +71,7 @@ fn kind_word(kind: DraftKind) -> &'static str
 }
 
 /// A draft, by its kind and identifier.
-fn listed_tree(alloc: Global, kind: DraftKind, id: Id) -> Result<Tree, AllocError>
+fn draft_tree(alloc: Global, kind: DraftKind, id: Id) -> Result<Tree, AllocError>
     ensures { IfOk result (λ t. view t ≡ listed_json kind id) }
 {
     let mut members = Vec::new(alloc);
@@ -81,7 +81,7 @@ fn listed_tree(alloc: Global, kind: DraftKind, id: Id) -> Result<Tree, AllocErro
 }
 
 /// Adds the drafts of a kind with these identifiers.
-fn push_listed(
+fn push_drafts(
     alloc: Global,
     trees: &mut Vec<Tree>,
     kind: DraftKind,
@@ -90,7 +90,7 @@ fn push_listed(
     ensures { OnOk result (map view trees.new.items ≡ map view trees.old.items ++ map (listed_json kind) ids.now) }
 {
     for id in ids {
-        let tree = listed_tree(alloc, kind, *id)?;
+        let tree = draft_tree(alloc, kind, *id)?;
         trees.push(tree)?;
     }
     Ok(())
@@ -101,13 +101,13 @@ fn push_listed(
 /// # Errors
 ///
 /// Out of memory.
-pub fn listed_drafts(alloc: Global, drafts: &Drafts) -> Result<Reply, AllocError>
+pub fn list_drafts(alloc: Global, drafts: &Drafts) -> Result<Reply, AllocError>
     ensures { IfOk result (λ r. r ≡ drafts_reply (drafts_of drafts.now)) }
 {
     let policies = ids_of(alloc, drafts.all(), DraftKind::Policy)?;
     let geographies = ids_of(alloc, drafts.all(), DraftKind::Geography)?;
     let mut trees = Vec::new(alloc);
-    push_listed(alloc, &mut trees, DraftKind::Policy, &policies)?;
-    push_listed(alloc, &mut trees, DraftKind::Geography, &geographies)?;
-    told_list(alloc, "drafts", trees)
+    push_drafts(alloc, &mut trees, DraftKind::Policy, &policies)?;
+    push_drafts(alloc, &mut trees, DraftKind::Geography, &geographies)?;
+    list_reply(alloc, "drafts", trees)
 }

@@ -1,11 +1,11 @@
 //! Who the client is.
 ghost use Rattle.std.specs.Prelude.{◌≡◌, ◌++◌, IfOk, OnOk, map, option_map, string_bytes};
 ghost use Rattle.mds_text.specs.View.{view, member_view};
-ghost use Rattle.mds_app.specs.Badges.{badge_view, badges_view};
+ghost use Rattle.mds_app.specs.OperatorNames.{badge_view, badges_view};
 ghost use Rattle.mds_app.specs.Whoami.{author_json, badge_json, badge_members, name_members, operator_json, role_members, told_operator, who_reply};
 
-use crate::badges::{Badge, Badges};
-use crate::bodies::told;
+use crate::operator_names::{OperatorName, OperatorNames};
+use crate::bodies::json_reply;
 use mds_request::{Actor, Code, Reply};
 use mds_text::{Member, Tree, add_member, id_tree, list_tree, object_tree, text_tree};
 use std::alloc::{AllocError, Global};
@@ -26,7 +26,7 @@ fn add_name(
 }
 
 /// An operator's identifier, and its name where it has one.
-fn badge_members(alloc: Global, badge: &Badge) -> Result<Vec<Member>, AllocError>
+fn operator_name_members(alloc: Global, badge: &OperatorName) -> Result<Vec<Member>, AllocError>
     ensures { IfOk result (λ v. map member_view v.items ≡ badge_members (badge_view badge.now)) }
 {
     let mut members = Vec::new(alloc);
@@ -49,21 +49,21 @@ fn add_role(
 }
 
 /// Each operator's identifier and name.
-fn badge_trees(alloc: Global, badges: &[Badge]) -> Result<Vec<Tree>, AllocError>
+fn operator_name_trees(alloc: Global, badges: &[OperatorName]) -> Result<Vec<Tree>, AllocError>
     ensures { IfOk result (λ v. map view v.items ≡ map badge_json (map badge_view badges.now)) }
 {
     let mut trees = Vec::with_capacity(alloc, badges.len())?;
     for badge in badges {
-        trees.push(object_tree(badge_members(alloc, badge)?))?;
+        trees.push(object_tree(operator_name_members(alloc, badge)?))?;
     }
     Ok(trees)
 }
 
 /// The author, with all operators.
-fn author_tree(alloc: Global, badges: &Badges) -> Result<Tree, AllocError>
+fn author_tree(alloc: Global, badges: &OperatorNames) -> Result<Tree, AllocError>
     ensures { IfOk result (λ t. view t ≡ author_json (badges_view badges.now)) }
 {
-    let trees = badge_trees(alloc, &badges.operators)?;
+    let trees = operator_name_trees(alloc, &badges.operators)?;
     let mut members = Vec::new(alloc);
     add_member(&mut members, "operators", list_tree(trees))?;
     add_role(alloc, &mut members, "author", badges.zone.as_str())?;
@@ -71,20 +71,20 @@ fn author_tree(alloc: Global, badges: &Badges) -> Result<Tree, AllocError>
 }
 
 /// An operator, for itself.
-fn operator_tree(alloc: Global, zone: &str, badge: &Badge) -> Result<Tree, AllocError>
+fn operator_tree(alloc: Global, zone: &str, badge: &OperatorName) -> Result<Tree, AllocError>
     ensures { IfOk result (λ t. view t ≡ operator_json zone.now (badge_view badge.now)) }
 {
-    let mut members = badge_members(alloc, badge)?;
+    let mut members = operator_name_members(alloc, badge)?;
     add_role(alloc, &mut members, "operator", zone)?;
     Ok(object_tree(members))
 }
 
 /// The reply to the operator with this identifier and name; a refusal where there is none.
-fn told_operator(alloc: Global, zone: &str, badge: Option<&Badge>) -> Result<Reply, AllocError>
+fn operator_reply(alloc: Global, zone: &str, badge: Option<&OperatorName>) -> Result<Reply, AllocError>
     ensures { IfOk result (λ r. r ≡ told_operator zone.now (option_map (λ b. badge_view b.now) badge.entry)) }
 {
     match badge {
-        Some(badge) => told(alloc, &operator_tree(alloc, zone, badge)?),
+        Some(badge) => json_reply(alloc, &operator_tree(alloc, zone, badge)?),
         None => Ok(Reply::from(Code::Token)),
     }
 }
@@ -95,13 +95,13 @@ fn told_operator(alloc: Global, zone: &str, badge: Option<&Badge>) -> Result<Rep
 /// # Errors
 ///
 /// Out of memory.
-pub fn whoami(alloc: Global, badges: &Badges, asker: Actor) -> Result<Reply, AllocError>
+pub fn whoami(alloc: Global, badges: &OperatorNames, asker: Actor) -> Result<Reply, AllocError>
     ensures { IfOk result (λ r. r ≡ who_reply (badges_view badges.now) asker) }
 {
     match asker {
-        Actor::Author => told(alloc, &author_tree(alloc, badges)?),
+        Actor::Author => json_reply(alloc, &author_tree(alloc, badges)?),
         Actor::Operator(place) => {
-            told_operator(alloc, badges.zone.as_str(), badges.operators.get(place))
+            operator_reply(alloc, badges.zone.as_str(), badges.operators.get(place))
         }
         Actor::Nobody => Ok(Reply::from(Code::Token)),
     }

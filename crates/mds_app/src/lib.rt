@@ -1,14 +1,14 @@
 //! Answers for people, outside the protocol: who the client is, which policies are withdrawn, which drafts are held.
 #![tactic(auto)]
 
-mod asker;
-mod badges;
+mod identity;
+mod operator_names;
 mod bodies;
 pub mod laws;
-mod listed;
-mod withdrawn;
+mod draft_list;
+mod withdrawal;
 
-pub use asker::whoami;
-pub use badges::{Badge, Badges, MOST_NAME};
-pub use listed::listed_drafts;
-pub use withdrawn::withdrawals;
+pub use identity::whoami;
+pub use operator_names::{OperatorName, OperatorNames, MOST_NAME};
+pub use draft_list::list_drafts;
+pub use withdrawal::withdrawals;

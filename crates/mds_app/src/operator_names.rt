@@ -3,10 +3,10 @@ ghost use Rattle.std.specs.Prelude.{◌≡◌, IfSome, map, option_and_then, opt
 ghost use Rattle.mds_text.specs.Fault.{Gives, text_cause};
 ghost use Rattle.mds_text.specs.Fields.{each};
 ghost use Rattle.mds_reading.specs.Node.{node_view};
-ghost use Rattle.mds_app.specs.Badges.{as_name, badge_of, badge_view, badges_of, badges_view, name_at, read_badges};
+ghost use Rattle.mds_app.specs.OperatorNames.{as_name, badge_of, badge_view, badges_of, badges_view, name_at, read_badges};
 
 use mds_reading::{
-    Node, Source, document_of, member_at, object_of, required_id, required_list, required_text,
+    Node, NodeBuffer, document_of, member_at, object_of, required_id, required_list, required_text,
 };
 use mds_text::{Field, Id, TextFault};
 use std::alloc::{AllocError, Global};
@@ -16,7 +16,7 @@ pub const MOST_NAME: usize = 256;
 
 /// An operator's identifier and name.
 #[derive(Drop)]
-pub struct Badge {
+pub struct OperatorName {
     pub id: Id,
     /// The operator's name, where the configuration gives one: at most `MOST_NAME` bytes.
     pub name: Option<String>,
@@ -24,12 +24,12 @@ pub struct Badge {
 
 /// The operators' identifiers and names, in the configuration's order, and the zone as it is written.
 #[derive(Drop)]
-pub struct Badges {
-    pub(crate) operators: Vec<Badge>,
+pub struct OperatorNames {
+    pub(crate) operators: Vec<OperatorName>,
     pub(crate) zone: String,
 }
 
-impl Badges {
+impl OperatorNames {
     /// Reads a configuration's text: of each operator its `id` and its `name`, and the `zone`. A name is a text of at
     /// most 256 bytes; any other value of that member is ignored. The text of each `mds_request::Config` can be read
     /// so.
@@ -37,43 +37,43 @@ impl Badges {
     /// # Errors
     ///
     /// The text is no JSON object with such operators and a zone; `NoMemory`.
-    pub fn read(alloc: Global, text: &[u8]) -> Result<Badges, TextFault>
+    pub fn read(alloc: Global, text: &[u8]) -> Result<OperatorNames, TextFault>
         ensures { Gives text_cause badges_view result (read_badges text.now) }
     {
-        let mut source = Source::new(alloc);
+        let mut source = NodeBuffer::new(alloc);
         let tree = source.read(alloc, text)?;
-        badges_of(alloc, &tree)
+        operator_names_of(alloc, &tree)
     }
 }
 
-fn badges_of(alloc: Global, tree: &Node<'_>) -> Result<Badges, TextFault>
+fn operator_names_of(alloc: Global, tree: &Node<'_>) -> Result<OperatorNames, TextFault>
     ensures { Gives text_cause badges_view result (badges_of (node_view tree.now)) }
 {
     let document = document_of(tree)?;
     let list = required_list(alloc, document, Field::Operators)?;
-    let operators = badges_in(alloc, list.as_slice())?;
+    let operators = operator_names_in(alloc, list.as_slice())?;
     let zone = String::from_str(alloc, required_text(document, Field::Zone)?)?;
-    Ok(Badges { operators, zone })
+    Ok(OperatorNames { operators, zone })
 }
 
 /// Each operator's identifier and name, in their order, up to the first fault.
-fn badges_in(alloc: Global, entries: &[Node<'_>]) -> Result<Vec<Badge>, TextFault>
+fn operator_names_in(alloc: Global, entries: &[Node<'_>]) -> Result<Vec<OperatorName>, TextFault>
     ensures { Gives text_cause (λ v. map badge_view v.items) result (each badge_of (map node_view entries.now)) }
 {
     let mut badges = Vec::with_capacity(alloc, entries.len())?;
     for entry in entries {
-        badges.push(badge_of(alloc, entry)?)?;
+        badges.push(operator_name_of(alloc, entry)?)?;
     }
     Ok(badges)
 }
 
-fn badge_of(alloc: Global, value: &Node<'_>) -> Result<Badge, TextFault>
+fn operator_name_of(alloc: Global, value: &Node<'_>) -> Result<OperatorName, TextFault>
     ensures { Gives text_cause badge_view result (badge_of (node_view value.now)) }
 {
     let entry = object_of(value, Field::Operators)?;
     let id = required_id(entry, Field::Id)?;
     let name = name_at(alloc, entry)?;
-    Ok(Badge { id, name })
+    Ok(OperatorName { id, name })
 }
 
 /// The name of an operator, where it has one.

@@ -5,7 +5,7 @@ ghost use Rattle.std.specs.List.{filter_map};
 ghost use Rattle.mds_catalog.specs.Catalogue.{lent_policy, publications_of};
 ghost use Rattle.mds_app.specs.Withdrawals.{withdrawal_json, withdrawal_of, withdrawals_reply, withdrawn_from};
 
-use crate::bodies::told_list;
+use crate::bodies::list_reply;
 use mds_catalog::{Catalogue, Published};
 use mds_policy::Policy;
 use mds_request::Reply;
@@ -13,10 +13,10 @@ use mds_text::{Id, Moment, Tree, add_member, id_tree, int_tree, object_tree};
 use std::alloc::{AllocError, Global};
 
 /// From when on a policy of this identifier is withdrawn.
-fn withdrawn_from(catalogue: &Catalogue, id: Id) -> Option<Moment>
+fn withdrawal_moment(catalogue: &Catalogue, id: Id) -> Option<Moment>
     ensures { result ≡ withdrawn_from (publications_of catalogue.now) id }
 {
-    catalogue.withdrawn_from(id)
+    catalogue.withdrawal_moment(id)
 }
 
 /// A policy that is withdrawn from this moment on.
@@ -57,7 +57,7 @@ fn withdrawal_trees(
     let mut trees = Vec::new(alloc);
     for policy in policies {
         let id = policy.document.id();
-        push_withdrawal(alloc, &mut trees, id, withdrawn_from(catalogue, id))?;
+        push_withdrawal(alloc, &mut trees, id, withdrawal_moment(catalogue, id))?;
     }
     Ok(trees)
 }
@@ -77,5 +77,5 @@ pub fn withdrawals(
 {
     let policies = catalogue.policies(alloc, operator)?;
     let trees = withdrawal_trees(alloc, catalogue, &policies)?;
-    told_list(alloc, "withdrawals", trees)
+    list_reply(alloc, "withdrawals", trees)
 }

@@ -16,11 +16,11 @@ use Rattle.mds_geography.specs.declared.geography.Geography as program'
 use Rattle.mds_policy.specs.Policy.{Policy, policy_document}
 use Rattle.mds_geography.specs.Geography.{Geography, geography_document}
 use Rattle.mds_catalog.specs.declared.batch.Batch.{Batch}
-use Rattle.mds_catalog.specs.declared.entries.Entry.{Entry}
-use Rattle.mds_catalog.specs.declared.spots.Spot.{Spot}
+use Rattle.mds_catalog.specs.declared.entries.PolicyEntry.{PolicyEntry}
+use Rattle.mds_catalog.specs.declared.spots.DocumentSpot.{DocumentSpot}
 use Rattle.mds_catalog.specs.Publication.{Publication, publication_of, publications_in, dated, published_policies, published_geographies, policy_ids, geography_ids, is_among, is_superseded, is_withdrawn, is_policy_published, supersedes, missing_predecessor, first_unpublished, fits, is_lawful}
 use Rattle.mds_catalog.specs.Listed.{Ascends, Lists, has, spots_from, spots_in}
-use Rattle.mds_catalog.specs.Kept.{after_successors, after_withdrawal, fresh, IsKept}
+use Rattle.mds_catalog.specs.Index.{after_successors, after_withdrawal, fresh, IsKept}
 use Rattle.mds_catalog.proofs.Found.{publications_push, length-published_policies-push, length-published_geographies-push, fits_all, lawful_fits}
 use Rattle.mds_catalog.proofs.Marked.{entry, is_come, successors_ascend, successors_stay, successors_supersede, successors_withdraw, length-after_successors, withdrawal_ascends, withdrawal_stays, withdrawal_superseded, withdrawal_withdraws, fresh_come, fresh_spots, old_there, some_of}
 use Rattle.mds_catalog.proofs.Places.{length-spots_from, spots_in_push, nowhere_in}
@@ -46,10 +46,10 @@ all_there p (x ∷ xs) id none among =
     ] refl none
 
 -- a published policy has an entry
-has_entry : (ps : List Publication) (es : List Entry) (id : List ℕ) → option_map (λ (e : Entry). e.spot) (entry es id) ≡ find (has (λ (s : Spot). s.id) id) (spots_in policy_ids 0 ps) → is_policy_published ps id ≡ true → is_some (entry es id) ≡ true
+has_entry : (ps : List Publication) (es : List PolicyEntry) (id : List ℕ) → option_map (λ (e : PolicyEntry). e.spot) (entry es id) ≡ find (has (λ (s : DocumentSpot). s.id) id) (spots_in policy_ids 0 ps) → is_policy_published ps id ≡ true → is_some (entry es id) ≡ true
 has_entry ps es id found published =
-    sym (some_of (λ (e : Entry). e.spot) (entry es id)) ∙ ap is_some found
-    ∙ elim (find (has (λ (s : Spot). s.id) id) (spots_in policy_ids 0 ps)) as (λ o. find (has (λ (s : Spot). s.id) id) (spots_in policy_ids 0 ps) ≡ o → is_some o ≡ true) [
+    sym (some_of (λ (e : PolicyEntry). e.spot) (entry es id)) ∙ ap is_some found
+    ∙ elim (find (has (λ (s : DocumentSpot). s.id) id) (spots_in policy_ids 0 ps)) as (λ o. find (has (λ (s : DocumentSpot). s.id) id) (spots_in policy_ids 0 ps) ≡ o → is_some o ≡ true) [
       | Some s ↦ λ is. refl
       | None ↦ λ is. absurd (false≢true (sym (ap is_some (nowhere_in (λ (d : Policy). d.id) id (λ (p : Publication). p.policies) 0 ps is)) ∙ published))
     ] refl
@@ -68,16 +68,16 @@ withdrawn_push ps p t id =
     ∙ ap (λ b. is_withdrawn ps t id || b) (or-false (nat_le p.moment t && is_among p.withdrawn id))
 
 -- the spots of a kind with one more publication
-spots_push : (ids : Publication → List (List ℕ)) (ps : List Publication) (p : Publication) (number : ℕ) (id : List ℕ) → number ≡ length ps → option_or (find (has (λ (s : Spot). s.id) id) (spots_in ids 0 ps)) (find (has (λ (s : Spot). s.id) id) (spots_from number 0 (ids p))) ≡ find (has (λ (s : Spot). s.id) id) (spots_in ids 0 (ps ++ p ∷ []))
+spots_push : (ids : Publication → List (List ℕ)) (ps : List Publication) (p : Publication) (number : ℕ) (id : List ℕ) → number ≡ length ps → option_or (find (has (λ (s : DocumentSpot). s.id) id) (spots_in ids 0 ps)) (find (has (λ (s : DocumentSpot). s.id) id) (spots_from number 0 (ids p))) ≡ find (has (λ (s : DocumentSpot). s.id) id) (spots_in ids 0 (ps ++ p ∷ []))
 spots_push ids ps p number id is =
-    ap (λ n. option_or (find (has (λ (s : Spot). s.id) id) (spots_in ids 0 ps)) (find (has (λ (s : Spot). s.id) id) (spots_from n 0 (ids p)))) (omega (arith, is))
-    ∙ sym (find-append (has (λ (s : Spot). s.id) id) (spots_in ids 0 ps) (spots_from (0 + length ps) 0 (ids p)))
-    ∙ ap (find (has (λ (s : Spot). s.id) id)) (sym (spots_in_push ids 0 ps p))
+    ap (λ n. option_or (find (has (λ (s : DocumentSpot). s.id) id) (spots_in ids 0 ps)) (find (has (λ (s : DocumentSpot). s.id) id) (spots_from n 0 (ids p)))) (omega (arith, is))
+    ∙ sym (find-append (has (λ (s : DocumentSpot). s.id) id) (spots_in ids 0 ps) (spots_from (0 + length ps) 0 (ids p)))
+    ∙ ap (find (has (λ (s : DocumentSpot). s.id) id)) (sym (spots_in_push ids 0 ps p))
 
-module _ (batches : List (Arc Batch Global)) (share : Arc Batch Global) (old listed made : List Entry) (spots spots' : List Spot) (policy_count geography_count number : ℕ)
+module _ (batches : List (Arc Batch Global)) (share : Arc Batch Global) (old listed made : List PolicyEntry) (spots spots' : List DocumentSpot) (policy_count geography_count number : ℕ)
     (kept : IsKept (publications_in batches) old spots policy_count geography_count) (lawful : is_lawful (publications_in batches) (publication_of share.value) ≡ true) (numbered : number ≡ length batches)
-    (geographies : Lists (λ (s : Spot). s.id) spots spots' (spots_from number 0 (map (λ (g : Arc program'.Geography Global). (geography_document g.value).id) share.value.geographies.items)))
-    (policies : Lists (λ (e : Entry). e.spot.id) old listed (map fresh (spots_from number 0 (map (λ (q : Arc program.Policy Global). (policy_document q.value).id) share.value.policies.items))))
+    (geographies : Lists (λ (s : DocumentSpot). s.id) spots spots' (spots_from number 0 (map (λ (g : Arc program'.Geography Global). (geography_document g.value).id) share.value.geographies.items)))
+    (policies : Lists (λ (e : PolicyEntry). e.spot.id) old listed (map fresh (spots_from number 0 (map (λ (q : Arc program.Policy Global). (policy_document q.value).id) share.value.policies.items))))
     (is_made : made ≡ map (after_withdrawal share.value.moment share.value.withdrawn.items) (after_successors share.value.moment (map (λ (q : Arc program.Policy Global). policy_document q.value) share.value.policies.items) listed)) where
   abbrev ps : List Publication
   ps = publications_in batches
@@ -85,7 +85,7 @@ module _ (batches : List (Arc Batch Global)) (share : Arc Batch Global) (old lis
   abbrev p : Publication
   p = publication_of share.value
 
-  abbrev after : List Entry
+  abbrev after : List PolicyEntry
   after = after_successors p.moment p.policies listed
 
   count : number ≡ length ps
@@ -112,22 +112,22 @@ module _ (batches : List (Arc Batch Global)) (share : Arc Batch Global) (old lis
 
   there_after : (id : List ℕ) → is_some (entry listed id) ≡ true → is_some (entry after id) ≡ true
   there_after id there =
-      sym (some_of (λ (e : Entry). e.spot) (entry after id)) ∙ ap is_some (successors_stay p.moment p.policies listed id) ∙ some_of (λ (e : Entry). e.spot) (entry listed id) ∙ there
+      sym (some_of (λ (e : PolicyEntry). e.spot) (entry after id)) ∙ ap is_some (successors_stay p.moment p.policies listed id) ∙ some_of (λ (e : PolicyEntry). e.spot) (entry listed id) ∙ there
 
-  found : (id : List ℕ) → option_map (λ (e : Entry). e.spot) (entry made id) ≡ find (has (λ (s : Spot). s.id) id) (spots_in policy_ids 0 (ps ++ p ∷ []))
+  found : (id : List ℕ) → option_map (λ (e : PolicyEntry). e.spot) (entry made id) ≡ find (has (λ (s : DocumentSpot). s.id) id) (spots_in policy_ids 0 (ps ++ p ∷ []))
   found id =
-      ap (λ es. option_map (λ (e : Entry). e.spot) (entry es id)) is_made
+      ap (λ es. option_map (λ (e : PolicyEntry). e.spot) (entry es id)) is_made
       ∙ withdrawal_stays p.moment p.withdrawn after id ∙ successors_stay p.moment p.policies listed id
       ∙ fresh_spots old listed (spots_from number 0 _) policies id
-      ∙ ap (λ names. option_or (option_map (λ (e : Entry). e.spot) (entry old id)) (find (has (λ (s : Spot). s.id) id) (spots_from number 0 names))) policy_names
-      ∙ ap (λ o. option_or o (find (has (λ (s : Spot). s.id) id) (spots_from number 0 (policy_ids p)))) (kept.policies_found id)
+      ∙ ap (λ names. option_or (option_map (λ (e : PolicyEntry). e.spot) (entry old id)) (find (has (λ (s : DocumentSpot). s.id) id) (spots_from number 0 names))) policy_names
+      ∙ ap (λ o. option_or o (find (has (λ (s : DocumentSpot). s.id) id) (spots_from number 0 (policy_ids p)))) (kept.policies_found id)
       ∙ spots_push policy_ids ps p number id count
 
-  found_geography : (id : List ℕ) → find (has (λ (s : Spot). s.id) id) spots' ≡ find (has (λ (s : Spot). s.id) id) (spots_in geography_ids 0 (ps ++ p ∷ []))
+  found_geography : (id : List ℕ) → find (has (λ (s : DocumentSpot). s.id) id) spots' ≡ find (has (λ (s : DocumentSpot). s.id) id) (spots_in geography_ids 0 (ps ++ p ∷ []))
   found_geography id =
       geographies.found id
-      ∙ ap (λ names. option_or (find (has (λ (s : Spot). s.id) id) spots) (find (has (λ (s : Spot). s.id) id) (spots_from number 0 names))) geography_names
-      ∙ ap (λ o. option_or o (find (has (λ (s : Spot). s.id) id) (spots_from number 0 (geography_ids p)))) (kept.geographies_found id)
+      ∙ ap (λ names. option_or (find (has (λ (s : DocumentSpot). s.id) id) spots) (find (has (λ (s : DocumentSpot). s.id) id) (spots_from number 0 names))) geography_names
+      ∙ ap (λ o. option_or o (find (has (λ (s : DocumentSpot). s.id) id) (spots_from number 0 (geography_ids p)))) (kept.geographies_found id)
       ∙ spots_push geography_ids ps p number id count
 
   superseded : (t : ℕ) (id : List ℕ) → is_come (λ e. e.superseded) made t id ≡ is_superseded (ps ++ p ∷ []) t id
@@ -179,12 +179,12 @@ module _ (batches : List (Arc Batch Global)) (share : Arc Batch Global) (old lis
       let pn = length-map share.value.policies.items (λ (q : Arc program.Policy Global). policy_document q.value) in
       let gn = length-map share.value.geographies.items (λ (g : Arc program'.Geography Global). geography_document g.value) in
       record {
-        policies_ascend = subst (Ascends (λ (e : Entry). e.spot.id)) (sym is_made) (withdrawal_ascends p.moment p.withdrawn after (successors_ascend p.moment p.policies listed policies.ascends));
-        policies_found = λ id. found id ∙ ap (λ qs. find (has (λ (s : Spot). s.id) id) (spots_in policy_ids 0 qs)) (sym all);
+        policies_ascend = subst (Ascends (λ (e : PolicyEntry). e.spot.id)) (sym is_made) (withdrawal_ascends p.moment p.withdrawn after (successors_ascend p.moment p.policies listed policies.ascends));
+        policies_found = λ id. found id ∙ ap (λ qs. find (has (λ (s : DocumentSpot). s.id) id) (spots_in policy_ids 0 qs)) (sym all);
         superseded = λ t id. superseded t id ∙ ap (λ qs. is_superseded qs t id) (sym all);
         withdrawn = λ t id. withdrawn t id ∙ ap (λ qs. is_withdrawn qs t id) (sym all);
         geographies_ascend = geographies.ascends;
-        geographies_found = λ id. found_geography id ∙ ap (λ qs. find (has (λ (s : Spot). s.id) id) (spots_in geography_ids 0 qs)) (sym all);
+        geographies_found = λ id. found_geography id ∙ ap (λ qs. find (has (λ (s : DocumentSpot). s.id) id) (spots_in geography_ids 0 qs)) (sym all);
         policies_counted = omega (arith, kept.policies_counted, ns, pn, length-published_policies-push ps p, ap (λ qs. length (published_policies qs)) all);
         geographies_counted = omega (arith, kept.geographies_counted, ms, gn, length-published_geographies-push ps p, ap (λ qs. length (published_geographies qs)) all);
         few_policies = omega (arith, made_length, kept.few_policies, ns);

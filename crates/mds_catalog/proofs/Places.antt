@@ -4,7 +4,7 @@ use Rattle.std.specs.Option.{option_or, option_map, option_map_or}
 use Rattle.std.specs.List.{flat_map}
 use Rattle.std.proofs.lemmas.List.{length-map, length-take-le, append-nil, append_assoc, map_more}
 use Rattle.std.proofs.lemmas.List.Folds.{find-append}
-use Rattle.mds_catalog.specs.declared.spots.Spot.{Spot}
+use Rattle.mds_catalog.specs.declared.spots.DocumentSpot.{DocumentSpot}
 use Rattle.std.proofs.Math.ListN.{get_or-map}
 use Rattle.std.specs.declared.sync.Arc.{Arc}
 use Rattle.std.specs.declared.alloc.Global.{Global}
@@ -40,21 +40,21 @@ spots_in_push ids batch (q ∷ ps) p =
 
 module _ {A : Type 0} (id : A → List ℕ) (key : List ℕ) where
   -- the document of a batch that a spot refers to
-  record Stands (batch place : ℕ) (ds : List A) (s : Spot) : Type 0 where
+  record Stands (batch place : ℕ) (ds : List A) (s : DocumentSpot) : Type 0 where
     pub at : ℕ
     pub in_batch : s.batch ≡ batch
     pub is_place : s.place ≡ place + at
     pub within : at < length ds
     pub is : (d : A) → find (has id key) ds ≡ Some (get_or ds at d)
 
-  stands : (batch place : ℕ) (ds : List A) (s : Spot) → find (has (λ (s : Spot). s.id) key) (spots_from batch place (map id ds)) ≡ Some s → Stands batch place ds s
+  stands : (batch place : ℕ) (ds : List A) (s : DocumentSpot) → find (has (λ (s : DocumentSpot). s.id) key) (spots_from batch place (map id ds)) ≡ Some s → Stands batch place ds s
   stands batch place [] s is = absurd (cc)
   stands batch place (d ∷ ds) s is =
-      elim (bytes_eq (id d) key) as (λ b. bytes_eq (id d) key ≡ b → cond b (Some (record { id = id d; batch = batch; place = place })) (find (has (λ (s : Spot). s.id) key) (spots_from batch (place + 1) (map id ds))) ≡ Some s → Stands batch place (d ∷ ds) s) [
+      elim (bytes_eq (id d) key) as (λ b. bytes_eq (id d) key ≡ b → cond b (Some (record { id = id d; batch = batch; place = place })) (find (has (λ (s : DocumentSpot). s.id) key) (spots_from batch (place + 1) (map id ds))) ≡ Some s → Stands batch place (d ∷ ds) s) [
         | true ↦ λ same e. record {
           at = 0;
-          in_batch = ap (λ o. option_map_or (λ (s : Spot). s.batch) o batch) (sym e);
-          is_place = ap (λ o. option_map_or (λ (s : Spot). s.place) o place) (sym e) ∙ omega arith;
+          in_batch = ap (λ o. option_map_or (λ (s : DocumentSpot). s.batch) o batch) (sym e);
+          is_place = ap (λ o. option_map_or (λ (s : DocumentSpot). s.place) o place) (sym e) ∙ omega arith;
           within = omega arith;
           is = λ x. first id key d ds same;
         }
@@ -69,10 +69,10 @@ module _ {A : Type 0} (id : A → List ℕ) (key : List ℕ) where
             }
       ] refl is
 
-  nowhere : (batch place : ℕ) (ds : List A) → find (has (λ (s : Spot). s.id) key) (spots_from batch place (map id ds)) ≡ None → find (has id key) ds ≡ None
+  nowhere : (batch place : ℕ) (ds : List A) → find (has (λ (s : DocumentSpot). s.id) key) (spots_from batch place (map id ds)) ≡ None → find (has id key) ds ≡ None
   nowhere batch place [] is = refl
   nowhere batch place (d ∷ ds) is =
-      elim (bytes_eq (id d) key) as (λ b. bytes_eq (id d) key ≡ b → cond b (Some (record { id = id d; batch = batch; place = place })) (find (has (λ (s : Spot). s.id) key) (spots_from batch (place + 1) (map id ds))) ≡ None → find (has id key) (d ∷ ds) ≡ None) [
+      elim (bytes_eq (id d) key) as (λ b. bytes_eq (id d) key ≡ b → cond b (Some (record { id = id d; batch = batch; place = place })) (find (has (λ (s : DocumentSpot). s.id) key) (spots_from batch (place + 1) (map id ds))) ≡ None → find (has id key) (d ∷ ds) ≡ None) [
         | true ↦ λ same e. absurd (cc)
         | false ↦ λ other e. next id key d ds other ∙ nowhere batch (place + 1) ds e
       ] refl is
@@ -81,18 +81,18 @@ module _ {A : Type 0} (id : A → List ℕ) (key : List ℕ) where
     abbrev published : List Publication → List (Published A)
     published ps = flat_map (λ p. map (dated p.moment) (documents p)) ps
 
-    abbrev spots : ℕ → List Publication → List Spot
+    abbrev spots : ℕ → List Publication → List DocumentSpot
     spots batch ps = spots_in (λ p. map id (documents p)) batch ps
 
     -- the published document that a spot refers to
-    pub record StandsIn (batch : ℕ) (ps : List Publication) (s : Spot) : Type 0 where
+    pub record StandsIn (batch : ℕ) (ps : List Publication) (s : DocumentSpot) : Type 0 where
       pub at : ℕ
       pub is_batch : s.batch ≡ batch + at
       pub within : at < length ps
       pub place : (p : Publication) → s.place < length (documents (get_or ps at p))
       pub is : (p : Publication) (d : A) → find (λ q. bytes_eq (id q.document) key) (published ps) ≡ Some (dated (get_or ps at p).moment (get_or (documents (get_or ps at p)) s.place d))
 
-    in_first : (batch : ℕ) (p : Publication) (ps : List Publication) (s : Spot) → Stands batch 0 (documents p) s → StandsIn batch (p ∷ ps) s
+    in_first : (batch : ℕ) (p : Publication) (ps : List Publication) (s : DocumentSpot) → Stands batch 0 (documents p) s → StandsIn batch (p ∷ ps) s
     in_first batch p ps s r = record {
       at = 0;
       is_batch = r.in_batch ∙ omega arith;
@@ -107,7 +107,7 @@ module _ {A : Type 0} (id : A → List ℕ) (key : List ℕ) where
     none_first p ps none =
         find_late (λ q. bytes_eq (id q.document) key) (map (dated p.moment) (documents p)) (published ps) (find-dated (has id key) p.moment (documents p) ∙ ap (option_map (dated p.moment)) none)
 
-    in_rest : (batch : ℕ) (p : Publication) (ps : List Publication) (s : Spot) → find (has id key) (documents p) ≡ None → StandsIn (batch + 1) ps s → StandsIn batch (p ∷ ps) s
+    in_rest : (batch : ℕ) (p : Publication) (ps : List Publication) (s : DocumentSpot) → find (has id key) (documents p) ≡ None → StandsIn (batch + 1) ps s → StandsIn batch (p ∷ ps) s
     in_rest batch p ps s none r = record {
       at = suc r.at;
       is_batch = omega (arith, r.is_batch);
@@ -116,24 +116,24 @@ module _ {A : Type 0} (id : A → List ℕ) (key : List ℕ) where
       is = λ q d. none_first p ps none ∙ r.is q d;
     }
 
-    pub stands_in : (batch : ℕ) (ps : List Publication) (s : Spot) → find (has (λ (s : Spot). s.id) key) (spots batch ps) ≡ Some s → StandsIn batch ps s
+    pub stands_in : (batch : ℕ) (ps : List Publication) (s : DocumentSpot) → find (has (λ (s : DocumentSpot). s.id) key) (spots batch ps) ≡ Some s → StandsIn batch ps s
     stands_in batch [] s is = absurd (cc)
     stands_in batch (p ∷ ps) s is =
-        elim (find (has (λ (s : Spot). s.id) key) (spots_from batch 0 (map id (documents p)))) as (λ o. find (has (λ (s : Spot). s.id) key) (spots_from batch 0 (map id (documents p))) ≡ o → option_or o (find (has (λ (s : Spot). s.id) key) (spots (batch + 1) ps)) ≡ Some s → StandsIn batch (p ∷ ps) s) [
+        elim (find (has (λ (s : DocumentSpot). s.id) key) (spots_from batch 0 (map id (documents p)))) as (λ o. find (has (λ (s : DocumentSpot). s.id) key) (spots_from batch 0 (map id (documents p))) ≡ o → option_or o (find (has (λ (s : DocumentSpot). s.id) key) (spots (batch + 1) ps)) ≡ Some s → StandsIn batch (p ∷ ps) s) [
           | Some s' ↦ λ here e. in_first batch p ps s (stands batch 0 (documents p) s (here ∙ e))
           | None ↦ λ here e. in_rest batch p ps s (nowhere batch 0 (documents p) here) (stands_in (batch + 1) ps s e)
-        ] refl (sym (find-append (has (λ (s : Spot). s.id) key) (spots_from batch 0 (map id (documents p))) (spots (batch + 1) ps)) ∙ is)
+        ] refl (sym (find-append (has (λ (s : DocumentSpot). s.id) key) (spots_from batch 0 (map id (documents p))) (spots (batch + 1) ps)) ∙ is)
 
-    pub nowhere_in : (batch : ℕ) (ps : List Publication) → find (has (λ (s : Spot). s.id) key) (spots batch ps) ≡ None → find (λ q. bytes_eq (id q.document) key) (published ps) ≡ None
+    pub nowhere_in : (batch : ℕ) (ps : List Publication) → find (has (λ (s : DocumentSpot). s.id) key) (spots batch ps) ≡ None → find (λ q. bytes_eq (id q.document) key) (published ps) ≡ None
     nowhere_in batch [] is = refl
     nowhere_in batch (p ∷ ps) is =
-        elim (find (has (λ (s : Spot). s.id) key) (spots_from batch 0 (map id (documents p)))) as (λ o. find (has (λ (s : Spot). s.id) key) (spots_from batch 0 (map id (documents p))) ≡ o → option_or o (find (has (λ (s : Spot). s.id) key) (spots (batch + 1) ps)) ≡ None → find (λ q. bytes_eq (id q.document) key) (published (p ∷ ps)) ≡ None) [
+        elim (find (has (λ (s : DocumentSpot). s.id) key) (spots_from batch 0 (map id (documents p)))) as (λ o. find (has (λ (s : DocumentSpot). s.id) key) (spots_from batch 0 (map id (documents p))) ≡ o → option_or o (find (has (λ (s : DocumentSpot). s.id) key) (spots (batch + 1) ps)) ≡ None → find (λ q. bytes_eq (id q.document) key) (published (p ∷ ps)) ≡ None) [
           | Some s' ↦ λ here e. absurd (cc)
           | None ↦ λ here e. none_first p ps (nowhere batch 0 (documents p) here) ∙ nowhere_in (batch + 1) ps e
-        ] refl (sym (find-append (has (λ (s : Spot). s.id) key) (spots_from batch 0 (map id (documents p))) (spots (batch + 1) ps)) ∙ is)
+        ] refl (sym (find-append (has (λ (s : DocumentSpot). s.id) key) (spots_from batch 0 (map id (documents p))) (spots (batch + 1) ps)) ∙ is)
 
     -- the published document that a spot of shared batches refers to, seen from its batch
-    pub placed : (batches : List (Arc Batch Global)) (s : Spot) (x : Arc Batch Global) → x ≡ get_or batches s.batch x → find (has (λ (s : Spot). s.id) key) (spots 0 (publications_in batches)) ≡ Some s
+    pub placed : (batches : List (Arc Batch Global)) (s : DocumentSpot) (x : Arc Batch Global) → x ≡ get_or batches s.batch x → find (has (λ (s : DocumentSpot). s.id) key) (spots 0 (publications_in batches)) ≡ Some s
         → record {
           place : s.place < length (documents (publication_of x.value));
           is : (d : A) → find (λ q. bytes_eq (id q.document) key) (published (publications_in batches)) ≡ Some (dated x.value.moment (get_or (documents (publication_of x.value)) s.place d));
@@ -147,7 +147,7 @@ module _ {A : Type 0} (id : A → List ℕ) (key : List ℕ) where
           is = λ d. st.is (publication_of x.value) d ∙ ap (λ q. Some (dated q.moment (get_or (documents q) s.place d))) here;
         }
 
-    pub within : (batches : List (Arc Batch Global)) (s : Spot) → find (has (λ (s : Spot). s.id) key) (spots 0 (publications_in batches)) ≡ Some s → s.batch < length batches
+    pub within : (batches : List (Arc Batch Global)) (s : DocumentSpot) → find (has (λ (s : DocumentSpot). s.id) key) (spots 0 (publications_in batches)) ≡ Some s → s.batch < length batches
     within batches s found =
         let st = stands_in 0 (publications_in batches) s found in
         omega (arith, st.is_batch, st.within, length-map batches (λ (y : Arc Batch Global). publication_of y.value))

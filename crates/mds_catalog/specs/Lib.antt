@@ -1,5 +1,5 @@
 pub mod Catalogue
-pub mod Kept
+pub mod Index
 pub mod Laws
 pub mod Listed
 pub mod Publication

@@ -5,7 +5,7 @@ use Rattle.std.specs.Ordering.{nat_cmp}
 use Rattle.std.specs.Cmp.Lexicographic.{slice_cmp}
 use Rattle.std.specs.declared.cmp.Ordering.{Ordering}
 use Rattle.std.specs.declared.cmp.Ordering.TheVariants.{Less, Greater}
-use Rattle.mds_catalog.specs.declared.spots.Spot.{Spot}
+use Rattle.mds_catalog.specs.declared.spots.DocumentSpot.{DocumentSpot}
 use Rattle.mds_catalog.specs.Publication.{Publication}
 
 -- identifiers in the order of their bytes
@@ -39,11 +39,11 @@ pub record Lists {A : Type 0} (id : A → List ℕ) (old new more : List A) : Ty
   pub few : length new ≤ length old + length more
 
 -- where the documents with these identifiers are in a batch, from an index on
-abbrev pub spots_from : ℕ → ℕ → List (List ℕ) → List Spot
+abbrev pub spots_from : ℕ → ℕ → List (List ℕ) → List DocumentSpot
 spots_from batch place [] = []
 spots_from batch place (id ∷ ids) = record { id = id; batch = batch; place = place } ∷ spots_from batch (place + 1) ids
 
 -- where the documents of a kind are in publications, from a batch on
-abbrev pub spots_in : (Publication → List (List ℕ)) → ℕ → List Publication → List Spot
+abbrev pub spots_in : (Publication → List (List ℕ)) → ℕ → List Publication → List DocumentSpot
 spots_in ids batch [] = []
 spots_in ids batch (p ∷ ps) = spots_from batch 0 (ids p) ++ spots_in ids (batch + 1) ps

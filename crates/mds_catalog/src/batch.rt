@@ -4,7 +4,7 @@ ghost use Rattle.mds_policy.specs.Policy.{policy_document};
 ghost use Rattle.mds_geography.specs.Geography.{geography_document};
 ghost use Rattle.mds_catalog.specs.Texts.{policy_text, geography_text};
 
-use crate::distinct::{stands_in_geographies, stands_in_policies};
+use crate::distinct::{contains_geography, contains_policy};
 use crate::print::{print_geographies, print_policies};
 use mds_geography::Geography;
 use mds_policy::Policy;
@@ -104,7 +104,7 @@ impl Batch {
     pub(crate) fn has_geography(&self, id: Id) -> bool
         ensures { result ≡ is_among (geography_ids (publication_of self.now)) id }
     {
-        stands_in_geographies(&self.geographies, id)
+        contains_geography(&self.geographies, id)
     }
 
     /// Whether the identifiers of the policies are distinct.
@@ -112,7 +112,7 @@ impl Batch {
         ensures { result ≡ are_distinct (policy_ids (publication_of self.now)) }
     {
         for (i, policy) in self.policies.iter().enumerate() {
-            if stands_in_policies(&self.policies[i + 1..], policy.id()) {
+            if contains_policy(&self.policies[i + 1..], policy.id()) {
                 return false;
             }
         }
@@ -124,7 +124,7 @@ impl Batch {
         ensures { result ≡ are_distinct (geography_ids (publication_of self.now)) }
     {
         for (i, geography) in self.geographies.iter().enumerate() {
-            if stands_in_geographies(&self.geographies[i + 1..], geography.id()) {
+            if contains_geography(&self.geographies[i + 1..], geography.id()) {
                 return false;
             }
         }

@@ -1,16 +1,16 @@
 //! The catalogue: all published batches, with an index of their documents.
 ghost use Rattle.std.specs.Prelude.{◌≤◌, vec_capacity};
 ghost use Rattle.mds_catalog.specs.Publication.{publications_in};
-ghost use Rattle.mds_catalog.specs.Kept.{IsKept};
+ghost use Rattle.mds_catalog.specs.Index.{IsKept};
 ghost use Rattle.mds_catalog.specs.declared.catalogue.TheConstants.{MOST_GEOGRAPHIES, MOST_POLICIES, MOST_PUBLICATIONS};
 
 use crate::batch::Batch;
 use crate::distinct::are_distinct;
-use crate::entries::{Entry, entry_of, list_policies, supersede, withdraw};
+use crate::entries::{PolicyEntry, entry_of, list_policies, supersede, withdraw};
 use crate::force::{is_meant_for, is_running};
-use crate::lists::{lend_geographies, lend_geography_texts, lend_policies, lend_policy_texts};
+use crate::lists::{geography_refs, geography_text_refs, policy_refs, policy_text_refs};
 use crate::published::Published;
-use crate::spots::{Spot, list_geographies, spot_of};
+use crate::spots::{DocumentSpot, list_geographies, spot_of};
 use mds_geography::Geography;
 use mds_policy::{Policy, Rule};
 use mds_text::{Id, Moment};
@@ -33,9 +33,9 @@ pub struct Catalogue {
     // in the order of publication
     batches: Vec<Arc<Batch>>,
     // an entry for each policy, ascending by identifier
-    entries: Vec<Entry>,
+    entries: Vec<PolicyEntry>,
     // an entry for each geography, ascending by identifier
-    spots: Vec<Spot>,
+    spots: Vec<DocumentSpot>,
     policy_count: usize,
     geography_count: usize,
     ghost batch_room: { MOST_PUBLICATIONS ≤ vec_capacity batches },
@@ -90,7 +90,7 @@ impl Catalogue {
 
     /// The moment from which on the policy with this identifier is withdrawn: the least moment of the publications that
     /// withdraw it, if there are any.
-    pub fn withdrawn_from(&self, id: Id) -> Option<Moment>
+    pub fn withdrawal_moment(&self, id: Id) -> Option<Moment>
         ensures { IsWithdrawnFrom (publications_of self.now) id result }
     {
         match entry_of(&self.entries, id) {
@@ -122,7 +122,7 @@ impl Catalogue {
     ) -> Result<Vec<Published<'_, Policy>>, AllocError>
         ensures { IfOk result (λ v. map lent_policy v.items ≡ policies_for (publications_of self.now) operator) }
     {
-        let mut policies = lend_policies(alloc, &self.batches)?;
+        let mut policies = policy_refs(alloc, &self.batches)?;
         if let Some(operator) = operator {
             policies.retain(|policy| is_meant_for(policy.document, operator));
         }
@@ -137,7 +137,7 @@ impl Catalogue {
     pub fn geographies(&self, alloc: Global) -> Result<Vec<Published<'_, Geography>>, AllocError>
         ensures { IfOk result (λ v. map lent_geography v.items ≡ published_geographies (publications_of self.now)) }
     {
-        lend_geographies(alloc, &self.batches)
+        geography_refs(alloc, &self.batches)
     }
 
     /// The policies in force for an operator at a moment, in the order of publication.
@@ -153,7 +153,7 @@ impl Catalogue {
     ) -> Result<Vec<Published<'_, Policy>>, AllocError>
         ensures { IfOk result (λ v. map lent_policy v.items ≡ in_force (publications_of self.now) operator at) }
     {
-        let mut policies = lend_policies(alloc, &self.batches)?;
+        let mut policies = policy_refs(alloc, &self.batches)?;
         policies.retain(|policy| self.is_in_force(operator, at, policy));
         Ok(policies)
     }
@@ -198,7 +198,7 @@ impl Catalogue {
         ensures { IfOk result (λ v. map (λ t. t.now) v.items
             ≡ map served_policy (policies_for (publications_of self.now) operator)) }
     {
-        lend_policy_texts(alloc, self.policy_count, &self.batches, &operator)
+        policy_text_refs(alloc, self.policy_count, &self.batches, &operator)
     }
 
     /// The texts of the published geographies as they are served, with their `published_date`, in the order of
@@ -211,7 +211,7 @@ impl Catalogue {
         ensures { IfOk result (λ v. map (λ t. t.now) v.items
             ≡ map served_geography (published_geographies (publications_of self.now))) }
     {
-        lend_geography_texts(alloc, self.geography_count, &self.batches)
+        geography_text_refs(alloc, self.geography_count, &self.batches)
     }
 
     /// The text of the published policy with this identifier as it is served, with its `published_date`.

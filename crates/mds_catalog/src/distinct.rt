@@ -10,7 +10,7 @@ use mds_text::Id;
 use std::sync::Arc;
 
 /// Whether a policy with this identifier is in the list.
-pub(crate) fn stands_in_policies(policies: &[Arc<Policy>], id: Id) -> bool
+pub(crate) fn contains_policy(policies: &[Arc<Policy>], id: Id) -> bool
     ensures { result
         ≡ is_among (map (λ d. d.id) (map (λ share. policy_document share.value) policies.now)) id }
 {
@@ -23,7 +23,7 @@ pub(crate) fn stands_in_policies(policies: &[Arc<Policy>], id: Id) -> bool
 }
 
 /// Whether a geography with this identifier is in the list.
-pub(crate) fn stands_in_geographies(geographies: &[Arc<Geography>], id: Id) -> bool
+pub(crate) fn contains_geography(geographies: &[Arc<Geography>], id: Id) -> bool
     ensures { result
         ≡ is_among (map (λ d. d.id) (map (λ share. geography_document share.value) geographies.now)) id }
 {

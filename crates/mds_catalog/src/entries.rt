@@ -4,9 +4,9 @@ ghost use Rattle.std.specs.Prelude.{◌≡◌, ◌+◌, ◌≤◌, ◌<◌, ◌�
 ghost use Rattle.std.specs.Option.{option_map_or};
 ghost use Rattle.mds_policy.specs.Policy.{policy_document};
 ghost use Rattle.mds_catalog.specs.Listed.{Ascends, IsAt, IsGap, Lists, has, spots_from};
-ghost use Rattle.mds_catalog.specs.Kept.{after_successors, after_superseding, after_withdrawal, fresh, has_come};
+ghost use Rattle.mds_catalog.specs.Index.{after_successors, after_superseding, after_withdrawal, fresh, has_come};
 
-use crate::spots::Spot;
+use crate::spots::DocumentSpot;
 use mds_policy::Policy;
 use mds_text::{Id, Moment};
 use std::sync::Arc;
@@ -14,9 +14,9 @@ use std::sync::Arc;
 /// The index entry of a published policy: where it is, and the least moments from which on it is
 /// superseded and withdrawn, if any.
 #[derive(Clone, Copy)]
-pub(crate) struct Entry {
+pub(crate) struct PolicyEntry {
     /// Where the policy is in the batches.
-    pub(crate) spot: Spot,
+    pub(crate) spot: DocumentSpot,
     superseded: Option<Moment>,
     pub(crate) withdrawn: Option<Moment>,
 }
@@ -41,12 +41,12 @@ fn has_come(known: Option<Moment>, at: Moment) -> bool
     }
 }
 
-impl Entry {
+impl PolicyEntry {
     /// The entry of a newly published policy.
-    fn new(spot: Spot) -> Entry
+    fn new(spot: DocumentSpot) -> PolicyEntry
         ensures { result ≡ fresh spot }
     {
-        Entry {
+        PolicyEntry {
             spot,
             superseded: None,
             withdrawn: None,
@@ -54,13 +54,13 @@ impl Entry {
     }
 
     /// The entry after a policy replaces those with these identifiers from a moment on.
-    fn after_superseding(self, moment: Moment, ids: &[Id]) -> Entry
+    fn after_superseding(self, moment: Moment, ids: &[Id]) -> PolicyEntry
         ensures { result ≡ after_superseding moment ids.now self }
     {
         if !ids.contains(&self.spot.id) {
             return self;
         }
-        Entry {
+        PolicyEntry {
             spot: self.spot,
             superseded: Some(least(self.superseded, moment)),
             withdrawn: self.withdrawn,
@@ -68,13 +68,13 @@ impl Entry {
     }
 
     /// The entry after a publication at this moment withdraws the policies with these identifiers.
-    fn after_withdrawal(self, moment: Moment, ids: &[Id]) -> Entry
+    fn after_withdrawal(self, moment: Moment, ids: &[Id]) -> PolicyEntry
         ensures { result ≡ after_withdrawal moment ids.now self }
     {
         if !ids.contains(&self.spot.id) {
             return self;
         }
-        Entry {
+        PolicyEntry {
             spot: self.spot,
             superseded: self.superseded,
             withdrawn: Some(least(self.withdrawn, moment)),
@@ -90,7 +90,7 @@ impl Entry {
 }
 
 /// The index of the entry with this identifier, or the index at which it would be inserted.
-fn place_of(entries: &[Entry], id: Id) -> Result<usize, usize>
+fn place_of(entries: &[PolicyEntry], id: Id) -> Result<usize, usize>
     requires { Ascends (λ e. e.spot.id) entries.now }
     ensures found { IfOk result (IsAt (λ e. e.spot.id) entries.now id) }
     ensures gap { IfErr result (IsGap (λ e. e.spot.id) entries.now id) }
@@ -99,7 +99,7 @@ fn place_of(entries: &[Entry], id: Id) -> Result<usize, usize>
 }
 
 /// The entry of the policy with this identifier.
-pub(crate) fn entry_of(entries: &[Entry], id: Id) -> Option<Entry>
+pub(crate) fn entry_of(entries: &[PolicyEntry], id: Id) -> Option<PolicyEntry>
     requires { Ascends (λ e. e.spot.id) entries.now }
     ensures { result ≡ find (has (λ e. e.spot.id) id) entries.now }
 {
@@ -110,19 +110,19 @@ pub(crate) fn entry_of(entries: &[Entry], id: Id) -> Option<Entry>
 }
 
 /// Inserts the entry of a new policy, unless there is one with its identifier.
-fn list_entry(entries: &mut Vec<Entry>, spot: Spot)
+fn list_entry(entries: &mut Vec<PolicyEntry>, spot: DocumentSpot)
     requires ascends { Ascends (λ e. e.spot.id) entries.old.items }
     requires room { vec_len entries.old < vec_capacity entries.old }
     ensures listed { Lists (λ e. e.spot.id) entries.old.items entries.new.items (fresh spot ∷ []) }
     ensures capacity { vec_capacity entries.new ≡ vec_capacity entries.old }
 {
     if let Err(at) = place_of(entries, spot.id) {
-        let _ = entries.insert(at, Entry::new(spot));
+        let _ = entries.insert(at, PolicyEntry::new(spot));
     }
 }
 
 /// Inserts entries for the policies of a batch.
-pub(crate) fn list_policies(entries: &mut Vec<Entry>, batch: usize, policies: &[Arc<Policy>])
+pub(crate) fn list_policies(entries: &mut Vec<PolicyEntry>, batch: usize, policies: &[Arc<Policy>])
     requires ascends { Ascends (λ e. e.spot.id) entries.old.items }
     requires room { vec_len entries.old + length policies.now ≤ vec_capacity entries.old }
     ensures listed { Lists (λ e. e.spot.id) entries.old.items entries.new.items
@@ -131,12 +131,12 @@ pub(crate) fn list_policies(entries: &mut Vec<Entry>, batch: usize, policies: &[
 {
     for (place, policy) in policies.iter().enumerate() {
         let id = policy.id();
-        list_entry(entries, Spot { id, batch, place });
+        list_entry(entries, DocumentSpot { id, batch, place });
     }
 }
 
 /// Marks the policies with these identifiers as superseded from a moment on.
-fn supersede_each(entries: &mut [Entry], moment: Moment, ids: &[Id])
+fn supersede_each(entries: &mut [PolicyEntry], moment: Moment, ids: &[Id])
     ensures { entries.new ≡ map (after_superseding moment ids.now) entries.old }
 {
     for entry in entries.iter_mut() {
@@ -146,7 +146,7 @@ fn supersede_each(entries: &mut [Entry], moment: Moment, ids: &[Id])
 
 /// Marks as superseded what policies that are published at this moment replace: each from its own
 /// start on, and not before the publication (MDS 2.0 Policy, `prev_policies`).
-pub(crate) fn supersede(entries: &mut [Entry], moment: Moment, policies: &[Arc<Policy>])
+pub(crate) fn supersede(entries: &mut [PolicyEntry], moment: Moment, policies: &[Arc<Policy>])
     ensures { entries.new
         ≡ after_successors moment (map (λ share. policy_document share.value) policies.now) entries.old }
 {
@@ -164,7 +164,7 @@ fn later(moment: Moment, other: Moment) -> Moment
 }
 
 /// Marks the policies with these identifiers as withdrawn from a moment on.
-pub(crate) fn withdraw(entries: &mut [Entry], moment: Moment, ids: &[Id])
+pub(crate) fn withdraw(entries: &mut [PolicyEntry], moment: Moment, ids: &[Id])
     ensures { entries.new ≡ map (after_withdrawal moment ids.now) entries.old }
 {
     for entry in entries.iter_mut() {

@@ -18,7 +18,7 @@ pub fn is_meant_for(policy: &Policy, operator: Id) -> bool
 }
 
 /// Whether the policy is meant for an operator; true where no operator is given.
-pub(crate) fn is_shown(policy: &Policy, operator: &Option<Id>) -> bool
+pub(crate) fn is_visible_to(policy: &Policy, operator: &Option<Id>) -> bool
     ensures { result ≡ option_map_or (λ o. is_meant_for o (policy_document policy.now)) operator.now true }
 {
     match operator {

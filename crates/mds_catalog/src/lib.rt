@@ -11,7 +11,7 @@ pub mod laws;
 mod lists;
 mod print;
 mod published;
-mod shown;
+mod places;
 mod spots;
 
 pub use batch::Batch;

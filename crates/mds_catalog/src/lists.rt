@@ -4,7 +4,7 @@ ghost use Rattle.mds_catalog.specs.Publication.{publications_in, published_polic
 ghost use Rattle.mds_catalog.specs.Catalogue.{lent_policy, lent_geography, served_policy, served_geography};
 
 use crate::batch::Batch;
-use crate::force::is_shown;
+use crate::force::is_visible_to;
 use crate::published::Published;
 use mds_geography::Geography;
 use mds_policy::Policy;
@@ -13,7 +13,7 @@ use std::alloc::{AllocError, Global};
 use std::sync::Arc;
 
 /// The policies of all batches.
-pub(crate) fn lend_policies(
+pub(crate) fn policy_refs(
     alloc: Global,
     batches: &[Arc<Batch>],
 ) -> Result<Vec<Published<'_, Policy>>, AllocError>
@@ -35,7 +35,7 @@ pub(crate) fn lend_policies(
 }
 
 /// The geographies of all batches.
-pub(crate) fn lend_geographies(
+pub(crate) fn geography_refs(
     alloc: Global,
     batches: &[Arc<Batch>],
 ) -> Result<Vec<Published<'_, Geography>>, AllocError>
@@ -57,7 +57,7 @@ pub(crate) fn lend_geographies(
 }
 
 /// Appends a text to the list, where it is visible.
-fn lend<'a>(lent: &mut Vec<&'a [u8]>, text: &'a [u8], shown: bool) -> Result<(), AllocError>
+fn push_visible<'a>(lent: &mut Vec<&'a [u8]>, text: &'a [u8], shown: bool) -> Result<(), AllocError>
     ensures { OnOk result (map (λ t. t.now) lent.new.items
         ≡ map (λ t. t.now) lent.old.items ++ (if shown then text.now ∷ [] else [])) }
 {
@@ -72,7 +72,7 @@ fn lend<'a>(lent: &mut Vec<&'a [u8]>, text: &'a [u8], shown: bool) -> Result<(),
 
 /// The texts of the policies of the batches: all, or those that are meant for an operator. There are no more than
 /// `most`.
-pub(crate) fn lend_policy_texts<'a>(
+pub(crate) fn policy_text_refs<'a>(
     alloc: Global,
     most: usize,
     batches: &'a [Arc<Batch>],
@@ -85,10 +85,10 @@ pub(crate) fn lend_policy_texts<'a>(
     for share in batches {
         let batch: &Batch = share;
         for (place, policy) in batch.policies.iter().enumerate() {
-            lend(
+            push_visible(
                 &mut lent,
                 &batch.policy_texts[place],
-                is_shown(policy, operator),
+                is_visible_to(policy, operator),
             )?;
         }
     }
@@ -96,7 +96,7 @@ pub(crate) fn lend_policy_texts<'a>(
 }
 
 /// The texts of the geographies of all batches. There are no more than `most`.
-pub(crate) fn lend_geography_texts(
+pub(crate) fn geography_text_refs(
     alloc: Global,
     most: usize,
     batches: &[Arc<Batch>],

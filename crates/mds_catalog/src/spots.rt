@@ -9,7 +9,7 @@ use std::sync::Arc;
 
 /// Where a published document is: its batch, and its index among the batch's documents of its kind.
 #[derive(Clone, Copy)]
-pub(crate) struct Spot {
+pub(crate) struct DocumentSpot {
     /// The document's identifier.
     pub(crate) id: Id,
     /// How many batches are before its own.
@@ -19,7 +19,7 @@ pub(crate) struct Spot {
 }
 
 /// The index of the spot with this identifier, or the index at which it would be inserted.
-fn place_of(spots: &[Spot], id: Id) -> Result<usize, usize>
+fn place_of(spots: &[DocumentSpot], id: Id) -> Result<usize, usize>
     requires { Ascends (λ s. s.id) spots.now }
     ensures found { IfOk result (IsAt (λ s. s.id) spots.now id) }
     ensures gap { IfErr result (IsGap (λ s. s.id) spots.now id) }
@@ -28,7 +28,7 @@ fn place_of(spots: &[Spot], id: Id) -> Result<usize, usize>
 }
 
 /// Where the document with this identifier is.
-pub(crate) fn spot_of(spots: &[Spot], id: Id) -> Option<Spot>
+pub(crate) fn spot_of(spots: &[DocumentSpot], id: Id) -> Option<DocumentSpot>
     requires { Ascends (λ s. s.id) spots.now }
     ensures { result ≡ find (has (λ s. s.id) id) spots.now }
 {
@@ -39,7 +39,7 @@ pub(crate) fn spot_of(spots: &[Spot], id: Id) -> Option<Spot>
 }
 
 /// Inserts the spot of a document, unless there is one with its identifier.
-fn list_spot(spots: &mut Vec<Spot>, spot: Spot)
+fn list_spot(spots: &mut Vec<DocumentSpot>, spot: DocumentSpot)
     requires ascends { Ascends (λ s. s.id) spots.old.items }
     requires room { vec_len spots.old < vec_capacity spots.old }
     ensures listed { Lists (λ s. s.id) spots.old.items spots.new.items (spot ∷ []) }
@@ -51,7 +51,7 @@ fn list_spot(spots: &mut Vec<Spot>, spot: Spot)
 }
 
 /// Inserts the spots of the geographies of a batch.
-pub(crate) fn list_geographies(spots: &mut Vec<Spot>, batch: usize, geographies: &[Arc<Geography>])
+pub(crate) fn list_geographies(spots: &mut Vec<DocumentSpot>, batch: usize, geographies: &[Arc<Geography>])
     requires ascends { Ascends (λ s. s.id) spots.old.items }
     requires room { vec_len spots.old + length geographies.now ≤ vec_capacity spots.old }
     ensures listed { Lists (λ s. s.id) spots.old.items spots.new.items
@@ -60,6 +60,6 @@ pub(crate) fn list_geographies(spots: &mut Vec<Spot>, batch: usize, geographies:
 {
     for (place, geography) in geographies.iter().enumerate() {
         let id = geography.id();
-        list_spot(spots, Spot { id, batch, place });
+        list_spot(spots, DocumentSpot { id, batch, place });
     }
 }

@@ -7,7 +7,7 @@ use Rattle.mds_machine.specs.Step.{Exchange}
 use Rattle.mds_request.specs.Configuration.{Configuration}
 use Rattle.mds_request.specs.Request.{Request}
 use Rattle.mds_request.specs.Reply.{Reply}
-use Rattle.mds_restarts.specs.Kept.{requests_in}
+use Rattle.mds_restarts.specs.Persisted.{requests_in}
 use Rattle.mds_city.specs.Many.{AreRecordsOf, accepted, exchanges}
 use Rattle.mds_city.specs.Records.{HasRecord, IsRecordOf}
 

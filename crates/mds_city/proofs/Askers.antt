@@ -2,8 +2,8 @@
 use Rattle.std.proofs.Common.{◌≡◌, ◌<◌, ◌+◌, ℕ, zero, suc, List, [], ◌∷◌, ◌++◌, length, map, take, drop, get_or, Option, Some, None, option_map, Ok, refl, sym, ap, subst, ◌∙◌}
 use Rattle.std.proofs.lemmas.List.{map-append}
 use Rattle.mds_entries.specs.Requests.{asked_by, asker_at}
-use Rattle.mds_entries.specs.declared.entry.Asker.{Asker}
-use Rattle.mds_entries.specs.declared.entry.Asker.TheVariants.{Operator as OperatorBy}
+use Rattle.mds_entries.specs.declared.entry.EntryClient.{EntryClient}
+use Rattle.mds_entries.specs.declared.entry.EntryClient.TheVariants.{Operator as OperatorBy}
 use Rattle.mds_request.specs.Call.{call_of}
 use Rattle.mds_request.specs.Configuration.{Configuration, Operator as Named, actor_of}
 use Rattle.mds_request.specs.Request.{Request}
@@ -12,8 +12,8 @@ use Rattle.mds_request.specs.declared.call.Call.TheVariants as call
 use Rattle.mds_request.specs.declared.config.Actor.{Actor}
 use Rattle.mds_request.specs.declared.config.Actor.TheVariants.{Operator}
 use Rattle.mds_request.proofs.Callers.{call_of-caller, caller}
-use Rattle.mds_hall.specs.Asker.{IsWithin}
-use Rattle.mds_hall.proofs.Askers.{is_within}
+use Rattle.mds_hall.specs.Client.{IsWithin}
+use Rattle.mds_hall.proofs.Clients.{is_within}
 use Rattle.mds_city.specs.Many.{AreAskedBy, AreRecordsOf, report_of}
 use Rattle.mds_city.specs.Records.{IsRecordOf, caller_of, record_by}
 use Rattle.mds_city.proofs.Accepted.{taken_more}
@@ -40,7 +40,7 @@ module _ (configuration : Configuration) (request : Request) where
   place_within place is = subst (IsWithin (length configuration.operators)) is (is_within configuration request.token)
 
   -- the record names the client
-  pub record_of : (actor : Actor) (asker : Asker) (text : List ℕ) → actor_of configuration request.token ≡ actor → asker_at configuration actor ≡ Some asker
+  pub record_of : (actor : Actor) (asker : EntryClient) (text : List ℕ) → actor_of configuration request.token ≡ actor → asker_at configuration actor ≡ Some asker
       → text ≡ record_by asker request → IsRecordOf configuration request text
   record_of actor asker text is known text_is =
       record {
@@ -50,13 +50,13 @@ module _ (configuration : Configuration) (request : Request) where
       }
 
   -- the call says which client
-  pub record_of_call : (own : Call) (asker : Asker) (text : List ℕ) → call_of configuration request ≡ Ok own → asker_at configuration (caller_of own) ≡ Some asker
+  pub record_of_call : (own : Call) (asker : EntryClient) (text : List ℕ) → call_of configuration request ≡ Ok own → asker_at configuration (caller_of own) ≡ Some asker
       → text ≡ record_by asker request → IsRecordOf configuration request text
   record_of_call own asker text is = record_of (caller_of own) asker text (asks own is)
 
 module _ (configuration : Configuration) (place : ℕ) where
   -- the records of an operator's requests
-  pub records_of : (asker : Asker) (requests : List Request) → asker_at configuration (Operator place) ≡ Some asker → AreAskedBy configuration place requests
+  pub records_of : (asker : EntryClient) (requests : List Request) → asker_at configuration (Operator place) ≡ Some asker → AreAskedBy configuration place requests
       → AreRecordsOf configuration requests (map (record_by asker) requests)
   records_of asker [] known asked = tt
   records_of asker (request ∷ requests) known asked = (

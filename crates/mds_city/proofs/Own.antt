@@ -1,7 +1,7 @@
 -- An operator's answers outside the protocol's calls, by its own place.
 use Rattle.std.proofs.Common.{◌≡◌, ◌⊎◌, ℕ, List, Option, Some, None, option_map, Result, Ok, Err, IfOk, IfErr, inl, inr, refl, sym, ap, subst, ◌∙◌}
 use Rattle.std.specs.List.{slice_get}
-use Rattle.mds_app.specs.Badges.{Badges}
+use Rattle.mds_app.specs.OperatorNames.{Badges}
 use Rattle.mds_app.specs.Whoami.{told_operator}
 use Rattle.mds_app.specs.Withdrawals.{withdrawals_reply}
 use Rattle.mds_catalog.specs.Publication.{Publication}
@@ -9,8 +9,8 @@ use Rattle.mds_request.specs.Configuration.{Configuration, Operator as Named}
 use Rattle.mds_request.specs.Reply.{Reply, refused}
 use Rattle.mds_request.specs.declared.code.Code.{Code}
 use Rattle.mds_request.specs.declared.code.Code.TheVariants.{NoMemory, NoSnapshot}
-use Rattle.mds_hall.specs.Told.{DeskTells}
-use Rattle.mds_city.specs.Told.{IsToldReply, operator_told, own_withdrawals}
+use Rattle.mds_hall.specs.Query.{DeskTells}
+use Rattle.mds_city.specs.People.{IsToldReply, operator_told, own_withdrawals}
 use Rattle.mds_routes.specs.declared.app.Question.{Question}
 use Rattle.mds_routes.specs.declared.app.Question.TheVariants.{Whoami, Withdrawals, Drafts}
 

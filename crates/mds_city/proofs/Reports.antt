@@ -13,16 +13,16 @@ use Rattle.mds_request.specs.Configuration.{Configuration}
 use Rattle.mds_request.specs.Request.{Request}
 use Rattle.mds_request.specs.Reply.{Reply, refused}
 use Rattle.mds_request.specs.declared.code.Code.{Code}
-use Rattle.mds_restarts.specs.Kept.{requests_in}
+use Rattle.mds_restarts.specs.Persisted.{requests_in}
 use Rattle.mds_desk.specs.Desk.{DeskState, TakesRun}
 use Rattle.mds_desk.proofs.Running.{begins}
 use Rattle.mds_hall.specs.Response.{Says}
 use Rattle.mds_hall.specs.Turn.{IsDeskAt, TakesToldRun}
 use Rattle.mds_city.specs.Many.{AreRecorded, AreRecordsOf, AreRefusedBehind, Continues, IsAnsweredInPart, IsHalted, IsRecordedRun, IsRefusedWhole, ManyAreAnswered, SaysAll, accepted, exchanges, reports_of}
-use Rattle.mds_city.specs.Unstored.{Waits}
+use Rattle.mds_city.specs.CacheControl.{Waits}
 use Rattle.mds_city.specs.declared.many.Halt.{Halt}
 use Rattle.mds_city.specs.declared.many.Halt.TheVariants.{Unheld, NotTold}
-use Rattle.mds_city.specs.declared.pending.Unanswered.{Unanswered}
+use Rattle.mds_city.specs.declared.pending.NoResponse.{NoResponse}
 use Rattle.mds_city.proofs.Accepted.{all_recorded, chosen_are_theirs, taken_more}
 use Rattle.mds_city.proofs.Among.{later_among}
 use Rattle.mds_city.proofs.Responses.{ok_more, waits_more}
@@ -232,7 +232,7 @@ module _ {V E : Type 0} (reply : V → Option (Response (Full (List ℕ)))) (sta
 
 -- none of them is carried out
 pub told_halted : {V : Type 0} (reply : V → Option (Response (Full (List ℕ)))) (stamp : V → List (List ℕ)) (configuration : Configuration) (place : ℕ) (request : Request)
-    (result : Result V Unanswered) (halt : Halt) → IsHalted reply halt result → IfOk result (λ s. Waits (ManyAreAnswered configuration place request (stamp s)) (reply s))
+    (result : Result V NoResponse) (halt : Halt) → IsHalted reply halt result → IfOk result (λ s. Waits (ManyAreAnswered configuration place request (stamp s)) (reply s))
 told_halted reply stamp configuration place request result (Unheld why) told =
     ok_more result (λ s. waits_more (reply s) (λ response says. inl (inl (why, says)))) told
 told_halted reply stamp configuration place request result (NotTold fault) untold =

@@ -2,7 +2,7 @@
 use Rattle.std.proofs.Common.{◌≡◌, ◌⊎◌, ℕ, List, Option, Some, None, IfSome, MatchOption, Result, Ok, Err, IfOk, inl, inr, sym, subst}
 use Rattle.http.specs.declared.response.Response.{Response}
 use Rattle.http_body_util.specs.declared.full.Full.{Full}
-use Rattle.mds_app.specs.Badges.{Badges}
+use Rattle.mds_app.specs.OperatorNames.{Badges}
 use Rattle.mds_request.specs.Configuration.{Configuration, actor_of}
 use Rattle.mds_request.specs.Request.{Request}
 use Rattle.mds_request.specs.Reply.{Reply, refused}
@@ -12,10 +12,10 @@ use Rattle.mds_request.specs.declared.config.Actor.{Actor}
 use Rattle.mds_hall.specs.Respond as hall
 use Rattle.mds_hall.specs.Response.{Says}
 use Rattle.mds_routes.specs.App.{app_of}
-use Rattle.mds_city.specs.City.{IsAnswered, IsAnsweredBy, IsRecordedTurn, IsTold}
-use Rattle.mds_city.specs.Told.{IsToldReply, SaysTold}
-use Rattle.mds_city.specs.Unheld.{SaysUnheld}
-use Rattle.mds_city.specs.Unstored.{Waits}
+use Rattle.mds_city.specs.DurableResponse.{IsAnswered, IsAnsweredBy, IsRecordedTurn, IsTold}
+use Rattle.mds_city.specs.People.{IsToldReply, SaysTold}
+use Rattle.mds_city.specs.Refusals.{SaysUnheld}
+use Rattle.mds_city.specs.CacheControl.{Waits}
 use Rattle.mds_routes.specs.declared.app.AppCall.{AppCall}
 
 -- one reply of the protocol is a hall's

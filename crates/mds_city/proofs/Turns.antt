@@ -2,7 +2,7 @@
 use Rattle.std.proofs.Common.{◌≡◌, ℕ, Bool, true, false, List, Option, Some, None, IfSome, IfNone, IsSome, option_map, Err, refl, sym, ap, subst}
 use Rattle.std.specs.Prelude.{◌&&◌, ◌==◌}
 use Rattle.std.proofs.lemmas.Bool.{eqb-true}
-use Rattle.mds_commit.specs.declared.backlog.Place.{Place}
+use Rattle.mds_commit.specs.declared.backlog.Reservation.{Reservation}
 use Rattle.mds_request.specs.Call.{call_of}
 use Rattle.mds_request.specs.Configuration.{Configuration, actor_of}
 use Rattle.mds_request.specs.Request.{Request}
@@ -10,14 +10,14 @@ use Rattle.mds_request.specs.Reply.{Reply, refused}
 use Rattle.mds_request.specs.declared.code.Code.{Code}
 use Rattle.mds_request.specs.declared.config.Actor.{Actor}
 use Rattle.mds_request.specs.declared.config.Actor.TheVariants.{Author, Operator, Nobody}
-use Rattle.mds_restarts.specs.Kept.{is_kept, may_change}
+use Rattle.mds_restarts.specs.Persisted.{is_kept, may_change}
 use Rattle.mds_hall.specs.Early.{unknown}
 use Rattle.mds_hall.specs.Respond.{TurnGives}
 use Rattle.mds_hall.proofs.Refusing.{IsSomebody, table_refuses}
-use Rattle.mds_city.specs.City.{IsRecordedTurn}
+use Rattle.mds_city.specs.DurableResponse.{IsRecordedTurn}
 use Rattle.mds_city.specs.Records.{HasRecord, IsAmong, IsReserved, IsSettled, IsTitled, place_of}
-use Rattle.mds_city.specs.declared.records.Reserved.{Reserved}
-use Rattle.mds_city.specs.declared.records.Reserved.TheVariants.{Reads, Holds}
+use Rattle.mds_city.specs.declared.records.CallReservation.{CallReservation}
+use Rattle.mds_city.specs.declared.records.CallReservation.TheVariants.{Reads, Holds}
 
 pub first_true : (a b : Bool) → (a && b) ≡ true → a ≡ true
 first_true true b is = refl
@@ -27,7 +27,7 @@ pub second_true : (a b : Bool) → (a && b) ≡ true → b ≡ true
 second_true true b is = is
 second_true false b is = absurd cc
 
-has_record : (configuration : Configuration) (request : Request) (reply : Reply) (reserved : Reserved) (stamp : List (List ℕ))
+has_record : (configuration : Configuration) (request : Request) (reply : Reply) (reserved : CallReservation) (stamp : List (List ℕ))
     → IsReserved configuration request reserved → IsSettled reserved reply.status stamp
     → is_kept configuration (record { request = request; reply = reply }) ≡ true → HasRecord configuration request stamp
 has_record configuration request reply Reads stamp is settled kept =
@@ -37,25 +37,25 @@ has_record configuration request reply (Holds place) stamp is settled kept =
     (place.text.items, is, settled (eqb-true reply.status 200 (second_true (may_change (call_of configuration request)) (reply.status == 200) kept)))
 
 -- a turn whose reservation was completed is recorded
-pub recorded : (configuration : Configuration) (actor : Actor) (request : Request) (reply : Reply) (reserved : Reserved) (stamp : List (List ℕ))
+pub recorded : (configuration : Configuration) (actor : Actor) (request : Request) (reply : Reply) (reserved : CallReservation) (stamp : List (List ℕ))
     → TurnGives configuration actor request reply → IsReserved configuration request reserved → IsSettled reserved reply.status stamp
     → IsRecordedTurn configuration actor request reply stamp
 recorded configuration actor request reply reserved stamp turn is settled =
     record { turn = turn; recorded = has_record configuration request reply reserved stamp is settled }
 
 -- a reservation is completed where its payload is among these
-pub settled_shown : (text : List ℕ) (reserved : Reserved) (status : ℕ) (stamp : List (List ℕ)) → IsTitled text reserved → IsAmong text stamp
+pub settled_shown : (text : List ℕ) (reserved : CallReservation) (status : ℕ) (stamp : List (List ℕ)) → IsTitled text reserved → IsAmong text stamp
     → IsSettled reserved status stamp
 settled_shown text Reads status stamp is among = tt
 settled_shown text (Holds place) status stamp is among = λ success. subst (λ (t : List ℕ). IsAmong t stamp) (sym is) among
 
 -- or where the request was refused
-pub settled_refused : (reserved : Reserved) (status : ℕ) (stamp : List (List ℕ)) → (status ≡ 200 → ⊥) → IsSettled reserved status stamp
+pub settled_refused : (reserved : CallReservation) (status : ℕ) (stamp : List (List ℕ)) → (status ≡ 200 → ⊥) → IsSettled reserved status stamp
 settled_refused Reads status stamp refused = tt
 settled_refused (Holds place) status stamp refused = λ success. absurd (refused success)
 
 -- or where what is still reserved is
-pub settled_held : {H : Type 0} (place : H → Place) (text : List ℕ) (reserved : Reserved) (held : Option H) (status : ℕ) (stamp : List (List ℕ))
+pub settled_held : {H : Type 0} (place : H → Reservation) (text : List ℕ) (reserved : CallReservation) (held : Option H) (status : ℕ) (stamp : List (List ℕ))
     → IsTitled text reserved → option_map place held ≡ place_of reserved
     → IfSome held (λ _. status ≡ 200 → IsAmong text stamp) → IsSettled reserved status stamp
 settled_held place text Reads held status stamp is same settled = tt
@@ -63,7 +63,7 @@ settled_held place text (Holds it) None status stamp is same settled = absurd cc
 settled_held place text (Holds it) (Some h) status stamp is same settled = λ success. subst (λ (t : List ℕ). IsAmong t stamp) (sym is) (settled success)
 
 -- or where no publication asked to be committed
-pub settled_unasked : {H E : Type 0} (place : H → Place) (text : List ℕ) (reserved : Reserved) (held : Option H) (shown : Option E) (status : ℕ) (stamp : List (List ℕ))
+pub settled_unasked : {H E : Type 0} (place : H → Reservation) (text : List ℕ) (reserved : CallReservation) (held : Option H) (shown : Option E) (status : ℕ) (stamp : List (List ℕ))
     → IsTitled text reserved → option_map place held ≡ place_of reserved → shown ≡ None
     → IfNone shown (IfSome held (λ _. status ≡ 200 → IsAmong text stamp)) → IsSettled reserved status stamp
 settled_unasked place text reserved held None status stamp is same none settled = settled_held place text reserved held status stamp is same settled

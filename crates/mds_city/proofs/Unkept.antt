@@ -8,7 +8,7 @@ use Rattle.mds_request.specs.declared.code.Code.TheVariants.{NoRoute, TooLarge}
 use Rattle.mds_request.specs.declared.config.Actor.{Actor}
 use Rattle.mds_request.specs.declared.config.Actor.TheVariants.{Author, Operator, Nobody}
 use Rattle.mds_request.specs.declared.request.Verb.{Verb}
-use Rattle.mds_restarts.specs.Kept.{may_change}
+use Rattle.mds_restarts.specs.Persisted.{may_change}
 use Rattle.mds_routes.specs.App.{app_of, by_verb, call_at}
 use Rattle.mds_routes.proofs.Apart.{by_app}
 

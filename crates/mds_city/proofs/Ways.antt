@@ -3,7 +3,7 @@ use Rattle.std.proofs.Common.{◌≡◌, ◌<◌, ℕ, List, length, Option, Som
 use Rattle.http.specs.declared.request.Parts.{Parts}
 use Rattle.http.specs.declared.response.Response.{Response}
 use Rattle.http_body_util.specs.declared.full.Full.{Full}
-use Rattle.mds_app.specs.Badges.{Badges}
+use Rattle.mds_app.specs.OperatorNames.{Badges}
 use Rattle.mds_limits.specs.Arrival.{body_in}
 use Rattle.mds_limits.specs.declared.arrival.Arrived.{Arrived}
 use Rattle.mds_request.specs.Call.{call_of, called_at, segments_of}
@@ -15,13 +15,13 @@ use Rattle.mds_request.specs.declared.code.Code.{Code}
 use Rattle.mds_request.specs.declared.code.Code.TheVariants.{Role}
 use Rattle.mds_request.specs.declared.config.Actor.{Actor}
 use Rattle.mds_request.specs.declared.config.Actor.TheVariants.{Author, Operator, Nobody}
-use Rattle.mds_hall.specs.Asked.{request_in, target_of, token_of}
-use Rattle.mds_hall.specs.Asker.{IsWithin}
+use Rattle.mds_hall.specs.HttpRequest.{request_in, target_of, token_of}
+use Rattle.mds_hall.specs.Client.{IsWithin}
 use Rattle.mds_hall.specs.Early.{or_else, unheard, unknown}
-use Rattle.mds_hall.specs.Heard.{IsHeard, request_heard}
+use Rattle.mds_hall.specs.WholeRequest.{IsHeard, request_heard}
 use Rattle.mds_hall.specs.Response.{Says}
-use Rattle.mds_hall.specs.declared.heard.Heard.{Heard}
-use Rattle.mds_hall.proofs.Askers.{is_within}
+use Rattle.mds_hall.specs.declared.whole_request.WholeRequest.{WholeRequest}
+use Rattle.mds_hall.proofs.Clients.{is_within}
 use Rattle.mds_hall.proofs.Resolving.{heard_call}
 use Rattle.mds_routes.specs.App.{app_of}
 use Rattle.mds_routes.specs.State.{app_call, own_call, state_call}
@@ -31,10 +31,10 @@ use Rattle.mds_routes.specs.declared.app.Question.{Question}
 use Rattle.mds_routes.specs.declared.app.Question.TheVariants.{Whoami, Withdrawals, Drafts}
 use Rattle.mds_routes.specs.declared.state.StateCall.{StateCall}
 use Rattle.mds_routes.specs.declared.state.StateCall.TheVariants.{Call as OfProtocol, Reports, AuthorAsks, OperatorAsks}
-use Rattle.mds_city.specs.City.{Answers, IsAnswered, IsAnsweredBy, IsRecordedTurn, IsTold}
+use Rattle.mds_city.specs.DurableResponse.{Answers, IsAnswered, IsAnsweredBy, IsRecordedTurn, IsTold}
 use Rattle.mds_city.specs.Many.{ManyAreAnswered}
-use Rattle.mds_city.specs.Told.{SaysTold, TellsAuthor, TellsOperator}
-use Rattle.mds_city.specs.Unstored.{Waits}
+use Rattle.mds_city.specs.People.{SaysTold, TellsAuthor, TellsOperator}
+use Rattle.mds_city.specs.CacheControl.{Waits}
 use Rattle.mds_city.proofs.Responses.{ok_more, waits_more}
 use Rattle.mds_city.proofs.Turns.{refused_turn}
 
@@ -75,7 +75,7 @@ pub record IsResolved (configuration : Configuration) (request : Request) (call 
   pub is_it : call ≡ state_call (actor_of configuration request.token) request.verb request.target
   pub called : call_of configuration request ≡ called_at (actor_of configuration request.token) request.verb (segments_of request.target)
 
-pub resolved : (configuration : Configuration) (heard : Heard) (parts : Parts) (actor : Actor) (call : Result StateCall Code) → heard.parts.now ≡ parts
+pub resolved : (configuration : Configuration) (heard : WholeRequest) (parts : Parts) (actor : Actor) (call : Result StateCall Code) → heard.parts.now ≡ parts
     → actor ≡ actor_of configuration (token_of parts.headers) → call ≡ state_call actor (verb_of parts.method) (target_of parts.uri)
     → IsResolved configuration (request_heard heard) call
 resolved configuration heard parts actor call same asks calls =

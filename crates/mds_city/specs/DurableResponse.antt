@@ -3,7 +3,7 @@ use Rattle.std.specs.Prelude.{◌≡◌, ◌⊎◌, ℕ, true, List, Option, IfS
 use Rattle.http.specs.declared.request.Parts.{Parts}
 use Rattle.http.specs.declared.response.Response.{Response}
 use Rattle.http_body_util.specs.declared.full.Full.{Full}
-use Rattle.mds_app.specs.Badges.{Badges}
+use Rattle.mds_app.specs.OperatorNames.{Badges}
 use Rattle.mds_request.specs.declared.code.Code.TheVariants.{Role}
 use Rattle.mds_request.specs.Configuration.{Configuration, actor_of}
 use Rattle.mds_request.specs.Request.{Request}
@@ -13,17 +13,17 @@ use Rattle.mds_request.specs.declared.config.Actor.{Actor}
 use Rattle.mds_request.specs.declared.config.Actor.TheVariants.{Author, Operator, Nobody}
 use Rattle.mds_limits.specs.Arrival.{body_in}
 use Rattle.mds_limits.specs.declared.arrival.Arrived.{Arrived}
-use Rattle.mds_restarts.specs.Kept.{is_kept}
-use Rattle.mds_hall.specs.Asked.{request_in}
+use Rattle.mds_restarts.specs.Persisted.{is_kept}
+use Rattle.mds_hall.specs.HttpRequest.{request_in}
 use Rattle.mds_hall.specs.Early.{early}
 use Rattle.mds_hall.specs.Respond.{TurnGives}
 use Rattle.mds_hall.specs.Response.{Says}
 use Rattle.mds_routes.specs.App.{app_of}
 use Rattle.mds_city.specs.Many.{ManyAreAnswered}
 use Rattle.mds_city.specs.Records.{HasRecord}
-use Rattle.mds_city.specs.Told.{SaysTold, TellsAuthor, TellsOperator}
-use Rattle.mds_city.specs.Unheld.{SaysUnheld}
-use Rattle.mds_city.specs.Unstored.{Waits}
+use Rattle.mds_city.specs.People.{SaysTold, TellsAuthor, TellsOperator}
+use Rattle.mds_city.specs.Refusals.{SaysUnheld}
+use Rattle.mds_city.specs.CacheControl.{Waits}
 use Rattle.mds_routes.specs.declared.app.AppCall.{AppCall}
 use Rattle.mds_routes.specs.declared.app.AppCall.TheVariants.{Events, Told}
 

@@ -1,7 +1,7 @@
-pub mod Unheld
+pub mod Refusals
 pub mod Records
 pub mod Many
-pub mod Told
-pub mod Unstored
-pub mod City
+pub mod People
+pub mod CacheControl
+pub mod DurableResponse
 pub mod Laws

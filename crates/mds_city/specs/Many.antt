@@ -21,14 +21,14 @@ use Rattle.mds_hall.specs.Turn.{DeskRuns, TakesToldRun}
 use Rattle.mds_desk.specs.Desk.{DeskState}
 use Rattle.mds_catalog.specs.Publication.{Publication}
 use Rattle.mds_city.specs.Records.{HasRecord, IsRecordOf}
-use Rattle.mds_city.specs.Unheld.{SaysUnheld, SaysUnheldFor}
-use Rattle.mds_city.specs.Unstored.{Waits}
+use Rattle.mds_city.specs.Refusals.{SaysUnheld, SaysUnheldFor}
+use Rattle.mds_city.specs.CacheControl.{Waits}
 use Rattle.mds_city.specs.declared.lines.TheConstants.{MOST_REPORTS}
 use Rattle.mds_city.specs.declared.many.Halt.{Halt}
 use Rattle.mds_city.specs.declared.many.Halt.TheVariants.{Unheld, NotTold}
-use Rattle.mds_city.specs.declared.pending.Unanswered.{Unanswered}
-use Rattle.mds_city.specs.declared.pending.Unanswered.TheVariants.{NotTold as Untold}
-use Rattle.mds_city.specs.declared.records.Unreserved.TheVariants.{Crowded, NoRoom, Stopping, Failed, NoMemory}
+use Rattle.mds_city.specs.declared.pending.NoResponse.{NoResponse}
+use Rattle.mds_city.specs.declared.pending.NoResponse.TheVariants.{NotTold as Untold}
+use Rattle.mds_city.specs.declared.records.NoReservation.TheVariants.{Crowded, NoRoom, Stopping, Failed, NoMemory}
 
 -- the report on a line: by the same client, at the same moment
 abbrev pub report_of : Request → List ℕ → Request
@@ -130,7 +130,7 @@ IsUnasked request response = SaysUnheld response ⊎ ((c : Code) × IsRefusedWho
 
 -- the result where none of them was carried out: the response that waits has the refusal for the reason, or no response
 -- may be sent
-abbrev pub IsHalted : {V : Type 0} → (V → Option (Response (Full (List ℕ)))) → Halt → Result V Unanswered → Type 0
+abbrev pub IsHalted : {V : Type 0} → (V → Option (Response (Full (List ℕ)))) → Halt → Result V NoResponse → Type 0
 IsHalted reply (Unheld why) result = IfOk result (λ s. Waits (SaysUnheldFor why) (reply s))
 IsHalted reply (NotTold fault) result = result ≡ Err (Untold fault)
 

@@ -2,8 +2,8 @@
 use Rattle.std.specs.Prelude.{◌≡◌, ◌⊎◌, ℕ, List, Option, Some, None, slice_get}
 use Rattle.http.specs.declared.response.Response.{Response}
 use Rattle.http_body_util.specs.declared.full.Full.{Full}
-use Rattle.mds_app.specs.Badges.{Badges}
-use Rattle.mds_app.specs.Listed.{drafts_reply}
+use Rattle.mds_app.specs.OperatorNames.{Badges}
+use Rattle.mds_app.specs.DraftList.{drafts_reply}
 use Rattle.mds_app.specs.Whoami.{who_reply}
 use Rattle.mds_app.specs.Withdrawals.{withdrawals_reply}
 use Rattle.mds_catalog.specs.Publication.{Publication}
@@ -12,12 +12,12 @@ use Rattle.mds_request.specs.Configuration.{Configuration, Operator as Named}
 use Rattle.mds_request.specs.Reply.{Reply, refused}
 use Rattle.mds_request.specs.declared.code.Code.TheVariants.{NoMemory, NoSnapshot, Role, Token}
 use Rattle.mds_request.specs.declared.config.Actor.TheVariants.{Author, Operator}
-use Rattle.mds_hall.specs.Told.{DeskTells, RoomTells}
+use Rattle.mds_hall.specs.Query.{DeskTells, RoomTells}
 use Rattle.mds_hall.specs.Turn.{SaysOne}
 use Rattle.mds_routes.specs.declared.app.Question.{Question}
 use Rattle.mds_routes.specs.declared.app.Question.TheVariants.{Whoami, Withdrawals, Drafts}
-use Rattle.mds_city.specs.declared.people.OfRoom.{OfRoom}
-use Rattle.mds_city.specs.declared.people.OfRoom.TheVariants as room
+use Rattle.mds_city.specs.declared.people.RoomQuestion.{RoomQuestion}
+use Rattle.mds_city.specs.declared.people.RoomQuestion.TheVariants as room
 
 -- which of an operator's policies are withdrawn
 abbrev pub own_withdrawals : List Publication → Option Named → Reply
@@ -54,7 +54,7 @@ TellsAuthor configuration badges question reply =
     RoomTells configuration (λ drafts publications told. told ≡ author_told badges drafts publications question) reply
 
 -- the answer about an author's room
-abbrev pub room_told : OfRoom → Held → List Publication → Reply
+abbrev pub room_told : RoomQuestion → Held → List Publication → Reply
 room_told room.Withdrawals drafts publications = withdrawals_reply publications None
 room_told room.Drafts drafts publications = drafts_reply drafts
 

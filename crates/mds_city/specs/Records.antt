@@ -1,21 +1,21 @@
 -- Records of requests, and their reservations in a log.
 use Rattle.std.specs.Prelude.{◌≡◌, ℕ, false, List, [], ◌∷◌, ◌++◌, Option, Some, None, IfSome, Result, Ok}
 use Rattle.mds_commit.specs.Durable.{AreDurable}
-use Rattle.mds_commit.specs.declared.backlog.Place.{Place}
+use Rattle.mds_commit.specs.declared.backlog.Reservation.{Reservation}
 use Rattle.mds_entries.specs.Entries.{Entry, entry_text}
 use Rattle.mds_entries.specs.Requests.{asked_by, entry_by}
-use Rattle.mds_entries.specs.declared.entry.Asker.{Asker}
+use Rattle.mds_entries.specs.declared.entry.EntryClient.{EntryClient}
 use Rattle.mds_request.specs.Configuration.{Configuration}
 use Rattle.mds_request.specs.Request.{Request}
 use Rattle.mds_request.specs.Call.{call_of}
 use Rattle.mds_request.specs.declared.call.Call.{Call}
 use Rattle.mds_request.specs.declared.call.Call.TheVariants.{Author, Operator}
-use Rattle.mds_restarts.specs.Kept.{may_change}
+use Rattle.mds_restarts.specs.Persisted.{may_change}
 use Rattle.mds_limits.specs.Actor.{index_of}
 use Rattle.mds_request.specs.declared.config.Actor.{Actor}
 use Rattle.mds_request.specs.declared.config.Actor.TheVariants as actor
-use Rattle.mds_city.specs.declared.records.Reserved.{Reserved}
-use Rattle.mds_city.specs.declared.records.Reserved.TheVariants.{Reads, Holds}
+use Rattle.mds_city.specs.declared.records.CallReservation.{CallReservation}
+use Rattle.mds_city.specs.declared.records.CallReservation.TheVariants.{Reads, Holds}
 
 -- the client that makes a call
 abbrev pub caller_of : Call → Actor
@@ -31,7 +31,7 @@ abbrev pub IsAmong : List ℕ → List (List ℕ) → Type 0
 IsAmong text texts = (before : List (List ℕ)) × (after : List (List ℕ)) × (texts ≡ before ++ text ∷ after)
 
 -- the payload of the record of this client's request
-abbrev pub record_by : Asker → Request → List ℕ
+abbrev pub record_by : EntryClient → Request → List ℕ
 record_by asker request = entry_text (asked_by request asker)
 
 -- the payload is that of the request's entry, with its client and no access token
@@ -46,27 +46,27 @@ HasRecord configuration request texts = (text : List ℕ) × IsRecordOf configur
 
 -- what is reserved is enough for the request: nothing where its call changes nothing, and else the reservation for its
 -- record
-abbrev pub IsReserved : Configuration → Request → Reserved → Type 0
+abbrev pub IsReserved : Configuration → Request → CallReservation → Type 0
 IsReserved configuration request Reads = may_change (call_of configuration request) ≡ false
 IsReserved configuration request (Holds place) = IsRecordOf configuration request place.text.items
 
 -- where a request was answered with success, the payload that was reserved for is among these
-abbrev pub IsSettled : Reserved → ℕ → List (List ℕ) → Type 0
+abbrev pub IsSettled : CallReservation → ℕ → List (List ℕ) → Type 0
 IsSettled Reads status stamp = Unit {0}
 IsSettled (Holds place) status stamp = status ≡ 200 → IsAmong place.text.items stamp
 
 -- the reservation, if there is one
-abbrev pub place_of : Reserved → Option Place
+abbrev pub place_of : CallReservation → Option Reservation
 place_of Reads = None
 place_of (Holds place) = Some place
 
 -- the payload of a reservation
-abbrev pub text_of : Reserved → List ℕ
+abbrev pub text_of : CallReservation → List ℕ
 text_of Reads = []
 text_of (Holds place) = place.text.items
 
 -- the reservation, if there is one, is for this payload
-abbrev pub IsTitled : List ℕ → Reserved → Type 0
+abbrev pub IsTitled : List ℕ → CallReservation → Type 0
 IsTitled text reserved = IfSome (place_of reserved) (λ place. place.text.items ≡ text)
 
 module _ {L : Type 0} (may_be : L → List (List ℕ) → Type 0) (is_synced : L → Type 0) where

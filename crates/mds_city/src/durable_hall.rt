@@ -5,28 +5,28 @@ ghost use Rattle.mds_request.specs.Configuration.{configuration};
 ghost use Rattle.mds_request.specs.Reply.{refused};
 ghost use Rattle.mds_request.specs.declared.call.Call.TheVariants.{Author as ByAuthor, Operator as OperatorAt};
 ghost use Rattle.mds_request.specs.declared.config.Actor.TheVariants.{Author, Operator};
-ghost use Rattle.mds_hall.specs.Heard.{request_heard};
+ghost use Rattle.mds_hall.specs.WholeRequest.{request_heard};
 ghost use Rattle.mds_hall.specs.Response.{Says};
-ghost use Rattle.mds_city.specs.City.{IsRecordedTurn};
+ghost use Rattle.mds_city.specs.DurableResponse.{IsRecordedTurn};
 ghost use Rattle.mds_city.specs.Records.{IsReserved, IsTitled};
-ghost use Rattle.mds_city.specs.Unheld.{SaysUnheldFor, refusal_for};
-ghost use Rattle.mds_city.specs.Unstored.{Waits};
+ghost use Rattle.mds_city.specs.Refusals.{SaysUnheldFor, refusal_for};
+ghost use Rattle.mds_city.specs.CacheControl.{Waits};
 
 use crate::context::Context;
-use crate::pending::{Pending, Unanswered};
-use crate::recording::{Recording, Titled};
+use crate::pending::{ResponseAfterSync, NoResponse};
+use crate::record_commit::{RecordCommit, RecordPayload};
 use crate::records::{
-    Reserved, Unreserved, asker_of, give_back, record_text, refusal_for, settle, sharer,
+    CallReservation, NoReservation, client_of, give_back, record_text, refusal_for, append_or_release, share_index,
 };
-use crate::unstored::mark_unstored;
+use crate::cache_control::mark_unstored;
 use bytes::Bytes;
 use http::Response;
 use http_body_util::Full;
-use mds_app::Badges;
+use mds_app::OperatorNames;
 use mds_catalog::Catalogue;
-use mds_commit::{Keeper, Naming, NotTold, Settling, Space, Stamp};
-use mds_desk::{Answer, OpenGate};
-use mds_hall::{Hall, Heard, Named, response};
+use mds_commit::{CommitLog, LogName, CommitFault, AwaitSync, Space, LogPosition};
+use mds_desk::{SharedReply, OpenGate};
+use mds_hall::{Hall, WholeRequest, HallName, response};
 use mds_records::Log;
 use mds_request::{AuthorCall, Call, Code, OperatorCall};
 use mds_restarts::may_change;
@@ -38,36 +38,36 @@ use std::sync::{Arc, Wait};
 /// A hall whose accepted changes are persisted: each has a record in the commit log. `badges` has the names under which
 /// people know its operators. End it by `finish`.
 #[derive(Drop)]
-pub struct City<K: Named, N: Naming, L: Log, S: Space> {
+pub struct DurableHall<K: HallName, N: LogName, L: Log, S: Space> {
     pub(crate) hall: Hall<K>,
-    pub(crate) badges: Badges,
-    pub(crate) keeper: Arc<Keeper<N, L, S>>,
+    pub(crate) badges: OperatorNames,
+    pub(crate) keeper: Arc<CommitLog<N, L, S>>,
     /// The empty log position: nothing has to be synced.
-    pub(crate) nothing: Stamp<N, L>,
+    pub(crate) nothing: LogPosition<N, L>,
 }
 
 /// An answer, and the log position of all that it shows.
 #[derive(Drop)]
-pub(crate) struct Answered<N: Naming, L: Log> {
+pub(crate) struct AnswerAtPosition<N: LogName, L: Log> {
     /// The answer. It is sent once all that it shows is synced.
-    pub answer: Answer,
+    pub answer: SharedReply,
     /// The log position that has to be synced before the answer is sent.
-    pub stamp: Stamp<N, L>,
+    pub stamp: LogPosition<N, L>,
 }
 
-impl<K: Named, N: Naming, L: Log, S: Space> City<K, N, L, S> {
+impl<K: HallName, N: LogName, L: Log, S: Space> DurableHall<K, N, L, S> {
     /// A hall with the operators' names of its configuration's text, the log that persists its changes, and the empty
     /// log position.
     pub fn new(
         hall: Hall<K>,
-        badges: Badges,
-        keeper: Arc<Keeper<N, L, S>>,
-        nothing: Stamp<N, L>,
-    ) -> City<K, N, L, S>
+        badges: OperatorNames,
+        keeper: Arc<CommitLog<N, L, S>>,
+        nothing: LogPosition<N, L>,
+    ) -> DurableHall<K, N, L, S>
         ensures configured { configuration result.hall.config.value ≡ configuration hall.config.value }
         ensures badged { result.badges ≡ badges }
     {
-        City {
+        DurableHall {
             hall,
             badges,
             keeper,
@@ -87,22 +87,22 @@ impl<K: Named, N: Naming, L: Log, S: Space> City<K, N, L, S> {
     }
 
     /// The log position of all that has been appended by now.
-    pub(crate) fn stamp(&self) -> Stamp<N, L> {
-        self.keeper.stamp(&self.nothing)
+    pub(crate) fn current_position(&self) -> LogPosition<N, L> {
+        self.keeper.log_position(&self.nothing)
     }
 
     /// A response that waits until all of a log position is synced, and that no cache may store.
     pub(crate) fn await_sync(
         &self,
-        stamp: Stamp<N, L>,
+        stamp: LogPosition<N, L>,
         response: Response<Full<Bytes>>,
-    ) -> Result<Pending<N, L, S>, Unanswered>
+    ) -> Result<ResponseAfterSync<N, L, S>, NoResponse>
         ensures reply { IfOk result (λ s. Waits (λ plain. plain ≡ response) s.reply) }
         ensures stamp { IfOk result (λ s. s.stamp ≡ stamp) }
     {
         let keeper = Arc::try_clone(&self.keeper)?;
         let marked = mark_unstored(response)?;
-        Ok(Settling::new(keeper, stamp, marked))
+        Ok(AwaitSync::new(keeper, stamp, marked))
     }
 
     /// The response with an answer, once all that it shows is synced.
@@ -113,12 +113,12 @@ impl<K: Named, N: Naming, L: Log, S: Space> City<K, N, L, S> {
     pub(crate) fn reply(
         &self,
         alloc: Global,
-        answered: Answered<N, L>,
-    ) -> Result<Pending<N, L, S>, Unanswered>
+        answered: AnswerAtPosition<N, L>,
+    ) -> Result<ResponseAfterSync<N, L, S>, NoResponse>
         ensures says { IfOk result (λ s. Waits (λ response. Says response answered.answer) s.reply) }
         ensures stamp { IfOk result (λ s. s.stamp ≡ answered.stamp) }
     {
-        let Answered { answer, stamp } = answered;
+        let AnswerAtPosition { answer, stamp } = answered;
         let response = response(alloc, answer)?;
         self.await_sync(stamp, response)
     }
@@ -128,12 +128,12 @@ impl<K: Named, N: Naming, L: Log, S: Space> City<K, N, L, S> {
     /// # Errors
     ///
     /// Out of memory for the response.
-    pub(crate) fn refuse(&self, alloc: Global, code: Code) -> Result<Pending<N, L, S>, Unanswered>
+    pub(crate) fn refuse(&self, alloc: Global, code: Code) -> Result<ResponseAfterSync<N, L, S>, NoResponse>
         ensures { IfOk result (λ s. Waits (λ response. Says response (refused code)) s.reply) }
     {
         let stamp = self.nothing.again();
-        let answer = Answer::from(code);
-        self.reply(alloc, Answered { answer, stamp })
+        let answer = SharedReply::from(code);
+        self.reply(alloc, AnswerAtPosition { answer, stamp })
     }
 
     /// The refusal of a request for which nothing is reserved in the log.
@@ -141,11 +141,11 @@ impl<K: Named, N: Naming, L: Log, S: Space> City<K, N, L, S> {
     /// # Errors
     ///
     /// It isn't refused, since it may be tried again or no response may be sent; or out of memory for the response.
-    pub(crate) fn refuse_unheld(
+    pub(crate) fn refuse_unreserved(
         &self,
         alloc: Global,
-        why: Unreserved,
-    ) -> Result<Pending<N, L, S>, Unanswered>
+        why: NoReservation,
+    ) -> Result<ResponseAfterSync<N, L, S>, NoResponse>
         ensures says { IfOk result (λ s. Waits (SaysUnheldFor why) s.reply) }
         ensures untold { IfErr (refusal_for why) (λ unanswered. result ≡ Err unanswered) }
     {
@@ -160,26 +160,26 @@ impl<K: Named, N: Naming, L: Log, S: Space> City<K, N, L, S> {
     /// # Errors
     ///
     /// Nothing is reserved.
-    pub(crate) fn room_for<R: Wait>(
+    pub(crate) fn reserve_for<R: Wait>(
         &self,
         rt: &R,
         alloc: Global,
-        heard: &Heard<'_>,
+        heard: &WholeRequest<'_>,
         call: &Call,
-    ) -> Result<Reserved, Unreserved>
+    ) -> Result<CallReservation, NoReservation>
         requires { call_of K.configuration (request_heard heard.now) ≡ Ok call.now }
         ensures { IfOk result (IsReserved K.configuration (request_heard heard.now)) }
     {
         if !may_change(&Ok(*call)) {
-            return Ok(Reserved::Reads);
+            return Ok(CallReservation::Reads);
         }
         let config = self.hall.configuration()?;
-        let asker = asker_of(&*config, call);
+        let asker = client_of(&*config, call);
         let request = heard.request();
         let text = record_text(alloc, asker, &request)?;
-        match self.keeper.reserve(rt, sharer(call), text) {
-            Ok(place) => Ok(Reserved::Holds(place)),
-            Err(fault) => Err(Unreserved::from(fault)),
+        match self.keeper.reserve(rt, share_index(call), text) {
+            Ok(place) => Ok(CallReservation::Holds(place)),
+            Err(fault) => Err(NoReservation::from(fault)),
         }
     }
 
@@ -194,9 +194,9 @@ impl<K: Named, N: Naming, L: Log, S: Space> City<K, N, L, S> {
         context: &Context<'_, R, E>,
         place: usize,
         call: OperatorCall,
-        heard: Heard<'_>,
-        reserved: Reserved,
-    ) -> Result<Answered<N, L>, NotTold>
+        heard: WholeRequest<'_>,
+        reserved: CallReservation,
+    ) -> Result<AnswerAtPosition<N, L>, CommitFault>
         requires judge { E.may_judge }
         requires resolved { call_of K.configuration (request_heard heard) ≡ Ok (OperatorAt place call) }
         requires reserved { IsReserved K.configuration (request_heard heard) reserved }
@@ -206,7 +206,7 @@ impl<K: Named, N: Naming, L: Log, S: Space> City<K, N, L, S> {
         let rt = context.rt;
         let Some(mut desk) = self.hall.desk_at(rt, place) else {
             give_back(rt, &*self.keeper, reserved);
-            return Err(NotTold::NoMemory);
+            return Err(CommitFault::NoMemory);
         };
         let note = self.hall.note(rt);
         let answer = desk.carry_out(
@@ -217,8 +217,8 @@ impl<K: Named, N: Naming, L: Log, S: Space> City<K, N, L, S> {
             context.evaluator,
         );
         let status = answer.status();
-        match settle(rt, &*self.keeper, &self.nothing, reserved, status) {
-            Ok(stamp) => Ok(Answered { answer, stamp }),
+        match append_or_release(rt, &*self.keeper, &self.nothing, reserved, status) {
+            Ok(stamp) => Ok(AnswerAtPosition { answer, stamp }),
             Err(fault) => Err(fault),
         }
     }
@@ -229,29 +229,29 @@ impl<K: Named, N: Naming, L: Log, S: Space> City<K, N, L, S> {
     /// # Errors
     ///
     /// The log failed.
-    pub(crate) fn room_turn<T: Titled, R: Wait + Copy + Drop>(
+    pub(crate) fn room_turn<T: RecordPayload, R: Wait + Copy + Drop>(
         &self,
         rt: &R,
         call: AuthorCall,
-        heard: Heard<'_>,
-        keeper: Arc<Keeper<N, L, S>>,
-        reserved: Reserved,
-    ) -> Result<Answered<N, L>, NotTold>
+        heard: WholeRequest<'_>,
+        keeper: Arc<CommitLog<N, L, S>>,
+        reserved: CallReservation,
+    ) -> Result<AnswerAtPosition<N, L>, CommitFault>
         requires title { IsTitled T.text reserved }
         requires resolved { call_of K.configuration (request_heard heard) ≡ Ok (ByAuthor call) }
         requires reserved { IsReserved K.configuration (request_heard heard) reserved }
         ensures { IfOk result (λ answered. IsRecordedTurn K.configuration Author
             (request_heard heard.entry) answered.answer answered.stamp) }
     {
-        let mut recording = Recording::<T, R, N, L, S>::new(*rt, keeper, reserved);
+        let mut recording = RecordCommit::<T, R, N, L, S>::new(*rt, keeper, reserved);
         let mut room = self.hall.room(rt);
         let (answer, note) = room.carry_out(rt, heard, &call, &mut recording);
         let is_published = note.is_some();
         if let Some(note) = note {
-            self.hall.keep_note(rt, note);
+            self.hall.set_note(rt, note);
         }
-        match recording.settle(&self.nothing, answer.status(), is_published) {
-            Ok(stamp) => Ok(Answered { answer, stamp }),
+        match recording.complete(&self.nothing, answer.status(), is_published) {
+            Ok(stamp) => Ok(AnswerAtPosition { answer, stamp }),
             Err(fault) => Err(fault),
         }
     }
@@ -265,9 +265,9 @@ impl<K: Named, N: Naming, L: Log, S: Space> City<K, N, L, S> {
         &self,
         rt: &R,
         call: AuthorCall,
-        heard: Heard<'_>,
-        reserved: Reserved,
-    ) -> Result<Answered<N, L>, NotTold>
+        heard: WholeRequest<'_>,
+        reserved: CallReservation,
+    ) -> Result<AnswerAtPosition<N, L>, CommitFault>
         requires resolved { call_of K.configuration (request_heard heard) ≡ Ok (ByAuthor call) }
         requires reserved { IsReserved K.configuration (request_heard heard) reserved }
         ensures { IfOk result (λ answered. IsRecordedTurn K.configuration Author
@@ -277,7 +277,7 @@ impl<K: Named, N: Naming, L: Log, S: Space> City<K, N, L, S> {
             Ok(keeper) => self.room_turn::<Brand, R>(rt, call, heard, keeper, reserved),
             Err(_) => {
                 give_back(rt, &*self.keeper, reserved);
-                Err(NotTold::NoMemory)
+                Err(CommitFault::NoMemory)
             }
         }
     }

@@ -4,22 +4,22 @@ ghost use Rattle.mds_city.specs.Laws.{AppCallsAreNotKept, ManyAreKept, Operators
 use mds_records::Log;
 
 /// If a journal persists an exchange and its response was sent, a synced log has its record.
-pub fn recorded_are_kept<L: Log>()
+pub fn recorded_are_persisted<L: Log>()
     ensures { RecordedAreKept L.may_be L.is_synced }
 {}
 
 /// Of each of many reports that a journal persists, a synced log has the record once the response was sent.
-pub fn many_are_kept<L: Log>()
+pub fn many_are_persisted<L: Log>()
     ensures { ManyAreKept L.may_be L.is_synced }
 {}
 
 /// No journal persists a call outside the protocol.
-pub fn app_calls_are_not_kept()
+pub fn app_calls_are_not_persisted()
     ensures { AppCallsAreNotKept }
 {}
 
 /// An operator's responses outside the protocol depend on the publications and its own place alone.
-pub fn operators_are_told_their_own()
+pub fn operators_see_their_own()
     ensures { OperatorsAreToldTheirOwn }
 {}
 

@@ -2,27 +2,27 @@
 //! shows is synced.
 #![tactic(auto)]
 
-mod city;
+mod durable_hall;
 mod context;
 pub mod laws;
-mod leaving;
+mod pending_response;
 mod lines;
 mod many;
 mod pending;
 mod people;
 mod published;
-mod reception;
-mod recording;
+mod service;
+mod record_commit;
 mod records;
 mod responding;
-mod telling;
-mod unstored;
+mod report_lines;
+mod cache_control;
 
-pub use city::City;
+pub use durable_hall::DurableHall;
 pub use context::Context;
-pub use leaving::Leaving;
+pub use pending_response::PendingResponse;
 pub use lines::MOST_REPORTS;
-pub use pending::{Pending, Unanswered};
-pub use reception::CityReception;
+pub use pending::{ResponseAfterSync, NoResponse};
+pub use service::DurableService;
 pub use records::is_accepted;
 pub use responding::respond;

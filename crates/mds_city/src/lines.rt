@@ -58,7 +58,7 @@ pub(crate) fn may_be_report(line: &[u8]) -> bool {
 }
 
 /// How many of these requests, from the first on, may all be reports, or may none be: fewer than `CHUNK`.
-fn alike(requests: &[Request<'_>], may_be_reports: bool) -> usize
+fn run_length(requests: &[Request<'_>], may_be_reports: bool) -> usize
     ensures { result ≤ length requests.now }
 {
     let mut count = 0;
@@ -79,7 +79,7 @@ pub(crate) fn chunk_length(requests: &[Request<'_>]) -> usize
 {
     let may_be_reports = may_be_report(requests[0].body);
     // The first one always belongs to the chunk.
-    1 + alike(&requests[1..], may_be_reports)
+    1 + run_length(&requests[1..], may_be_reports)
 }
 
 /// Adds the report on a line, unless the line is empty.

@@ -5,23 +5,23 @@ ghost use Rattle.mds_request.specs.Configuration.{actor_of};
 ghost use Rattle.mds_request.specs.Request.{request_of};
 ghost use Rattle.mds_request.specs.Reply.{Reply, refused};
 ghost use Rattle.mds_desk.specs.Desk.{state_of};
-ghost use Rattle.mds_hall.specs.Heard.{request_heard};
+ghost use Rattle.mds_hall.specs.WholeRequest.{request_heard};
 ghost use Rattle.mds_request.specs.declared.config.Actor.TheVariants.{Operator};
 ghost use Rattle.mds_city.specs.Many.{AreAskedBy, AreRecordsOf, AreRefusedBehind, Continues, IsAnsweredInPart, IsHalted, ManyAreAnswered, SaysAll, refusal_behind};
 ghost use Rattle.mds_city.specs.Records.{record_by};
-ghost use Rattle.mds_city.specs.Unstored.{Waits};
+ghost use Rattle.mds_city.specs.CacheControl.{Waits};
 
-use crate::city::City;
+use crate::durable_hall::DurableHall;
 use crate::context::Context;
 use crate::lines::{chunk_length, may_be_report, reports};
-use crate::pending::{Pending, Unanswered};
-use crate::records::{Unreserved, is_accepted, operator_asker, record_text};
-use crate::telling::response_of_all;
+use crate::pending::{ResponseAfterSync, NoResponse};
+use crate::records::{NoReservation, is_accepted, operator_client, record_text};
+use crate::report_lines::response_of_all;
 use mds_catalog::Catalogue;
-use mds_commit::{MOST_TEXTS_OF_ONE, Naming, NotTold, Places, Space, Stamp, Usage};
-use mds_desk::{Answer, OpenGate};
-use mds_entries::Asker;
-use mds_hall::{HallDesk, Heard, Named};
+use mds_commit::{MOST_TEXTS_OF_ONE, LogName, CommitFault, Reservations, Space, LogPosition, Usage};
+use mds_desk::{SharedReply, OpenGate};
+use mds_entries::EntryClient;
+use mds_hall::{HallDesk, WholeRequest, HallName};
 use mds_limits::index_of;
 use mds_records::Log;
 use mds_request::{Actor, Code, Request};
@@ -31,34 +31,34 @@ use std::sync::Wait;
 
 /// The answers to requests so far, in their order, and the log position of all that they show.
 #[derive(Drop)]
-pub(crate) struct Replies<N: Naming, L: Log> {
-    answers: Vec<Answer>,
-    stamp: Stamp<N, L>,
+pub(crate) struct Replies<N: LogName, L: Log> {
+    answers: Vec<SharedReply>,
+    stamp: LogPosition<N, L>,
 }
 
 /// Why a chunk of requests isn't answered.
 #[derive(Clone, Copy, Debug, PartialEq, Eq)]
 pub(crate) enum Halt {
     /// Nothing is reserved in the log for it, and none of it was carried out.
-    Unheld(Unreserved),
+    Unheld(NoReservation),
     /// No response may be sent.
-    NotTold(NotTold),
+    NotTold(CommitFault),
 }
 
-impl From<Unreserved> for Halt {
-    fn from(why: Unreserved) -> Halt {
+impl From<NoReservation> for Halt {
+    fn from(why: NoReservation) -> Halt {
         Halt::Unheld(why)
     }
 }
 
 impl From<AllocError> for Halt {
     fn from(_: AllocError) -> Halt {
-        Halt::Unheld(Unreserved::NoMemory)
+        Halt::Unheld(NoReservation::NoMemory)
     }
 }
 
-impl From<NotTold> for Halt {
-    fn from(fault: NotTold) -> Halt {
+impl From<CommitFault> for Halt {
+    fn from(fault: CommitFault) -> Halt {
         Halt::NotTold(fault)
     }
 }
@@ -69,23 +69,23 @@ fn refusal_behind(halt: Halt) -> Option<Code>
     ensures { result ≡ refusal_behind halt }
 {
     match halt {
-        Halt::Unheld(Unreserved::Crowded) => Some(Code::Busy),
-        Halt::Unheld(Unreserved::Stopping) => Some(Code::Busy),
-        Halt::Unheld(Unreserved::NoRoom) => Some(Code::NoRoom),
-        Halt::Unheld(Unreserved::NoMemory) => Some(Code::NoMemory),
-        Halt::Unheld(Unreserved::Failed) => None,
+        Halt::Unheld(NoReservation::Crowded) => Some(Code::Busy),
+        Halt::Unheld(NoReservation::Stopping) => Some(Code::Busy),
+        Halt::Unheld(NoReservation::NoRoom) => Some(Code::NoRoom),
+        Halt::Unheld(NoReservation::NoMemory) => Some(Code::NoMemory),
+        Halt::Unheld(NoReservation::Failed) => None,
         Halt::NotTold(_) => None,
     }
 }
 
 /// A refusal of each of these requests.
-fn refusals(alloc: Global, code: Code, requests: &[Request<'_>]) -> Result<Vec<Answer>, AllocError>
+fn refusals(alloc: Global, code: Code, requests: &[Request<'_>]) -> Result<Vec<SharedReply>, AllocError>
     ensures { IfOk result (λ answers. answers.items ≡ map (λ _. refused code) (map request_of requests.now)) }
 {
     let mut answers = Vec::with_capacity(alloc, requests.len())?;
     for request in requests {
         let _ = request;
-        answers.push_reserved(Answer::from(code));
+        answers.push_reserved(SharedReply::from(code));
     }
     Ok(answers)
 }
@@ -97,9 +97,9 @@ fn refusals(alloc: Global, code: Code, requests: &[Request<'_>]) -> Result<Vec<A
 /// `NoMemory`: a request's target is too long for a record, or out of memory.
 fn record_texts(
     alloc: Global,
-    asker: &Asker,
+    asker: &EntryClient,
     requests: &[Request<'_>],
-) -> Result<Vec<Vec<u8>>, Unreserved>
+) -> Result<Vec<Vec<u8>>, NoReservation>
     ensures { IfOk result (λ texts. map (λ text. text.items) texts.items ≡ map (record_by asker.now) (map request_of requests.now)) }
 {
     let mut texts = Vec::with_capacity(alloc, requests.len())?;
@@ -122,14 +122,14 @@ fn reports_among(requests: &[Request<'_>]) -> usize {
 }
 
 /// Whether no request was accepted.
-fn are_refused(answers: &[Answer]) -> bool
+fn are_refused(answers: &[SharedReply]) -> bool
     ensures { result ≡ list_all (λ answer. not (answer.status == 200)) answers.now }
 {
     answers.iter().all(|answer| !is_accepted(answer.status()))
 }
 
 /// Adds for each answer whether its request was accepted.
-fn note_accepted(flags: &mut Vec<bool>, answers: &[Answer])
+fn push_flags(flags: &mut Vec<bool>, answers: &[SharedReply])
     requires empty { length flags.old.items ≡ 0 }
     requires room { length answers.now ≤ vec_capacity flags.old }
     ensures { flags.new.items ≡ map (λ answer. answer.status == 200) answers.now }
@@ -139,13 +139,13 @@ fn note_accepted(flags: &mut Vec<bool>, answers: &[Answer])
     }
 }
 
-impl<N: Naming, L: Log> Replies<N, L> {
+impl<N: LogName, L: Log> Replies<N, L> {
     /// Adds the answers to further requests.
     ///
     /// # Errors
     ///
     /// Out of memory, though they were carried out.
-    fn extend(&mut self, further: Replies<N, L>) -> Result<(), NotTold>
+    fn extend(&mut self, further: Replies<N, L>) -> Result<(), CommitFault>
         ensures { OnOk result ((self.new.answers.items ≡ self.old.answers.items ++ further.answers.items) × (self.new.stamp ≡ further.stamp)) }
     {
         let Replies { mut answers, stamp } = further;
@@ -159,7 +159,7 @@ impl<N: Naming, L: Log> Replies<N, L> {
     /// # Errors
     ///
     /// None was answered before them, or no response may be sent.
-    fn with_refused(
+    fn with_refusals(
         self,
         alloc: Global,
         requests: &[Request<'_>],
@@ -175,7 +175,7 @@ impl<N: Naming, L: Log> Replies<N, L> {
             return Err(halt);
         }
         let Ok(others) = refusals(alloc, code, requests) else {
-            return Err(Halt::NotTold(NotTold::NoMemory));
+            return Err(Halt::NotTold(CommitFault::NoMemory));
         };
         let stamp = self.stamp.again();
         let refused = Replies {
@@ -190,7 +190,7 @@ impl<N: Naming, L: Log> Replies<N, L> {
     }
 }
 
-impl<K: Named, N: Naming, L: Log, S: Space> City<K, N, L, S> {
+impl<K: HallName, N: LogName, L: Log, S: Space> DurableHall<K, N, L, S> {
     /// Whether this operator's share of the log has room for so many reports of one body, or, where they are more, for
     /// as many as it may ever have.
     fn has_share<R: Wait>(&self, rt: &R, place: usize, reports: usize, bytes: usize) -> bool {
@@ -208,25 +208,25 @@ impl<K: Named, N: Naming, L: Log, S: Space> City<K, N, L, S> {
     /// # Errors
     ///
     /// Nothing is reserved.
-    fn room_for_all<R: Wait>(
+    fn reserve_for_all<R: Wait>(
         &self,
         rt: &R,
         alloc: Global,
         place: usize,
         requests: &[Request<'_>],
-    ) -> Result<Places, Unreserved>
+    ) -> Result<Reservations, NoReservation>
         requires place { place < length K.configuration.operators }
         requires asked { AreAskedBy K.configuration place (map request_of requests.now) }
         ensures { IfOk result (λ places. AreRecordsOf K.configuration (map request_of requests.now)
             (map (λ text. text.items) places.texts.items)) }
     {
         let config = self.hall.configuration()?;
-        let asker = operator_asker(&*config, place);
+        let asker = operator_client(&*config, place);
         let texts = record_texts(alloc, &asker, requests)?;
         let sharer = index_of(Actor::Operator(place));
         match self.keeper.reserve_all(rt, sharer, texts) {
             Ok(places) => Ok(places),
-            Err(fault) => Err(Unreserved::from(fault)),
+            Err(fault) => Err(NoReservation::from(fault)),
         }
     }
 
@@ -236,13 +236,13 @@ impl<K: Named, N: Naming, L: Log, S: Space> City<K, N, L, S> {
     /// # Errors
     ///
     /// Out of memory before the first turn, and none is carried out; or the log failed.
-    fn carry_out_held<R: Wait, E: Evaluator<Catalogue>>(
+    fn carry_out_reserved<R: Wait, E: Evaluator<Catalogue>>(
         &self,
         context: &Context<'_, R, E>,
         desk: &mut HallDesk<K>,
         requests: &[Request<'_>],
-        places: Places,
-        known: &Stamp<N, L>,
+        places: Reservations,
+        known: &LogPosition<N, L>,
     ) -> Result<Replies<N, L>, Halt>
         requires judge { E.may_judge }
         requires places { AreRecordsOf K.configuration (map request_of requests.now) (map (λ text. text.items) places.texts.items) }
@@ -252,16 +252,16 @@ impl<K: Named, N: Naming, L: Log, S: Space> City<K, N, L, S> {
     {
         let Ok(mut accepted) = Vec::with_capacity(context.alloc, requests.len()) else {
             self.keeper.release_all(context.rt, places);
-            return Err(Halt::Unheld(Unreserved::NoMemory));
+            return Err(Halt::Unheld(NoReservation::NoMemory));
         };
         let note = self.hall.note(context.rt);
-        let run = desk.answered_all(requests, note.as_ref(), &mut OpenGate, context.evaluator);
+        let run = desk.answer_all(requests, note.as_ref(), &mut OpenGate, context.evaluator);
         let Ok(answers) = run else {
             self.keeper.release_all(context.rt, places);
-            return Err(Halt::Unheld(Unreserved::NoMemory));
+            return Err(Halt::Unheld(NoReservation::NoMemory));
         };
-        note_accepted(&mut accepted, &answers);
-        let stamp = self.keeper.settle(context.rt, known, places, &accepted)?;
+        push_flags(&mut accepted, &answers);
+        let stamp = self.keeper.append_chosen(context.rt, known, places, &accepted)?;
         Ok(Replies { answers, stamp })
     }
 
@@ -276,7 +276,7 @@ impl<K: Named, N: Naming, L: Log, S: Space> City<K, N, L, S> {
         context: &Context<'_, R, E>,
         desk: &mut HallDesk<K>,
         requests: &[Request<'_>],
-        known: &Stamp<N, L>,
+        known: &LogPosition<N, L>,
     ) -> Result<Replies<N, L>, Halt>
         requires judge { E.may_judge }
         ensures place { desk.new.place ≡ desk.old.place }
@@ -284,10 +284,10 @@ impl<K: Named, N: Naming, L: Log, S: Space> City<K, N, L, S> {
             (map request_of requests.now) (state_of desk.new.desk) replies.answers.items replies.stamp) }
     {
         let note = self.hall.note(context.rt);
-        let answers = desk.answered_all(requests, note.as_ref(), &mut OpenGate, context.evaluator)?;
+        let answers = desk.answer_all(requests, note.as_ref(), &mut OpenGate, context.evaluator)?;
         if !are_refused(&answers) {
             self.keeper.fail(context.rt);
-            return Err(Halt::NotTold(NotTold::Failed));
+            return Err(Halt::NotTold(CommitFault::Failed));
         }
         let stamp = known.again();
         Ok(Replies { answers, stamp })
@@ -305,7 +305,7 @@ impl<K: Named, N: Naming, L: Log, S: Space> City<K, N, L, S> {
         desk: &mut HallDesk<K>,
         place: usize,
         requests: &[Request<'_>],
-        known: &Stamp<N, L>,
+        known: &LogPosition<N, L>,
     ) -> Result<Replies<N, L>, Halt>
         requires judge { E.may_judge }
         requires place { place < length K.configuration.operators }
@@ -317,8 +317,8 @@ impl<K: Named, N: Naming, L: Log, S: Space> City<K, N, L, S> {
         if !requests.iter().any(|request| may_be_report(request.body)) {
             return self.carry_out_refused(context, desk, requests, known);
         }
-        let places = self.room_for_all(context.rt, context.alloc, place, requests)?;
-        self.carry_out_held(context, desk, requests, places, known)
+        let places = self.reserve_for_all(context.rt, context.alloc, place, requests)?;
+        self.carry_out_reserved(context, desk, requests, places, known)
     }
 
     /// Answers these requests by turns of this desk, which is that of the operator at this place, chunk by chunk and
@@ -354,7 +354,7 @@ impl<K: Named, N: Naming, L: Log, S: Space> City<K, N, L, S> {
                     replies.extend(further)?;
                     done += length;
                 }
-                Err(halt) => return replies.with_refused(context.alloc, rest, halt),
+                Err(halt) => return replies.with_refusals(context.alloc, rest, halt),
             }
         }
         Ok(replies)
@@ -378,7 +378,7 @@ impl<K: Named, N: Naming, L: Log, S: Space> City<K, N, L, S> {
             (map request_of requests.now) replies.answers.items replies.stamp) }
     {
         let Some(mut desk) = self.hall.desk_at(context.rt, place) else {
-            return Err(Halt::Unheld(Unreserved::NoMemory));
+            return Err(Halt::Unheld(NoReservation::NoMemory));
         };
         self.carry_out_all(context, &mut *desk, place, requests)
     }
@@ -392,7 +392,7 @@ impl<K: Named, N: Naming, L: Log, S: Space> City<K, N, L, S> {
         &self,
         alloc: Global,
         replies: Replies<N, L>,
-    ) -> Result<Pending<N, L, S>, Unanswered>
+    ) -> Result<ResponseAfterSync<N, L, S>, NoResponse>
         ensures says { IfOk result (λ s. Waits (λ response. SaysAll response replies.answers.items) s.reply) }
         ensures stamp { IfOk result (λ s. s.stamp ≡ replies.stamp) }
     {
@@ -407,12 +407,12 @@ impl<K: Named, N: Naming, L: Log, S: Space> City<K, N, L, S> {
     ///
     /// They aren't refused, since they may be tried again or no response may be sent; or out of memory for the
     /// response.
-    fn refuse_all(&self, alloc: Global, halt: Halt) -> Result<Pending<N, L, S>, Unanswered>
+    fn refuse_all(&self, alloc: Global, halt: Halt) -> Result<ResponseAfterSync<N, L, S>, NoResponse>
         ensures { IsHalted (λ s. s.reply) halt result }
     {
         match halt {
-            Halt::Unheld(why) => self.refuse_unheld(alloc, why),
-            Halt::NotTold(fault) => Err(Unanswered::NotTold(fault)),
+            Halt::Unheld(why) => self.refuse_unreserved(alloc, why),
+            Halt::NotTold(fault) => Err(NoResponse::NotTold(fault)),
         }
     }
 }
@@ -424,12 +424,12 @@ impl<K: Named, N: Naming, L: Log, S: Space> City<K, N, L, S> {
 ///
 /// The client's share of the log is used up, and none was carried out; or no response may be sent, and reports may have
 /// been accepted.
-pub(crate) fn many_reports<K: Named, N: Naming, R: Wait, E: Evaluator<Catalogue>, L: Log, S: Space>(
+pub(crate) fn many_reports<K: HallName, N: LogName, R: Wait, E: Evaluator<Catalogue>, L: Log, S: Space>(
     context: &Context<'_, R, E>,
     place: usize,
-    heard: &Heard<'_>,
-    city: &City<K, N, L, S>,
-) -> Result<Pending<N, L, S>, Unanswered>
+    heard: &WholeRequest<'_>,
+    city: &DurableHall<K, N, L, S>,
+) -> Result<ResponseAfterSync<N, L, S>, NoResponse>
     requires judge { E.may_judge }
     requires asker { actor_of K.configuration (request_heard heard.now).token ≡ Operator place }
     ensures { IfOk result (λ s. Waits (ManyAreAnswered K.configuration place (request_heard heard.now) s.stamp) s.reply) }
@@ -441,7 +441,7 @@ pub(crate) fn many_reports<K: Named, N: Naming, R: Wait, E: Evaluator<Catalogue>
     };
     let lent = requests.as_slice();
     if !city.has_share(context.rt, place, reports_among(lent), request.body.len()) {
-        return Err(Unanswered::Crowded);
+        return Err(NoResponse::Crowded);
     }
     match city.answer_all(context, place, lent) {
         Ok(replies) => city.reply_to_all(context.alloc, replies),

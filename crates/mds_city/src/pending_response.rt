@@ -1,43 +1,43 @@
 //! A pending response.
 ghost use Rattle.std.specs.Prelude.{◌≡◌, Some, None};
 
-use crate::pending::Pending;
+use crate::pending::ResponseAfterSync;
 use bytes::Bytes;
 use futures::Future;
 use futures::task::{Context, Poll};
 use http::Response;
 use http_body_util::Full;
-use mds_commit::{Naming, Space};
+use mds_commit::{LogName, Space};
 use mds_records::Log;
 use std::alloc::AllocError;
 
 /// A response that waits until all that it shows is synced. Where no response may be sent it is an error, and the
 /// connection closes.
 #[derive(Drop)]
-pub struct Leaving<N: Naming, L: Log, S: Space> {
+pub struct PendingResponse<N: LogName, L: Log, S: Space> {
     /// The response that waits; none where no response may be sent.
-    pub told: Option<Pending<N, L, S>>,
+    pub told: Option<ResponseAfterSync<N, L, S>>,
 }
 
-impl<N: Naming, L: Log, S: Space> Leaving<N, L, S> {
+impl<N: LogName, L: Log, S: Space> PendingResponse<N, L, S> {
     /// A pending response.
-    pub(crate) fn of(pending: Pending<N, L, S>) -> Leaving<N, L, S>
+    pub(crate) fn of(pending: ResponseAfterSync<N, L, S>) -> PendingResponse<N, L, S>
         ensures { result.told ≡ Some pending }
     {
-        Leaving {
+        PendingResponse {
             told: Some(pending),
         }
     }
 
     /// No response may be sent.
-    pub(crate) fn nothing() -> Leaving<N, L, S>
+    pub(crate) fn nothing() -> PendingResponse<N, L, S>
         ensures { result.told ≡ None }
     {
-        Leaving { told: None }
+        PendingResponse { told: None }
     }
 }
 
-impl<N: Naming, L: Log, S: Space> Future for Leaving<N, L, S> {
+impl<N: LogName, L: Log, S: Space> Future for PendingResponse<N, L, S> {
     ghost use Rattle.std.specs.Prelude.{◌≡◌, Some, IfOk, IfSome};
     ghost use Rattle.tokio.specs.Locks.{owned_notified_source};
     ghost use Rattle.mds_commit.specs.Durable.{AreDurable};

@@ -1,24 +1,24 @@
 //! Answers for people, outside the protocol's calls. They are read under the lock of the desk or of the room, and have
 //! no record.
 ghost use Rattle.std.specs.Prelude.{◌≡◌, ◌<◌, IfErr, IfOk, length};
-ghost use Rattle.mds_app.specs.Badges.{badges_view};
+ghost use Rattle.mds_app.specs.OperatorNames.{badges_view};
 ghost use Rattle.mds_app.specs.Whoami.{who_reply};
 ghost use Rattle.mds_request.specs.Reply.{refused};
 ghost use Rattle.mds_request.specs.declared.code.Code.TheVariants.{NoMemory};
-ghost use Rattle.mds_hall.specs.Told.{RoomTells};
-ghost use Rattle.mds_city.specs.Told.{IsToldReply, SaysTold, TellsAuthor, TellsOperator, room_told};
-ghost use Rattle.mds_city.specs.Unstored.{Waits};
+ghost use Rattle.mds_hall.specs.Query.{RoomTells};
+ghost use Rattle.mds_city.specs.People.{IsToldReply, SaysTold, TellsAuthor, TellsOperator, room_told};
+ghost use Rattle.mds_city.specs.CacheControl.{Waits};
 ghost use Rattle.mds_routes.specs.declared.app.Question.TheVariants.{Withdrawals};
 
-use crate::city::{Answered, City};
-use crate::pending::{Pending, Unanswered};
+use crate::durable_hall::{AnswerAtPosition, DurableHall};
+use crate::pending::{ResponseAfterSync, NoResponse};
 use crate::records::id_at;
-use mds_app::{listed_drafts, whoami, withdrawals};
+use mds_app::{list_drafts, whoami, withdrawals};
 use mds_catalog::Catalogue;
-use mds_commit::{Naming, NotTold, Space};
-use mds_desk::{Answer, AuthorTelling, Telling};
+use mds_commit::{LogName, CommitFault, Space};
+use mds_desk::{SharedReply, RoomQuery, DeskQuery};
 use mds_drafts::Drafts;
-use mds_hall::Named;
+use mds_hall::HallName;
 use mds_records::Log;
 use mds_request::{Actor, Code, Reply};
 use mds_routes::Question;
@@ -28,11 +28,11 @@ use std::sync::Wait;
 
 /// Which of an operator's policies are withdrawn.
 #[derive(Clone, Copy)]
-pub(crate) struct WithdrawnFor {
+pub(crate) struct OperatorWithdrawals {
     operator: Id,
 }
 
-impl Telling for WithdrawnFor {
+impl DeskQuery for OperatorWithdrawals {
     ghost use Rattle.std.specs.Prelude.{◌≡◌, Some};
     ghost use Rattle.mds_app.specs.Withdrawals.{withdrawals_reply};
 
@@ -40,75 +40,75 @@ impl Telling for WithdrawnFor {
 
     ghost tells = { λ telling publications reply. reply ≡ withdrawals_reply publications (Some telling.operator) };
 
-    fn tell(&self, alloc: Global, catalogue: &Catalogue) -> Result<Reply, AllocError> {
+    fn run_query(&self, alloc: Global, catalogue: &Catalogue) -> Result<Reply, AllocError> {
         withdrawals(alloc, catalogue, Some(self.operator))
     }
 }
 
 /// What the author asks of its room.
 #[derive(Clone, Copy)]
-pub(crate) enum OfRoom {
+pub(crate) enum RoomQuestion {
     /// Which policies are withdrawn.
     Withdrawals,
     /// Which drafts there are.
     Drafts,
 }
 
-impl AuthorTelling for OfRoom {
+impl RoomQuery for RoomQuestion {
     ghost use Rattle.std.specs.Prelude.{◌≡◌};
-    ghost use Rattle.mds_city.specs.Told.{room_told};
+    ghost use Rattle.mds_city.specs.People.{room_told};
 
     type Told = Reply;
 
     ghost tells = { λ asked drafts publications reply. reply ≡ room_told asked drafts publications };
 
-    fn tell(
+    fn run_query(
         &self,
         alloc: Global,
         drafts: &Drafts,
         catalogue: &Catalogue,
     ) -> Result<Reply, AllocError> {
         match self {
-            OfRoom::Withdrawals => withdrawals(alloc, catalogue, None),
-            OfRoom::Drafts => listed_drafts(alloc, drafts),
+            RoomQuestion::Withdrawals => withdrawals(alloc, catalogue, None),
+            RoomQuestion::Drafts => list_drafts(alloc, drafts),
         }
     }
 }
 
 /// This reply, or the refusal for being out of memory.
-fn or_no_memory(told: Result<Reply, AllocError>) -> Answer
+fn or_no_memory(told: Result<Reply, AllocError>) -> SharedReply
     ensures told { IfOk told (λ reply. result ≡ reply) }
     ensures refused { IfErr told (λ _. result ≡ refused NoMemory) }
 {
     match told {
-        Ok(reply) => Answer::from(reply),
-        Err(_) => Answer::from(Code::NoMemory),
+        Ok(reply) => SharedReply::from(reply),
+        Err(_) => SharedReply::from(Code::NoMemory),
     }
 }
 
 /// This reply, or the refusal in its place.
-fn or_refused(told: Result<Reply, Code>) -> Answer
+fn or_refused(told: Result<Reply, Code>) -> SharedReply
     ensures told { IfOk told (λ reply. result ≡ reply) }
     ensures refused { IfErr told (λ code. result ≡ refused code) }
 {
     match told {
-        Ok(reply) => Answer::from(reply),
-        Err(code) => Answer::from(code),
+        Ok(reply) => SharedReply::from(reply),
+        Err(code) => SharedReply::from(code),
     }
 }
 
-impl<K: Named, N: Naming, L: Log, S: Space> City<K, N, L, S> {
+impl<K: HallName, N: LogName, L: Log, S: Space> DurableHall<K, N, L, S> {
     /// Answers who the client is.
     ///
     /// # Errors
     ///
     /// Out of memory for the response.
-    fn who(&self, alloc: Global, asker: Actor) -> Result<Pending<N, L, S>, Unanswered>
+    fn answer_whoami(&self, alloc: Global, asker: Actor) -> Result<ResponseAfterSync<N, L, S>, NoResponse>
         ensures { IfOk result (λ s. Waits (SaysTold (λ reply. reply ≡ who_reply (badges_view self.now.badges) asker)) s.reply) }
     {
-        let stamp = self.stamp();
+        let stamp = self.current_position();
         let answer = or_no_memory(whoami(alloc, &self.badges, asker));
-        self.reply(alloc, Answered { answer, stamp })
+        self.reply(alloc, AnswerAtPosition { answer, stamp })
     }
 
     /// The answer about withdrawals to the operator at this place, from one snapshot of its desk, under the desk's
@@ -117,22 +117,22 @@ impl<K: Named, N: Naming, L: Log, S: Space> City<K, N, L, S> {
     /// # Errors
     ///
     /// Out of memory.
-    fn withdrawals_at<R: Wait>(&self, rt: &R, place: usize) -> Result<Answered<N, L>, NotTold>
+    fn withdrawals_at<R: Wait>(&self, rt: &R, place: usize) -> Result<AnswerAtPosition<N, L>, CommitFault>
         requires { place < length K.configuration.operators }
         ensures { IfOk result (λ answered. IsToldReply (TellsOperator K.configuration (badges_view self.now.badges)
             place Withdrawals) answered.answer) }
     {
         let config = self.hall.configuration()?;
-        let telling = WithdrawnFor {
+        let telling = OperatorWithdrawals {
             operator: id_at(&*config, place),
         };
         let Some(mut desk) = self.hall.desk_at(rt, place) else {
-            return Err(NotTold::NoMemory);
+            return Err(CommitFault::NoMemory);
         };
         let note = self.hall.note(rt);
-        let answer = or_refused(desk.told(note.as_ref(), &telling));
-        let stamp = self.stamp();
-        Ok(Answered { answer, stamp })
+        let answer = or_refused(desk.query(note.as_ref(), &telling));
+        let stamp = self.current_position();
+        Ok(AnswerAtPosition { answer, stamp })
     }
 
     /// Answers the operator at this place which of its policies are withdrawn.
@@ -140,31 +140,31 @@ impl<K: Named, N: Naming, L: Log, S: Space> City<K, N, L, S> {
     /// # Errors
     ///
     /// Out of memory.
-    fn of_desk<R: Wait>(
+    fn answer_withdrawals<R: Wait>(
         &self,
         rt: &R,
         alloc: Global,
         place: usize,
-    ) -> Result<Pending<N, L, S>, Unanswered>
+    ) -> Result<ResponseAfterSync<N, L, S>, NoResponse>
         requires { place < length K.configuration.operators }
         ensures { IfOk result (λ s. Waits (SaysTold (TellsOperator K.configuration (badges_view self.now.badges)
             place Withdrawals)) s.reply) }
     {
         match self.withdrawals_at(rt, place) {
             Ok(answered) => self.reply(alloc, answered),
-            Err(fault) => Err(Unanswered::NotTold(fault)),
+            Err(fault) => Err(NoResponse::NotTold(fault)),
         }
     }
 
     /// The answer to the author about its room, under the room's lock.
-    fn answer_of<R: Wait>(&self, rt: &R, asked: OfRoom) -> Answered<N, L>
+    fn answer_room_question<R: Wait>(&self, rt: &R, asked: RoomQuestion) -> AnswerAtPosition<N, L>
         ensures { IsToldReply (RoomTells K.configuration
             (λ drafts publications told. told ≡ room_told asked drafts publications)) result.answer }
     {
         let room = self.hall.room(rt);
-        let answer = or_no_memory(room.told(&asked));
-        let stamp = self.stamp();
-        Answered { answer, stamp }
+        let answer = or_no_memory(room.query(&asked));
+        let stamp = self.current_position();
+        AnswerAtPosition { answer, stamp }
     }
 
     /// Answers the author about its room.
@@ -172,16 +172,16 @@ impl<K: Named, N: Naming, L: Log, S: Space> City<K, N, L, S> {
     /// # Errors
     ///
     /// Out of memory for the response.
-    fn of_room<R: Wait>(
+    fn respond_of_room<R: Wait>(
         &self,
         rt: &R,
         alloc: Global,
-        asked: OfRoom,
-    ) -> Result<Pending<N, L, S>, Unanswered>
+        asked: RoomQuestion,
+    ) -> Result<ResponseAfterSync<N, L, S>, NoResponse>
         ensures { IfOk result (λ s. Waits (SaysTold (RoomTells K.configuration
             (λ drafts publications told. told ≡ room_told asked drafts publications))) s.reply) }
     {
-        let answered = self.answer_of(rt, asked);
+        let answered = self.answer_room_question(rt, asked);
         self.reply(alloc, answered)
     }
 }
@@ -191,18 +191,18 @@ impl<K: Named, N: Naming, L: Log, S: Space> City<K, N, L, S> {
 /// # Errors
 ///
 /// Out of memory for the response.
-pub(crate) fn tell_the_author<K: Named, N: Naming, R: Wait, L: Log, S: Space>(
+pub(crate) fn answer_author<K: HallName, N: LogName, R: Wait, L: Log, S: Space>(
     rt: &R,
     alloc: Global,
     question: Question,
-    city: &City<K, N, L, S>,
-) -> Result<Pending<N, L, S>, Unanswered>
+    city: &DurableHall<K, N, L, S>,
+) -> Result<ResponseAfterSync<N, L, S>, NoResponse>
     ensures { IfOk result (λ s. Waits (SaysTold (TellsAuthor K.configuration (badges_view city.now.badges) question)) s.reply) }
 {
     match question {
-        Question::Whoami => city.who(alloc, Actor::Author),
-        Question::Withdrawals => city.of_room(rt, alloc, OfRoom::Withdrawals),
-        Question::Drafts => city.of_room(rt, alloc, OfRoom::Drafts),
+        Question::Whoami => city.answer_whoami(alloc, Actor::Author),
+        Question::Withdrawals => city.respond_of_room(rt, alloc, RoomQuestion::Withdrawals),
+        Question::Drafts => city.respond_of_room(rt, alloc, RoomQuestion::Drafts),
     }
 }
 
@@ -211,19 +211,19 @@ pub(crate) fn tell_the_author<K: Named, N: Naming, R: Wait, L: Log, S: Space>(
 /// # Errors
 ///
 /// Out of memory for the response.
-pub(crate) fn tell_an_operator<K: Named, N: Naming, R: Wait, L: Log, S: Space>(
+pub(crate) fn answer_operator<K: HallName, N: LogName, R: Wait, L: Log, S: Space>(
     rt: &R,
     alloc: Global,
     place: usize,
     question: Question,
-    city: &City<K, N, L, S>,
-) -> Result<Pending<N, L, S>, Unanswered>
+    city: &DurableHall<K, N, L, S>,
+) -> Result<ResponseAfterSync<N, L, S>, NoResponse>
     requires { place < length K.configuration.operators }
     ensures { IfOk result (λ s. Waits (SaysTold (TellsOperator K.configuration (badges_view city.now.badges) place question)) s.reply) }
 {
     match question {
-        Question::Whoami => city.who(alloc, Actor::Operator(place)),
-        Question::Withdrawals => city.of_desk(rt, alloc, place),
+        Question::Whoami => city.answer_whoami(alloc, Actor::Operator(place)),
+        Question::Withdrawals => city.answer_withdrawals(rt, alloc, place),
         Question::Drafts => city.refuse(alloc, Code::Role),
     }
 }

@@ -1,13 +1,13 @@
 //! What is published, read under the room's lock, and nothing else.
 ghost use Rattle.std.specs.Prelude.{IfOk};
-ghost use Rattle.mds_hall.specs.Told.{RoomTells};
+ghost use Rattle.mds_hall.specs.Query.{RoomTells};
 
-use crate::city::City;
+use crate::durable_hall::DurableHall;
 use mds_catalog::Catalogue;
-use mds_commit::{Naming, Space};
-use mds_desk::{AuthorTelling, Telling};
+use mds_commit::{LogName, Space};
+use mds_desk::{RoomQuery, DeskQuery};
 use mds_drafts::Drafts;
-use mds_hall::Named;
+use mds_hall::HallName;
 use mds_records::Log;
 use mds_snapshot::Note;
 use std::alloc::{AllocError, Global};
@@ -15,26 +15,26 @@ use std::sync::Wait;
 
 /// A `Telling` of the publications of the author's room, whatever its drafts are.
 #[derive(Drop)]
-struct Published<'a, T> {
+struct RoomPublications<'a, T> {
     telling: &'a T,
 }
 
-impl<T: Telling> AuthorTelling for Published<'_, T> {
+impl<T: DeskQuery> RoomQuery for RoomPublications<'_, T> {
     type Told = T::Told;
 
     ghost tells = { λ published drafts publications told. T.tells published.telling.now publications told };
 
-    fn tell(
+    fn run_query(
         &self,
         alloc: Global,
         _drafts: &Drafts,
         catalogue: &Catalogue,
     ) -> Result<T::Told, AllocError> {
-        self.telling.tell(alloc, catalogue)
+        self.telling.run_query(alloc, catalogue)
     }
 }
 
-impl<K: Named, N: Naming, L: Log, S: Space> City<K, N, L, S> {
+impl<K: HallName, N: LogName, L: Log, S: Space> DurableHall<K, N, L, S> {
     /// The note of the last publication; none where nothing was published since the city was opened.
     pub fn note<R: Wait>(&self, rt: &R) -> Option<Note<K>> {
         self.hall.note(rt)
@@ -46,10 +46,10 @@ impl<K: Named, N: Naming, L: Log, S: Space> City<K, N, L, S> {
     /// # Errors
     ///
     /// Out of memory.
-    pub fn tell<T: Telling, R: Wait>(&self, rt: &R, telling: &T) -> Result<T::Told, AllocError>
+    pub fn read_publications<T: DeskQuery, R: Wait>(&self, rt: &R, telling: &T) -> Result<T::Told, AllocError>
         ensures { IfOk result (RoomTells K.configuration (λ drafts publications told. T.tells telling.now publications told)) }
     {
         let room = self.hall.room(rt);
-        room.told(&Published { telling })
+        room.query(&RoomPublications { telling })
     }
 }

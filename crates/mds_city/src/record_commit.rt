@@ -2,55 +2,55 @@
 ghost use Rattle.std.specs.Prelude.{◌≡◌, None, IfOk, IfNone, IfSome, option_map};
 ghost use Rattle.mds_city.specs.Records.{IsAmong, IsShown, IsTitled, place_of};
 
-use crate::records::{Reserved, give_back, settle};
-use mds_commit::{Keeper, Naming, NotTold, Place, Space, Stamp};
-use mds_desk::Leave;
+use crate::records::{CallReservation, give_back, append_or_release};
+use mds_commit::{CommitLog, LogName, CommitFault, Reservation, Space, LogPosition};
+use mds_desk::PublishGuard;
 use mds_records::Log;
 use std::marker::{Brand, PhantomData};
 use std::sync::{Arc, Wait};
 
 /// Which record it is. A request passes its reservation to a function that is generic over it, which is called with
 /// `Brand`; the proof of that call picks the payload.
-pub(crate) trait Titled {
+pub(crate) trait RecordPayload {
     ghost use Rattle.std.specs.Prelude.{ℕ, List};
 
     ghost text: { List ℕ };
 }
 
-impl Titled for Brand {
+impl RecordPayload for Brand {
     ghost use Rattle.std.specs.Prelude.{[]};
 
     ghost text = { [] };
 }
 
 /// The reservation for that record.
-pub(crate) struct Held<T: Titled> {
-    place: Place,
+pub(crate) struct TitledReservation<T: RecordPayload> {
+    place: Reservation,
     of: PhantomData<T>,
     ghost is_it: { place.text.items ≡ T.text },
 }
 
 /// Appends a request's record: before its publication is shown, if it publishes, and otherwise once the request was
 /// answered.
-pub(crate) struct Recording<T: Titled, R, N: Naming, L: Log, S: Space> {
+pub(crate) struct RecordCommit<T: RecordPayload, R, N: LogName, L: Log, S: Space> {
     rt: R,
-    keeper: Arc<Keeper<N, L, S>>,
+    keeper: Arc<CommitLog<N, L, S>>,
     /// The reservation, until the record is appended. A request that reads has none.
-    pub held: Option<Held<T>>,
+    pub held: Option<TitledReservation<T>>,
     /// What the append before a publication gave: the log position of all that was synced then.
-    pub shown: Option<Result<Stamp<N, L>, NotTold>>,
+    pub shown: Option<Result<LogPosition<N, L>, CommitFault>>,
 }
 
-impl<T: Titled, R: Wait + Drop, N: Naming, L: Log, S: Space> Leave for Recording<T, R, N, L, S> {
+impl<T: RecordPayload, R: Wait + Drop, N: LogName, L: Log, S: Space> PublishGuard for RecordCommit<T, R, N, L, S> {
     ghost use Rattle.mds_city.specs.Records.{IsShown};
 
     ghost given = { λ recording. IsShown L.may_be L.is_synced T.text recording.shown };
 
-    fn may_show(&mut self) -> bool {
+    fn may_publish(&mut self) -> bool {
         let Some(held) = self.held.take() else {
             return false;
         };
-        let Held { place, of: _ } = held;
+        let TitledReservation { place, of: _ } = held;
         match self.keeper.append_synced(&self.rt, place) {
             Ok(stamp) => {
                 self.shown = Some(Ok(stamp));
@@ -65,13 +65,13 @@ impl<T: Titled, R: Wait + Drop, N: Naming, L: Log, S: Space> Leave for Recording
 }
 
 /// A reservation as one for that record.
-fn held_for<T: Titled>(reserved: Reserved) -> Option<Held<T>>
+fn titled_reservation<T: RecordPayload>(reserved: CallReservation) -> Option<TitledReservation<T>>
     requires { IsTitled T.text reserved }
     ensures { option_map (λ held. held.place) result ≡ place_of reserved }
 {
     match reserved {
-        Reserved::Reads => None,
-        Reserved::Holds(place) => Some(Held {
+        CallReservation::Reads => None,
+        CallReservation::Holds(place) => Some(TitledReservation {
             place,
             of: PhantomData,
         }),
@@ -79,33 +79,33 @@ fn held_for<T: Titled>(reserved: Reserved) -> Option<Held<T>>
 }
 
 /// What is still reserved.
-fn reserved_of<T: Titled>(held: Option<Held<T>>) -> Reserved
+fn remaining_reservation<T: RecordPayload>(held: Option<TitledReservation<T>>) -> CallReservation
     ensures { option_map (λ held. held.place) held ≡ place_of result }
 {
     match held {
-        None => Reserved::Reads,
+        None => CallReservation::Reads,
         Some(held) => {
-            let Held { place, of: _ } = held;
-            Reserved::Holds(place)
+            let TitledReservation { place, of: _ } = held;
+            CallReservation::Holds(place)
         }
     }
 }
 
-impl<T: Titled, R: Wait + Drop, N: Naming, L: Log, S: Space> Recording<T, R, N, L, S> {
+impl<T: RecordPayload, R: Wait + Drop, N: LogName, L: Log, S: Space> RecordCommit<T, R, N, L, S> {
     /// A recording for a request that isn't answered yet.
     pub(crate) fn new(
         rt: R,
-        keeper: Arc<Keeper<N, L, S>>,
-        reserved: Reserved,
-    ) -> Recording<T, R, N, L, S>
+        keeper: Arc<CommitLog<N, L, S>>,
+        reserved: CallReservation,
+    ) -> RecordCommit<T, R, N, L, S>
         requires { IsTitled T.text reserved }
         ensures held { option_map (λ held. held.place) result.held ≡ place_of reserved }
         ensures shown { result.shown ≡ None }
     {
-        Recording {
+        RecordCommit {
             rt,
             keeper,
-            held: held_for(reserved),
+            held: titled_reservation(reserved),
             shown: None,
         }
     }
@@ -117,30 +117,30 @@ impl<T: Titled, R: Wait + Drop, N: Naming, L: Log, S: Space> Recording<T, R, N, 
     ///
     /// The log failed. It also fails where a record was appended for a publication that didn't happen: the log is ahead
     /// then.
-    pub(crate) fn settle(
+    pub(crate) fn complete(
         self,
-        nothing: &Stamp<N, L>,
+        nothing: &LogPosition<N, L>,
         status: u16,
         is_published: bool,
-    ) -> Result<Stamp<N, L>, NotTold>
+    ) -> Result<LogPosition<N, L>, CommitFault>
         ensures shown { IsShown L.may_be L.is_synced T.text self.shown → IfOk result (IsAmong T.text) }
         ensures held { IfNone self.shown (IfSome self.held (λ _. status ≡ 200 → IfOk result (IsAmong T.text))) }
     {
-        let Recording {
+        let RecordCommit {
             rt,
             keeper,
             held,
             shown,
         } = self;
         let Some(shown) = shown else {
-            return settle(&rt, &keeper, nothing, reserved_of(held), status);
+            return append_or_release(&rt, &keeper, nothing, remaining_reservation(held), status);
         };
         // Nothing is reserved any more.
-        give_back(&rt, &keeper, reserved_of(held));
+        give_back(&rt, &keeper, remaining_reservation(held));
         if is_published {
             return shown;
         }
         keeper.fail(&rt);
-        Err(NotTold::Failed)
+        Err(CommitFault::Failed)
     }
 }

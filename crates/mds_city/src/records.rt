@@ -1,16 +1,16 @@
 //! The record of a request, and its reservation in the log.
 ghost use Rattle.std.specs.Prelude.{◌≡◌, ◌<◌, ◌==◌, IfOk, Some, length, option_map, slice_get};
 ghost use Rattle.mds_entries.specs.Requests.{asker_at};
-ghost use Rattle.mds_hall.specs.Asker.{IsWithin};
+ghost use Rattle.mds_hall.specs.Client.{IsWithin};
 ghost use Rattle.mds_request.specs.Configuration.{configuration};
 ghost use Rattle.mds_request.specs.Request.{request_of};
 ghost use Rattle.mds_request.specs.declared.config.Actor.TheVariants.{Operator};
 ghost use Rattle.mds_city.specs.Records.{IsSettled, caller_of, record_by, sharer_of};
-ghost use Rattle.mds_city.specs.Unheld.{refusal_for};
+ghost use Rattle.mds_city.specs.Refusals.{refusal_for};
 
-use crate::pending::Unanswered;
-use mds_commit::{Keeper, Naming, NotTold, Place, ReserveFault, Space, Stamp};
-use mds_entries::{Asker, Entry, entry_text};
+use crate::pending::NoResponse;
+use mds_commit::{CommitLog, LogName, CommitFault, Reservation, ReserveFault, Space, LogPosition};
+use mds_entries::{EntryClient, JournalEntry, entry_text};
 use mds_limits::index_of;
 use mds_records::Log;
 use mds_request::{Actor, Call, Code, Config, Request};
@@ -22,17 +22,17 @@ use std::sync::Wait;
 const SUCCESS: u16 = 200;
 
 /// What is reserved in the log for a request before it is carried out.
-pub(crate) enum Reserved {
+pub(crate) enum CallReservation {
     /// Nothing: it changes nothing, and has no record.
     Reads,
     /// The reservation for its record.
-    Holds(Place),
+    Holds(Reservation),
 }
 
 /// Why nothing is reserved in the log for a request that may change something. It isn't carried out, and nothing has
 /// changed.
 #[derive(Clone, Copy, Debug, PartialEq, Eq)]
-pub(crate) enum Unreserved {
+pub(crate) enum NoReservation {
     /// The client's share of the log is used up: the request may be tried again.
     Crowded,
     /// The disk has no room for its record.
@@ -45,26 +45,26 @@ pub(crate) enum Unreserved {
     NoMemory,
 }
 
-impl From<ReserveFault> for Unreserved {
+impl From<ReserveFault> for NoReservation {
     ghost use Rattle.std.specs.Prelude.{◌≡◌};
-    ghost use Rattle.mds_city.specs.Unheld.{unreserved_by};
+    ghost use Rattle.mds_city.specs.Refusals.{unreserved_by};
 
     ghost from_gives = { λ fault why. why ≡ unreserved_by fault };
 
-    fn from(fault: ReserveFault) -> Unreserved {
+    fn from(fault: ReserveFault) -> NoReservation {
         match fault {
-            ReserveFault::Crowded => Unreserved::Crowded,
-            ReserveFault::NoRoom => Unreserved::NoRoom,
-            ReserveFault::Stopping => Unreserved::Stopping,
-            ReserveFault::Failed => Unreserved::Failed,
-            ReserveFault::Untaken => Unreserved::NoMemory,
+            ReserveFault::Crowded => NoReservation::Crowded,
+            ReserveFault::NoRoom => NoReservation::NoRoom,
+            ReserveFault::Stopping => NoReservation::Stopping,
+            ReserveFault::Failed => NoReservation::Failed,
+            ReserveFault::Untaken => NoReservation::NoMemory,
         }
     }
 }
 
-impl From<AllocError> for Unreserved {
-    fn from(_: AllocError) -> Unreserved {
-        Unreserved::NoMemory
+impl From<AllocError> for NoReservation {
+    fn from(_: AllocError) -> NoReservation {
+        NoReservation::NoMemory
     }
 }
 
@@ -73,15 +73,15 @@ impl From<AllocError> for Unreserved {
 /// # Errors
 ///
 /// It isn't refused: it may be tried again, or no response may be sent.
-pub(crate) fn refusal_for(why: Unreserved) -> Result<Code, Unanswered>
+pub(crate) fn refusal_for(why: NoReservation) -> Result<Code, NoResponse>
     ensures { result ≡ refusal_for why }
 {
     match why {
-        Unreserved::NoRoom => Ok(Code::NoRoom),
-        Unreserved::Stopping => Ok(Code::Busy),
-        Unreserved::NoMemory => Ok(Code::NoMemory),
-        Unreserved::Crowded => Err(Unanswered::Crowded),
-        Unreserved::Failed => Err(Unanswered::NotTold(NotTold::Failed)),
+        NoReservation::NoRoom => Ok(Code::NoRoom),
+        NoReservation::Stopping => Ok(Code::Busy),
+        NoReservation::NoMemory => Ok(Code::NoMemory),
+        NoReservation::Crowded => Err(NoResponse::Crowded),
+        NoReservation::Failed => Err(NoResponse::NotTold(CommitFault::Failed)),
     }
 }
 
@@ -96,7 +96,7 @@ fn caller(call: &Call) -> Actor
 }
 
 /// The index of the client that makes a call, among those that share the log.
-pub(crate) fn sharer(call: &Call) -> usize
+pub(crate) fn share_index(call: &Call) -> usize
     ensures { result ≡ sharer_of call.now }
 {
     index_of(caller(call))
@@ -111,21 +111,21 @@ pub(crate) fn id_at(config: &Config, place: usize) -> Id
 }
 
 /// The operator at this place, as a record names it.
-pub(crate) fn operator_asker(config: &Config, place: usize) -> Asker
+pub(crate) fn operator_client(config: &Config, place: usize) -> EntryClient
     requires { place < length (configuration config.now).operators }
     ensures { asker_at (configuration config.now) (Operator place) ≡ Some result }
 {
-    Asker::Operator(id_at(config, place))
+    EntryClient::Operator(id_at(config, place))
 }
 
 /// The client that makes a call, as a record names it.
-pub(crate) fn asker_of(config: &Config, call: &Call) -> Asker
+pub(crate) fn client_of(config: &Config, call: &Call) -> EntryClient
     requires { IsWithin (length (configuration config.now).operators) (caller_of call.now) }
     ensures { asker_at (configuration config.now) (caller_of call.now) ≡ Some result }
 {
     match call {
-        Call::Author(_) => Asker::Author,
-        Call::Operator(place, _) => operator_asker(config, *place),
+        Call::Author(_) => EntryClient::Author,
+        Call::Operator(place, _) => operator_client(config, *place),
     }
 }
 
@@ -143,12 +143,12 @@ pub fn is_accepted(status: u16) -> bool
 /// `NoMemory`: the request's target is too long for a record, or out of memory.
 pub(crate) fn record_text(
     alloc: Global,
-    asker: Asker,
+    asker: EntryClient,
     request: &Request<'_>,
-) -> Result<Vec<u8>, Unreserved>
+) -> Result<Vec<u8>, NoReservation>
     ensures { IfOk result (λ text. text.items ≡ record_by asker (request_of request.now)) }
 {
-    let entry = Entry {
+    let entry = JournalEntry {
         asker,
         at: request.at,
         verb: request.verb,
@@ -157,19 +157,19 @@ pub(crate) fn record_text(
     };
     match entry_text(alloc, &entry) {
         Ok(text) => Ok(text),
-        Err(_) => Err(Unreserved::NoMemory),
+        Err(_) => Err(NoReservation::NoMemory),
     }
 }
 
 /// Releases what was reserved.
-pub(crate) fn give_back<R: Wait, N: Naming, L: Log, S: Space>(
+pub(crate) fn give_back<R: Wait, N: LogName, L: Log, S: Space>(
     rt: &R,
-    keeper: &Keeper<N, L, S>,
-    reserved: Reserved,
+    keeper: &CommitLog<N, L, S>,
+    reserved: CallReservation,
 ) {
     match reserved {
-        Reserved::Reads => {}
-        Reserved::Holds(place) => keeper.release(rt, place),
+        CallReservation::Reads => {}
+        CallReservation::Holds(place) => keeper.release(rt, place),
     }
 }
 
@@ -179,23 +179,23 @@ pub(crate) fn give_back<R: Wait, N: Naming, L: Log, S: Space>(
 /// # Errors
 ///
 /// The log failed.
-pub(crate) fn settle<R: Wait, N: Naming, L: Log, S: Space>(
+pub(crate) fn append_or_release<R: Wait, N: LogName, L: Log, S: Space>(
     rt: &R,
-    keeper: &Keeper<N, L, S>,
-    nothing: &Stamp<N, L>,
-    reserved: Reserved,
+    keeper: &CommitLog<N, L, S>,
+    nothing: &LogPosition<N, L>,
+    reserved: CallReservation,
     status: u16,
-) -> Result<Stamp<N, L>, NotTold>
+) -> Result<LogPosition<N, L>, CommitFault>
     ensures { IfOk result (IsSettled reserved status) }
 {
     match reserved {
-        Reserved::Reads => Ok(keeper.stamp(nothing)),
-        Reserved::Holds(place) => {
+        CallReservation::Reads => Ok(keeper.log_position(nothing)),
+        CallReservation::Holds(place) => {
             if is_accepted(status) {
                 keeper.append(rt, place)
             } else {
                 keeper.release(rt, place);
-                Ok(keeper.stamp(nothing))
+                Ok(keeper.log_position(nothing))
             }
         }
     }

@@ -8,11 +8,11 @@ use bytes::Bytes;
 use http::header::CONTENT_TYPE;
 use http::{HeaderValue, Response, StatusCode};
 use http_body_util::Full;
-use mds_desk::Answer;
+use mds_desk::SharedReply;
 use std::alloc::{AllocError, Global};
 
 /// How many bytes a line has besides the body of its answer.
-const BESIDE: usize = 23;
+const LINE_OVERHEAD: usize = 23;
 
 /// The three digits of a status (RFC 9112, section 4).
 fn digits(status: u16) -> [u8; 3]
@@ -26,7 +26,7 @@ fn digits(status: u16) -> [u8; 3]
 }
 
 /// Adds the line for an answer.
-fn push_line(text: &mut Vec<u8>, answer: &Answer) -> Result<(), AllocError>
+fn push_line(text: &mut Vec<u8>, answer: &SharedReply) -> Result<(), AllocError>
     ensures { OnOk result (text.new.items ≡ text.old.items ++ told_line answer.now) }
 {
     let status = digits(answer.status());
@@ -38,16 +38,16 @@ fn push_line(text: &mut Vec<u8>, answer: &Answer) -> Result<(), AllocError>
 }
 
 /// How many bytes the lines take.
-fn size_of_lines(answers: &[Answer]) -> usize {
+fn size_of_lines(answers: &[SharedReply]) -> usize {
     let mut size: usize = 0;
     for answer in answers {
-        size = size.saturating_add(answer.body().len() + BESIDE);
+        size = size.saturating_add(answer.body().len() + LINE_OVERHEAD);
     }
     size
 }
 
 /// The lines for the answers, in their order.
-fn lines_of(alloc: Global, answers: &[Answer]) -> Result<Vec<u8>, AllocError>
+fn lines_of(alloc: Global, answers: &[SharedReply]) -> Result<Vec<u8>, AllocError>
     ensures { IfOk result (λ text. text.items ≡ flat_map told_line answers.now) }
 {
     let mut text = Vec::with_capacity(alloc, size_of_lines(answers))?;
@@ -64,7 +64,7 @@ fn lines_of(alloc: Global, answers: &[Answer]) -> Result<Vec<u8>, AllocError>
 /// Out of memory.
 pub(crate) fn response_of_all(
     alloc: Global,
-    answers: &[Answer],
+    answers: &[SharedReply],
 ) -> Result<Response<Full<Bytes>>, AllocError>
     ensures { IfOk result (λ response. SaysAll response answers.now) }
 {

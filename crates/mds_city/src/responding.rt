@@ -2,21 +2,21 @@
 ghost use Rattle.std.specs.Prelude.{◌≡◌, Ok, IfOk};
 ghost use Rattle.mds_request.specs.Call.{call_of};
 ghost use Rattle.mds_request.specs.Configuration.{actor_of};
-ghost use Rattle.mds_hall.specs.Heard.{request_heard};
-ghost use Rattle.mds_app.specs.Badges.{badges_view};
-ghost use Rattle.mds_city.specs.City.{CityResponds, IsAnsweredBy, IsRecordedTurn};
+ghost use Rattle.mds_hall.specs.WholeRequest.{request_heard};
+ghost use Rattle.mds_app.specs.OperatorNames.{badges_view};
+ghost use Rattle.mds_city.specs.DurableResponse.{CityResponds, IsAnsweredBy, IsRecordedTurn};
 ghost use Rattle.mds_city.specs.Records.{IsReserved};
-ghost use Rattle.mds_city.specs.Unstored.{Waits};
+ghost use Rattle.mds_city.specs.CacheControl.{Waits};
 
-use crate::city::{Answered, City};
+use crate::durable_hall::{AnswerAtPosition, DurableHall};
 use crate::context::Context;
 use crate::many::many_reports;
-use crate::pending::{Pending, Unanswered};
-use crate::people::{tell_an_operator, tell_the_author};
-use crate::records::Reserved;
+use crate::pending::{ResponseAfterSync, NoResponse};
+use crate::people::{answer_operator, answer_author};
+use crate::records::CallReservation;
 use mds_catalog::Catalogue;
-use mds_commit::{Naming, NotTold, Space};
-use mds_hall::{Heard, Named, hear};
+use mds_commit::{LogName, CommitFault, Space};
+use mds_hall::{WholeRequest, HallName, read_whole};
 use mds_limits::Arrived;
 use mds_records::Log;
 use mds_request::Call;
@@ -35,8 +35,8 @@ use std::sync::Wait;
 /// again. Else no response may be sent: the log failed, or out of memory for the response, and the request may have
 /// been carried out.
 pub fn respond<
-    K: Named,
-    N: Naming,
+    K: HallName,
+    N: LogName,
     R: Wait + Copy + Drop,
     E: Evaluator<Catalogue>,
     L: Log,
@@ -46,12 +46,12 @@ pub fn respond<
     head: &ResolvedState<K>,
     arrived: &Arrived,
     at: Option<Moment>,
-    city: &City<K, N, L, S>,
-) -> Result<Pending<N, L, S>, Unanswered>
+    city: &DurableHall<K, N, L, S>,
+) -> Result<ResponseAfterSync<N, L, S>, NoResponse>
     requires { E.may_judge }
     ensures { IfOk result (λ s. CityResponds K.configuration (badges_view city.now.badges) head.now.parts arrived.now at s.reply s.stamp) }
 {
-    let heard = match hear(head.parts(), arrived, at) {
+    let heard = match read_whole(head.parts(), arrived, at) {
         Ok(heard) => heard,
         Err(code) => return city.refuse(context.alloc, code),
     };
@@ -59,10 +59,10 @@ pub fn respond<
         Ok(StateCall::Call(call)) => answer_call(context, call, heard, city),
         Ok(StateCall::Reports(place)) => many_reports(context, place, &heard, city),
         Ok(StateCall::AuthorAsks(question)) => {
-            tell_the_author(context.rt, context.alloc, question, city)
+            answer_author(context.rt, context.alloc, question, city)
         }
         Ok(StateCall::OperatorAsks(place, question)) => {
-            tell_an_operator(context.rt, context.alloc, place, question, city)
+            answer_operator(context.rt, context.alloc, place, question, city)
         }
         Err(code) => city.refuse(context.alloc, code),
     }
@@ -70,8 +70,8 @@ pub fn respond<
 
 /// Answers a request that is this call of the protocol: reserves what the call needs of the log, and carries it out.
 fn answer_call<
-    K: Named,
-    N: Naming,
+    K: HallName,
+    N: LogName,
     R: Wait + Copy + Drop,
     E: Evaluator<Catalogue>,
     L: Log,
@@ -79,21 +79,21 @@ fn answer_call<
 >(
     context: &Context<'_, R, E>,
     call: Call,
-    heard: Heard<'_>,
-    city: &City<K, N, L, S>,
-) -> Result<Pending<N, L, S>, Unanswered>
+    heard: WholeRequest<'_>,
+    city: &DurableHall<K, N, L, S>,
+) -> Result<ResponseAfterSync<N, L, S>, NoResponse>
     requires judge { E.may_judge }
     requires resolved { call_of K.configuration (request_heard heard) ≡ Ok call }
     ensures { IfOk result (λ s. Waits (IsAnsweredBy K.configuration (actor_of K.configuration (request_heard heard.entry).token)
         (request_heard heard.entry) s.stamp) s.reply) }
 {
-    let reserved = match city.room_for(context.rt, context.alloc, &heard, &call) {
+    let reserved = match city.reserve_for(context.rt, context.alloc, &heard, &call) {
         Ok(reserved) => reserved,
-        Err(why) => return city.refuse_unheld(context.alloc, why),
+        Err(why) => return city.refuse_unreserved(context.alloc, why),
     };
     match carry_out(context, call, heard, reserved, city) {
         Ok(answered) => city.reply(context.alloc, answered),
-        Err(fault) => Err(Unanswered::NotTold(fault)),
+        Err(fault) => Err(NoResponse::NotTold(fault)),
     }
 }
 
@@ -102,13 +102,13 @@ fn answer_call<
 /// # Errors
 ///
 /// The log failed.
-fn carry_out<K: Named, N: Naming, R: Wait + Copy + Drop, E: Evaluator<Catalogue>, L: Log, S: Space>(
+fn carry_out<K: HallName, N: LogName, R: Wait + Copy + Drop, E: Evaluator<Catalogue>, L: Log, S: Space>(
     context: &Context<'_, R, E>,
     call: Call,
-    heard: Heard<'_>,
-    reserved: Reserved,
-    city: &City<K, N, L, S>,
-) -> Result<Answered<N, L>, NotTold>
+    heard: WholeRequest<'_>,
+    reserved: CallReservation,
+    city: &DurableHall<K, N, L, S>,
+) -> Result<AnswerAtPosition<N, L>, CommitFault>
     requires judge { E.may_judge }
     requires resolved { call_of K.configuration (request_heard heard) ≡ Ok call }
     requires reserved { IsReserved K.configuration (request_heard heard) reserved }

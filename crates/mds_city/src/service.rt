@@ -1,36 +1,36 @@
 //! A city that answers at the moments of a clock.
 ghost use Rattle.std.specs.Prelude.{◌≡◌, Option, ℕ, IfOk, IfSome};
-ghost use Rattle.mds_app.specs.Badges.{badges_view};
+ghost use Rattle.mds_app.specs.OperatorNames.{badges_view};
 ghost use Rattle.mds_routes.specs.Endpoint.{AsksFile, AsksPublic, AsksState};
-ghost use Rattle.mds_routes.specs.declared.resolved.Resolved.TheVariants.{Asset, Public, State};
-ghost use Rattle.mds_city.specs.City.{CityResponds};
+ghost use Rattle.mds_routes.specs.declared.resolved.ResolvedHead.TheVariants.{Asset, Public, State};
+ghost use Rattle.mds_city.specs.DurableResponse.{CityResponds};
 
-use crate::city::City;
+use crate::durable_hall::DurableHall;
 use crate::context::Context;
-use crate::leaving::Leaving;
-use crate::pending::Unanswered;
+use crate::pending_response::PendingResponse;
+use crate::pending::NoResponse;
 use crate::responding::respond;
 use http::request::Parts;
 use mds_catalog::Catalogue;
-use mds_commit::{Naming, Space};
+use mds_commit::{LogName, Space};
 use mds_connections::{Crowded, Moments};
-use mds_hall::Named;
+use mds_hall::HallName;
 use mds_limits::Arrived;
 use mds_records::Log;
-use mds_routes::{Resolved, ResolvedState, resolve};
+use mds_routes::{ResolvedHead, ResolvedState, resolve};
 use mds_verdict::Evaluator;
 use std::alloc::Global;
 use std::sync::Wait;
 
 /// A city, the evaluator of its vehicles, and the clock that gives each request its moment.
 #[derive(Drop)]
-pub struct CityReception<K: Named, N: Naming, R, E, M, L: Log, S: Space> {
+pub struct DurableService<K: HallName, N: LogName, R, E, M, L: Log, S: Space> {
     /// The runtime that waits for locks and syncs.
     pub rt: R,
     /// The allocator of answers.
     pub alloc: Global,
     /// The state that answers.
-    pub city: City<K, N, L, S>,
+    pub city: DurableHall<K, N, L, S>,
     /// The evaluator of vehicles.
     pub evaluator: E,
     /// The clock that gives each request its moment.
@@ -38,16 +38,16 @@ pub struct CityReception<K: Named, N: Naming, R, E, M, L: Log, S: Space> {
 }
 
 impl<
-    K: Named,
-    N: Naming,
+    K: HallName,
+    N: LogName,
     R: Wait + Copy + Drop,
     E: Evaluator<Catalogue> + Drop,
     M: Moments,
     L: Log,
     S: Space,
-> CityReception<K, N, R, E, M, L, S> {
+> DurableService<K, N, R, E, M, L, S> {
     /// Resolves a head to its client and what it asks for, as `mds_routes::resolve` says.
-    pub fn resolve(&self, is_public: bool, parts: Parts) -> Resolved<K>
+    pub fn resolve(&self, is_public: bool, parts: Parts) -> ResolvedHead<K>
         ensures { elim result [
           | Asset own file ↦ (own ≡ parts) × AsksFile parts file
           | Public own asked ↦ (own ≡ parts) × AsksPublic is_public parts asked
@@ -68,7 +68,7 @@ impl<
         &self,
         head: &ResolvedState<K>,
         body: &Arrived,
-    ) -> Result<Leaving<N, L, S>, Crowded>
+    ) -> Result<PendingResponse<N, L, S>, Crowded>
         requires { E.may_judge }
         ensures { IfOk result (λ leaving. IfSome leaving.told (λ s. (at : Option ℕ)
             × CityResponds K.configuration (badges_view self.now.city.badges) head.now.parts body.now at s.reply s.stamp)) }
@@ -80,9 +80,9 @@ impl<
             evaluator: &self.evaluator,
         };
         match respond(&context, head, body, at, &self.city) {
-            Ok(pending) => Ok(Leaving::of(pending)),
-            Err(Unanswered::Crowded) => Err(Crowded),
-            Err(Unanswered::NotTold(_)) => Ok(Leaving::nothing()),
+            Ok(pending) => Ok(PendingResponse::of(pending)),
+            Err(NoResponse::Crowded) => Err(Crowded),
+            Err(NoResponse::NotTold(_)) => Ok(PendingResponse::nothing()),
         }
     }
 }

@@ -2,8 +2,8 @@
 ghost use Rattle.std.specs.Prelude.{◌≡◌, ◌≤◌, length, take, IfOk, IfErr, OnErr, vec_len};
 ghost use Rattle.mds_client.specs.Bodies.{IsSized, Takes, IsBody};
 
-use crate::fault::ReplyFault;
-use crate::head::Head;
+use crate::fault::ResponseFault;
+use crate::head::ParsedHead;
 use http1::Limits;
 use http1::decode::{Decoded, Decoder};
 use http1::framing::Framing;
@@ -19,7 +19,7 @@ const MOST_TRAILERS: usize = 64;
 
 /// How many bytes a step of decoding took, and whether the body ends with them.
 #[derive(Clone, Copy)]
-enum Taken {
+enum ChunkProgress {
     /// So many; the body goes on behind them.
     Part(usize),
     /// So many; the body ends with them.
@@ -28,7 +28,7 @@ enum Taken {
 
 /// A complete body.
 #[derive(Drop)]
-pub(crate) struct Received {
+pub(crate) struct CompleteBody {
     pub body: Vec<u8>,
     /// Whether further bytes came behind it, which belong to no response (RFC 9112, section 6.3).
     pub has_surplus: bool,
@@ -39,11 +39,11 @@ pub(crate) struct Received {
 /// # Errors
 ///
 /// `Incomplete` where the connection ends, `NoConnection`, `NoMemory`.
-pub(crate) fn read_more<S: Read>(stream: &mut S, came: &mut Vec<u8>) -> Result<(), ReplyFault> {
+pub(crate) fn read_more<S: Read>(stream: &mut S, came: &mut Vec<u8>) -> Result<(), ResponseFault> {
     let mut part = [0u8; 4096];
     let count = stream.read(&mut part)?;
     if count == 0 {
-        return Err(ReplyFault::Incomplete);
+        return Err(ResponseFault::Incomplete);
     }
     came.extend_from_slice(part.get(..count).unwrap_or_default())?;
     Ok(())
@@ -54,15 +54,15 @@ pub(crate) fn read_more<S: Read>(stream: &mut S, came: &mut Vec<u8>) -> Result<(
 /// # Errors
 ///
 /// `TooLong`, `Incomplete` where fewer bytes have come, `NoMemory`.
-fn sized_body(alloc: Global, size: u64, bytes: &[u8]) -> Result<Vec<u8>, ReplyFault>
+fn sized_body(alloc: Global, size: u64, bytes: &[u8]) -> Result<Vec<u8>, ResponseFault>
     ensures value { IfOk result (λ body. IsSized size bytes.now body.items) }
 {
     if size > MOST_OF_BODY {
-        return Err(ReplyFault::TooLong);
+        return Err(ResponseFault::TooLong);
     }
     match bytes.get(..size as usize) {
         Some(body) => Ok(Vec::from_slice(alloc, body)?),
-        None => Err(ReplyFault::Incomplete),
+        None => Err(ResponseFault::Incomplete),
     }
 }
 
@@ -71,9 +71,9 @@ fn sized_body(alloc: Global, size: u64, bytes: &[u8]) -> Result<Vec<u8>, ReplyFa
 /// # Errors
 ///
 /// `TooLong`; as `read_more`.
-fn read_sized<S: Read>(stream: &mut S, size: u64, came: &mut Vec<u8>) -> Result<(), ReplyFault> {
+fn read_sized<S: Read>(stream: &mut S, size: u64, came: &mut Vec<u8>) -> Result<(), ResponseFault> {
     if size > MOST_OF_BODY {
-        return Err(ReplyFault::TooLong);
+        return Err(ResponseFault::TooLong);
     }
     for _ in 0..size {
         if came.len() as u64 >= size {
@@ -89,17 +89,17 @@ fn read_sized<S: Read>(stream: &mut S, size: u64, came: &mut Vec<u8>) -> Result<
 /// # Errors
 ///
 /// `InvalidChunk`, `NoMemory`.
-fn take_chunk(decoder: &mut Decoder, bytes: &[u8], body: &mut Vec<u8>) -> Result<Taken, ReplyFault>
+fn take_chunk(decoder: &mut Decoder, bytes: &[u8], body: &mut Vec<u8>) -> Result<ChunkProgress, ResponseFault>
     ensures { IfOk result (Takes decoder.old bytes.now body.old.items decoder.new body.new.items) }
 {
     let mut trailers = [EMPTY_HEADER_SPAN; MOST_TRAILERS];
     match decoder.decode(bytes, &mut trailers)? {
-        Decoded::NeedMore(len) => Ok(Taken::Part(len)),
+        Decoded::NeedMore(len) => Ok(ChunkProgress::Part(len)),
         Decoded::Data(span) => {
             body.extend_from_slice(span.of(bytes))?;
-            Ok(Taken::Part(span.end))
+            Ok(ChunkProgress::Part(span.end))
         }
-        Decoded::End { len, .. } => Ok(Taken::Whole(len)),
+        Decoded::End { len, .. } => Ok(ChunkProgress::Whole(len)),
     }
 }
 
@@ -112,7 +112,7 @@ fn read_chunks<S: Read>(
     alloc: Global,
     stream: &mut S,
     came: Vec<u8>,
-) -> Result<Received, ReplyFault> {
+) -> Result<CompleteBody, ResponseFault> {
     let mut came = came;
     let mut body = Vec::new(alloc);
     let mut decoder = Decoder::new(Framing::Chunked, &Limits::default());
@@ -120,24 +120,24 @@ fn read_chunks<S: Read>(
     for _ in 0..u64::MAX {
         let rest = came.get(start..).unwrap_or_default();
         match take_chunk(&mut decoder, rest, &mut body)? {
-            Taken::Whole(len) => {
+            ChunkProgress::Whole(len) => {
                 let has_surplus = len < rest.len();
-                return Ok(Received { body, has_surplus });
+                return Ok(CompleteBody { body, has_surplus });
             }
-            Taken::Part(0) => {
+            ChunkProgress::Part(0) => {
                 if rest.is_empty() {
                     came.clear();
                     start = 0;
                 }
                 read_more(stream, &mut came)?;
             }
-            Taken::Part(len) => start = start.saturating_add(len),
+            ChunkProgress::Part(len) => start = start.saturating_add(len),
         }
         if body.len() as u64 > MOST_OF_BODY {
             break;
         }
     }
-    Err(ReplyFault::TooLong)
+    Err(ResponseFault::TooLong)
 }
 
 /// Reads a body, whose first bytes came with the head. A body that only ends with the connection isn't read, since
@@ -151,22 +151,22 @@ pub(crate) fn read_body<S: Read>(
     stream: &mut S,
     framing: Framing,
     came: Vec<u8>,
-) -> Result<Received, ReplyFault> {
+) -> Result<CompleteBody, ResponseFault> {
     match framing {
-        Framing::NoBody => Ok(Received {
+        Framing::NoBody => Ok(CompleteBody {
             body: Vec::new(alloc),
             has_surplus: !came.is_empty(),
         }),
         Framing::Length(size) => {
             let mut came = came;
             read_sized(stream, size, &mut came)?;
-            Ok(Received {
+            Ok(CompleteBody {
                 body: sized_body(alloc, size, &came)?,
                 has_surplus: came.len() as u64 > size,
             })
         }
         Framing::Chunked => read_chunks(alloc, stream, came),
-        Framing::UntilClose => Err(ReplyFault::NoLength),
+        Framing::UntilClose => Err(ResponseFault::NoLength),
     }
 }
 
@@ -176,13 +176,13 @@ pub(crate) fn read_body<S: Read>(
 /// # Errors
 ///
 /// The fault of `head.framing`; `UnknownCoding` for a chunked body; `Incomplete`, `TooLong`, `NoMemory`.
-pub fn body_of(alloc: Global, head: &Head, bytes: &[u8]) -> Result<Vec<u8>, ReplyFault>
+pub fn body_of(alloc: Global, head: &ParsedHead, bytes: &[u8]) -> Result<Vec<u8>, ResponseFault>
     ensures { IfOk result (λ body. IsBody head.now.framing bytes.now body.items) }
 {
     match head.framing? {
         Framing::NoBody => Ok(Vec::new(alloc)),
         Framing::Length(size) => sized_body(alloc, size, bytes),
-        Framing::Chunked => Err(ReplyFault::UnknownCoding),
+        Framing::Chunked => Err(ResponseFault::UnknownCoding),
         Framing::UntilClose => Ok(Vec::from_slice(alloc, bytes)?),
     }
 }

@@ -1,9 +1,9 @@
 //! A client of one server, whose connection is kept between requests and opened again.
 
-use crate::body::{Received, read_body, read_more};
-use crate::fault::ReplyFault;
-use crate::head::{Head, Heading, heading_of};
-use crate::request::{Call, Server, request_text};
+use crate::body::{CompleteBody, read_body, read_more};
+use crate::fault::ResponseFault;
+use crate::head::{ParsedHead, HeadProgress, parse_head};
+use crate::request::{ClientRequest, RemoteServer, request_text};
 use std::alloc::Global;
 use std::io::{self, Read, Write};
 
@@ -35,15 +35,15 @@ pub trait Dial {
 
 /// The final response of a server.
 #[derive(Drop)]
-pub struct Reply {
+pub struct HttpResponse {
     pub status: u16,
     pub body: Vec<u8>,
 }
 
 /// A response, and whether the connection is closed behind it.
 #[derive(Drop)]
-struct Exchanged {
-    reply: Reply,
+struct ExchangeResult {
+    reply: HttpResponse,
     closes: bool,
 }
 
@@ -51,7 +51,7 @@ struct Exchanged {
 #[derive(Drop)]
 pub struct Client<'a, D: Dial> {
     dial: D,
-    server: Server<'a>,
+    server: RemoteServer<'a>,
     stream: Option<D::Stream>,
 }
 
@@ -61,15 +61,15 @@ pub struct Client<'a, D: Dial> {
 /// # Errors
 ///
 /// `InvalidHead` where no head comes; as `read_more`.
-fn read_head<S: Read>(stream: &mut S, came: &mut Vec<u8>) -> Result<Head, ReplyFault> {
+fn read_head<S: Read>(stream: &mut S, came: &mut Vec<u8>) -> Result<ParsedHead, ResponseFault> {
     for _ in 0..=MOST_OF_HEAD {
-        match heading_of(came) {
-            Heading::Whole(head) => return Ok(head),
-            Heading::Partial if came.len() <= MOST_OF_HEAD => read_more(stream, came)?,
+        match parse_head(came) {
+            HeadProgress::Whole(head) => return Ok(head),
+            HeadProgress::Partial if came.len() <= MOST_OF_HEAD => read_more(stream, came)?,
             _ => break,
         }
     }
-    Err(ReplyFault::InvalidHead)
+    Err(ResponseFault::InvalidHead)
 }
 
 /// Reads the head of the final response, and gives it with the bytes that came behind it. Interim responses in front of
@@ -78,7 +78,7 @@ fn read_head<S: Read>(stream: &mut S, came: &mut Vec<u8>) -> Result<Head, ReplyF
 /// # Errors
 ///
 /// As `read_head`.
-fn read_final_head<S: Read>(alloc: Global, stream: &mut S) -> Result<(Head, Vec<u8>), ReplyFault> {
+fn read_final_head<S: Read>(alloc: Global, stream: &mut S) -> Result<(ParsedHead, Vec<u8>), ResponseFault> {
     let mut came = Vec::new(alloc);
     for _ in 0..MOST_INTERIM {
         let head = read_head(stream, &mut came)?;
@@ -88,7 +88,7 @@ fn read_final_head<S: Read>(alloc: Global, stream: &mut S) -> Result<(Head, Vec<
         }
         came = behind;
     }
-    Err(ReplyFault::InvalidHead)
+    Err(ResponseFault::InvalidHead)
 }
 
 /// Sends a request over a connection and reads the response.
@@ -100,12 +100,12 @@ fn exchange<S: Read + Write>(
     alloc: Global,
     stream: &mut S,
     request: &[u8],
-) -> Result<Exchanged, ReplyFault> {
+) -> Result<ExchangeResult, ResponseFault> {
     stream.write_all(request)?;
     let (head, came) = read_final_head(alloc, stream)?;
-    let Received { body, has_surplus } = read_body(alloc, stream, head.framing?, came)?;
-    Ok(Exchanged {
-        reply: Reply {
+    let CompleteBody { body, has_surplus } = read_body(alloc, stream, head.framing?, came)?;
+    Ok(ExchangeResult {
+        reply: HttpResponse {
             status: head.status,
             body,
         },
@@ -115,7 +115,7 @@ fn exchange<S: Read + Write>(
 
 impl<'a, D: Dial> Client<'a, D> {
     /// A client without a connection as yet.
-    pub fn new(dial: D, server: Server<'a>) -> Client<'a, D> {
+    pub fn new(dial: D, server: RemoteServer<'a>) -> Client<'a, D> {
         Client {
             dial,
             server,
@@ -128,7 +128,7 @@ impl<'a, D: Dial> Client<'a, D> {
     /// # Errors
     ///
     /// Why there is no response; the connection isn't kept then.
-    fn ask_once(&mut self, alloc: Global, request: &[u8]) -> Result<Reply, ReplyFault> {
+    fn ask_once(&mut self, alloc: Global, request: &[u8]) -> Result<HttpResponse, ResponseFault> {
         let mut stream = match self.stream.take() {
             Some(stream) => stream,
             None => self.dial.dial()?,
@@ -146,7 +146,7 @@ impl<'a, D: Dial> Client<'a, D> {
     /// # Errors
     ///
     /// Why there is no response: the fault of the last attempt.
-    pub fn ask(&mut self, alloc: Global, call: &Call<'_>) -> Result<Reply, ReplyFault> {
+    pub fn ask(&mut self, alloc: Global, call: &ClientRequest<'_>) -> Result<HttpResponse, ResponseFault> {
         let request = request_text(alloc, &self.server, call)?;
         for _ in 1..TRIES {
             match self.ask_once(alloc, &request) {

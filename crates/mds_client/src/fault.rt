@@ -9,7 +9,7 @@ use std::io::{self, ErrorKind};
 
 /// Why there is no response.
 #[derive(Clone, Copy, Debug, PartialEq, Eq)]
-pub enum ReplyFault {
+pub enum ResponseFault {
     /// Memory ran out.
     NoMemory,
     /// No connection can be opened, or it breaks.
@@ -32,96 +32,96 @@ pub enum ReplyFault {
     TooLong,
 }
 
-impl ReplyFault {
+impl ResponseFault {
     /// Whether the same request may get a response when it is sent again. Whatever the head of a response says is
     /// final.
     pub fn is_passing(self) -> bool
         ensures { result ≡ is_passing self }
     {
         match self {
-            ReplyFault::NoConnection | ReplyFault::Incomplete | ReplyFault::InvalidHead => true,
-            ReplyFault::NoMemory
-            | ReplyFault::InvalidLength
-            | ReplyFault::LengthAndCoding
-            | ReplyFault::UnknownCoding
-            | ReplyFault::InvalidChunk
-            | ReplyFault::NoLength
-            | ReplyFault::TooLong => false,
+            ResponseFault::NoConnection | ResponseFault::Incomplete | ResponseFault::InvalidHead => true,
+            ResponseFault::NoMemory
+            | ResponseFault::InvalidLength
+            | ResponseFault::LengthAndCoding
+            | ResponseFault::UnknownCoding
+            | ResponseFault::InvalidChunk
+            | ResponseFault::NoLength
+            | ResponseFault::TooLong => false,
         }
     }
 
     /// The fault in words.
     pub fn words(self) -> &'static str {
         match self {
-            ReplyFault::NoMemory => "memory ran out",
-            ReplyFault::NoConnection => "the server can't be reached",
-            ReplyFault::Incomplete => "the server broke off",
-            ReplyFault::InvalidHead => "the server answers what isn't HTTP",
-            ReplyFault::InvalidLength => "the server answers with a content-length that is none",
-            ReplyFault::LengthAndCoding => {
+            ResponseFault::NoMemory => "memory ran out",
+            ResponseFault::NoConnection => "the server can't be reached",
+            ResponseFault::Incomplete => "the server broke off",
+            ResponseFault::InvalidHead => "the server answers what isn't HTTP",
+            ResponseFault::InvalidLength => "the server answers with a content-length that is none",
+            ResponseFault::LengthAndCoding => {
                 "the server answers with both a content-length and a transfer-encoding"
             }
-            ReplyFault::UnknownCoding => {
+            ResponseFault::UnknownCoding => {
                 "the server answers in a transfer-encoding that isn't read"
             }
-            ReplyFault::InvalidChunk => "the server answers with a chunk that is none",
-            ReplyFault::NoLength => "the server answers without a content-length",
-            ReplyFault::TooLong => "the server answers with more than is read",
+            ResponseFault::InvalidChunk => "the server answers with a chunk that is none",
+            ResponseFault::NoLength => "the server answers without a content-length",
+            ResponseFault::TooLong => "the server answers with more than is read",
         }
     }
 }
 
-impl From<AllocError> for ReplyFault {
+impl From<AllocError> for ResponseFault {
     ghost use Rattle.std.specs.Prelude.{◌≡◌};
-    ghost use Rattle.mds_client.specs.declared.fault.ReplyFault.TheVariants.{NoMemory};
+    ghost use Rattle.mds_client.specs.declared.fault.ResponseFault.TheVariants.{NoMemory};
 
     ghost from_gives = { λ _ fault. fault ≡ NoMemory };
 
-    fn from(_: AllocError) -> ReplyFault {
-        ReplyFault::NoMemory
+    fn from(_: AllocError) -> ResponseFault {
+        ResponseFault::NoMemory
     }
 }
 
-impl From<io::Error> for ReplyFault {
+impl From<io::Error> for ResponseFault {
     ghost use Rattle.std.specs.Prelude.{◌≡◌};
     ghost use Rattle.std_io.specs.IoError.{error_kind};
     ghost use Rattle.mds_client.specs.Faults.{fault_of_kind};
 
     ghost from_gives = { λ error fault. fault ≡ fault_of_kind (error_kind error) };
 
-    fn from(error: io::Error) -> ReplyFault {
+    fn from(error: io::Error) -> ResponseFault {
         match error.kind() {
-            ErrorKind::OutOfMemory => ReplyFault::NoMemory,
-            ErrorKind::UnexpectedEof => ReplyFault::Incomplete,
-            _ => ReplyFault::NoConnection,
+            ErrorKind::OutOfMemory => ResponseFault::NoMemory,
+            ErrorKind::UnexpectedEof => ResponseFault::Incomplete,
+            _ => ResponseFault::NoConnection,
         }
     }
 }
 
-impl From<FramingError> for ReplyFault {
+impl From<FramingError> for ResponseFault {
     ghost use Rattle.std.specs.Prelude.{◌≡◌};
     ghost use Rattle.mds_client.specs.Faults.{fault_of_framing};
 
     ghost from_gives = { λ error fault. fault ≡ fault_of_framing error };
 
-    fn from(error: FramingError) -> ReplyFault {
+    fn from(error: FramingError) -> ResponseFault {
         match error {
-            FramingError::InvalidContentLength => ReplyFault::InvalidLength,
-            FramingError::LengthAndEncoding => ReplyFault::LengthAndCoding,
+            FramingError::InvalidContentLength => ResponseFault::InvalidLength,
+            FramingError::LengthAndEncoding => ResponseFault::LengthAndCoding,
             FramingError::InvalidTransferEncoding
             | FramingError::UnexpectedTransferEncoding
-            | FramingError::ConnectWithContent => ReplyFault::UnknownCoding,
+            | FramingError::ConnectWithContent => ResponseFault::UnknownCoding,
         }
     }
 }
 
-impl From<ReadError> for ReplyFault {
+impl From<ReadError> for ResponseFault {
     ghost use Rattle.std.specs.Prelude.{◌≡◌};
-    ghost use Rattle.mds_client.specs.declared.fault.ReplyFault.TheVariants.{InvalidChunk};
+    ghost use Rattle.mds_client.specs.declared.fault.ResponseFault.TheVariants.{InvalidChunk};
 
     ghost from_gives = { λ _ fault. fault ≡ InvalidChunk };
 
-    fn from(_: ReadError) -> ReplyFault {
-        ReplyFault::InvalidChunk
+    fn from(_: ReadError) -> ResponseFault {
+        ResponseFault::InvalidChunk
     }
 }

@@ -8,10 +8,10 @@ mod head;
 mod request;
 
 pub use body::body_of;
-pub use client::{Client, Dial, Reply};
-pub use fault::ReplyFault;
-pub use head::{Head, Heading, heading_of};
-pub use request::{Call, Server, request_text};
+pub use client::{Client, Dial, HttpResponse};
+pub use fault::ResponseFault;
+pub use head::{ParsedHead, HeadProgress, parse_head};
+pub use request::{ClientRequest, RemoteServer, request_text};
 
 #[cfg(test)]
 mod tests;

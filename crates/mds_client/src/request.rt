@@ -6,7 +6,7 @@ use std::alloc::{AllocError, Global};
 
 /// A server, and the access token by which it is asked.
 #[derive(Clone, Copy)]
-pub struct Server<'a> {
+pub struct RemoteServer<'a> {
     /// The server's address, as the field `host` names it.
     pub host: &'a str,
     /// The client's access token.
@@ -15,13 +15,13 @@ pub struct Server<'a> {
 
 /// A request's method, target and body.
 #[derive(Clone, Copy)]
-pub struct Call<'a> {
+pub struct ClientRequest<'a> {
     pub method: &'a str,
     pub target: &'a str,
     pub body: &'a [u8],
 }
 
-fn push_target(text: &mut Vec<u8>, call: &Call<'_>) -> Result<(), AllocError>
+fn push_target(text: &mut Vec<u8>, call: &ClientRequest<'_>) -> Result<(), AllocError>
     ensures { OnOk result (text.new.items ≡ text.old.items ++ target_part call.now) }
 {
     text.extend_from_slice(b" ")?;
@@ -29,14 +29,14 @@ fn push_target(text: &mut Vec<u8>, call: &Call<'_>) -> Result<(), AllocError>
     text.extend_from_slice(b" HTTP/1.1\r\n")
 }
 
-fn push_request_line(text: &mut Vec<u8>, call: &Call<'_>) -> Result<(), AllocError>
+fn push_request_line(text: &mut Vec<u8>, call: &ClientRequest<'_>) -> Result<(), AllocError>
     ensures { OnOk result (text.new.items ≡ text.old.items ++ request_line call.now) }
 {
     text.extend_from_slice(call.method.as_bytes())?;
     push_target(text, call)
 }
 
-fn push_host(text: &mut Vec<u8>, server: &Server<'_>) -> Result<(), AllocError>
+fn push_host(text: &mut Vec<u8>, server: &RemoteServer<'_>) -> Result<(), AllocError>
     ensures { OnOk result (text.new.items ≡ text.old.items ++ host_field server.now) }
 {
     text.extend_from_slice(b"host: ")?;
@@ -44,7 +44,7 @@ fn push_host(text: &mut Vec<u8>, server: &Server<'_>) -> Result<(), AllocError>
     text.extend_from_slice(b"\r\n")
 }
 
-fn push_token(text: &mut Vec<u8>, server: &Server<'_>) -> Result<(), AllocError>
+fn push_token(text: &mut Vec<u8>, server: &RemoteServer<'_>) -> Result<(), AllocError>
     ensures { OnOk result (text.new.items ≡ text.old.items ++ token_field server.now) }
 {
     text.extend_from_slice(b"authorization: Bearer ")?;
@@ -52,7 +52,7 @@ fn push_token(text: &mut Vec<u8>, server: &Server<'_>) -> Result<(), AllocError>
     text.extend_from_slice(b"\r\n")
 }
 
-fn push_length(text: &mut Vec<u8>, call: &Call<'_>) -> Result<(), AllocError>
+fn push_length(text: &mut Vec<u8>, call: &ClientRequest<'_>) -> Result<(), AllocError>
     ensures { OnOk result (text.new.items ≡ text.old.items ++ length_field call.now) }
 {
     let digits = call.body.len().to_string(*text.allocator())?;
@@ -64,8 +64,8 @@ fn push_length(text: &mut Vec<u8>, call: &Call<'_>) -> Result<(), AllocError>
 /// The text of a request: its head (RFC 9112, sections 3 and 5) and its body.
 pub fn request_text(
     alloc: Global,
-    server: &Server<'_>,
-    call: &Call<'_>,
+    server: &RemoteServer<'_>,
+    call: &ClientRequest<'_>,
 ) -> Result<Vec<u8>, AllocError>
     ensures { IfOk result (λ text. text.items ≡ request_text server.now call.now) }
 {

@@ -2,10 +2,10 @@
 use Rattle.std.specs.Prelude.{ℕ, Bool, true, false, not, ◌&&◌, List, [], ◌∷◌, bytes_eq, codes, option_map, unwrap_or, if◌then◌else◌, Option, Some, None}
 use Rattle.uuid.specs.Text.{parsed}
 use Rattle.mds_command.specs.Options.{value_of, are_options, moment_in, count_in}
-use Rattle.mds_command.specs.Errands.{Job, errand_of, errand_view}
-use Rattle.mds_command.specs.declared.asking.TheConstants.{THIN_AT}
-use Rattle.mds_command.specs.declared.asking.Asked.{Asked}
-use Rattle.mds_command.specs.declared.asking.Asked.TheVariants.{Help, Version, Serve, Check, CheckConfig, Audit, Thin, Stop, Errand}
+use Rattle.mds_command.specs.Transfers.{Job, errand_of, errand_view}
+use Rattle.mds_command.specs.declared.command.TheConstants.{THIN_AT}
+use Rattle.mds_command.specs.declared.command.CliCommand.{CliCommand}
+use Rattle.mds_command.specs.declared.command.CliCommand.TheVariants.{Help, Version, Serve, Check, CheckConfig, Audit, Thin, Stop, Errand}
 
 -- what the program is asked to do
 pub data Request : Type 0 where
@@ -108,7 +108,7 @@ asked_by [] = None
 asked_by (word ∷ []) = asked_alone word
 asked_by (verb ∷ word ∷ words) = if bytes_eq verb (codes "serve") then asked_to_serve (word ∷ words) else asked_of verb word words
 
-abbrev pub asked_view : Asked → Request
+abbrev pub asked_view : CliCommand → Request
 asked_view Help = help
 asked_view Version = version
 asked_view (Serve s) =

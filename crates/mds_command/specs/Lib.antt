@@ -1,4 +1,4 @@
 pub mod Options
-pub mod Asked
-pub mod Errands
+pub mod Commands
+pub mod Transfers
 pub mod Versions

@@ -1,12 +1,12 @@
 -- What `import` and `export` ask for.
 use Rattle.std.specs.Prelude.{ℕ, ◌+◌, ◌-◌, ◌==◌, ◌&&◌, Bool, false, List, [], ◌∷◌, length, take, drop, map, bytes_eq, codes, string_bytes, option_map, if◌then◌else◌, Option, Some, None}
 use Rattle.mds_command.specs.Options.{value_of, are_options}
-use Rattle.mds_command.specs.declared.errands.TokenSource.{TokenSource}
-use Rattle.mds_command.specs.declared.errands.TokenSource.TheVariants.{Argument, File}
-use Rattle.mds_command.specs.declared.errands.Destination.{Destination}
-use Rattle.mds_command.specs.declared.errands.Import.{Import}
-use Rattle.mds_command.specs.declared.errands.Errand.{Errand}
-use Rattle.mds_command.specs.declared.errands.Errand.TheVariants.{Policies, Status, Published}
+use Rattle.mds_command.specs.declared.transfers.TokenSource.{TokenSource}
+use Rattle.mds_command.specs.declared.transfers.TokenSource.TheVariants.{Argument, File}
+use Rattle.mds_command.specs.declared.transfers.Destination.{Destination}
+use Rattle.mds_command.specs.declared.transfers.Import.{Import}
+use Rattle.mds_command.specs.declared.transfers.Transfer.{Transfer}
+use Rattle.mds_command.specs.declared.transfers.Transfer.TheVariants.{Policies, Status, Published}
 
 -- an access token: an argument itself, or in the file of this path
 pub data Token : Type 0 where
@@ -105,7 +105,7 @@ place_view d = (d.address.now, token_view d.token)
 abbrev pub import_view : (List (List ℕ) → Option (List ℕ × Token) → Job) → Import → Job
 import_view job i = job (map string_bytes i.files.now) (option_map place_view i.destination)
 
-abbrev pub errand_view : Errand → Job
+abbrev pub errand_view : Transfer → Job
 errand_view (Policies i) = import_view policies i
 errand_view (Status i) = import_view status i
 errand_view (Published e) = published e.folder.now (place_view e.source)

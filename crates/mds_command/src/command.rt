@@ -2,9 +2,9 @@
 ghost use Rattle.std.specs.Prelude.{◌≡◌, ◌∷◌, map, string_bytes, option_map};
 ghost use Rattle.uuid.specs.Text.{parsed};
 ghost use Rattle.mds_command.specs.Options.{moment_in, count_in};
-ghost use Rattle.mds_command.specs.Asked.{read_if, asked_to_serve, asked_to_audit, asked_to_thin, asked_to_check, asked_alone, asked_with, asked_of, asked_errand, asked_by, asked_view};
+ghost use Rattle.mds_command.specs.Commands.{read_if, asked_to_serve, asked_to_audit, asked_to_thin, asked_to_check, asked_alone, asked_with, asked_of, asked_errand, asked_by, asked_view};
 
-use crate::errands::{Errand, errand_of};
+use crate::transfers::{Transfer, transfer_of};
 use crate::moment::{count_of, moment_of};
 use crate::options::{are_options, value_of};
 use mds_text::{Id, Moment};
@@ -17,7 +17,7 @@ const CONFIG: &str = "--config";
 
 /// The arguments of `serve`: which city is served, and where.
 #[derive(Clone, Copy)]
-pub struct Service<'a> {
+pub struct ServeOptions<'a> {
     /// The configuration's file.
     pub config: &'a str,
     /// The city's folder.
@@ -36,7 +36,7 @@ pub struct Service<'a> {
 
 /// The arguments of `audit`: which entries of a journal are printed.
 #[derive(Clone, Copy)]
-pub struct Audit<'a> {
+pub struct AuditOptions<'a> {
     /// The city's folder.
     pub folder: &'a str,
     /// The configuration's file.
@@ -49,7 +49,7 @@ pub struct Audit<'a> {
 
 /// The arguments of `thin`: which journal is compacted.
 #[derive(Clone, Copy)]
-pub struct Thinning<'a> {
+pub struct ThinOptions<'a> {
     /// The city's folder.
     pub folder: &'a str,
     /// The configuration's file.
@@ -58,25 +58,25 @@ pub struct Thinning<'a> {
 
 /// What the program's arguments ask for.
 #[derive(Clone, Copy)]
-pub enum Asked<'a> {
+pub enum CliCommand<'a> {
     /// To print the help.
     Help,
     /// To print the version.
     Version,
     /// To serve a city.
-    Serve(Service<'a>),
+    Serve(ServeOptions<'a>),
     /// To check how the journal of this folder ends.
     Check(&'a str),
     /// To check whether this file is a configuration.
     CheckConfig(&'a str),
     /// To print the journal of a folder as a script.
-    Audit(Audit<'a>),
+    Audit(AuditOptions<'a>),
     /// To compact the journal of a folder.
-    Thin(Thinning<'a>),
+    Thin(ThinOptions<'a>),
     /// To stop the server whose control port is at this address.
     Stop(&'a str),
     /// To import files into a server, or to export what it has published.
-    Errand(Errand<'a>),
+    Errand(Transfer<'a>),
 }
 
 /// Reads a value that may be left out as an identifier: `Some(None)` without a value, `None` where it is no identifier.
@@ -119,7 +119,7 @@ fn count_if(word: Option<&str>) -> Option<Option<u64>>
 }
 
 /// What `serve` asks for, with options in any order; `None` where they are wrong.
-fn asked_to_serve(words: &[String]) -> Option<Asked<'_>>
+fn serve_command(words: &[String]) -> Option<CliCommand<'_>>
     ensures { option_map asked_view result ≡ asked_to_serve (map string_bytes words.now) }
 {
     let names = &[
@@ -144,7 +144,7 @@ fn asked_to_serve(words: &[String]) -> Option<Asked<'_>>
     }
     let dropped = id_if(value_of("--drop", words))?;
     let thin_at = count_if(value_of("--thin-at", words))?.unwrap_or(THIN_AT);
-    Some(Asked::Serve(Service {
+    Some(CliCommand::Serve(ServeOptions {
         config,
         state,
         listen,
@@ -156,7 +156,7 @@ fn asked_to_serve(words: &[String]) -> Option<Asked<'_>>
 }
 
 /// What `audit` asks for, with a folder and options in any order; `None` where they are wrong.
-fn asked_to_audit<'a>(folder: &'a str, words: &'a [String]) -> Option<Asked<'a>>
+fn audit_command<'a>(folder: &'a str, words: &'a [String]) -> Option<CliCommand<'a>>
     ensures { option_map asked_view result ≡ asked_to_audit folder.now (map string_bytes words.now) }
 {
     if !are_options(&[CONFIG, "--until", "--operator"], words) {
@@ -165,7 +165,7 @@ fn asked_to_audit<'a>(folder: &'a str, words: &'a [String]) -> Option<Asked<'a>>
     let config = value_of(CONFIG, words)?;
     let until = moment_if(value_of("--until", words))?;
     let operator = id_if(value_of("--operator", words))?;
-    Some(Asked::Audit(Audit {
+    Some(CliCommand::Audit(AuditOptions {
         folder,
         config,
         until,
@@ -174,87 +174,87 @@ fn asked_to_audit<'a>(folder: &'a str, words: &'a [String]) -> Option<Asked<'a>>
 }
 
 /// What `thin` asks for, with a folder and its one option; `None` where that is wrong.
-fn asked_to_thin<'a>(folder: &'a str, words: &'a [String]) -> Option<Asked<'a>>
+fn thin_command<'a>(folder: &'a str, words: &'a [String]) -> Option<CliCommand<'a>>
     ensures { option_map asked_view result ≡ asked_to_thin folder.now (map string_bytes words.now) }
 {
     if !are_options(&[CONFIG], words) {
         return None;
     }
     let config = value_of(CONFIG, words)?;
-    Some(Asked::Thin(Thinning { folder, config }))
+    Some(CliCommand::Thin(ThinOptions { folder, config }))
 }
 
 /// What `check --config` asks for, with one file behind it; `None` for any other option or words.
-fn asked_to_check<'a>(option: &str, words: &'a [String]) -> Option<Asked<'a>>
+fn check_command<'a>(option: &str, words: &'a [String]) -> Option<CliCommand<'a>>
     ensures { option_map asked_view result ≡ asked_to_check option.now (map string_bytes words.now) }
 {
     match words {
-        [config] if option == CONFIG => Some(Asked::CheckConfig(config.as_str())),
+        [config] if option == CONFIG => Some(CliCommand::CheckConfig(config.as_str())),
         _ => None,
     }
 }
 
 /// What a single argument asks for: `--help` or `--version`.
-fn asked_alone(word: &str) -> Option<Asked<'_>>
+fn single_word_command(word: &str) -> Option<CliCommand<'_>>
     ensures { option_map asked_view result ≡ asked_alone word.now }
 {
     if word == "--help" {
-        Some(Asked::Help)
+        Some(CliCommand::Help)
     } else if word == "--version" {
-        Some(Asked::Version)
+        Some(CliCommand::Version)
     } else {
         None
     }
 }
 
 /// What a verb asks for with one argument, a folder or an address: `check` or `stop`.
-fn asked_with<'a>(verb: &str, name: &'a str) -> Option<Asked<'a>>
+fn one_argument_command<'a>(verb: &str, name: &'a str) -> Option<CliCommand<'a>>
     ensures { option_map asked_view result ≡ asked_with verb.now name.now }
 {
     if verb == "check" && name != CONFIG {
-        Some(Asked::Check(name))
+        Some(CliCommand::Check(name))
     } else if verb == "stop" {
-        Some(Asked::Stop(name))
+        Some(CliCommand::Stop(name))
     } else {
         None
     }
 }
 
 /// What a verb other than `serve` asks for, with its first argument and those behind it.
-fn asked_of<'a>(verb: &str, name: &'a str, words: &'a [String]) -> Option<Asked<'a>>
+fn verb_command<'a>(verb: &str, name: &'a str, words: &'a [String]) -> Option<CliCommand<'a>>
     ensures { option_map asked_view result ≡ asked_of verb.now name.now (map string_bytes words.now) }
 {
     if words.is_empty() {
-        asked_with(verb, name)
+        one_argument_command(verb, name)
     } else if verb == "check" {
-        asked_to_check(name, words)
+        check_command(name, words)
     } else if verb == "audit" {
-        asked_to_audit(name, words)
+        audit_command(name, words)
     } else if verb == "thin" {
-        asked_to_thin(name, words)
+        thin_command(name, words)
     } else {
-        asked_errand(verb, name, words)
+        transfer_command(verb, name, words)
     }
 }
 
 /// What `import` or `export` asks for, with its first argument and those behind it.
-fn asked_errand<'a>(verb: &str, name: &'a str, words: &'a [String]) -> Option<Asked<'a>>
+fn transfer_command<'a>(verb: &str, name: &'a str, words: &'a [String]) -> Option<CliCommand<'a>>
     ensures { option_map asked_view result ≡ asked_errand verb.now name.now (map string_bytes words.now) }
 {
-    match errand_of(verb, name, words) {
-        Some(errand) => Some(Asked::Errand(errand)),
+    match transfer_of(verb, name, words) {
+        Some(errand) => Some(CliCommand::Errand(errand)),
         None => None,
     }
 }
 
 /// What the arguments behind the program's name ask for; `None` for any others than those of `HELP`.
-pub fn asked_by(words: &[String]) -> Option<Asked<'_>>
+pub fn parse_command(words: &[String]) -> Option<CliCommand<'_>>
     ensures { option_map asked_view result ≡ asked_by (map string_bytes words.now) }
 {
     match words {
         [] => None,
-        [word] => asked_alone(word.as_str()),
-        [verb, rest @ ..] if verb.as_str() == "serve" => asked_to_serve(rest),
-        [verb, name, rest @ ..] => asked_of(verb.as_str(), name.as_str(), rest),
+        [word] => single_word_command(word.as_str()),
+        [verb, rest @ ..] if verb.as_str() == "serve" => serve_command(rest),
+        [verb, name, rest @ ..] => verb_command(verb.as_str(), name.as_str(), rest),
     }
 }

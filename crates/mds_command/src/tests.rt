@@ -1,5 +1,5 @@
 //! Tests of what arguments ask for, and of the version line.
-use crate::{Asked, Errand, TokenSource, asked_by, version_line};
+use crate::{CliCommand, Transfer, TokenSource, parse_command, version_line};
 use std::alloc::{AllocError, AllocGlobal};
 use std::test::Fail;
 
@@ -13,13 +13,13 @@ fn words_in<R: AllocGlobal>(rt: &R, line: &str) -> Result<Vec<String>, AllocErro
 }
 
 /// Where the access token of an import or an export comes from.
-fn token_in<'a>(asked: &Asked<'a>) -> Option<TokenSource<'a>> {
+fn token_in<'a>(asked: &CliCommand<'a>) -> Option<TokenSource<'a>> {
     match asked {
-        Asked::Errand(Errand::Policies(import)) => match import.destination {
+        CliCommand::Errand(Transfer::Policies(import)) => match import.destination {
             Some(destination) => Some(destination.token),
             None => None,
         },
-        Asked::Errand(Errand::Published(export)) => Some(export.source.token),
+        CliCommand::Errand(Transfer::Published(export)) => Some(export.source.token),
         _ => None,
     }
 }
@@ -36,26 +36,26 @@ fn says_its_version(rt: HostRuntime) -> Result<(), Fail> {
 #[test]
 fn takes_a_name_of_the_control_port(rt: HostRuntime) -> Result<(), Fail> {
     let line = "serve --config c --state s --listen l --control a --control-host ops.example";
-    match asked_by(&words_in(&rt, line)?) {
-        Some(Asked::Serve(service)) => {
+    match parse_command(&words_in(&rt, line)?) {
+        Some(CliCommand::Serve(service)) => {
             assert!(rt; service.control == Some("a"));
             assert!(rt; service.control_host == Some("ops.example"));
         }
         _ => assert!(rt; false),
     }
     let line = "serve --config c --state s --listen l --control-host ops.example";
-    assert!(rt; asked_by(&words_in(&rt, line)?).is_none());
+    assert!(rt; parse_command(&words_in(&rt, line)?).is_none());
     Ok(())
 }
 
 #[test]
 fn checks_a_configuration(rt: HostRuntime) -> Result<(), Fail> {
     let words = words_in(&rt, "check --config city.json")?;
-    assert!(rt; matches!(asked_by(&words), Some(Asked::CheckConfig("city.json"))));
+    assert!(rt; matches!(parse_command(&words), Some(CliCommand::CheckConfig("city.json"))));
     let words = words_in(&rt, "check city")?;
-    assert!(rt; matches!(asked_by(&words), Some(Asked::Check("city"))));
+    assert!(rt; matches!(parse_command(&words), Some(CliCommand::Check("city"))));
     for line in ["check --config", "check city more", "check --config a b"] {
-        assert!(rt; asked_by(&words_in(&rt, line)?).is_none());
+        assert!(rt; parse_command(&words_in(&rt, line)?).is_none());
     }
     Ok(())
 }
@@ -63,18 +63,18 @@ fn checks_a_configuration(rt: HostRuntime) -> Result<(), Fail> {
 #[test]
 fn takes_a_token_from_one_place(rt: HostRuntime) -> Result<(), Fail> {
     let words = words_in(&rt, "import policies a.json --to here --token city")?;
-    match &asked_by(&words) {
+    match &parse_command(&words) {
         Some(asked) => {
             assert!(rt; matches!(token_in(asked), Some(TokenSource::Argument("city"))));
         }
         None => assert!(rt; false),
     }
     let words = words_in(&rt, "export folder --token-file - --from here")?;
-    match &asked_by(&words) {
+    match &parse_command(&words) {
         Some(asked) => assert!(rt; matches!(token_in(asked), Some(TokenSource::File("-")))),
         None => assert!(rt; false),
     }
     let line = "import policies a.json --to here --token city --token-file t";
-    assert!(rt; asked_by(&words_in(&rt, line)?).is_none());
+    assert!(rt; parse_command(&words_in(&rt, line)?).is_none());
     Ok(())
 }

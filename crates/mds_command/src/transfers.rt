@@ -1,6 +1,6 @@
 //! What `import` and `export` ask for.
 ghost use Rattle.std.specs.Prelude.{◌≡◌, ◌≤◌, ◌<◌, ◌∷◌, [], length, map, codes, string_bytes, option_map, IsTrue, if◌then◌else◌, Some, None};
-ghost use Rattle.mds_command.specs.Errands.{policies, status, begins_option, file_count, is_dry, token_source, place_in, dry_with, destination_in, sent_by, import_of, export_of, errand_of, token_view, place_view, import_view, errand_view};
+ghost use Rattle.mds_command.specs.Transfers.{policies, status, begins_option, file_count, is_dry, token_source, place_in, dry_with, destination_in, sent_by, import_of, export_of, errand_of, token_view, place_view, import_view, errand_view};
 
 use crate::options::{are_options, value_of};
 
@@ -41,7 +41,7 @@ pub struct Export<'a> {
 
 /// An import or an export, between files and another server.
 #[derive(Clone, Copy)]
-pub enum Errand<'a> {
+pub enum Transfer<'a> {
     /// Sends documents of policies and geographies to a server as drafts.
     Policies(Import<'a>),
     /// Sends what vehicles do to a server as reports.
@@ -121,7 +121,7 @@ fn dry_with(rest: &[String], place: Option<Destination<'_>>) -> bool
 }
 
 /// The server to which files are sent: `Some(None)` for a dry run, `None` where the options are wrong.
-#[tactic(auto, using(crate::proofs::Fronts::front_of_texts))]
+#[tactic(auto, using(crate::proofs::Prefixes::front_of_texts))]
 fn destination_in(words: &[String]) -> Option<Option<Destination<'_>>>
     ensures { option_map (option_map place_view) result ≡ destination_in (map string_bytes words.now) }
 {
@@ -141,7 +141,7 @@ fn destination_in(words: &[String]) -> Option<Option<Destination<'_>>>
 }
 
 /// The arguments of an import: one file at least, and where they are sent; `None` where they are wrong.
-fn sent(words: &[String]) -> Option<Import<'_>>
+fn import_options(words: &[String]) -> Option<Import<'_>>
     ensures documents { option_map (import_view policies) result ≡ sent_by policies (map string_bytes words.now) }
     ensures vehicles { option_map (import_view status) result ≡ sent_by status (map string_bytes words.now) }
 {
@@ -156,17 +156,17 @@ fn sent(words: &[String]) -> Option<Import<'_>>
 }
 
 /// What `import` asks for, by the kind of its files; `None` for another kind, or where its arguments are wrong.
-fn import_of<'a>(kind: &str, words: &'a [String]) -> Option<Errand<'a>>
+fn import_of<'a>(kind: &str, words: &'a [String]) -> Option<Transfer<'a>>
     ensures { option_map errand_view result ≡ import_of kind.now (map string_bytes words.now) }
 {
     if kind == "policies" {
-        match sent(words) {
-            Some(import) => Some(Errand::Policies(import)),
+        match import_options(words) {
+            Some(import) => Some(Transfer::Policies(import)),
             None => None,
         }
     } else if kind == "status" {
-        match sent(words) {
-            Some(import) => Some(Errand::Status(import)),
+        match import_options(words) {
+            Some(import) => Some(Transfer::Status(import)),
             None => None,
         }
     } else {
@@ -175,18 +175,18 @@ fn import_of<'a>(kind: &str, words: &'a [String]) -> Option<Errand<'a>>
 }
 
 /// What `export` asks for, with a folder and options; `None` where these are wrong.
-fn export_of<'a>(folder: &'a str, words: &'a [String]) -> Option<Errand<'a>>
+fn export_of<'a>(folder: &'a str, words: &'a [String]) -> Option<Transfer<'a>>
     ensures { option_map errand_view result ≡ export_of folder.now (map string_bytes words.now) }
 {
     match place_in("--from", words) {
-        Some(source) => Some(Errand::Published(Export { folder, source })),
+        Some(source) => Some(Transfer::Published(Export { folder, source })),
         None => None,
     }
 }
 
 /// What a verb asks for, with its first argument and those behind it; `None` for any that is neither `import` nor
 /// `export`.
-pub(crate) fn errand_of<'a>(verb: &str, name: &'a str, words: &'a [String]) -> Option<Errand<'a>>
+pub(crate) fn transfer_of<'a>(verb: &str, name: &'a str, words: &'a [String]) -> Option<Transfer<'a>>
     ensures { option_map errand_view result ≡ errand_of verb.now name.now (map string_bytes words.now) }
 {
     if verb == "import" {

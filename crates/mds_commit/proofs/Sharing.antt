@@ -4,9 +4,9 @@ use Rattle.std.proofs.lemmas.List.{get_or-set_same, get_or_default, length-set, 
 use Rattle.std.proofs.lemmas.List.Folds.{fold-map, sum_by-replicate}
 use Rattle.std.proofs.lemmas.List.Sums.{sum_by-take-le, sum_by-take-drop, sum_by-drop_more, sum_by-set, sum_by-append, sum_by-cons}
 use Rattle.std.proofs.lemmas.List.Sums.{get_or-le-sum_by, sum_by-le-sum_by, sum_by_more_le_part}
-use Rattle.mds_commit.specs.declared.deciding.Usage.{Usage}
-use Rattle.mds_commit.specs.declared.deciding.TheConstants.{MOST_TEXTS, MOST_BYTES}
-use Rattle.mds_commit.specs.declared.shares.Share.{Share}
+use Rattle.mds_commit.specs.declared.decisions.Usage.{Usage}
+use Rattle.mds_commit.specs.declared.decisions.TheConstants.{MOST_TEXTS, MOST_BYTES}
+use Rattle.mds_commit.specs.declared.client_shares.ClientShare.{ClientShare}
 use Rattle.mds_commit.specs.Shares.{texts_kept, bytes_kept, both, IsShared}
 use Rattle.mds_commit.specs.Tables.{usage_of, bytes_in, texts_held, share_of, holding}
 
@@ -42,20 +42,20 @@ module _ {X Y : Type 0} (f : Y → ℕ) (h : X → Y) (xs : List X) where
 pub in_parts : {X : Type 0} (f : X → ℕ) (before after : List X) (x : X) → sum_by f (before ++ x ∷ after) ≡ sum_by f before + f x + sum_by f after
 in_parts f before after x = omega (arith, sum_by-append f before (x ∷ after), sum_by-cons f x after)
 
-abbrev pub nobody : Share
+abbrev pub nobody : ClientShare
 nobody = let nothing : Usage = record { texts = 0; bytes = 0 } in record { held = nothing; waiting = nothing }
 
-abbrev pub bytes_of : Share → ℕ
+abbrev pub bytes_of : ClientShare → ℕ
 bytes_of share = share.held.bytes + share.waiting.bytes
 
 -- what all of these count for
-abbrev pub texts_in : List Share → ℕ
+abbrev pub texts_in : List ClientShare → ℕ
 texts_in each = sum_by texts_kept (map usage_of each)
 
-abbrev pub kept_in : List Share → ℕ
+abbrev pub kept_in : List ClientShare → ℕ
 kept_in each = sum_by bytes_kept (map usage_of each)
 
-module _ (each : List Share) where
+module _ (each : List ClientShare) where
   pub front_shared : (i : ℕ) → IsShared (map usage_of each) → IsShared (map usage_of (take i each))
   front_shared i shared = (omega (arith, front_le texts_kept usage_of each i, shared.0), omega (arith, front_le bytes_kept usage_of each i, shared.1))
 
@@ -63,14 +63,14 @@ module _ (each : List Share) where
   rest_shared i shared = (omega (arith, rest_le texts_kept usage_of each i, shared.0), omega (arith, rest_le bytes_kept usage_of each i, shared.1))
 
   -- each has at most what all may have
-  pub texts_fit : (i : ℕ) (d : Share) → i < length each → IsShared (map usage_of each) → (usage_of (get_or each i d)).texts ≤ MOST_TEXTS
+  pub texts_fit : (i : ℕ) (d : ClientShare) → i < length each → IsShared (map usage_of each) → (usage_of (get_or each i d)).texts ≤ MOST_TEXTS
   texts_fit i d lt shared = omega (arith, one_le texts_kept usage_of each i d lt, shared.0)
 
-  pub bytes_fit : (i : ℕ) (d : Share) → i < length each → IsShared (map usage_of each) → (usage_of (get_or each i d)).bytes ≤ MOST_BYTES
+  pub bytes_fit : (i : ℕ) (d : ClientShare) → i < length each → IsShared (map usage_of each) → (usage_of (get_or each i d)).bytes ≤ MOST_BYTES
   bytes_fit i d lt shared = omega (arith, one_le bytes_kept usage_of each i d lt, shared.1)
 
   -- a client that has less than it had keeps all within the limits
-  pub less_shared : (i : ℕ) (y d : Share) → i < length each → (usage_of y).texts ≤ (usage_of (get_or each i d)).texts
+  pub less_shared : (i : ℕ) (y d : ClientShare) → i < length each → (usage_of y).texts ≤ (usage_of (get_or each i d)).texts
       → (usage_of y).bytes ≤ (usage_of (get_or each i d)).bytes → IsShared (map usage_of each) → IsShared (map usage_of (set each i y))
   less_shared i y d lt texts bytes shared = (
     omega (arith, one_set texts_kept usage_of each i y d lt, shared.0, texts),
@@ -79,14 +79,14 @@ module _ (each : List Share) where
 
   pub bytes_in_le : IsShared (map usage_of each) → bytes_in each ≤ MOST_BYTES
   bytes_in_le shared =
-      let k : Share → ℕ = λ s. bytes_kept (usage_of s) in
+      let k : ClientShare → ℕ = λ s. bytes_kept (usage_of s) in
       omega (arith, sum_by-map bytes_kept usage_of each, sum_by-le-sum_by bytes_of k each (λ s. omega arith), shared.1)
 
-  pub texts_held_le : (i : ℕ) (d : Share) → i < length each → IsShared (map usage_of each)
+  pub texts_held_le : (i : ℕ) (d : ClientShare) → i < length each → IsShared (map usage_of each)
       → texts_held (take i each) + (get_or each i d).held.texts ≤ MOST_TEXTS
   texts_held_le i d lt shared =
-      let k : Share → ℕ = λ s. texts_kept (usage_of s) in
-      let h : Share → ℕ = λ s. s.held.texts in
+      let k : ClientShare → ℕ = λ s. texts_kept (usage_of s) in
+      let h : ClientShare → ℕ = λ s. s.held.texts in
       let held : sum_by h each ≤ sum_by k each = sum_by-le-sum_by h k each (λ s. omega arith) in
       omega (arith, sum_by-map texts_kept usage_of each, held, sum_by_more_le_part h h each i d lt (λ s. omega arith), shared.0)
 
@@ -98,7 +98,7 @@ module _ (each : List Share) where
   pub held_fits : (i : ℕ) (more : Usage) → i < length each → IsShared (map usage_of (holding each i more))
       → ((share_of each i).held.texts + more.texts ≤ MOST_TEXTS) × ((share_of each i).held.bytes + more.bytes ≤ MOST_BYTES)
   held_fits i more lt shared =
-      let y : Share = record { held = both (share_of each i).held more; waiting = (share_of each i).waiting } in
+      let y : ClientShare = record { held = both (share_of each i).held more; waiting = (share_of each i).waiting } in
       let there : i < length (set each i y) = omega (arith, length-set each i y, lt) in
       let same : get_or (set each i y) i nobody ≡ y = get_or-set_same each i y nobody lt in
       let texts : texts_kept (usage_of y) ≤ texts_in (set each i y) = rw same at (one_le texts_kept usage_of (set each i y) i nobody there) in
@@ -111,7 +111,7 @@ module _ (each : List Share) where
       → kept_in (take i each) + (usage_of (share_of each i)).bytes + more.bytes + kept_in (drop (i + 1) each) ≤ MOST_BYTES
       → IsShared (map usage_of (holding each i more))
   more_shared i more lt shared texts bytes =
-      let y : Share = record { held = both (share_of each i).held more; waiting = (share_of each i).waiting } in (
+      let y : ClientShare = record { held = both (share_of each i).held more; waiting = (share_of each i).waiting } in (
         omega (arith, one_set texts_kept usage_of each i y nobody lt, three_parts texts_kept usage_of each i nobody lt, shared.0, texts),
         omega (arith, one_set bytes_kept usage_of each i y nobody lt, three_parts bytes_kept usage_of each i nobody lt, shared.1, bytes),
       )
@@ -127,14 +127,14 @@ module _ (each : List Share) where
   rest_all i = take_all (length each - i) (drop i each) (omega (arith, length-drop i each))
 
   -- what was read of the table is what stands there
-  pub share_read : (i : ℕ) (d : Share) → i < length each → d ≡ get_or each i d → d ≡ share_of each i
+  pub share_read : (i : ℕ) (d : ClientShare) → i < length each → d ≡ get_or each i d → d ≡ share_of each i
   share_read i d lt is = is ∙ get_or_default each i d nobody lt
 
 -- where no client has anything, all are within the limits
 pub nobody_shared : (n : ℕ) → n ≤ 512 → IsShared (map usage_of (replicate n nobody)) × (bytes_in (replicate n nobody) ≡ 0)
 nobody_shared n few =
-    let k : Share → ℕ = λ s. texts_kept (usage_of s) in
-    let b : Share → ℕ = λ s. bytes_kept (usage_of s) in (
+    let k : ClientShare → ℕ = λ s. texts_kept (usage_of s) in
+    let b : ClientShare → ℕ = λ s. bytes_kept (usage_of s) in (
       (
         omega (arith, few, sum_by-map texts_kept usage_of (replicate n nobody), sum_by-replicate k n nobody),
         omega (arith, few, sum_by-map bytes_kept usage_of (replicate n nobody), sum_by-replicate b n nobody),

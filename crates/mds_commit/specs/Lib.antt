@@ -2,6 +2,6 @@ pub mod Codes
 pub mod History
 pub mod Waiting
 pub mod Durable
-pub mod Places
+pub mod Reservations
 pub mod Shares
 pub mod Tables

@@ -2,12 +2,12 @@
 use Rattle.std.specs.Prelude.{ℕ, ◌+◌, ◌≤◌, List, [], ◌∷◌, length}
 use Rattle.mds_records.specs.Records.{extent}
 use Rattle.mds_records.specs.Groups.{group_of}
-use Rattle.mds_commit.specs.declared.backlog.TheConstants.{BESIDE}
+use Rattle.mds_commit.specs.declared.backlog.TheConstants.{RECORD_OVERHEAD}
 
 -- how many bytes are reserved for these payloads
 abbrev pub held_for : List (List ℕ) → ℕ
 held_for [] = 0
-held_for (text ∷ texts) = length text + BESIDE + held_for texts
+held_for (text ∷ texts) = length text + RECORD_OVERHEAD + held_for texts
 
 -- However payloads are grouped, what is reserved for them is enough for their records and the mark.
 abbrev pub PlacesAreEnough : Type 0

@@ -4,14 +4,14 @@ ghost use mathlib.Core.List.{IsPrefix};
 ghost use Rattle.mds_records.specs.Groups.{is_taken};
 ghost use Rattle.mds_commit.specs.Durable.{chosen};
 ghost use Rattle.mds_commit.specs.Tables.{bytes_in, holding};
-ghost use Rattle.mds_commit.specs.declared.deciding.TheConstants.{MOST_TEXTS};
-ghost use Rattle.mds_commit.specs.declared.backlog.TheConstants.{BESIDE};
-ghost use Rattle.mds_commit.specs.declared.room.TheConstants.{STEP};
+ghost use Rattle.mds_commit.specs.declared.decisions.TheConstants.{MOST_TEXTS};
+ghost use Rattle.mds_commit.specs.declared.backlog.TheConstants.{RECORD_OVERHEAD};
+ghost use Rattle.mds_commit.specs.declared.reserved_space.TheConstants.{STEP};
 
-use crate::deciding::{MOST_TEXTS, MOST_TEXTS_OF_ONE, Round, Usage, next_round};
-use crate::history::{Ledger, Naming, Stamp};
-use crate::room::{Room, STEP};
-use crate::shares::Shares;
+use crate::decisions::{MOST_TEXTS, MOST_TEXTS_OF_ONE, Round, Usage, next_round};
+use crate::history::{CommitLedger, LogName, LogPosition};
+use crate::reserved_space::{ReservedSpace, STEP};
+use crate::client_shares::ClientShares;
 use crate::space::{NoRoom, Space};
 use mds_records::{Log, fits, is_plain};
 use std::alloc::{AllocError, Global};
@@ -19,7 +19,7 @@ use std::marker::Model;
 use std::mem;
 
 /// What a record takes next to its payload, in bytes, with a mark for it alone.
-const BESIDE: u64 = 56;
+const RECORD_OVERHEAD: u64 = 56;
 
 /// Why no reservation was made. Nothing has changed, and the next may succeed.
 #[derive(Clone, Copy, Debug, PartialEq, Eq)]
@@ -45,7 +45,7 @@ impl From<NoRoom> for ReserveFault {
 }
 
 /// A payload, and the reservation for its record. It has to be appended or released, and can't be dropped.
-pub struct Place {
+pub struct Reservation {
     /// The client's number.
     pub asker: usize,
     pub text: Vec<u8>,
@@ -54,7 +54,7 @@ pub struct Place {
 
 /// Payloads, and the reservations for their records. They have to be appended or released together, and can't be
 /// dropped.
-pub struct Places {
+pub struct Reservations {
     /// The client's number.
     pub asker: usize,
     pub texts: Vec<Vec<u8>>,
@@ -62,19 +62,19 @@ pub struct Places {
 
 /// The queue of the payloads that wait. Contracts see what the flusher has taken, and all that was appended.
 #[derive(Drop)]
-pub(crate) struct Queue<K: Naming, L: Log> {
+pub(crate) struct CommitQueue<K: LogName, L: Log> {
     /// The payloads that wait.
     texts: Vec<Vec<u8>>,
     /// The log position of what the flusher has taken.
-    taken: Stamp<K, L>,
+    taken: LogPosition<K, L>,
     /// The log position of all that was appended.
-    appended: Stamp<K, L>,
+    appended: LogPosition<K, L>,
 }
 
-impl<K: Naming, L: Log> Model for Queue<K, L> {
+impl<K: LogName, L: Log> Model for CommitQueue<K, L> {
     ghost use Rattle.std.specs.Prelude.{◌≡◌, ◌≤◌, ◌++◌, map, vec_capacity};
     ghost use Rattle.mds_commit.specs.Waiting.{Waiting, coded_waiting};
-    ghost use Rattle.mds_commit.specs.declared.deciding.TheConstants.{MOST_TEXTS};
+    ghost use Rattle.mds_commit.specs.declared.decisions.TheConstants.{MOST_TEXTS};
 
     ghost Value = { Waiting };
 
@@ -87,28 +87,28 @@ impl<K: Naming, L: Log> Model for Queue<K, L> {
 
 /// The state under the keeper's lock.
 #[derive(Drop)]
-pub(crate) struct Backlog<K: Naming, L: Log, S: Space> {
-    queue: Queue<K, L>,
-    room: Room<S>,
+pub(crate) struct CommitBacklog<K: LogName, L: Log, S: Space> {
+    queue: CommitQueue<K, L>,
+    room: ReservedSpace<S>,
     /// What waits of each client, and what it has reserved.
-    shares: Shares,
+    shares: ClientShares,
     /// Whether no further reservation is made.
     is_stopping: bool,
     ghost used: { room.used ≡ bytes_in shares.each.items },
 }
 
-impl Place {
+impl Reservation {
     /// The reservation for a payload of this client.
     ///
     /// # Errors
     ///
     /// No log accepts the payload.
-    fn new(asker: usize, text: Vec<u8>) -> Result<Place, ReserveFault>
+    fn new(asker: usize, text: Vec<u8>) -> Result<Reservation, ReserveFault>
         ensures text { IfOk result (λ place. place.text ≡ text) }
         ensures asker { IfOk result (λ place. place.asker ≡ asker) }
     {
         if fits(&text) && is_plain(&text) {
-            Ok(Place { asker, text })
+            Ok(Reservation { asker, text })
         } else {
             Err(ReserveFault::Untaken)
         }
@@ -116,23 +116,23 @@ impl Place {
 
     /// How many bytes its record takes in the log.
     fn bytes(&self) -> u64
-        ensures value { result ≡ vec_len self.now.text + BESIDE }
+        ensures value { result ≡ vec_len self.now.text + RECORD_OVERHEAD }
         ensures bounded { result ≤ STEP }
     {
-        self.text.len() as u64 + BESIDE
+        self.text.len() as u64 + RECORD_OVERHEAD
     }
 }
 
-impl<K: Naming, L: Log> Queue<K, L> {
+impl<K: LogName, L: Log> CommitQueue<K, L> {
     /// An empty queue.
     ///
     /// # Errors
     ///
     /// Out of memory.
-    fn new(alloc: Global, nothing: &Stamp<K, L>) -> Result<Queue<K, L>, AllocError>
+    fn new(alloc: Global, nothing: &LogPosition<K, L>) -> Result<CommitQueue<K, L>, AllocError>
         ensures { IfOk result (λ q. (q.taken ≡ nothing.now) × (q.appended ≡ nothing.now)) }
     {
-        Ok(Queue {
+        Ok(CommitQueue {
             texts: Vec::with_capacity(alloc, MOST_TEXTS)?,
             taken: nothing.again(),
             appended: nothing.again(),
@@ -147,7 +147,7 @@ impl<K: Naming, L: Log> Queue<K, L> {
     }
 
     /// The log position of all that was appended.
-    fn all(&self) -> Stamp<K, L>
+    fn all(&self) -> LogPosition<K, L>
         ensures { result ≡ self.now.appended }
     {
         self.appended.again()
@@ -155,7 +155,7 @@ impl<K: Naming, L: Log> Queue<K, L> {
 
     /// Appends a payload, and returns the log position after it. None where there is no room, or where another appended
     /// to the history, which doesn't happen under the lock.
-    fn push(&mut self, ledger: &Ledger<K, L>, text: Vec<u8>) -> Option<Stamp<K, L>>
+    fn push(&mut self, ledger: &CommitLedger<K, L>, text: Vec<u8>) -> Option<LogPosition<K, L>>
         ensures pushed { IfSome result (λ stamp. (stamp ≡ self.old.appended ++ text.items ∷ []) × (self.new.appended ≡ stamp)) }
         ensures taken { self.new.taken ≡ self.old.taken }
         ensures unchanged { IfNone result (self.new.appended ≡ self.old.appended) }
@@ -174,7 +174,7 @@ impl<K: Naming, L: Log> Queue<K, L> {
 
     /// Moves all that waits into a group, which is empty and has the capacity, and returns the log position of all that
     /// was appended. None where `taken` isn't the log position of what was taken so far.
-    fn take(&mut self, group: &mut Vec<Vec<u8>>, taken: &Stamp<K, L>) -> Option<Stamp<K, L>>
+    fn take(&mut self, group: &mut Vec<Vec<u8>>, taken: &LogPosition<K, L>) -> Option<LogPosition<K, L>>
         requires empty { group.old.items ≡ [] }
         requires capacity { MOST_TEXTS ≤ vec_capacity group.old }
         ensures taken { IfSome result (λ stamp. stamp ≡ taken.now ++ map (λ v. v.items) group.new.items) }
@@ -208,7 +208,7 @@ fn bytes_of_all(texts: &[Vec<u8>]) -> Result<u64, ReserveFault>
         if !fits(text) || !is_plain(text) {
             return Err(ReserveFault::Untaken);
         }
-        bytes += text.len() as u64 + BESIDE;
+        bytes += text.len() as u64 + RECORD_OVERHEAD;
         if bytes > STEP {
             return Err(ReserveFault::Untaken);
         }
@@ -227,7 +227,7 @@ fn first_flag(flags: &[bool]) -> (bool, &[bool])
     }
 }
 
-impl<K: Naming, L: Log, S: Space> Backlog<K, L, S> {
+impl<K: LogName, L: Log, S: Space> CommitBacklog<K, L, S> {
     /// An empty backlog, for so many clients.
     ///
     /// # Errors
@@ -235,17 +235,17 @@ impl<K: Naming, L: Log, S: Space> Backlog<K, L, S> {
     /// Out of memory.
     pub(crate) fn new(
         alloc: Global,
-        nothing: &Stamp<K, L>,
+        nothing: &LogPosition<K, L>,
         space: S,
         askers: usize,
-    ) -> Result<Backlog<K, L, S>, AllocError>
+    ) -> Result<CommitBacklog<K, L, S>, AllocError>
         requires { S.aside space ≡ 0 }
         ensures { IfOk result (λ b. (b.queue.taken ≡ nothing.now) × (b.queue.appended ≡ nothing.now)) }
     {
-        Ok(Backlog {
-            queue: Queue::new(alloc, nothing)?,
-            room: Room::new(space),
-            shares: Shares::new(alloc, askers)?,
+        Ok(CommitBacklog {
+            queue: CommitQueue::new(alloc, nothing)?,
+            room: ReservedSpace::new(space),
+            shares: ClientShares::new(alloc, askers)?,
             is_stopping: false,
         })
     }
@@ -260,7 +260,7 @@ impl<K: Naming, L: Log, S: Space> Backlog<K, L, S> {
     /// # Errors
     ///
     /// Its share is used up, or the disk has no room. Nothing is reserved then.
-    fn hold_more(&mut self, asker: usize, more: Usage) -> Result<(), ReserveFault>
+    fn reserve_usage(&mut self, asker: usize, more: Usage) -> Result<(), ReserveFault>
         requires { more.bytes ≤ STEP }
         ensures held { OnOk result (self.new.shares.each.items ≡ holding self.old.shares.each.items asker more) }
         ensures unchanged { OnErr result ((self.new.shares ≡ self.old.shares) × (self.new.room.used ≡ self.old.room.used)) }
@@ -270,7 +270,7 @@ impl<K: Naming, L: Log, S: Space> Backlog<K, L, S> {
             return Err(ReserveFault::Crowded);
         }
         self.room.take(more.bytes)?;
-        self.shares.hold(asker, more);
+        self.shares.add_reserved(asker, more);
         Ok(())
     }
 
@@ -279,33 +279,33 @@ impl<K: Naming, L: Log, S: Space> Backlog<K, L, S> {
     /// # Errors
     ///
     /// See [`ReserveFault`]. Nothing is reserved then, and nothing has changed for others.
-    pub(crate) fn hold(&mut self, asker: usize, text: Vec<u8>) -> Result<Place, ReserveFault>
+    pub(crate) fn make_reservation(&mut self, asker: usize, text: Vec<u8>) -> Result<Reservation, ReserveFault>
         ensures place { IfOk result (λ place. place.text ≡ text) }
         ensures asker { IfOk result (λ place. place.asker ≡ asker) }
-        ensures held { OnOk result (self.new.shares.each.items ≡ holding self.old.shares.each.items asker (record { texts = 1; bytes = vec_len text + BESIDE })) }
+        ensures held { OnOk result (self.new.shares.each.items ≡ holding self.old.shares.each.items asker (record { texts = 1; bytes = vec_len text + RECORD_OVERHEAD })) }
         ensures unchanged { OnErr result ((self.new.shares ≡ self.old.shares) × (self.new.room.used ≡ self.old.room.used)) }
         ensures queue { self.new.queue ≡ self.old.queue }
     {
         if self.is_stopping {
             return Err(ReserveFault::Stopping);
         }
-        let place = Place::new(asker, text)?;
+        let place = Reservation::new(asker, text)?;
         let bytes = place.bytes();
-        match self.hold_more(asker, Usage { texts: 1, bytes }) {
+        match self.reserve_usage(asker, Usage { texts: 1, bytes }) {
             Ok(()) => Ok(place),
             Err(fault) => {
-                let Place { asker: _, text: _ } = place;
+                let Reservation { asker: _, text: _ } = place;
                 Err(fault)
             }
         }
     }
 
     /// Releases a reservation.
-    pub(crate) fn release(&mut self, place: Place)
+    pub(crate) fn release(&mut self, place: Reservation)
         ensures queue { self.new.queue ≡ self.old.queue }
     {
         let bytes = place.bytes();
-        let Place { asker, text: _ } = place;
+        let Reservation { asker, text: _ } = place;
         if self.shares.release(asker, bytes) {
             self.room.give_back(bytes);
         }
@@ -313,12 +313,12 @@ impl<K: Naming, L: Log, S: Space> Backlog<K, L, S> {
 
     /// Appends the payload of a reservation, and returns the log position of all that was appended then. None where it
     /// can't, which doesn't happen where the reservation was made here.
-    pub(crate) fn append(&mut self, ledger: &Ledger<K, L>, place: Place) -> Option<Stamp<K, L>>
+    pub(crate) fn append(&mut self, ledger: &CommitLedger<K, L>, place: Reservation) -> Option<LogPosition<K, L>>
         ensures pushed { IfSome result (λ stamp. (stamp ≡ self.old.queue.appended ++ place.text.items ∷ []) × (self.new.queue.appended ≡ stamp)) }
         ensures taken { self.new.queue.taken ≡ self.old.queue.taken }
     {
         let bytes = place.bytes();
-        let Place { asker, text } = place;
+        let Reservation { asker, text } = place;
         if !self.shares.append(asker, bytes) {
             return None;
         }
@@ -330,11 +330,11 @@ impl<K: Naming, L: Log, S: Space> Backlog<K, L, S> {
     /// # Errors
     ///
     /// See [`ReserveFault`]. Nothing is reserved then, and nothing has changed for others.
-    pub(crate) fn hold_all(
+    pub(crate) fn make_reservations(
         &mut self,
         asker: usize,
         texts: Vec<Vec<u8>>,
-    ) -> Result<Places, ReserveFault>
+    ) -> Result<Reservations, ReserveFault>
         ensures places { IfOk result (λ places. places.texts ≡ texts) }
         ensures asker { IfOk result (λ places. places.asker ≡ asker) }
         ensures unchanged { OnErr result ((self.new.shares ≡ self.old.shares) × (self.new.room.used ≡ self.old.room.used)) }
@@ -348,15 +348,15 @@ impl<K: Naming, L: Log, S: Space> Backlog<K, L, S> {
             texts: texts.len(),
             bytes,
         };
-        self.hold_more(asker, more)?;
-        Ok(Places { asker, texts })
+        self.reserve_usage(asker, more)?;
+        Ok(Reservations { asker, texts })
     }
 
     /// Appends a payload that has a reservation, where it is to be persisted, and releases the reservation otherwise.
     /// Returns whether it did.
-    fn settle_one(
+    fn append_or_release(
         &mut self,
-        ledger: &Ledger<K, L>,
+        ledger: &CommitLedger<K, L>,
         asker: usize,
         text: Vec<u8>,
         is_kept: bool,
@@ -366,7 +366,7 @@ impl<K: Naming, L: Log, S: Space> Backlog<K, L, S> {
         ensures taken { self.new.queue.taken ≡ self.old.queue.taken }
     {
         // It has a reservation, so a log accepts it.
-        let Ok(place) = Place::new(asker, text) else {
+        let Ok(place) = Reservation::new(asker, text) else {
             return false;
         };
         if is_kept {
@@ -380,23 +380,23 @@ impl<K: Naming, L: Log, S: Space> Backlog<K, L, S> {
     /// Appends those payloads that are to be persisted, in their order, releases the reservations of the others, and
     /// returns the log position of all that was appended then. None where it can't, which doesn't happen where the
     /// reservations were made here.
-    pub(crate) fn settle(
+    pub(crate) fn append_chosen(
         &mut self,
-        ledger: &Ledger<K, L>,
-        places: Places,
+        ledger: &CommitLedger<K, L>,
+        places: Reservations,
         kept: &[bool],
-    ) -> Option<Stamp<K, L>>
+    ) -> Option<LogPosition<K, L>>
         ensures appended { IfSome result (λ stamp. stamp ≡ self.old.queue.appended ++ chosen kept.now (map (λ v. v.items) places.texts.items)) }
         ensures stamp { IfSome result (λ stamp. self.new.queue.appended ≡ stamp) }
         ensures taken { self.new.queue.taken ≡ self.old.queue.taken }
     {
-        let Places { asker, texts } = places;
+        let Reservations { asker, texts } = places;
         let mut is_settled = true;
         let mut rest = kept;
         for text in texts {
             let (is_kept, others) = first_flag(rest);
             rest = others;
-            let settles = self.settle_one(ledger, asker, text, is_kept);
+            let settles = self.append_or_release(ledger, asker, text, is_kept);
             is_settled = is_settled & settles;
         }
         if is_settled {
@@ -408,7 +408,7 @@ impl<K: Naming, L: Log, S: Space> Backlog<K, L, S> {
 
     /// What the flusher does next.
     pub(crate) fn round(&self) -> Round {
-        next_round(self.queue.len(), self.shares.held(), self.is_stopping)
+        next_round(self.queue.len(), self.shares.reserved_count(), self.is_stopping)
     }
 
     /// Moves all that waits into a group: see [`Queue::take`]. Its reserved disk space is released, since it is written
@@ -416,8 +416,8 @@ impl<K: Naming, L: Log, S: Space> Backlog<K, L, S> {
     pub(crate) fn take(
         &mut self,
         group: &mut Vec<Vec<u8>>,
-        taken: &Stamp<K, L>,
-    ) -> Option<Stamp<K, L>>
+        taken: &LogPosition<K, L>,
+    ) -> Option<LogPosition<K, L>>
         requires empty { group.old.items ≡ [] }
         requires capacity { MOST_TEXTS ≤ vec_capacity group.old }
         ensures taken { IfSome result (λ stamp. stamp ≡ taken.now ++ map (λ v. v.items) group.new.items) }
@@ -426,7 +426,7 @@ impl<K: Naming, L: Log, S: Space> Backlog<K, L, S> {
         ensures unchanged { IfNone result (group.new.items ≡ []) }
     {
         let stamp = self.queue.take(group, taken)?;
-        let bytes = self.shares.take();
+        let bytes = self.shares.take_waiting();
         self.room.give_back(bytes);
         Some(stamp)
     }

@@ -35,7 +35,7 @@ impl<F: OpenFile + Drop> Ballast<F> {
 }
 
 /// Appends so many zeros to a file, and returns whether it did.
-fn is_filled<F: Write + Seek>(file: &mut F, bytes: u64) -> bool {
+fn append_zeros<F: Write + Seek>(file: &mut F, bytes: u64) -> bool {
     let zeros = [0u8; CHUNK];
     if file.seek(SeekFrom::End(0)).is_err() {
         return false;
@@ -56,7 +56,7 @@ impl<F: Write + Seek + OpenFile + Drop> Space for Ballast<F> {
         if bytes > u64::MAX - self.bytes {
             return Err(NoRoom);
         }
-        if !is_filled(&mut self.file, bytes) {
+        if !append_zeros(&mut self.file, bytes) {
             // What was written of it is freed, as far as the file can be cut.
             let _ = self.file.set_len(self.bytes);
             return Err(NoRoom);

@@ -2,17 +2,17 @@
 ghost use Rattle.std.specs.Prelude.{◌≡◌, ◌+◌, ◌*◌, ◌<◌, ◌≤◌, true, IfOk, MatchBool, length, map, sum_by, slice_set};
 ghost use Rattle.mds_commit.specs.Shares.{IsShared, texts_kept, bytes_kept};
 ghost use Rattle.mds_commit.specs.Tables.{usage_of, bytes_in, texts_held, holding, share_of, untaken};
-ghost use Rattle.mds_commit.specs.declared.deciding.TheConstants.{MOST_TEXTS, MOST_BYTES, LEAST_BYTES};
+ghost use Rattle.mds_commit.specs.declared.decisions.TheConstants.{MOST_TEXTS, MOST_BYTES, LEAST_BYTES};
 
-use crate::deciding::{LEAST_BYTES, MOST_ASKERS, Usage, may_reserve};
+use crate::decisions::{LEAST_BYTES, MOST_CLIENTS, Usage, may_reserve};
 use std::alloc::{AllocError, Global};
 
 /// The usage of a client that has nothing.
-const NOTHING: Usage = Usage { texts: 0, bytes: 0 };
+const NO_USAGE: Usage = Usage { texts: 0, bytes: 0 };
 
 /// What one client has.
 #[derive(Clone, Copy, Debug, PartialEq, Eq)]
-pub(crate) struct Share {
+pub(crate) struct ClientShare {
     /// What it has reserved.
     held: Usage,
     /// What waits.
@@ -21,12 +21,12 @@ pub(crate) struct Share {
 
 /// What each client has, by its number.
 #[derive(Drop)]
-pub(crate) struct Shares {
-    each: Vec<Share>,
+pub(crate) struct ClientShares {
+    each: Vec<ClientShare>,
     ghost shared: { IsShared (map usage_of each.items) },
 }
 
-impl Share {
+impl ClientShare {
     /// What it has in all.
     fn usage(&self) -> Usage
         requires texts { (usage_of self.now).texts ≤ MOST_TEXTS }
@@ -41,16 +41,16 @@ impl Share {
 }
 
 /// What the clients that have something take up, each at least its minimum, and how many have nothing.
-fn counted(shares: &[Share]) -> (Usage, usize)
+fn count_usage(shares: &[ClientShare]) -> (Usage, usize)
     requires { IsShared (map usage_of shares.now) }
     ensures texts { result.0.texts + result.1 ≡ sum_by texts_kept (map usage_of shares.now) }
     ensures bytes { result.0.bytes + result.1 * LEAST_BYTES ≡ sum_by bytes_kept (map usage_of shares.now) }
 {
-    let mut all = NOTHING;
+    let mut all = NO_USAGE;
     let mut without = 0;
     for share in shares {
         let usage = share.usage();
-        if usage == NOTHING {
+        if usage == NO_USAGE {
             without += 1;
         } else {
             all.texts += usage.texts.max(1);
@@ -61,7 +61,7 @@ fn counted(shares: &[Share]) -> (Usage, usize)
 }
 
 /// How many payloads of these have a reservation.
-fn places_of(shares: &[Share]) -> usize
+fn count_reserved(shares: &[ClientShare]) -> usize
     requires { IsShared (map usage_of shares.now) }
     ensures { result ≡ texts_held shares.now }
 {
@@ -72,21 +72,21 @@ fn places_of(shares: &[Share]) -> usize
     held
 }
 
-impl Shares {
+impl ClientShares {
     /// No client has anything. Each of so many has a share, and at most [`MOST_ASKERS`] of them.
     ///
     /// # Errors
     ///
     /// Out of memory.
-    pub(crate) fn new(alloc: Global, askers: usize) -> Result<Shares, AllocError>
+    pub(crate) fn new(alloc: Global, askers: usize) -> Result<ClientShares, AllocError>
         ensures { IfOk result (λ shares. bytes_in shares.each.items ≡ 0) }
     {
-        let nothing = Share {
-            held: NOTHING,
-            waiting: NOTHING,
+        let nothing = ClientShare {
+            held: NO_USAGE,
+            waiting: NO_USAGE,
         };
-        Ok(Shares {
-            each: vec![in alloc; nothing; askers.min(MOST_ASKERS)]?,
+        Ok(ClientShares {
+            each: vec![in alloc; nothing; askers.min(MOST_CLIENTS)]?,
         })
     }
 
@@ -99,8 +99,8 @@ impl Shares {
             return false;
         }
         let own = self.each[asker].usage();
-        let (before, before_without) = counted(&self.each[..asker]);
-        let (after, after_without) = counted(&self.each[asker + 1..]);
+        let (before, before_without) = count_usage(&self.each[..asker]);
+        let (after, after_without) = count_usage(&self.each[asker + 1..]);
         let all = Usage {
             texts: before.texts + own.texts + after.texts,
             bytes: before.bytes + own.bytes + after.bytes,
@@ -109,7 +109,7 @@ impl Shares {
     }
 
     /// Reserves so much more for a client.
-    pub(crate) fn hold(&mut self, asker: usize, more: Usage)
+    pub(crate) fn add_reserved(&mut self, asker: usize, more: Usage)
         requires known { asker < length self.old.each.items }
         requires shared { IsShared (map usage_of (holding self.old.each.items asker more)) }
         ensures { self.new.each.items ≡ holding self.old.each.items asker more }
@@ -120,7 +120,7 @@ impl Shares {
     }
 
     /// Whether this client has a reservation for one payload of so many bytes.
-    fn holds(&self, asker: usize, bytes: u64) -> bool
+    fn has_reservation(&self, asker: usize, bytes: u64) -> bool
         ensures { result ≡ true → (asker < length self.now.each.items) × (0 < (share_of self.now.each.items asker).held.texts) × (bytes ≤ (share_of self.now.each.items asker).held.bytes) }
     {
         match self.each.get(asker) {
@@ -134,7 +134,7 @@ impl Shares {
     pub(crate) fn release(&mut self, asker: usize, bytes: u64) -> bool
         ensures { MatchBool result (bytes_in self.new.each.items + bytes ≡ bytes_in self.old.each.items) (self.new ≡ self.old) }
     {
-        if !self.holds(asker, bytes) {
+        if !self.has_reservation(asker, bytes) {
             return false;
         }
         let share = &mut self.each[asker];
@@ -148,7 +148,7 @@ impl Shares {
     pub(crate) fn append(&mut self, asker: usize, bytes: u64) -> bool
         ensures { bytes_in self.new.each.items ≡ bytes_in self.old.each.items }
     {
-        if !self.holds(asker, bytes) {
+        if !self.has_reservation(asker, bytes) {
             return false;
         }
         let share = &mut self.each[asker];
@@ -160,32 +160,32 @@ impl Shares {
     }
 
     /// How many reservations there are.
-    pub(crate) fn held(&self) -> usize
+    pub(crate) fn reserved_count(&self) -> usize
         ensures { result ≡ texts_held self.now.each.items }
     {
-        places_of(&self.each)
+        count_reserved(&self.each)
     }
 
     /// Clears what waits of this client, and returns how many bytes that was.
-    fn take_of(&mut self, asker: usize) -> u64
+    fn take_waiting_of(&mut self, asker: usize) -> u64
         requires { asker < length self.old.each.items }
         ensures bytes { result + bytes_in self.new.each.items ≡ bytes_in self.old.each.items }
         ensures taken { self.new.each.items ≡ slice_set self.old.each.items asker (untaken (share_of self.old.each.items asker)) }
     {
         let share = &mut self.each[asker];
         let bytes = share.waiting.bytes;
-        share.waiting = NOTHING;
+        share.waiting = NO_USAGE;
         bytes
     }
 
     /// Clears what waits of every client, and returns how many bytes that was. Reservations stay.
-    pub(crate) fn take(&mut self) -> u64
+    pub(crate) fn take_waiting(&mut self) -> u64
         ensures bytes { result + bytes_in self.new.each.items ≡ bytes_in self.old.each.items }
         ensures taken { self.new.each.items ≡ map untaken self.old.each.items }
     {
         let mut bytes = 0;
         for asker in 0..self.each.len() {
-            bytes += self.take_of(asker);
+            bytes += self.take_waiting_of(asker);
         }
         bytes
     }

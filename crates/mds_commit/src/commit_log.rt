@@ -2,13 +2,13 @@
 ghost use Rattle.std.specs.Prelude.{◌≡◌, ◌++◌, ◌≤◌, [], map, ℕ, List, IfOk, IfNone, IfSome, OnOk, OnErr, vec_capacity};
 ghost use mathlib.Core.List.{IsPrefix};
 ghost use Rattle.mds_commit.specs.Durable.{AreDurable, AreLast, IsLast, chosen};
-ghost use Rattle.mds_commit.specs.declared.deciding.TheConstants.{MOST_TEXTS};
-ghost use Rattle.mds_commit.specs.declared.deciding.Telling.TheVariants as tellings;
+ghost use Rattle.mds_commit.specs.declared.decisions.TheConstants.{MOST_TEXTS};
+ghost use Rattle.mds_commit.specs.declared.decisions.ResponseTiming.TheVariants as tellings;
 
-use crate::backlog::{Backlog, Place, Places, ReserveFault};
-use crate::deciding::{Round, Telling, Usage, may_tell};
+use crate::backlog::{CommitBacklog, Reservation, Reservations, ReserveFault};
+use crate::decisions::{Round, ResponseTiming, Usage, may_respond};
 use crate::flusher::{FlushFault, Flusher};
-use crate::history::{Ledger, Naming, Opened, Stamp};
+use crate::history::{CommitLedger, LogName, UnnamedHistory, LogPosition};
 use crate::space::Space;
 use mds_records::Log;
 use std::alloc::{AllocError, Global};
@@ -19,24 +19,24 @@ use tokio::sync::{Notify, OwnedNotified};
 
 /// Why a response doesn't leave.
 #[derive(Clone, Copy, Debug, PartialEq, Eq)]
-pub enum NotTold {
+pub enum CommitFault {
     /// An append or a sync failed: no response leaves any more, and the program ends.
     Failed,
     /// Out of memory to wait.
     NoMemory,
 }
 
-impl From<AllocError> for NotTold {
-    fn from(_: AllocError) -> NotTold {
-        NotTold::NoMemory
+impl From<AllocError> for CommitFault {
+    fn from(_: AllocError) -> CommitFault {
+        CommitFault::NoMemory
     }
 }
 
 /// The commit log: requests that are persisted are appended here, and it knows how far they are synced.
 #[derive(Drop)]
-pub struct Keeper<K: Naming, L: Log, S: Space> {
-    pub(crate) ledger: Ledger<K, L>,
-    backlog: Mutex<Backlog<K, L, S>>,
+pub struct CommitLog<K: LogName, L: Log, S: Space> {
+    pub(crate) ledger: CommitLedger<K, L>,
+    backlog: Mutex<CommitBacklog<K, L, S>>,
     /// Wakes the flusher when there is something to do.
     more: Condvar,
     /// Wakes waiting threads when something was synced, or when nothing more will be.
@@ -53,24 +53,24 @@ pub struct Keeper<K: Naming, L: Log, S: Space> {
 /// # Errors
 ///
 /// Out of memory.
-pub fn open<K: Naming, L: Log, S: Space>(
+pub fn open<K: LogName, L: Log, S: Space>(
     alloc: Global,
-    opened: Opened<L>,
+    opened: UnnamedHistory<L>,
     log: L,
     space: S,
     askers: usize,
-) -> Result<(Keeper<K, L, S>, Flusher<K, L>, Stamp<K, L>), AllocError>
+) -> Result<(CommitLog<K, L, S>, Flusher<K, L>, LogPosition<K, L>), AllocError>
     requires book { opened.seen.book ≡ K.book }
     requires listed { (first : List (List ℕ)) × L.may_be log first }
     requires space { S.aside space ≡ 0 }
     ensures { IfOk result (λ all. all.2 ≡ []) }
 {
     let position = opened.position;
-    let (ledger, nothing) = opened.named::<K>();
+    let (ledger, nothing) = opened.with_name::<K>();
     let flusher = Flusher::new(alloc, log, position, &nothing)?;
-    let keeper = Keeper {
+    let keeper = CommitLog {
         ledger,
-        backlog: Mutex::new(Backlog::new(alloc, &nothing, space, askers)?),
+        backlog: Mutex::new(CommitBacklog::new(alloc, &nothing, space, askers)?),
         more: Condvar::new(),
         synced: Condvar::new(),
         told: Arc::new(alloc, Notify::new(alloc)?)?,
@@ -79,7 +79,7 @@ pub fn open<K: Naming, L: Log, S: Space>(
     Ok((keeper, flusher, nothing))
 }
 
-impl<K: Naming, L: Log, S: Space> Keeper<K, L, S> {
+impl<K: LogName, L: Log, S: Space> CommitLog<K, L, S> {
     /// Makes a reservation for the payload of this client's request, before the request is carried out. The reservation
     /// goes to [`Keeper::append`] where the request is to be persisted, and to [`Keeper::release`] otherwise.
     ///
@@ -91,17 +91,17 @@ impl<K: Naming, L: Log, S: Space> Keeper<K, L, S> {
         rt: &R,
         asker: usize,
         text: Vec<u8>,
-    ) -> Result<Place, ReserveFault>
+    ) -> Result<Reservation, ReserveFault>
         ensures { IfOk result (λ place. place.text ≡ text) }
     {
         if self.has_failed.load(Ordering::SeqCst) {
             return Err(ReserveFault::Failed);
         }
-        self.backlog.lock(rt).hold(asker, text)
+        self.backlog.lock(rt).make_reservation(asker, text)
     }
 
     /// Releases the reservation of a request that isn't persisted.
-    pub fn release<R: Wait>(&self, rt: &R, place: Place) {
+    pub fn release<R: Wait>(&self, rt: &R, place: Reservation) {
         self.backlog.lock(rt).release(place);
         self.more.notify_one();
     }
@@ -112,7 +112,7 @@ impl<K: Naming, L: Log, S: Space> Keeper<K, L, S> {
     /// # Errors
     ///
     /// The keeper failed; this doesn't happen where the reservation was made here.
-    pub fn append<R: Wait>(&self, rt: &R, place: Place) -> Result<Stamp<K, L>, NotTold>
+    pub fn append<R: Wait>(&self, rt: &R, place: Reservation) -> Result<LogPosition<K, L>, CommitFault>
         ensures { IfOk result (λ stamp. IsLast place.text.items stamp) }
     {
         let appended = self.backlog.lock(rt).append(&self.ledger, place);
@@ -123,7 +123,7 @@ impl<K: Naming, L: Log, S: Space> Keeper<K, L, S> {
             }
             None => {
                 self.fail(rt);
-                Err(NotTold::Failed)
+                Err(CommitFault::Failed)
             }
         }
     }
@@ -139,13 +139,13 @@ impl<K: Naming, L: Log, S: Space> Keeper<K, L, S> {
         rt: &R,
         asker: usize,
         texts: Vec<Vec<u8>>,
-    ) -> Result<Places, ReserveFault>
+    ) -> Result<Reservations, ReserveFault>
         ensures { IfOk result (λ places. places.texts ≡ texts) }
     {
         if self.has_failed.load(Ordering::SeqCst) {
             return Err(ReserveFault::Failed);
         }
-        self.backlog.lock(rt).hold_all(asker, texts)
+        self.backlog.lock(rt).make_reservations(asker, texts)
     }
 
     /// Whether so much more may be reserved for this client now. It reserves nothing.
@@ -154,8 +154,8 @@ impl<K: Naming, L: Log, S: Space> Keeper<K, L, S> {
     }
 
     /// Releases all of these reservations.
-    pub fn release_all<R: Wait>(&self, rt: &R, places: Places) {
-        let _nothing = self.backlog.lock(rt).settle(&self.ledger, places, &[]);
+    pub fn release_all<R: Wait>(&self, rt: &R, places: Reservations) {
+        let _nothing = self.backlog.lock(rt).append_chosen(&self.ledger, places, &[]);
         self.more.notify_one();
     }
 
@@ -166,17 +166,17 @@ impl<K: Naming, L: Log, S: Space> Keeper<K, L, S> {
     /// # Errors
     ///
     /// The keeper failed; this doesn't happen where the reservations were made here.
-    pub fn settle<R: Wait>(
+    pub fn append_chosen<R: Wait>(
         &self,
         rt: &R,
-        known: &Stamp<K, L>,
-        places: Places,
+        known: &LogPosition<K, L>,
+        places: Reservations,
         kept: &[bool],
-    ) -> Result<Stamp<K, L>, NotTold>
+    ) -> Result<LogPosition<K, L>, CommitFault>
         ensures last { IfOk result (λ stamp. AreLast (chosen kept.now (map (λ v. v.items) places.texts.items)) stamp) }
         ensures known { IfOk result (λ stamp. IsPrefix known.now stamp) }
     {
-        let settled = self.backlog.lock(rt).settle(&self.ledger, places, kept);
+        let settled = self.backlog.lock(rt).append_chosen(&self.ledger, places, kept);
         match settled {
             // Under the lock it is all that was appended, so it begins with what was known before.
             Some(stamp) if known.begins(&stamp) => {
@@ -185,7 +185,7 @@ impl<K: Naming, L: Log, S: Space> Keeper<K, L, S> {
             }
             _ => {
                 self.fail(rt);
-                Err(NotTold::Failed)
+                Err(CommitFault::Failed)
             }
         }
     }
@@ -196,7 +196,7 @@ impl<K: Naming, L: Log, S: Space> Keeper<K, L, S> {
     /// # Errors
     ///
     /// The keeper failed: then nothing may become visible.
-    pub fn append_synced<R: Wait>(&self, rt: &R, place: Place) -> Result<Stamp<K, L>, NotTold>
+    pub fn append_synced<R: Wait>(&self, rt: &R, place: Reservation) -> Result<LogPosition<K, L>, CommitFault>
         ensures last { IfOk result (λ stamp. IsLast place.text.items stamp) }
         ensures durable { IfOk result (λ stamp. AreDurable L.may_be L.is_synced stamp) }
     {
@@ -207,19 +207,19 @@ impl<K: Naming, L: Log, S: Space> Keeper<K, L, S> {
 
     /// The log position of all that was appended by now, and so of all that a response made by now can show. It doesn't
     /// wait.
-    pub fn stamp(&self, known: &Stamp<K, L>) -> Stamp<K, L>
+    pub fn log_position(&self, known: &LogPosition<K, L>) -> LogPosition<K, L>
         ensures { IsPrefix known.now result }
     {
         known.later(&self.ledger)
     }
 
     /// Whether a response with this log position may leave. It doesn't wait.
-    pub fn may_tell(&self, stamp: &Stamp<K, L>) -> Telling
+    pub fn may_respond(&self, stamp: &LogPosition<K, L>) -> ResponseTiming
         ensures { result ≡ tellings.Now → AreDurable L.may_be L.is_synced stamp.now }
     {
         let has_failed = self.has_failed.load(Ordering::SeqCst);
-        let synced = stamp.synced(&self.ledger);
-        may_tell(has_failed, stamp.is_within(&synced))
+        let synced = stamp.synced_prefix(&self.ledger);
+        may_respond(has_failed, stamp.is_within(&synced))
     }
 
     /// Blocks the thread until everything up to a log position is synced.
@@ -227,15 +227,15 @@ impl<K: Naming, L: Log, S: Space> Keeper<K, L, S> {
     /// # Errors
     ///
     /// The keeper failed.
-    pub fn wait<R: Wait>(&self, rt: &R, stamp: &Stamp<K, L>) -> Result<(), NotTold>
+    pub fn wait<R: Wait>(&self, rt: &R, stamp: &LogPosition<K, L>) -> Result<(), CommitFault>
         ensures { OnOk result (AreDurable L.may_be L.is_synced stamp.now) }
     {
         let mut backlog = self.backlog.lock(rt);
         for _ in rt.forever() {
-            match self.may_tell(stamp) {
-                Telling::Now => return Ok(()),
-                Telling::Never => return Err(NotTold::Failed),
-                Telling::Later => {}
+            match self.may_respond(stamp) {
+                ResponseTiming::Now => return Ok(()),
+                ResponseTiming::Never => return Err(CommitFault::Failed),
+                ResponseTiming::Later => {}
             }
             backlog = self.synced.wait(rt, backlog);
         }
@@ -249,7 +249,7 @@ impl<K: Naming, L: Log, S: Space> Keeper<K, L, S> {
     }
 
     /// A future that completes at the next wake-up of the waiting tasks.
-    pub(crate) fn heard(&self) -> Result<OwnedNotified, AllocError> {
+    pub(crate) fn next_wakeup(&self) -> Result<OwnedNotified, AllocError> {
         Ok(Notify::notified_owned(Arc::try_clone(&self.told)?))
     }
 
@@ -257,9 +257,9 @@ impl<K: Naming, L: Log, S: Space> Keeper<K, L, S> {
     pub(crate) fn next<R: Wait>(
         &self,
         rt: &R,
-        taken: &Stamp<K, L>,
+        taken: &LogPosition<K, L>,
         group: &mut Vec<Vec<u8>>,
-    ) -> Result<Option<Stamp<K, L>>, FlushFault>
+    ) -> Result<Option<LogPosition<K, L>>, FlushFault>
         requires empty { group.old.items ≡ [] }
         requires capacity { MOST_TEXTS ≤ vec_capacity group.old }
         ensures some { IfOk result (λ next. IfSome next (λ stamp. stamp ≡ taken.now ++ map (λ v. v.items) group.new.items)) }
@@ -283,7 +283,7 @@ impl<K: Naming, L: Log, S: Space> Keeper<K, L, S> {
     }
 
     /// Wakes all that wait, to look again.
-    pub(crate) fn tell<R: Wait>(&self, rt: &R) {
+    pub(crate) fn wake_waiting<R: Wait>(&self, rt: &R) {
         // A thread that has looked and doesn't sleep yet holds the lock.
         mem::drop(self.backlog.lock(rt));
         self.synced.notify_all();
@@ -293,7 +293,7 @@ impl<K: Naming, L: Log, S: Space> Keeper<K, L, S> {
     /// From now on no response leaves any more.
     pub fn fail<R: Wait>(&self, rt: &R) {
         self.has_failed.store(true, Ordering::SeqCst);
-        self.tell(rt);
+        self.wake_waiting(rt);
         self.more.notify_one();
     }
 }

@@ -1,8 +1,8 @@
 //! When a response may leave, what the flusher does next, and whether a reservation may be made: decisions over plain
 //! values.
 ghost use Rattle.std.specs.Prelude.{◌≡◌, ◌+◌, ◌<◌, ◌≤◌, true, false, IsTrue, ◌↔◌};
-ghost use Rattle.mds_commit.specs.declared.deciding.Round.TheVariants as rounds;
-ghost use Rattle.mds_commit.specs.declared.deciding.Telling.TheVariants as tellings;
+ghost use Rattle.mds_commit.specs.declared.decisions.Round.TheVariants as rounds;
+ghost use Rattle.mds_commit.specs.declared.decisions.ResponseTiming.TheVariants as tellings;
 ghost use Rattle.mds_commit.specs.Shares.{MayReserve};
 
 /// The most payloads that wait to be written, together with those that have reservations.
@@ -21,7 +21,7 @@ pub const MOST_BYTES_OF_ONE: u64 = 8_388_608;
 pub const LEAST_BYTES: u64 = 65_536;
 
 /// The most clients for which as much can be left.
-pub const MOST_ASKERS: usize = 512;
+pub const MOST_CLIENTS: usize = 512;
 
 /// What waits to be written together with what is reserved, of one client or of all.
 #[derive(Clone, Copy, Debug, PartialEq, Eq)]
@@ -33,7 +33,7 @@ pub struct Usage {
 
 /// Whether a response may leave.
 #[derive(Clone, Copy, Debug, PartialEq, Eq)]
-pub enum Telling {
+pub enum ResponseTiming {
     /// All that it shows is synced.
     Now,
     /// Once what it shows is synced.
@@ -54,15 +54,15 @@ pub enum Round {
 }
 
 /// Whether a response may leave, by whether an append or a sync has failed, and whether all that it shows is synced.
-pub fn may_tell(has_failed: bool, is_synced: bool) -> Telling
+pub fn may_respond(has_failed: bool, is_synced: bool) -> ResponseTiming
     ensures never { has_failed ≡ true → result ≡ tellings.Never }
     ensures now { has_failed ≡ false → is_synced ≡ true → result ≡ tellings.Now }
     ensures later { has_failed ≡ false → is_synced ≡ false → result ≡ tellings.Later }
 {
     match (has_failed, is_synced) {
-        (true, _) => Telling::Never,
-        (false, true) => Telling::Now,
-        (false, false) => Telling::Later,
+        (true, _) => ResponseTiming::Never,
+        (false, true) => ResponseTiming::Now,
+        (false, false) => ResponseTiming::Later,
     }
 }
 
@@ -94,7 +94,7 @@ fn fits(there: u64, more: u64, most: u64) -> bool
 pub fn may_reserve(own: Usage, all: Usage, without: usize, more: Usage) -> bool
     ensures { IsTrue result ↔ MayReserve own all without more }
 {
-    if without > MOST_ASKERS {
+    if without > MOST_CLIENTS {
         return false;
     }
     let texts_left = (MOST_TEXTS - without) as u64;

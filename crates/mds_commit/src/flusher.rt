@@ -2,13 +2,13 @@
 ghost use Rattle.std.specs.Prelude.{◌≡◌, ◌++◌, ◌≤◌, [], map, ℕ, List, IfOk, OnOk, vec_capacity, vec_len};
 ghost use Rattle.mds_commit.specs.Durable.{AreDurable, EndsWith};
 ghost use Rattle.mds_commit.specs.History.{AreSynced};
-ghost use Rattle.mds_commit.specs.declared.deciding.TheConstants.{MOST_TEXTS};
+ghost use Rattle.mds_commit.specs.declared.decisions.TheConstants.{MOST_TEXTS};
 
-use crate::deciding::MOST_TEXTS;
-use crate::history::{Ledger, Naming, Stamp};
-use crate::keeper::Keeper;
+use crate::decisions::MOST_TEXTS;
+use crate::history::{CommitLedger, LogName, LogPosition};
+use crate::commit_log::CommitLog;
 use crate::space::Space;
-use mds_records::{AppendFault, Log, NotSynced};
+use mds_records::{AppendFault, Log, SyncFault};
 use std::alloc::{AllocError, Global};
 use std::marker::Model;
 use std::sync::Wait;
@@ -30,24 +30,24 @@ impl From<AppendFault> for FlushFault {
     }
 }
 
-impl From<NotSynced> for FlushFault {
-    fn from(_: NotSynced) -> FlushFault {
+impl From<SyncFault> for FlushFault {
+    fn from(_: SyncFault) -> FlushFault {
         FlushFault::NotSynced
     }
 }
 
 /// A log, and what was appended to it since it was opened. Contracts see these payloads.
 #[derive(Drop)]
-struct Written<K: Naming, L: Log> {
+struct FlushedLog<K: LogName, L: Log> {
     log: L,
     /// How many payloads the log has.
     position: u64,
-    taken: Stamp<K, L>,
+    taken: LogPosition<K, L>,
     /// How many of the payloads the ledger reports as synced.
     synced: u64,
 }
 
-impl<K: Naming, L: Log> Model for Written<K, L> {
+impl<K: LogName, L: Log> Model for FlushedLog<K, L> {
     ghost use Rattle.std.specs.Prelude.{ℕ, List};
     ghost use Rattle.mds_commit.specs.Codes.{coded_texts};
     ghost use Rattle.mds_commit.specs.Durable.{EndsWith};
@@ -63,15 +63,15 @@ impl<K: Naming, L: Log> Model for Written<K, L> {
 
 /// The flusher, for a thread of its own.
 #[derive(Drop)]
-pub struct Flusher<K: Naming, L: Log> {
-    written: Written<K, L>,
+pub struct Flusher<K: LogName, L: Log> {
+    written: FlushedLog<K, L>,
     /// The group that is written at once. It is empty between two rounds.
     group: Vec<Vec<u8>>,
     ghost empty: { vec_len group ≡ 0 },
     ghost capacity: { MOST_TEXTS ≤ vec_capacity group },
 }
 
-impl<K: Naming, L: Log> Written<K, L> {
+impl<K: LogName, L: Log> FlushedLog<K, L> {
     /// Appends a group, syncs it, and records that in the ledger.
     ///
     /// # Errors
@@ -79,9 +79,9 @@ impl<K: Naming, L: Log> Written<K, L> {
     /// An append or a sync failed.
     fn flush(
         &mut self,
-        ledger: &Ledger<K, L>,
+        ledger: &CommitLedger<K, L>,
         group: &[Vec<u8>],
-        reached: Stamp<K, L>,
+        reached: LogPosition<K, L>,
     ) -> Result<(), FlushFault>
         requires { reached ≡ self.old ++ map (λ v. v.items) group.now }
         ensures all { OnOk result (self.new ≡ reached) }
@@ -96,14 +96,14 @@ impl<K: Naming, L: Log> Written<K, L> {
     }
 
     /// The log position of the payloads.
-    fn stamp(&self) -> Stamp<K, L>
+    fn log_position(&self) -> LogPosition<K, L>
         ensures { result ≡ self.now }
     {
         self.taken.again()
     }
 
     /// Syncs the log and returns it.
-    fn into_log(self) -> Result<L, NotSynced>
+    fn into_log(self) -> Result<L, SyncFault>
         ensures { IfOk result L.is_synced }
     {
         let mut log = self.log;
@@ -112,7 +112,7 @@ impl<K: Naming, L: Log> Written<K, L> {
     }
 }
 
-impl<K: Naming, L: Log> Flusher<K, L> {
+impl<K: LogName, L: Log> Flusher<K, L> {
     /// The flusher of a log that has so many payloads.
     ///
     /// # Errors
@@ -122,13 +122,13 @@ impl<K: Naming, L: Log> Flusher<K, L> {
         alloc: Global,
         log: L,
         position: u64,
-        nothing: &Stamp<K, L>,
+        nothing: &LogPosition<K, L>,
     ) -> Result<Flusher<K, L>, AllocError>
         requires nothing { nothing.now ≡ [] }
         requires listed { (first : List (List ℕ)) × L.may_be log first }
     {
         Ok(Flusher {
-            written: Written {
+            written: FlushedLog {
                 log,
                 position,
                 taken: nothing.again(),
@@ -139,19 +139,19 @@ impl<K: Naming, L: Log> Flusher<K, L> {
     }
 
     /// Waits for what is to be written, and writes and syncs it. Returns false where nothing more can come.
-    fn turn<R: Wait, S: Space>(
+    fn flush_next<R: Wait, S: Space>(
         &mut self,
         rt: &R,
-        keeper: &Keeper<K, L, S>,
+        keeper: &CommitLog<K, L, S>,
     ) -> Result<bool, FlushFault> {
-        let taken = self.written.stamp();
+        let taken = self.written.log_position();
         let Some(reached) = keeper.next(rt, &taken, &mut self.group)? else {
             return Ok(false);
         };
         let flushed = self.written.flush(&keeper.ledger, &self.group, reached);
         self.group.clear();
         flushed?;
-        keeper.tell(rt);
+        keeper.wake_waiting(rt);
         Ok(true)
     }
 
@@ -161,12 +161,12 @@ impl<K: Naming, L: Log> Flusher<K, L> {
     /// # Errors
     ///
     /// An append or a sync failed. No response of any thread or task leaves any more.
-    pub fn run<R: Wait, S: Space>(self, rt: &R, keeper: &Keeper<K, L, S>) -> Result<L, FlushFault>
+    pub fn run<R: Wait, S: Space>(self, rt: &R, keeper: &CommitLog<K, L, S>) -> Result<L, FlushFault>
         ensures { IfOk result L.is_synced }
     {
         let mut flusher = self;
         for _ in rt.forever() {
-            match flusher.turn(rt, keeper) {
+            match flusher.flush_next(rt, keeper) {
                 Ok(true) => {}
                 Ok(false) => return flusher.end(rt, keeper),
                 Err(fault) => {
@@ -179,7 +179,7 @@ impl<K: Naming, L: Log> Flusher<K, L> {
     }
 
     /// Returns the log, synced, once nothing waits.
-    fn end<R: Wait, S: Space>(self, rt: &R, keeper: &Keeper<K, L, S>) -> Result<L, FlushFault>
+    fn end<R: Wait, S: Space>(self, rt: &R, keeper: &CommitLog<K, L, S>) -> Result<L, FlushFault>
         ensures { IfOk result L.is_synced }
     {
         match self.written.into_log() {

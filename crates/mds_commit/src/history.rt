@@ -5,7 +5,7 @@ ghost use mathlib.Core.List.{IsPrefix};
 ghost use Rattle.mds_commit.specs.History.{AreSynced, appended_of, synced_of};
 
 use logbook::{Gain, Offer, Plain, Play, Rule, Seen, Word};
-use mds_records::{Log, NotSynced};
+use mds_records::{Log, SyncFault};
 use std::marker::{Brand, Model, PhantomData};
 
 /// A payload, which contracts see as its bytes. No value of this type is made.
@@ -25,11 +25,11 @@ impl Model for Text {
 }
 
 /// The rule of the history's book.
-pub struct Law<L: Log> {
+pub struct CommitRule<L: Log> {
     of: PhantomData<L>,
 }
 
-impl<L: Log> Rule<Text, u64> for Law<L> {
+impl<L: Log> Rule<Text, u64> for CommitRule<L> {
     ghost use Rattle.std.specs.Prelude.{[]};
     ghost use base.Fml.{ftrue};
     ghost use Rattle.mds_commit.specs.History.{IsKept};
@@ -48,24 +48,24 @@ impl<L: Log> Rule<Text, u64> for Law<L> {
 }
 
 /// Callers trade nothing.
-pub struct Nothing;
+pub struct NoCommitGain;
 
-impl Gain<Text, u64> for Nothing {
+impl Gain<Text, u64> for NoCommitGain {
     ghost use base.Fml.{ftrue};
 
     ghost after = { λ names about answer. ftrue };
 }
 
 /// The step that appends a payload.
-pub struct Add;
+pub struct AppendStep;
 
-impl Play<Text, u64> for Add {
+impl Play<Text, u64> for AppendStep {
     ghost use Rattle.mds_commit.specs.History.{Adds};
 
     ghost then = { Adds };
 }
 
-impl Plain<Vec<u8>, Text, u64> for Add {
+impl Plain<Vec<u8>, Text, u64> for AppendStep {
     ghost use Rattle.std.specs.Prelude.{None};
 
     ghost ask = { λ text. text.items };
@@ -74,16 +74,16 @@ impl Plain<Vec<u8>, Text, u64> for Add {
 }
 
 /// The step that reads how many payloads were appended.
-pub struct See;
+pub struct ReadAppendedStep;
 
-impl Play<Text, u64> for See {
+impl Play<Text, u64> for ReadAppendedStep {
     ghost use Rattle.mds_commit.specs.History.{Stamps};
 
     ghost then = { Stamps };
 }
 
 /// The request of a step that appends nothing.
-impl Plain<(), Text, u64> for See {
+impl Plain<(), Text, u64> for ReadAppendedStep {
     ghost use Rattle.std.specs.Prelude.{None, []};
 
     ghost ask = { λ nothing. [] };
@@ -92,20 +92,20 @@ impl Plain<(), Text, u64> for See {
 }
 
 /// The step that records how many payloads are synced.
-pub struct Raise;
+pub struct RecordSyncedStep;
 
-impl Play<Text, u64> for Raise {
+impl Play<Text, u64> for RecordSyncedStep {
     ghost use Rattle.mds_commit.specs.History.{Raises};
 
     ghost then = { Raises };
 }
 
 /// The step that reads how many payloads are synced.
-pub struct Find<L: Log> {
+pub struct ReadSyncedStep<L: Log> {
     of: PhantomData<L>,
 }
 
-impl<L: Log> Play<Text, u64> for Find<L> {
+impl<L: Log> Play<Text, u64> for ReadSyncedStep<L> {
     ghost use Rattle.mds_commit.specs.History.{Finds};
 
     ghost then = { Finds L.may_be L.is_synced };
@@ -113,43 +113,43 @@ impl<L: Log> Play<Text, u64> for Find<L> {
 
 /// Names one opened log in the proofs. A program passes what it opens to a function that is generic over the name, and
 /// calls it with `Brand`; the proof of that call picks the book of what was opened.
-pub trait Naming {
+pub trait LogName {
     ghost use Rattle.logbook.specs.Pages.{Book};
 
     ghost book: { Book };
 }
 
-impl Naming for Brand {
+impl LogName for Brand {
     ghost book = { record { number = 0; log_name = 0; cells_name = 0 } };
 }
 
 /// An empty history, which has no name yet.
 #[derive(Drop)]
-pub struct Opened<L: Log> {
+pub struct UnnamedHistory<L: Log> {
     /// How many payloads the log has.
     pub(crate) position: u64,
-    appended: Word<Text, u64, Law<L>>,
-    synced: Word<Text, u64, Law<L>>,
+    appended: Word<Text, u64, CommitRule<L>>,
+    synced: Word<Text, u64, CommitRule<L>>,
     /// What is seen of the book: nothing is appended yet.
-    pub seen: Seen<Text, u64, Law<L>>,
+    pub seen: Seen<Text, u64, CommitRule<L>>,
     pub ghost empty: { seen.log ≡ [] },
     pub ghost appended_is: { appended ≡ appended_of seen.book },
     pub ghost synced_is: { synced ≡ synced_of seen.book },
 }
 
-impl<L: Log> Opened<L> {
+impl<L: Log> UnnamedHistory<L> {
     /// Begins a history after what the log has. It syncs the log first.
     ///
     /// # Errors
     ///
     /// That sync failed.
-    pub fn new(log: &mut L) -> Result<Opened<L>, NotSynced>
+    pub fn new(log: &mut L) -> Result<UnnamedHistory<L>, SyncFault>
         requires { (first : List (List ℕ)) × L.may_be log.old first }
         ensures unchanged { (list : List (List ℕ)) → L.may_be log.old list → L.may_be log.new list }
     {
         let position = log.sync()?;
         let (seen, mut first, mut second) = Seen::open(logbook::Start::alone(), 0, 0);
-        Ok(Opened {
+        Ok(UnnamedHistory {
             position,
             appended: Word::tracked(0, &mut first),
             synced: Word::tracked(0, &mut second),
@@ -158,23 +158,23 @@ impl<L: Log> Opened<L> {
     }
 
     /// Gives it a name, and returns its words and the log position at which nothing is appended.
-    pub fn named<K: Naming>(self) -> (Ledger<K, L>, Stamp<K, L>)
+    pub fn with_name<K: LogName>(self) -> (CommitLedger<K, L>, LogPosition<K, L>)
         requires { self.seen.book ≡ K.book }
         ensures { result.1 ≡ [] }
     {
-        let Opened {
+        let UnnamedHistory {
             position: _,
             appended,
             synced,
             seen,
         } = self;
         (
-            Ledger {
+            CommitLedger {
                 appended,
                 synced,
                 of: PhantomData,
             },
-            Stamp {
+            LogPosition {
                 count: 0,
                 seen,
                 of: PhantomData,
@@ -185,9 +185,9 @@ impl<L: Log> Opened<L> {
 
 /// The words that all share: how many payloads were appended, and how many of these are synced.
 #[derive(Drop)]
-pub struct Ledger<K: Naming, L: Log> {
-    appended: Word<Text, u64, Law<L>>,
-    synced: Word<Text, u64, Law<L>>,
+pub struct CommitLedger<K: LogName, L: Log> {
+    appended: Word<Text, u64, CommitRule<L>>,
+    synced: Word<Text, u64, CommitRule<L>>,
     of: PhantomData<K>,
     ghost appended_is: { appended ≡ appended_of K.book },
     ghost synced_is: { synced ≡ synced_of K.book },
@@ -195,13 +195,13 @@ pub struct Ledger<K: Naming, L: Log> {
 
 /// A log position: all that was appended when something was shown. Contracts see the payloads, in order.
 #[derive(Drop)]
-pub struct Stamp<K: Naming, L: Log> {
+pub struct LogPosition<K: LogName, L: Log> {
     count: u64,
-    seen: Seen<Text, u64, Law<L>>,
+    seen: Seen<Text, u64, CommitRule<L>>,
     of: PhantomData<K>,
 }
 
-impl<K: Naming, L: Log> Model for Stamp<K, L> {
+impl<K: LogName, L: Log> Model for LogPosition<K, L> {
     ghost use Rattle.std.specs.Prelude.{◌≡◌, ℕ, List, length};
     ghost use Rattle.mds_commit.specs.Codes.{coded_texts};
 
@@ -216,13 +216,13 @@ impl<K: Naming, L: Log> Model for Stamp<K, L> {
 
 /// The synced prefix of what was appended, which only a sync produces. Contracts see the payloads, in order.
 #[derive(Drop)]
-pub struct Synced<K: Naming, L: Log> {
+pub struct SyncedPrefix<K: LogName, L: Log> {
     count: u64,
-    seen: Seen<Text, u64, Law<L>>,
+    seen: Seen<Text, u64, CommitRule<L>>,
     of: PhantomData<K>,
 }
 
-impl<K: Naming, L: Log> Model for Synced<K, L> {
+impl<K: LogName, L: Log> Model for SyncedPrefix<K, L> {
     ghost use Rattle.std.specs.Prelude.{◌≡◌, ◌≤◌, ℕ, List, length, take};
     ghost use Rattle.mds_commit.specs.Codes.{coded_texts};
     ghost use Rattle.mds_commit.specs.History.{AreSynced};
@@ -236,7 +236,7 @@ impl<K: Naming, L: Log> Model for Synced<K, L> {
     ghost invariant = { λ s. (s.seen.book ≡ K.book) × (s.count ≤ length s.seen.log) × AreSynced L.may_be L.is_synced (take s.count s.seen.log) };
 }
 
-impl<K: Naming, L: Log> Stamp<K, L> {
+impl<K: LogName, L: Log> LogPosition<K, L> {
     /// How many payloads there are up to it.
     pub fn len(&self) -> u64
         ensures { result ≡ length self.now }
@@ -245,10 +245,10 @@ impl<K: Naming, L: Log> Stamp<K, L> {
     }
 
     /// The same log position.
-    pub fn again(&self) -> Stamp<K, L>
+    pub fn again(&self) -> LogPosition<K, L>
         ensures { result ≡ self.now }
     {
-        Stamp {
+        LogPosition {
             count: self.count,
             seen: self.seen.again(),
             of: PhantomData,
@@ -256,7 +256,7 @@ impl<K: Naming, L: Log> Stamp<K, L> {
     }
 
     /// Whether both have the same payloads.
-    pub fn is_of(&self, other: &Stamp<K, L>) -> bool
+    pub fn is_of(&self, other: &LogPosition<K, L>) -> bool
         ensures { result ≡ true → self.now ≡ other.now }
     {
         let mut both = self.seen.again();
@@ -265,7 +265,7 @@ impl<K: Naming, L: Log> Stamp<K, L> {
     }
 
     /// Whether the other's payloads begin with these.
-    pub fn begins(&self, other: &Stamp<K, L>) -> bool
+    pub fn begins(&self, other: &LogPosition<K, L>) -> bool
         ensures { result ≡ true → IsPrefix self.now other.now }
     {
         let mut both = self.seen.again();
@@ -274,13 +274,13 @@ impl<K: Naming, L: Log> Stamp<K, L> {
     }
 
     /// The log position of all that was appended by now. It doesn't wait.
-    pub fn later(&self, ledger: &Ledger<K, L>) -> Stamp<K, L>
+    pub fn later(&self, ledger: &CommitLedger<K, L>) -> LogPosition<K, L>
         ensures { IsPrefix self.now result }
     {
         let mut seen = self.seen.again();
-        let mut offer: Offer<Text, u64, Law<L>, Nothing> = seen.plain::<Nothing, (), See>(&());
-        let count = ledger.appended.load::<See, Nothing>(&mut seen, &mut offer);
-        Stamp {
+        let mut offer: Offer<Text, u64, CommitRule<L>, NoCommitGain> = seen.plain::<NoCommitGain, (), ReadAppendedStep>(&());
+        let count = ledger.appended.load::<ReadAppendedStep, NoCommitGain>(&mut seen, &mut offer);
+        LogPosition {
             count,
             seen,
             of: PhantomData,
@@ -288,19 +288,19 @@ impl<K: Naming, L: Log> Stamp<K, L> {
     }
 
     /// Appends a payload to all that was seen, and returns whether it did. It doesn't where another did.
-    pub fn extend(&mut self, ledger: &Ledger<K, L>, text: &Vec<u8>) -> bool
+    pub fn extend(&mut self, ledger: &CommitLedger<K, L>, text: &Vec<u8>) -> bool
         requires room { length self.old < 2 ^ 62 }
         ensures { MatchBool result (self.new ≡ self.old ++ text.now.items ∷ []) (IsPrefix self.old self.new) }
     {
         let mut seen = self.seen.again();
-        let mut offer: Offer<Text, u64, Law<L>, Nothing> = seen.plain::<Nothing, Vec<u8>, Add>(
+        let mut offer: Offer<Text, u64, CommitRule<L>, NoCommitGain> = seen.plain::<NoCommitGain, Vec<u8>, AppendStep>(
             text,
         );
         let mut pen = seen.no_pen();
         let count = self.count;
         let found = ledger
             .appended
-            .compare_exchange::<Add, Nothing>(count, count + 1, &mut seen, &mut offer, &mut pen);
+            .compare_exchange::<AppendStep, NoCommitGain>(count, count + 1, &mut seen, &mut offer, &mut pen);
         let added = found == count;
         self.count = if added { count + 1 } else { found };
         self.seen = seen;
@@ -308,32 +308,32 @@ impl<K: Naming, L: Log> Stamp<K, L> {
     }
 
     /// Records that all these payloads are synced.
-    pub fn publish(&self, ledger: &Ledger<K, L>, log: &L, before: u64)
+    pub fn publish(&self, ledger: &CommitLedger<K, L>, log: &L, before: u64)
         requires synced { L.is_synced log.now }
         requires texts { (first : List (List ℕ)) × L.may_be log.now (first ++ self.now) }
     {
         let mut seen = self.seen.again();
-        let mut offer: Offer<Text, u64, Law<L>, Nothing> = seen.plain::<Nothing, (), See>(&());
+        let mut offer: Offer<Text, u64, CommitRule<L>, NoCommitGain> = seen.plain::<NoCommitGain, (), ReadAppendedStep>(&());
         let mut pen = seen.no_pen();
         let _found = ledger
             .synced
-            .compare_exchange::<Raise, Nothing>(
+            .compare_exchange::<RecordSyncedStep, NoCommitGain>(
                 before, self.count, &mut seen, &mut offer, &mut pen,
             );
     }
 
     /// What is synced by now: a prefix of what was appended. It doesn't wait.
     #[tactic(auto, using(crate::proofs::Fronts::taken_begins))]
-    pub fn synced(&self, ledger: &Ledger<K, L>) -> Synced<K, L>
+    pub fn synced_prefix(&self, ledger: &CommitLedger<K, L>) -> SyncedPrefix<K, L>
         ensures synced { AreSynced L.may_be L.is_synced result }
         ensures front { (appended : List (List ℕ)) × IsPrefix self.now appended × IsPrefix result appended }
     {
         let mut seen = self.seen.again();
-        let mut offer: Offer<Text, u64, Law<L>, Nothing> = seen.plain::<Nothing, (), See>(&());
+        let mut offer: Offer<Text, u64, CommitRule<L>, NoCommitGain> = seen.plain::<NoCommitGain, (), ReadAppendedStep>(&());
         let count = ledger
             .synced
-            .load::<Find<L>, Nothing>(&mut seen, &mut offer);
-        Synced {
+            .load::<ReadSyncedStep<L>, NoCommitGain>(&mut seen, &mut offer);
+        SyncedPrefix {
             count,
             seen,
             of: PhantomData,
@@ -341,7 +341,7 @@ impl<K: Naming, L: Log> Stamp<K, L> {
     }
 
     /// Whether all these payloads are synced.
-    pub fn is_within(&self, synced: &Synced<K, L>) -> bool
+    pub fn is_within(&self, synced: &SyncedPrefix<K, L>) -> bool
         ensures { MatchBool result (IsPrefix self.now synced.now) (length synced.now < length self.now) }
     {
         let mut both = self.seen.again();

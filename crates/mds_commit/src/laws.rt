@@ -1,9 +1,9 @@
 //! Laws of group commit. The functions do nothing: their contracts are the laws.
-ghost use Rattle.mds_commit.specs.Places.{PlacesAreEnough};
+ghost use Rattle.mds_commit.specs.Reservations.{PlacesAreEnough};
 ghost use Rattle.mds_commit.specs.Shares.{OneIsLeftForEach};
 
 /// The disk space reserved for the payloads of a group is enough for its records.
-pub fn places_are_enough()
+pub fn reservations_are_enough()
     ensures { PlacesAreEnough }
 {}
 

@@ -4,24 +4,24 @@
 
 mod backlog;
 mod ballast;
-mod deciding;
+mod decisions;
 mod flusher;
 mod history;
-mod keeper;
+mod commit_log;
 pub mod laws;
-mod room;
-mod settling;
-mod shares;
+mod reserved_space;
+mod sync_wait;
+mod client_shares;
 mod space;
 
-pub use backlog::{Place, Places, ReserveFault};
+pub use backlog::{Reservation, Reservations, ReserveFault};
 pub use ballast::Ballast;
-pub use deciding::{
-    LEAST_BYTES, MOST_ASKERS, MOST_BYTES, MOST_BYTES_OF_ONE, MOST_TEXTS, MOST_TEXTS_OF_ONE, Round,
-    Telling, Usage, may_reserve, may_tell, next_round,
+pub use decisions::{
+    LEAST_BYTES, MOST_CLIENTS, MOST_BYTES, MOST_BYTES_OF_ONE, MOST_TEXTS, MOST_TEXTS_OF_ONE, Round,
+    ResponseTiming, Usage, may_reserve, may_respond, next_round,
 };
 pub use flusher::{FlushFault, Flusher};
-pub use history::{Ledger, Naming, Opened, Stamp, Synced};
-pub use keeper::{Keeper, NotTold, open};
-pub use settling::Settling;
-pub use space::{Counted, NoRoom, Space};
+pub use history::{CommitLedger, LogName, UnnamedHistory, LogPosition, SyncedPrefix};
+pub use commit_log::{CommitLog, CommitFault, open};
+pub use sync_wait::AwaitSync;
+pub use space::{CountedSpace, NoRoom, Space};

@@ -1,7 +1,7 @@
 //! The disk space reserved for what waits.
 ghost use Rattle.std.specs.Prelude.{◌≡◌, ◌+◌, ◌-◌, ◌≤◌, OnOk, OnErr};
-ghost use Rattle.mds_commit.specs.declared.deciding.TheConstants.{MOST_BYTES};
-ghost use Rattle.mds_commit.specs.declared.room.TheConstants.{STEP};
+ghost use Rattle.mds_commit.specs.declared.decisions.TheConstants.{MOST_BYTES};
+ghost use Rattle.mds_commit.specs.declared.reserved_space.TheConstants.{STEP};
 
 use crate::space::{NoRoom, Space};
 
@@ -10,7 +10,7 @@ pub(crate) const STEP: u64 = 4_194_304;
 
 /// The reserved disk space: for what waits and for reservations, and some more, so that the disk is seldom asked.
 #[derive(Drop)]
-pub(crate) struct Room<S: Space> {
+pub(crate) struct ReservedSpace<S: Space> {
     space: S,
     /// How many bytes are for what waits and for reservations.
     pub(crate) used: u64,
@@ -21,13 +21,13 @@ pub(crate) struct Room<S: Space> {
     ghost bounded: { used ≤ MOST_BYTES },
 }
 
-impl<S: Space> Room<S> {
+impl<S: Space> ReservedSpace<S> {
     /// Nothing is used.
-    pub(crate) fn new(space: S) -> Room<S>
+    pub(crate) fn new(space: S) -> ReservedSpace<S>
         requires { S.aside space ≡ 0 }
         ensures { result.used ≡ 0 }
     {
-        Room {
+        ReservedSpace {
             space,
             used: 0,
             spare: 0,

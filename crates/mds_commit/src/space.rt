@@ -23,14 +23,14 @@ pub trait Space: Drop {
 
 /// Space that is only counted, for tests and for logs that no disk limits.
 #[derive(Debug, Drop)]
-pub struct Counted {
+pub struct CountedSpace {
     /// How many bytes are left.
     pub left: u64,
     /// How many are reserved.
     pub aside: u64,
 }
 
-impl Space for Counted {
+impl Space for CountedSpace {
     ghost aside = { λ s. s.aside };
 
     fn set_aside(&mut self, bytes: u64) -> Result<(), NoRoom> {

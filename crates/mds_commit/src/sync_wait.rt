@@ -3,9 +3,9 @@ ghost use Rattle.std.specs.Prelude.{◌≡◌, Some, IfOk, IfSome};
 ghost use Rattle.tokio.specs.Locks.{owned_notified_source};
 ghost use Rattle.mds_commit.specs.Durable.{AreDurable};
 
-use crate::deciding::Telling;
-use crate::history::{Naming, Stamp};
-use crate::keeper::{Keeper, NotTold};
+use crate::decisions::ResponseTiming;
+use crate::history::{LogName, LogPosition};
+use crate::commit_log::{CommitLog, CommitFault};
 use crate::space::Space;
 use futures::Future;
 use futures::task::{Context, Poll};
@@ -16,21 +16,21 @@ use tokio::sync::OwnedNotified;
 /// A response, once all that it shows is synced. It is ready at once where that is so. While it waits it holds no lock,
 /// no permit and no thread.
 #[derive(Drop)]
-pub struct Settling<T: Drop, K: Naming, L: Log, S: Space> {
-    keeper: Arc<Keeper<K, L, S>>,
+pub struct AwaitSync<T: Drop, K: LogName, L: Log, S: Space> {
+    keeper: Arc<CommitLog<K, L, S>>,
     /// The log position of what the response shows.
-    stamp: Stamp<K, L>,
+    stamp: LogPosition<K, L>,
     heard: Option<OwnedNotified>,
     reply: Option<T>,
 }
 
-impl<T: Drop, K: Naming, L: Log, S: Space> Settling<T, K, L, S> {
+impl<T: Drop, K: LogName, L: Log, S: Space> AwaitSync<T, K, L, S> {
     /// The response, once all that it shows is synced.
-    pub fn new(keeper: Arc<Keeper<K, L, S>>, stamp: Stamp<K, L>, reply: T) -> Settling<T, K, L, S>
+    pub fn new(keeper: Arc<CommitLog<K, L, S>>, stamp: LogPosition<K, L>, reply: T) -> AwaitSync<T, K, L, S>
         ensures stamp { result.stamp ≡ stamp }
         ensures reply { result.reply ≡ Some reply }
     {
-        Settling {
+        AwaitSync {
             keeper,
             stamp,
             heard: None,
@@ -39,8 +39,8 @@ impl<T: Drop, K: Naming, L: Log, S: Space> Settling<T, K, L, S> {
     }
 }
 
-impl<T: Drop, K: Naming, L: Log, S: Space> Future for Settling<T, K, L, S> {
-    type Output = Result<T, NotTold>;
+impl<T: Drop, K: LogName, L: Log, S: Space> Future for AwaitSync<T, K, L, S> {
+    type Output = Result<T, CommitFault>;
 
     // The response is given, and all that it shows is durable.
     ghost gives = { λ s told. IfOk told (λ reply. (s.reply ≡ Some reply) × AreDurable L.may_be L.is_synced s.stamp) };
@@ -48,20 +48,20 @@ impl<T: Drop, K: Naming, L: Log, S: Space> Future for Settling<T, K, L, S> {
     // While it waits, the next sync wakes it.
     ghost needs = { λ s source. IfSome s.heard (λ heard. source ≡ owned_notified_source heard) };
 
-    fn poll(&mut self, cx: &mut Context<'_>) -> Poll<Result<T, NotTold>> {
-        match self.keeper.may_tell(&self.stamp) {
-            Telling::Now => return Poll::Ready(self.reply.take().ok_or(NotTold::Failed)),
-            Telling::Never => return Poll::Ready(Err(NotTold::Failed)),
-            Telling::Later => {}
+    fn poll(&mut self, cx: &mut Context<'_>) -> Poll<Result<T, CommitFault>> {
+        match self.keeper.may_respond(&self.stamp) {
+            ResponseTiming::Now => return Poll::Ready(self.reply.take().ok_or(CommitFault::Failed)),
+            ResponseTiming::Never => return Poll::Ready(Err(CommitFault::Failed)),
+            ResponseTiming::Later => {}
         }
         match &mut self.heard {
             // It is registered for wake-ups first, and looks again then.
-            None => match self.keeper.heard() {
+            None => match self.keeper.next_wakeup() {
                 Ok(heard) => {
                     self.heard = Some(heard);
                     cx.yield_now()
                 }
-                Err(_) => Poll::Ready(Err(NotTold::NoMemory)),
+                Err(_) => Poll::Ready(Err(CommitFault::NoMemory)),
             },
             Some(heard) => match heard.poll(cx) {
                 Poll::Pending => Poll::Pending,

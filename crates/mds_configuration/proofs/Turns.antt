@@ -1,19 +1,19 @@
 -- One step of a loop.
 use Rattle.std.proofs.Common.{◌≡◌, ℕ, ◌+◌, ◌-◌, ◌<◌, List, ◌∷◌, ◌++◌, length, drop, take, get_or, Option, Some, option_to_list, refl, sym, ap, ◌∙◌, subst, append_assoc}
 use Rattle.std.proofs.lemmas.List.{drop_more, take_rest}
-use Rattle.mds_configuration.specs.declared.marks.Mark.{Mark}
-use Rattle.mds_configuration.specs.declared.marks.Sign.TheVariants.{OpenObject}
+use Rattle.mds_configuration.specs.declared.lexemes.LexemeAt.{LexemeAt}
+use Rattle.mds_configuration.specs.declared.lexemes.LexemeKind.TheVariants.{OpenObject}
 use Rattle.mds_configuration.specs.declared.walk.Walk.{Walk}
 use Rattle.mds_configuration.specs.Grammar.{Standing, fault_after, fault_from, step}
-use Rattle.mds_configuration.specs.Spots.{Seen, spot_in, spots_from, walk_after}
+use Rattle.mds_configuration.specs.LocatedMembers.{Seen, spot_in, spots_from, walk_after}
 
 -- the member or operator at a lexeme, before those after it
-walk_one : (bytes : List ℕ) (walk : Walk) (m : Mark) (rest ms : List Mark) → ms ≡ m ∷ rest
+walk_one : (bytes : List ℕ) (walk : Walk) (m : LexemeAt) (rest ms : List LexemeAt) → ms ≡ m ∷ rest
     → spots_from bytes walk ms ≡ option_to_list (spot_in bytes walk ms) ++ spots_from bytes (walk_after walk m.sign (spot_in bytes walk ms)) rest
 walk_one bytes walk m rest ms e =
-    subst (λ (ms : List Mark). spots_from bytes walk ms ≡ option_to_list (spot_in bytes walk ms) ++ spots_from bytes (walk_after walk m.sign (spot_in bytes walk ms)) rest) (sym e) refl
+    subst (λ (ms : List LexemeAt). spots_from bytes walk ms ≡ option_to_list (spot_in bytes walk ms) ++ spots_from bytes (walk_after walk m.sign (spot_in bytes walk ms)) rest) (sym e) refl
 
-pub walk_on : (bytes : List ℕ) (walk next : Walk) (marks : List Mark) (i : ℕ) (d : Mark) (spot : Option Seen) (done more whole : List Seen) → i < length marks
+pub walk_on : (bytes : List ℕ) (walk next : Walk) (marks : List LexemeAt) (i : ℕ) (d : LexemeAt) (spot : Option Seen) (done more whole : List Seen) → i < length marks
     → spot ≡ spot_in bytes walk (take (length marks - i) (drop i marks))
     → next ≡ walk_after walk (get_or marks i d).sign spot
     → more ≡ done ++ option_to_list spot
@@ -30,14 +30,14 @@ walk_on bytes walk next marks i d spot done more whole within found goes grown i
     ∙ is
 
 -- a lexeme that is allowed where it is
-fault_one : (bytes : List ℕ) (s t : Standing) (m : Mark) (rest ms : List Mark) → ms ≡ m ∷ rest → step bytes s ms ≡ Some t → fault_from bytes s ms ≡ fault_from bytes t rest
+fault_one : (bytes : List ℕ) (s t : Standing) (m : LexemeAt) (rest ms : List LexemeAt) → ms ≡ m ∷ rest → step bytes s ms ≡ Some t → fault_from bytes s ms ≡ fault_from bytes t rest
 fault_one bytes s t m rest ms e is =
     ap (fault_from bytes s) e ∙ ap (λ o. fault_after m.at o (λ u. fault_from bytes u rest)) (ap (step bytes s) (sym e) ∙ is)
 
-pub fault_on : (bytes : List ℕ) (s t : Standing) (marks : List Mark) (i whole : ℕ) → i < length marks
+pub fault_on : (bytes : List ℕ) (s t : Standing) (marks : List LexemeAt) (i whole : ℕ) → i < length marks
     → step bytes s (take (length marks - i) (drop i marks)) ≡ Some t
     → fault_from bytes s (drop i marks) ≡ whole
     → fault_from bytes t (drop (i + 1) marks) ≡ whole
 fault_on bytes s t marks i whole within goes is =
-    let d : Mark = record { at = 0; sign = OpenObject } in
+    let d : LexemeAt = record { at = 0; sign = OpenObject } in
     sym (fault_one bytes s t (get_or marks i d) (drop (i + 1) marks) (drop i marks) (drop_more marks i d within) (ap (step bytes s) (sym (take_rest marks i)) ∙ goes)) ∙ is

@@ -3,44 +3,44 @@ use Rattle.std.specs.Prelude.{ℕ, List, [], ◌∷◌, ◌++◌, Bool, true, fa
 use Rattle.mds_diagnosis.specs.Diagnosis.{wrong_in}
 use Rattle.mds_diagnosis.specs.declared.wrong.Wrong.{Wrong}
 use Rattle.mds_diagnosis.specs.declared.wrong.Wrong.TheVariants as wrong
-use Rattle.mds_configuration.specs.declared.finding.Finding.{Finding}
-use Rattle.mds_configuration.specs.declared.finding.What.{What}
-use Rattle.mds_configuration.specs.declared.finding.What.TheVariants as what
-use Rattle.mds_configuration.specs.declared.marks.Mark.{Mark}
-use Rattle.mds_configuration.specs.declared.members.Known.TheVariants.{Zone}
+use Rattle.mds_configuration.specs.declared.finding.ConfigFinding.{ConfigFinding}
+use Rattle.mds_configuration.specs.declared.finding.FindingKind.{FindingKind}
+use Rattle.mds_configuration.specs.declared.finding.FindingKind.TheVariants as what
+use Rattle.mds_configuration.specs.declared.lexemes.LexemeAt.{LexemeAt}
+use Rattle.mds_configuration.specs.declared.members.KnownMember.TheVariants.{Zone}
 use Rattle.mds_configuration.specs.declared.paths.Path.{Path}
 use Rattle.mds_configuration.specs.declared.paths.Path.TheVariants.{Member}
-use Rattle.mds_configuration.specs.declared.place.Place.{Place}
-use Rattle.mds_configuration.specs.declared.gathering.Located.{Located}
-use Rattle.mds_configuration.specs.declared.spots.Value.{Value}
-use Rattle.mds_configuration.specs.declared.zoning.Zoned.{Zoned}
-use Rattle.mds_configuration.specs.declared.zoning.Zoned.TheVariants.{Fault}
+use Rattle.mds_configuration.specs.declared.position.TextPosition.{TextPosition}
+use Rattle.mds_configuration.specs.declared.gathering.LocatedError.{LocatedError}
+use Rattle.mds_configuration.specs.declared.located_members.Value.{Value}
+use Rattle.mds_configuration.specs.declared.zoning.ResolvedZone.{ResolvedZone}
+use Rattle.mds_configuration.specs.declared.zoning.ResolvedZone.TheVariants.{Fault}
 use Rattle.mds_configuration.specs.Grammar.{fault_from, fresh}
-use Rattle.mds_configuration.specs.Marks.{marks_of}
+use Rattle.mds_configuration.specs.Lexemes.{marks_of}
 use Rattle.mds_configuration.specs.Members.{warning}
 use Rattle.mds_configuration.specs.Paths.{last_meant, path_text, spot_text, wrong_path}
-use Rattle.mds_configuration.specs.Places.{place_at}
-use Rattle.mds_configuration.specs.Spots.{Seen, spots_from, start}
+use Rattle.mds_configuration.specs.Positions.{place_at}
+use Rattle.mds_configuration.specs.LocatedMembers.{Seen, spots_from, start}
 use Rattle.mds_configuration.specs.Zoning.{stand_in}
 
--- the definition's value of a `Finding`
+-- the definition's value of a `ConfigFinding`
 pub record Told : Type 0 where
-  pub place : Place
+  pub place : TextPosition
   pub member : List ℕ
-  pub what : What
+  pub what : FindingKind
 
-abbrev pub told : Finding → Told
+abbrev pub told : ConfigFinding → Told
 told f = record { place = f.place; member = string_bytes f.member; what = f.what }
 
 -- an error, and the value that it is in: that of its path
-abbrev pub located : List Seen → Path → What → Located
+abbrev pub located : List Seen → Path → FindingKind → LocatedError
 located spots path what = record { value = last_meant path None spots; path = path; what = what }
 
-abbrev pub wrong_located : List Seen → Option Wrong → Option Located
+abbrev pub wrong_located : List Seen → Option Wrong → Option LocatedError
 wrong_located spots None = None
 wrong_located spots (Some w) = Some (located spots (wrong_path w) (what.Wrong w))
 
-abbrev pub zone_located : List Seen → Zoned → Option Located
+abbrev pub zone_located : List Seen → ResolvedZone → Option LocatedError
 zone_located spots (Fault fault) = Some (located spots (Member Zone) (what.Zone fault))
 zone_located spots other = None
 
@@ -52,7 +52,7 @@ begins_at (Some from) None = false
 begins_at (Some from) (Some value) = from == value.from
 
 -- the error, if it is in the value that begins here
-abbrev pub error_here : List ℕ → Option ℕ → ℕ → Option Located → List Told
+abbrev pub error_here : List ℕ → Option ℕ → ℕ → Option LocatedError → List Told
 error_here bytes here offset None = []
 error_here bytes here offset (Some l) =
     if begins_at here l.value then record { place = place_at bytes offset; member = path_text l.path; what = l.what } ∷ [] else []
@@ -61,15 +61,15 @@ abbrev pub warning_here : List ℕ → Seen → List Told
 warning_here bytes spot = option_to_list (option_map (λ w. record { place = place_at bytes spot.at; member = spot_text spot; what = w }) (warning bytes spot))
 
 -- both errors, and the warning, for this member or operator
-abbrev pub found_here : List ℕ → Option Located → Option Located → Seen → List Told
+abbrev pub found_here : List ℕ → Option LocatedError → Option LocatedError → Seen → List Told
 found_here bytes wrong zone spot =
     error_here bytes (Some spot.value.from) spot.value.from wrong ++ error_here bytes (Some spot.value.from) spot.value.from zone ++ warning_here bytes spot
 
-abbrev pub found_from : List ℕ → Option Located → Option Located → List Seen → List Told
+abbrev pub found_from : List ℕ → Option LocatedError → Option LocatedError → List Seen → List Told
 found_from bytes wrong faulty [] = []
 found_from bytes wrong faulty (s ∷ ss) = found_here bytes wrong faulty s ++ found_from bytes wrong faulty ss
 
-abbrev pub first_at : List Mark → ℕ
+abbrev pub first_at : List LexemeAt → ℕ
 first_at [] = 0
 first_at (m ∷ ms) = m.at
 
@@ -78,24 +78,24 @@ is_json (Some wrong.Json) = false
 is_json other = true
 
 -- the members of a text that is no JSON mean nothing
-abbrev pub spots_if : Bool → List ℕ → List Mark → List Seen
+abbrev pub spots_if : Bool → List ℕ → List LexemeAt → List Seen
 spots_if true bytes marks = spots_from bytes start marks
 spots_if false bytes marks = []
 
 -- the offset of an error that is in no value: where a text stops being JSON, and else where its first lexeme begins
-abbrev pub begin_of : Bool → List ℕ → List Mark → ℕ
+abbrev pub begin_of : Bool → List ℕ → List LexemeAt → ℕ
 begin_of true bytes marks = first_at marks
 begin_of false bytes marks = fault_from bytes fresh marks
 
-abbrev pub found_among : List ℕ → ℕ → Option Located → Option Located → List Seen → List Told
+abbrev pub found_among : List ℕ → ℕ → Option LocatedError → Option LocatedError → List Seen → List Told
 found_among bytes begin wrong zone spots =
     error_here bytes None begin wrong ++ error_here bytes None begin zone ++ found_from bytes wrong zone spots
 
-abbrev pub found_in : List ℕ → List Mark → Zoned → Option Wrong → List Told
+abbrev pub found_in : List ℕ → List LexemeAt → ResolvedZone → Option Wrong → List Told
 found_in bytes marks zoned wrong =
     let spots = spots_if (is_json wrong) bytes marks in
     found_among bytes (begin_of (is_json wrong) bytes marks) (wrong_located spots wrong) (zone_located spots zoned) spots
 
 -- the findings in a text, whose zone is this
-abbrev pub findings : List ℕ → Zoned → List Told
+abbrev pub findings : List ℕ → ResolvedZone → List Told
 findings bytes zoned = found_in bytes (marks_of bytes) zoned (wrong_in (stand_in bytes zoned))

@@ -8,17 +8,17 @@ use Rattle.mds_configuration.specs.declared.grammar.Bracket.{Bracket}
 use Rattle.mds_configuration.specs.declared.grammar.Bracket.TheVariants as bracket
 use Rattle.mds_configuration.specs.declared.grammar.Next.{Next}
 use Rattle.mds_configuration.specs.declared.grammar.Next.TheVariants as next
-use Rattle.mds_configuration.specs.declared.grammar.Stand.{Stand}
+use Rattle.mds_configuration.specs.declared.grammar.GrammarState.{GrammarState}
 use Rattle.mds_configuration.specs.declared.grammar.TheConstants.{MOST_LEVELS}
-use Rattle.mds_configuration.specs.declared.marks.Mark.{Mark}
-use Rattle.mds_configuration.specs.declared.marks.Sign.{Sign}
-use Rattle.mds_configuration.specs.declared.marks.Sign.TheVariants as sign
-use Rattle.mds_configuration.specs.Marks.{marks_of}
+use Rattle.mds_configuration.specs.declared.lexemes.LexemeAt.{LexemeAt}
+use Rattle.mds_configuration.specs.declared.lexemes.LexemeKind.{LexemeKind}
+use Rattle.mds_configuration.specs.declared.lexemes.LexemeKind.TheVariants as sign
+use Rattle.mds_configuration.specs.Lexemes.{marks_of}
 use Rattle.mds_configuration.specs.Pieces.{piece}
-use Rattle.mds_configuration.specs.Spots.{next_at}
+use Rattle.mds_configuration.specs.LocatedMembers.{next_at}
 
 -- a value (section 3)
-abbrev pub value_action : Sign → Option Action
+abbrev pub value_action : LexemeKind → Option Action
 value_action sign.OpenObject = Some (act.Open bracket.Object)
 value_action sign.OpenList = Some (act.Open bracket.List)
 value_action sign.Text = Some act.Whole
@@ -27,41 +27,41 @@ value_action sign.Null = Some act.Whole
 value_action sign.Number = Some act.Whole
 value_action other = None
 
-abbrev pub list_action : Sign → Option Action
+abbrev pub list_action : LexemeKind → Option Action
 list_action sign.CloseList = Some act.Close
 list_action other = value_action other
 
-abbrev pub name_action : Sign → Option Action
+abbrev pub name_action : LexemeKind → Option Action
 name_action sign.Text = Some (act.Then next.Colon)
 name_action other = None
 
-abbrev pub object_action : Sign → Option Action
+abbrev pub object_action : LexemeKind → Option Action
 object_action sign.CloseObject = Some act.Close
 object_action other = name_action other
 
-abbrev pub colon_action : Sign → Option Action
+abbrev pub colon_action : LexemeKind → Option Action
 colon_action sign.Colon = Some (act.Then next.Value)
 colon_action other = None
 
 -- after a value within an object (section 4)
-abbrev pub object_more : Sign → Option Action
+abbrev pub object_more : LexemeKind → Option Action
 object_more sign.Comma = Some (act.Then next.Name)
 object_more sign.CloseObject = Some act.Close
 object_more other = None
 
 -- after a value within a list (section 5)
-abbrev pub list_more : Sign → Option Action
+abbrev pub list_more : LexemeKind → Option Action
 list_more sign.Comma = Some (act.Then next.Value)
 list_more sign.CloseList = Some act.Close
 list_more other = None
 
-abbrev pub more_action : List Bracket → Sign → Option Action
+abbrev pub more_action : List Bracket → LexemeKind → Option Action
 more_action [] sign = None
 more_action (bracket.Object ∷ outer) sign = object_more sign
 more_action (bracket.List ∷ outer) sign = list_more sign
 
 -- the effect of a lexeme; none where it isn't allowed
-abbrev pub action : Next → List Bracket → Sign → Option Action
+abbrev pub action : Next → List Bracket → LexemeKind → Option Action
 action next.Value brackets sign = value_action sign
 action next.ValueOrEnd brackets sign = list_action sign
 action next.Name brackets sign = name_action sign
@@ -79,7 +79,7 @@ pub record Standing : Type 0 where
   pub next : Next
   pub brackets : List Bracket
 
-abbrev pub standing : Stand → Standing
+abbrev pub standing : GrammarState → Standing
 standing s = record { next = s.next; brackets = s.brackets.items }
 
 abbrev pub tail_of : List Bracket → List Bracket
@@ -98,14 +98,14 @@ acted_by s None = None
 acted_by s (Some a) = acted s a
 
 -- a lexeme that is a string, a literal name or a number is JSON by itself
-abbrev pub is_sound : List ℕ → Sign → Bool
+abbrev pub is_sound : List ℕ → LexemeKind → Bool
 is_sound bytes sign.Text = is_ok (read_text bytes)
 is_sound bytes sign.Truth = is_ok (read_text bytes)
 is_sound bytes sign.Null = is_ok (read_text bytes)
 is_sound bytes sign.Number = is_ok (read_text bytes)
 is_sound bytes other = true
 
-abbrev pub step : List ℕ → Standing → List Mark → Option Standing
+abbrev pub step : List ℕ → Standing → List LexemeAt → Option Standing
 step bytes s [] = None
 step bytes s (m ∷ ms) =
     if is_sound (piece bytes m.at (next_at (length bytes) ms)) m.sign then acted_by s (action s.next s.brackets m.sign) else None
@@ -116,7 +116,7 @@ fault_after at None rest = at
 fault_after at (Some s) rest = rest s
 
 -- the offset of the first lexeme that isn't allowed where it is, or the text's end
-abbrev pub fault_from : List ℕ → Standing → List Mark → ℕ
+abbrev pub fault_from : List ℕ → Standing → List LexemeAt → ℕ
 fault_from bytes s [] = length bytes
 fault_from bytes s (m ∷ ms) = fault_after m.at (step bytes s (m ∷ ms)) (λ t. fault_from bytes t ms)
 

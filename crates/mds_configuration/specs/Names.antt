@@ -1,11 +1,11 @@
 -- The names of the members that are read.
 use Rattle.std.specs.Prelude.{ℕ, List, [], ◌∷◌, codes}
-use Rattle.mds_configuration.specs.declared.members.Known.{Known}
-use Rattle.mds_configuration.specs.declared.members.Known.TheVariants.{Author, Operators, Public, Zone, Id, Limit, Name, Token}
-use Rattle.mds_configuration.specs.declared.spots.Owner.{Owner}
-use Rattle.mds_configuration.specs.declared.spots.Owner.TheVariants.{Document, Operator}
+use Rattle.mds_configuration.specs.declared.members.KnownMember.{KnownMember}
+use Rattle.mds_configuration.specs.declared.members.KnownMember.TheVariants.{Author, Operators, Public, Zone, Id, Limit, Name, Token}
+use Rattle.mds_configuration.specs.declared.located_members.MemberOwner.{MemberOwner}
+use Rattle.mds_configuration.specs.declared.located_members.MemberOwner.TheVariants.{Document, Operator}
 
-abbrev pub name_of : Known → List ℕ
+abbrev pub name_of : KnownMember → List ℕ
 name_of Author = codes "author"
 name_of Operators = codes "operators"
 name_of Public = codes "public"
@@ -16,18 +16,18 @@ name_of Name = codes "name"
 name_of Token = codes "token"
 
 -- the members of the configuration
-abbrev pub of_document : List Known
+abbrev pub of_document : List KnownMember
 of_document = Author ∷ Operators ∷ Public ∷ Zone ∷ []
 
 -- the members of an operator
-abbrev pub of_operator : List Known
+abbrev pub of_operator : List KnownMember
 of_operator = Id ∷ Limit ∷ Name ∷ Token ∷ []
 
-abbrev pub known_of : Owner → List Known
+abbrev pub known_of : MemberOwner → List KnownMember
 known_of Document = of_document
 known_of (Operator place) = of_operator
 
 -- those of the other object
-abbrev pub others_of : Owner → List Known
+abbrev pub others_of : MemberOwner → List KnownMember
 others_of Document = of_operator
 others_of (Operator place) = of_document

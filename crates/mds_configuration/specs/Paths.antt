@@ -1,30 +1,30 @@
 -- The path of the member that an error is in, and its value in the text.
 use Rattle.std.specs.Prelude.{ℕ, List, [], ◌∷◌, ◌++◌, Bool, true, false, ◌&&◌, ◌==◌, nat_le, bytes_eq, codes, decimal, map, if◌then◌else◌, Option, Some, None}
-use Rattle.mds_diagnosis.specs.declared.wrong.Flaw.TheVariants as flaw
-use Rattle.mds_diagnosis.specs.declared.wrong.Flaw.{Flaw}
+use Rattle.mds_diagnosis.specs.declared.wrong.OperatorFlaw.TheVariants as flaw
+use Rattle.mds_diagnosis.specs.declared.wrong.OperatorFlaw.{OperatorFlaw}
 use Rattle.mds_diagnosis.specs.declared.wrong.Key.{Key}
 use Rattle.mds_diagnosis.specs.declared.wrong.Key.TheVariants as key
 use Rattle.mds_diagnosis.specs.declared.wrong.Wrong.{Wrong}
 use Rattle.mds_diagnosis.specs.declared.wrong.Wrong.TheVariants as wrong
-use Rattle.mds_configuration.specs.declared.members.Known.{Known}
-use Rattle.mds_configuration.specs.declared.members.Known.TheVariants.{Author, Operators, Zone, Id, Limit, Token}
+use Rattle.mds_configuration.specs.declared.members.KnownMember.{KnownMember}
+use Rattle.mds_configuration.specs.declared.members.KnownMember.TheVariants.{Author, Operators, Zone, Id, Limit, Token}
 use Rattle.mds_configuration.specs.declared.paths.Path.{Path}
 use Rattle.mds_configuration.specs.declared.paths.Path.TheVariants as path
-use Rattle.mds_configuration.specs.declared.spots.Owner.{Owner}
-use Rattle.mds_configuration.specs.declared.spots.Owner.TheVariants.{Document, Operator}
-use Rattle.mds_configuration.specs.declared.spots.Value.{Value}
+use Rattle.mds_configuration.specs.declared.located_members.MemberOwner.{MemberOwner}
+use Rattle.mds_configuration.specs.declared.located_members.MemberOwner.TheVariants.{Document, Operator}
+use Rattle.mds_configuration.specs.declared.located_members.Value.{Value}
 use Rattle.mds_configuration.specs.Names.{name_of}
-use Rattle.mds_configuration.specs.Spots.{Seen, has_name}
+use Rattle.mds_configuration.specs.LocatedMembers.{Seen, has_name}
 
 -- a flaw of the operator at a place
-abbrev pub flaw_path : ℕ → Flaw → Path
+abbrev pub flaw_path : ℕ → OperatorFlaw → Path
 flaw_path place flaw.Entry = path.Operator place
 flaw_path place flaw.Id = path.OfOperator place Id
 flaw_path place flaw.Limit = path.OfOperator place Limit
 flaw_path place flaw.LimitRange = path.OfOperator place Limit
 flaw_path place flaw.Token = path.OfOperator place Token
 
-abbrev pub key_member : Key → Known
+abbrev pub key_member : Key → KnownMember
 key_member key.Id = Id
 key_member key.Token = Token
 
@@ -40,11 +40,11 @@ wrong_path wrong.Zone = path.Member Zone
 wrong_path (wrong.Alike k first second) = path.OfOperator second (key_member k)
 wrong_path (wrong.AuthorsToken place) = path.OfOperator place Token
 
-abbrev pub is_document : Owner → Bool
+abbrev pub is_document : MemberOwner → Bool
 is_document Document = true
 is_document (Operator place) = false
 
-abbrev pub is_operator : ℕ → Owner → Bool
+abbrev pub is_operator : ℕ → MemberOwner → Bool
 is_operator place Document = false
 is_operator place (Operator own) = place == own
 
@@ -86,7 +86,7 @@ path_text (path.Operator place) = operator_text place
 path_text (path.OfOperator place k) = operator_text place ++ codes "." ++ name_of k
 
 -- a member by its path
-abbrev pub named_text : Owner → Option (List ℕ) → List ℕ
+abbrev pub named_text : MemberOwner → Option (List ℕ) → List ℕ
 named_text Document None = []
 named_text Document (Some name) = shown name
 named_text (Operator place) None = operator_text place

@@ -2,18 +2,18 @@
 use Rattle.std.specs.Prelude.{ℕ, List, [], ◌++◌, Bool, true, false, codes, decimal, string_bytes}
 use Rattle.mds_diagnosis.specs.Wording.{wrong_wording}
 use Rattle.mds_zones.specs.Wording.{fault_wording}
-use Rattle.mds_configuration.specs.declared.finding.Finding.{Finding}
-use Rattle.mds_configuration.specs.declared.finding.What.{What}
-use Rattle.mds_configuration.specs.declared.finding.What.TheVariants.{Wrong, Zone, Unread, NoTruth, NoName}
+use Rattle.mds_configuration.specs.declared.finding.ConfigFinding.{ConfigFinding}
+use Rattle.mds_configuration.specs.declared.finding.FindingKind.{FindingKind}
+use Rattle.mds_configuration.specs.declared.finding.FindingKind.TheVariants.{Wrong, Zone, Unread, NoTruth, NoName}
 use Rattle.mds_configuration.specs.declared.nearest.Hint.{Hint}
 use Rattle.mds_configuration.specs.declared.nearest.Hint.TheVariants.{Nothing, Here, Elsewhere}
-use Rattle.mds_configuration.specs.declared.members.Known.{Known}
-use Rattle.mds_configuration.specs.declared.members.Known.TheVariants as known
-use Rattle.mds_configuration.specs.declared.place.Place.{Place}
+use Rattle.mds_configuration.specs.declared.members.KnownMember.{KnownMember}
+use Rattle.mds_configuration.specs.declared.members.KnownMember.TheVariants as known
+use Rattle.mds_configuration.specs.declared.position.TextPosition.{TextPosition}
 use Rattle.mds_configuration.specs.Names.{name_of}
 
 -- where a known name belongs
-abbrev pub home_wording : Known → List ℕ
+abbrev pub home_wording : KnownMember → List ℕ
 home_wording known.Author = codes ", beside \"operators\""
 home_wording known.Operators = codes ", outside of the operators"
 home_wording known.Public = codes ", beside \"operators\""
@@ -29,27 +29,27 @@ abbrev pub unread_wording : Hint → List ℕ
 unread_wording hint = codes ": nobody reads this member" ++ hint_wording hint
 
 -- the message of a finding, with the member's path, unless an error names it itself
-abbrev pub what_wording : List ℕ → What → List ℕ
+abbrev pub what_wording : List ℕ → FindingKind → List ℕ
 what_wording member (Wrong w) = wrong_wording w
 what_wording member (Zone fault) = codes "zone: its file in /usr/share/zoneinfo " ++ fault_wording fault
 what_wording member (Unread hint) = member ++ unread_wording hint
 what_wording member NoTruth = member ++ codes ": neither true nor false, so it counts as false"
 what_wording member NoName = member ++ codes ": no text of at most 256 bytes, so it isn't read"
 
-abbrev pub finding_wording : Finding → List ℕ
+abbrev pub finding_wording : ConfigFinding → List ℕ
 finding_wording f = what_wording (string_bytes f.member) f.what
 
 abbrev pub counted_wording : ℕ → List ℕ
 counted_wording n = codes ":" ++ decimal n
 
-abbrev pub place_wording : Place → List ℕ
+abbrev pub place_wording : TextPosition → List ℕ
 place_wording place = (counted_wording place.line ++ counted_wording place.column) ++ codes ": "
 
 -- with the file and the position before it
-abbrev pub line_wording : List ℕ → Finding → List ℕ
+abbrev pub line_wording : List ℕ → ConfigFinding → List ℕ
 line_wording file f = (file ++ place_wording f.place) ++ finding_wording f
 
-abbrev pub is_error : What → Bool
+abbrev pub is_error : FindingKind → Bool
 is_error (Wrong w) = true
 is_error (Zone fault) = true
 is_error other = false

@@ -3,15 +3,15 @@ use Rattle.std.specs.Prelude.{ℕ, ◌+◌, List, [], ◌∷◌, ◌++◌, Bool,
 use Rattle.std.specs.Result.{is_ok}
 use Rattle.mds_match.specs.Zone.{zone_of}
 use Rattle.mds_zones.specs.Names.{is_zone_name}
-use Rattle.mds_configuration.specs.declared.members.Known.TheVariants.{Zone}
+use Rattle.mds_configuration.specs.declared.members.KnownMember.TheVariants.{Zone}
 use Rattle.mds_configuration.specs.declared.paths.Path.TheVariants.{Member}
-use Rattle.mds_configuration.specs.declared.spots.Value.{Value}
-use Rattle.mds_configuration.specs.declared.zoning.Zoned.{Zoned}
-use Rattle.mds_configuration.specs.declared.zoning.Zoned.TheVariants.{Plain, Rule, Fault}
-use Rattle.mds_configuration.specs.Marks.{is_space}
+use Rattle.mds_configuration.specs.declared.located_members.Value.{Value}
+use Rattle.mds_configuration.specs.declared.zoning.ResolvedZone.{ResolvedZone}
+use Rattle.mds_configuration.specs.declared.zoning.ResolvedZone.TheVariants.{Plain, Rule, Fault}
+use Rattle.mds_configuration.specs.Lexemes.{is_space}
 use Rattle.mds_configuration.specs.Paths.{last_meant}
 use Rattle.mds_configuration.specs.Pieces.{piece, unquoted}
-use Rattle.mds_configuration.specs.Spots.{spots_of, is_text}
+use Rattle.mds_configuration.specs.LocatedMembers.{spots_of, is_text}
 
 -- the value of the configuration's member `zone`
 abbrev pub zone_value : List ℕ → Option Value
@@ -53,7 +53,7 @@ abbrev pub with_zone : List ℕ → List ℕ → List ℕ
 with_zone bytes rule = with_rule bytes rule (zone_value bytes)
 
 -- the text that is checked; where there is no rule for the name, some zone takes its place
-abbrev pub stand_in : List ℕ → Zoned → List ℕ
+abbrev pub stand_in : List ℕ → ResolvedZone → List ℕ
 stand_in bytes Plain = bytes
 stand_in bytes (Rule rule) = with_zone bytes rule
 stand_in bytes (Fault fault) = with_zone bytes (codes "Z")

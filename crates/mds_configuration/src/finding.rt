@@ -2,21 +2,21 @@
 ghost use Rattle.std.specs.Prelude.{◌≡◌, IfOk, string_bytes};
 ghost use Rattle.mds_configuration.specs.Wording.{counted_wording, place_wording};
 
-use crate::members::Known;
+use crate::members::KnownMember;
 use crate::nearest::Hint;
-use crate::place::Place;
+use crate::position::TextPosition;
 use mds_diagnosis::Wrong;
-use mds_zones::ZoneFault;
+use mds_zones::ZoneFileFault;
 use std::alloc::{AllocError, Global};
 use std::fmt;
 
 /// The kind of a finding.
 #[derive(Clone, Copy, Debug, PartialEq, Eq)]
-pub enum What {
+pub enum FindingKind {
     /// An error: the text is no configuration.
     Wrong(Wrong),
     /// An error: there is no rule for the zone's name.
-    Zone(ZoneFault),
+    Zone(ZoneFileFault),
     /// A warning: nobody reads the member.
     Unread(Hint),
     /// A warning: a value is neither true nor false, and counts as false.
@@ -27,19 +27,19 @@ pub enum What {
 
 /// A finding in a configuration's text, and its position.
 #[derive(Drop)]
-pub struct Finding {
+pub struct ConfigFinding {
     /// The position of a member's name, or of its value where the error is in that; of an operator, where it begins.
-    pub place: Place,
+    pub place: TextPosition,
     /// The member's path, as `operators[2].limit`, printable ASCII; empty where the error is of the whole text.
     pub member: String,
-    pub what: What,
+    pub what: FindingKind,
 }
 
 /// The end of a hint that says where a known name belongs.
 #[derive(Clone, Copy)]
-struct Home(Known);
+struct KnownHome(KnownMember);
 
-impl fmt::Display for Home {
+impl fmt::Display for KnownHome {
     ghost use Rattle.std.specs.Prelude.{Some};
     ghost use Rattle.mds_configuration.specs.Wording.{home_wording};
 
@@ -47,9 +47,9 @@ impl fmt::Display for Home {
 
     fn fmt<W: fmt::Write>(&self, f: &mut fmt::Formatter<W>) -> fmt::Result {
         f.write_str(match self.0 {
-            Known::Author | Known::Public | Known::Zone => ", beside \"operators\"",
-            Known::Operators => ", outside of the operators",
-            Known::Id | Known::Limit | Known::Name | Known::Token => ", of an operator",
+            KnownMember::Author | KnownMember::Public | KnownMember::Zone => ", beside \"operators\"",
+            KnownMember::Operators => ", outside of the operators",
+            KnownMember::Id | KnownMember::Limit | KnownMember::Name | KnownMember::Token => ", of an operator",
         })
     }
 }
@@ -69,7 +69,7 @@ impl fmt::Display for Hint {
             }
             Hint::Elsewhere(known) => {
                 let name = known.name();
-                let home = Home(*known);
+                let home = KnownHome(*known);
                 write!(f, "; did you mean \"{name}\"{home}?")
             }
         }
@@ -78,9 +78,9 @@ impl fmt::Display for Hint {
 
 /// The message about a member that nobody reads, after its path.
 #[derive(Clone, Copy)]
-struct Unread(Hint);
+struct UnreadMessage(Hint);
 
-impl fmt::Display for Unread {
+impl fmt::Display for UnreadMessage {
     ghost use Rattle.std.specs.Prelude.{Some};
     ghost use Rattle.mds_configuration.specs.Wording.{unread_wording};
 
@@ -92,7 +92,7 @@ impl fmt::Display for Unread {
     }
 }
 
-impl fmt::Display for Finding {
+impl fmt::Display for ConfigFinding {
     ghost use Rattle.std.specs.Prelude.{Some};
     ghost use Rattle.mds_configuration.specs.Wording.{finding_wording};
 
@@ -101,14 +101,14 @@ impl fmt::Display for Finding {
     fn fmt<W: fmt::Write>(&self, f: &mut fmt::Formatter<W>) -> fmt::Result {
         let member = &self.member;
         match self.what {
-            What::Wrong(wrong) => write!(f, "{wrong}"),
-            What::Zone(fault) => write!(f, "zone: its file in /usr/share/zoneinfo {fault}"),
-            What::Unread(hint) => {
-                let unread = Unread(hint);
+            FindingKind::Wrong(wrong) => write!(f, "{wrong}"),
+            FindingKind::Zone(fault) => write!(f, "zone: its file in /usr/share/zoneinfo {fault}"),
+            FindingKind::Unread(hint) => {
+                let unread = UnreadMessage(hint);
                 write!(f, "{member}{unread}")
             }
-            What::NoTruth => write!(f, "{member}: neither true nor false, so it counts as false"),
-            What::NoName => write!(
+            FindingKind::NoTruth => write!(f, "{member}: neither true nor false, so it counts as false"),
+            FindingKind::NoName => write!(
                 f,
                 "{member}: no text of at most 256 bytes, so it isn't read"
             ),
@@ -117,24 +117,24 @@ impl fmt::Display for Finding {
 }
 
 /// A line or column number, after a colon.
-fn counted_text(alloc: Global, number: u64) -> Result<String, AllocError>
+fn number_text(alloc: Global, number: u64) -> Result<String, AllocError>
     ensures { IfOk result (λ text. string_bytes text ≡ counted_wording number) }
 {
     format!(in alloc; ":{number}")
 }
 
 /// A position, as it comes after a file's name.
-fn place_text(alloc: Global, place: Place) -> Result<String, AllocError>
+fn position_text(alloc: Global, place: TextPosition) -> Result<String, AllocError>
     ensures { IfOk result (λ text. string_bytes text ≡ place_wording place) }
 {
-    let column = counted_text(alloc, place.column)?;
-    let mut text = counted_text(alloc, place.line)?;
+    let column = number_text(alloc, place.column)?;
+    let mut text = number_text(alloc, place.line)?;
     text.push_str(column.as_str())?;
     text.push_str(": ")?;
     Ok(text)
 }
 
-impl Finding {
+impl ConfigFinding {
     ghost use Rattle.mds_configuration.specs.Wording.{is_error, line_wording};
 
     /// Whether the text is no configuration because of it. All else is a warning.
@@ -142,8 +142,8 @@ impl Finding {
         ensures { result ≡ is_error self.now.what }
     {
         match self.what {
-            What::Wrong(_) | What::Zone(_) => true,
-            What::Unread(_) | What::NoTruth | What::NoName => false,
+            FindingKind::Wrong(_) | FindingKind::Zone(_) => true,
+            FindingKind::Unread(_) | FindingKind::NoTruth | FindingKind::NoName => false,
         }
     }
 
@@ -156,7 +156,7 @@ impl Finding {
     pub fn line(&self, alloc: Global, file: &str) -> Result<String, AllocError>
         ensures { IfOk result (λ line. string_bytes line ≡ line_wording file.now self.now) }
     {
-        let place = place_text(alloc, self.place)?;
+        let place = position_text(alloc, self.place)?;
         let message = format!(in alloc; "{self}")?;
         let mut line = String::from_str(alloc, file)?;
         line.push_str(place.as_str())?;

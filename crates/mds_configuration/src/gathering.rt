@@ -1,56 +1,56 @@
 //! Gathers the findings in a configuration's text.
 ghost use Rattle.std.specs.Prelude.{◌≡◌, ◌++◌, None, IfOk, OnOk, map, option_map};
 ghost use Rattle.mds_configuration.specs.Findings.{begin_of, begins_at, error_here, findings, first_at, found_from, found_here, is_json, located, spots_if, told, warning_here, wrong_located, zone_located};
-ghost use Rattle.mds_configuration.specs.Spots.{seen};
+ghost use Rattle.mds_configuration.specs.LocatedMembers.{seen};
 
-use crate::finding::{Finding, What};
+use crate::finding::{ConfigFinding, FindingKind};
 use crate::grammar::fault_at;
-use crate::marks::{Mark, marks_of};
-use crate::members::Known;
-use crate::paths::{Path, last_meant, path_text, spot_text, wrong_path};
-use crate::place::place_of;
-use crate::spots::{Spot, Value};
-use crate::walk::spots_of;
+use crate::lexemes::{LexemeAt, lexemes_of};
+use crate::members::KnownMember;
+use crate::paths::{Path, last_value, path_text, member_text, wrong_path};
+use crate::position::position_of;
+use crate::located_members::{LocatedMember, Value};
+use crate::walk::members_of_text;
 use crate::warning::warning;
-use crate::zoning::{Zoned, stand_in};
+use crate::zoning::{ResolvedZone, text_to_check};
 use mds_diagnosis::{Wrong, diagnose};
 use std::alloc::{AllocError, Global};
 
 /// An error, and the value that it is in, or none.
 #[derive(Clone, Copy, Debug, PartialEq, Eq)]
-pub(crate) struct Located {
+pub(crate) struct LocatedError {
     pub(crate) value: Option<Value>,
     pub(crate) path: Path,
-    pub(crate) what: What,
+    pub(crate) what: FindingKind,
 }
 
-fn locate(spots: &[Spot], path: Path, what: What) -> Located
+fn locate(spots: &[LocatedMember], path: Path, what: FindingKind) -> LocatedError
     ensures { result ≡ located (map seen spots.now) path what }
 {
-    Located {
-        value: last_meant(path, spots),
+    LocatedError {
+        value: last_value(path, spots),
         path,
         what,
     }
 }
 
 /// The error in a configuration, and where it is.
-fn wrong_located(spots: &[Spot], wrong: Option<Wrong>) -> Option<Located>
+fn locate_wrong(spots: &[LocatedMember], wrong: Option<Wrong>) -> Option<LocatedError>
     ensures { result ≡ wrong_located (map seen spots.now) wrong }
 {
     match wrong {
-        Some(wrong) => Some(locate(spots, wrong_path(wrong), What::Wrong(wrong))),
+        Some(wrong) => Some(locate(spots, wrong_path(wrong), FindingKind::Wrong(wrong))),
         None => None,
     }
 }
 
 /// Why there is no rule for its zone's name, and where that is.
-fn zone_located(spots: &[Spot], zoned: &Zoned) -> Option<Located>
+fn locate_zone_fault(spots: &[LocatedMember], zoned: &ResolvedZone) -> Option<LocatedError>
     ensures { result ≡ zone_located (map seen spots.now) zoned.now }
 {
     match zoned {
-        Zoned::Fault(fault) => Some(locate(spots, Path::Member(Known::Zone), What::Zone(*fault))),
-        Zoned::Plain | Zoned::Rule(_) => None,
+        ResolvedZone::Fault(fault) => Some(locate(spots, Path::Member(KnownMember::Zone), FindingKind::Zone(*fault))),
+        ResolvedZone::Plain | ResolvedZone::Rule(_) => None,
     }
 }
 
@@ -67,12 +67,12 @@ fn begins_at(here: Option<usize>, value: Option<Value>) -> bool
 
 /// Adds the error, if it is in the value that begins here.
 fn add_error(
-    findings: &mut Vec<Finding>,
+    findings: &mut Vec<ConfigFinding>,
     alloc: Global,
     text: &[u8],
     here: Option<usize>,
     offset: usize,
-    error: Option<Located>,
+    error: Option<LocatedError>,
 ) -> Result<(), AllocError>
     ensures { OnOk result (map told findings.new.items ≡ map told findings.old.items ++ error_here text.now here offset error) }
 {
@@ -80,8 +80,8 @@ fn add_error(
         return Ok(());
     };
     if begins_at(here, error.value) {
-        findings.push(Finding {
-            place: place_of(text, offset),
+        findings.push(ConfigFinding {
+            place: position_of(text, offset),
             member: path_text(alloc, error.path)?,
             what: error.what,
         })?;
@@ -91,17 +91,17 @@ fn add_error(
 
 /// Adds the warning about a member, if there is one.
 fn add_warning(
-    findings: &mut Vec<Finding>,
+    findings: &mut Vec<ConfigFinding>,
     alloc: Global,
     text: &[u8],
-    spot: &Spot,
+    spot: &LocatedMember,
 ) -> Result<(), AllocError>
     ensures { OnOk result (map told findings.new.items ≡ map told findings.old.items ++ warning_here text.now (seen spot.now)) }
 {
     if let Some(what) = warning(alloc, text, spot)? {
-        findings.push(Finding {
-            place: place_of(text, spot.at),
-            member: spot_text(alloc, spot)?,
+        findings.push(ConfigFinding {
+            place: position_of(text, spot.at),
+            member: member_text(alloc, spot)?,
             what,
         })?;
     }
@@ -111,17 +111,17 @@ fn add_warning(
 /// The errors of a text.
 #[derive(Clone, Copy)]
 struct Errors {
-    wrong: Option<Located>,
-    zone: Option<Located>,
+    wrong: Option<LocatedError>,
+    zone: Option<LocatedError>,
 }
 
 /// Adds both errors and the warning for this member or operator.
-fn add_found(
-    findings: &mut Vec<Finding>,
+fn add_findings(
+    findings: &mut Vec<ConfigFinding>,
     alloc: Global,
     text: &[u8],
     errors: Errors,
-    spot: &Spot,
+    spot: &LocatedMember,
 ) -> Result<(), AllocError>
     ensures { OnOk result (map told findings.new.items ≡ map told findings.old.items ++ found_here text.now errors.wrong errors.zone (seen spot.now)) }
 {
@@ -133,16 +133,16 @@ fn add_found(
 
 /// Adds the findings for each of these.
 fn add_each(
-    findings: &mut Vec<Finding>,
+    findings: &mut Vec<ConfigFinding>,
     alloc: Global,
     text: &[u8],
     errors: Errors,
-    spots: &[Spot],
+    spots: &[LocatedMember],
 ) -> Result<(), AllocError>
     ensures { OnOk result (map told findings.new.items ≡ map told findings.old.items ++ found_from text.now errors.wrong errors.zone (map seen spots.now)) }
 {
     for spot in spots {
-        add_found(findings, alloc, text, errors, spot)?;
+        add_findings(findings, alloc, text, errors, spot)?;
     }
     Ok(())
 }
@@ -154,23 +154,23 @@ fn is_json(wrong: Option<Wrong>) -> bool
 }
 
 /// The members and operators of a text; none where it is no JSON.
-fn spots_if(
+fn members_if(
     alloc: Global,
     is_json: bool,
     text: &[u8],
-    marks: &[Mark],
-) -> Result<Vec<Spot>, AllocError>
+    marks: &[LexemeAt],
+) -> Result<Vec<LocatedMember>, AllocError>
     ensures { IfOk result (λ spots. map seen spots.items ≡ spots_if is_json text.now marks.now) }
 {
     if is_json {
-        spots_of(alloc, text, marks)
+        members_of_text(alloc, text, marks)
     } else {
         Ok(Vec::new(alloc))
     }
 }
 
 /// The offset of an error that is in no value.
-fn begin_of(alloc: Global, is_json: bool, text: &[u8], marks: &[Mark]) -> Result<usize, AllocError>
+fn begin_of(alloc: Global, is_json: bool, text: &[u8], marks: &[LexemeAt]) -> Result<usize, AllocError>
     ensures { IfOk result (λ at. at ≡ begin_of is_json text.now marks.now) }
 {
     if !is_json {
@@ -192,18 +192,18 @@ fn begin_of(alloc: Global, is_json: bool, text: &[u8], marks: &[Mark]) -> Result
 /// # Errors
 ///
 /// Out of memory.
-pub fn review(alloc: Global, text: &[u8], zoned: &Zoned) -> Result<Vec<Finding>, AllocError>
+pub fn review(alloc: Global, text: &[u8], zoned: &ResolvedZone) -> Result<Vec<ConfigFinding>, AllocError>
     ensures { IfOk result (λ found. map told found.items ≡ findings text.now zoned.now) }
 {
-    let read = stand_in(alloc, text, zoned)?;
+    let read = text_to_check(alloc, text, zoned)?;
     let wrong = diagnose(alloc, &read)?;
     let is_json = is_json(wrong);
-    let marks = marks_of(alloc, text)?;
-    let spots = spots_if(alloc, is_json, text, &marks)?;
+    let marks = lexemes_of(alloc, text)?;
+    let spots = members_if(alloc, is_json, text, &marks)?;
     let begin = begin_of(alloc, is_json, text, &marks)?;
     let errors = Errors {
-        wrong: wrong_located(&spots, wrong),
-        zone: zone_located(&spots, zoned),
+        wrong: locate_wrong(&spots, wrong),
+        zone: locate_zone_fault(&spots, zoned),
     };
     let mut findings = Vec::new(alloc);
     add_error(&mut findings, alloc, text, None, begin, errors.wrong)?;

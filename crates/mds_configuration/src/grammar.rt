@@ -2,8 +2,8 @@
 ghost use Rattle.std.specs.Prelude.{◌≡◌, ◌∷◌, ◌<◌, ◌≤◌, length, drop, Some, None, IfOk, MatchBool, vec_len};
 ghost use Rattle.mds_configuration.specs.Grammar.{acted, acted_by, action, colon_action, fault_from, first_within, fresh, is_sound, list_action, list_more, more_action, name_action, object_action, object_more, standing, step, value_action};
 
-use crate::marks::{Mark, Sign};
-use crate::spots::piece;
+use crate::lexemes::{LexemeAt, LexemeKind};
+use crate::located_members::piece;
 use mds_text::{TextFault, read_tree};
 use std::alloc::{AllocError, Global};
 
@@ -44,61 +44,61 @@ pub(crate) enum Action {
 
 /// What is expected, and the open brackets, the innermost first.
 #[derive(Drop)]
-pub(crate) struct Stand {
+pub(crate) struct GrammarState {
     pub(crate) next: Next,
     pub(crate) brackets: Vec<Bracket>,
 }
 
-fn value_action(sign: Sign) -> Option<Action>
+fn value_action(sign: LexemeKind) -> Option<Action>
     ensures { result ≡ value_action sign }
 {
     match sign {
-        Sign::OpenObject => Some(Action::Open(Bracket::Object)),
-        Sign::OpenList => Some(Action::Open(Bracket::List)),
-        Sign::Text | Sign::Truth | Sign::Null | Sign::Number => Some(Action::Whole),
-        Sign::CloseObject | Sign::CloseList | Sign::Colon | Sign::Comma => None,
+        LexemeKind::OpenObject => Some(Action::Open(Bracket::Object)),
+        LexemeKind::OpenList => Some(Action::Open(Bracket::List)),
+        LexemeKind::Text | LexemeKind::Truth | LexemeKind::Null | LexemeKind::Number => Some(Action::Whole),
+        LexemeKind::CloseObject | LexemeKind::CloseList | LexemeKind::Colon | LexemeKind::Comma => None,
     }
 }
 
-fn name_action(sign: Sign) -> Option<Action>
+fn name_action(sign: LexemeKind) -> Option<Action>
     ensures { result ≡ name_action sign }
 {
     match sign {
-        Sign::Text => Some(Action::Then(Next::Colon)),
+        LexemeKind::Text => Some(Action::Then(Next::Colon)),
         _ => None,
     }
 }
 
 /// The effect of a lexeme after a value within a bracket.
-fn more_action(brackets: &[Bracket], sign: Sign) -> Option<Action>
+fn more_action(brackets: &[Bracket], sign: LexemeKind) -> Option<Action>
     ensures { result ≡ more_action brackets.now sign }
 {
     match (brackets, sign) {
-        ([Bracket::Object, ..], Sign::Comma) => Some(Action::Then(Next::Name)),
-        ([Bracket::Object, ..], Sign::CloseObject) => Some(Action::Close),
-        ([Bracket::List, ..], Sign::Comma) => Some(Action::Then(Next::Value)),
-        ([Bracket::List, ..], Sign::CloseList) => Some(Action::Close),
+        ([Bracket::Object, ..], LexemeKind::Comma) => Some(Action::Then(Next::Name)),
+        ([Bracket::Object, ..], LexemeKind::CloseObject) => Some(Action::Close),
+        ([Bracket::List, ..], LexemeKind::Comma) => Some(Action::Then(Next::Value)),
+        ([Bracket::List, ..], LexemeKind::CloseList) => Some(Action::Close),
         _ => None,
     }
 }
 
 /// The effect of a lexeme; none where it isn't allowed.
-fn action_of(next: Next, brackets: &[Bracket], sign: Sign) -> Option<Action>
+fn action_of(next: Next, brackets: &[Bracket], sign: LexemeKind) -> Option<Action>
     ensures { result ≡ action next brackets.now sign }
 {
     match next {
         Next::Value => value_action(sign),
         Next::ValueOrEnd => match sign {
-            Sign::CloseList => Some(Action::Close),
+            LexemeKind::CloseList => Some(Action::Close),
             other => value_action(other),
         },
         Next::Name => name_action(sign),
         Next::NameOrEnd => match sign {
-            Sign::CloseObject => Some(Action::Close),
+            LexemeKind::CloseObject => Some(Action::Close),
             other => name_action(other),
         },
         Next::Colon => match sign {
-            Sign::Colon => Some(Action::Then(Next::Value)),
+            LexemeKind::Colon => Some(Action::Then(Next::Value)),
             _ => None,
         },
         Next::More => more_action(brackets, sign),
@@ -116,11 +116,11 @@ fn first_within(bracket: Bracket) -> Next
 }
 
 /// Whether a lexeme that is a string, a literal name or a number is JSON by itself.
-fn is_sound(alloc: Global, written: &[u8], sign: Sign) -> Result<bool, AllocError>
+fn is_sound(alloc: Global, written: &[u8], sign: LexemeKind) -> Result<bool, AllocError>
     ensures { IfOk result (λ is. is ≡ is_sound written.now sign) }
 {
     match sign {
-        Sign::Text | Sign::Truth | Sign::Null | Sign::Number => match read_tree(alloc, written) {
+        LexemeKind::Text | LexemeKind::Truth | LexemeKind::Null | LexemeKind::Number => match read_tree(alloc, written) {
             Ok(_) => Ok(true),
             Err(TextFault::NoMemory) => Err(AllocError),
             Err(_) => Ok(false),
@@ -129,12 +129,12 @@ fn is_sound(alloc: Global, written: &[u8], sign: Sign) -> Result<bool, AllocErro
     }
 }
 
-impl Stand {
+impl GrammarState {
     /// The state before the first lexeme.
-    fn new(alloc: Global) -> Stand
+    fn new(alloc: Global) -> GrammarState
         ensures { standing result ≡ fresh }
     {
-        Stand {
+        GrammarState {
             next: Next::Value,
             brackets: Vec::new(alloc),
         }
@@ -165,7 +165,7 @@ impl Stand {
     }
 
     /// Steps over the first lexeme; false where it isn't allowed.
-    fn step(&mut self, alloc: Global, text: &[u8], marks: &[Mark]) -> Result<bool, AllocError>
+    fn step(&mut self, alloc: Global, text: &[u8], marks: &[LexemeAt]) -> Result<bool, AllocError>
         ensures { IfOk result (λ goes. MatchBool goes (step text.now (standing self.old) marks.now ≡ Some (standing self.new)) (step text.now (standing self.old) marks.now ≡ None)) }
     {
         let [first, behind @ ..] = marks else {
@@ -190,10 +190,10 @@ impl Stand {
 /// # Errors
 ///
 /// Out of memory.
-pub(crate) fn fault_at(alloc: Global, text: &[u8], marks: &[Mark]) -> Result<usize, AllocError>
+pub(crate) fn fault_at(alloc: Global, text: &[u8], marks: &[LexemeAt]) -> Result<usize, AllocError>
     ensures { IfOk result (λ at. at ≡ fault_from text.now fresh marks.now) }
 {
-    let mut stand = Stand::new(alloc);
+    let mut stand = GrammarState::new(alloc);
     for (place, mark) in marks.iter().enumerate() {
         if !stand.step(alloc, text, &marks[place..])? {
             return Ok(mark.at);

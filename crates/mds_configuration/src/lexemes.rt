@@ -1,12 +1,12 @@
 //! Where the lexemes of a JSON text begin.
 ghost use Rattle.std.specs.Prelude.{◌≡◌, ◌≤◌, length, map, IfOk};
-ghost use Rattle.mds_configuration.specs.Marks.{begun, begun_outside, is_space, mark_at, marks_of, mode_after, mode_outside, structural, word_sign};
+ghost use Rattle.mds_configuration.specs.Lexemes.{begun, begun_outside, is_space, mark_at, marks_of, mode_after, mode_outside, structural, word_sign};
 
 use std::alloc::{AllocError, Global};
 
 /// The kind of lexeme that begins at a byte (RFC 8259, section 2).
 #[derive(Clone, Copy, Debug, PartialEq, Eq)]
-pub(crate) enum Sign {
+pub(crate) enum LexemeKind {
     OpenObject,
     CloseObject,
     OpenList,
@@ -23,9 +23,9 @@ pub(crate) enum Sign {
 
 /// Where a lexeme begins, in bytes from 0.
 #[derive(Clone, Copy, Debug, PartialEq, Eq)]
-pub(crate) struct Mark {
+pub(crate) struct LexemeAt {
     pub(crate) at: usize,
-    pub(crate) sign: Sign,
+    pub(crate) sign: LexemeKind,
 }
 
 /// The state of the lexer between two bytes.
@@ -48,34 +48,34 @@ pub(crate) fn is_space(byte: u8) -> bool
 }
 
 /// The structural character or the string that begins with a byte.
-fn structural(byte: u8) -> Option<Sign>
+fn structural(byte: u8) -> Option<LexemeKind>
     ensures { result ≡ structural byte }
 {
     match byte {
-        b'{' => Some(Sign::OpenObject),
-        b'}' => Some(Sign::CloseObject),
-        b'[' => Some(Sign::OpenList),
-        b']' => Some(Sign::CloseList),
-        b':' => Some(Sign::Colon),
-        b',' => Some(Sign::Comma),
-        b'"' => Some(Sign::Text),
+        b'{' => Some(LexemeKind::OpenObject),
+        b'}' => Some(LexemeKind::CloseObject),
+        b'[' => Some(LexemeKind::OpenList),
+        b']' => Some(LexemeKind::CloseList),
+        b':' => Some(LexemeKind::Colon),
+        b',' => Some(LexemeKind::Comma),
+        b'"' => Some(LexemeKind::Text),
         _ => None,
     }
 }
 
 /// The literal name or the number that begins with a byte.
-fn word_sign(byte: u8) -> Sign
+fn word_sign(byte: u8) -> LexemeKind
     ensures { result ≡ word_sign byte }
 {
     match byte {
-        b't' | b'f' => Sign::Truth,
-        b'n' => Sign::Null,
-        _ => Sign::Number,
+        b't' | b'f' => LexemeKind::Truth,
+        b'n' => LexemeKind::Null,
+        _ => LexemeKind::Number,
     }
 }
 
 /// The lexeme that begins at a byte outside of a string, by whether a word may go on there.
-fn begun_outside(goes_on: bool, byte: u8) -> Option<Sign>
+fn kind_outside(goes_on: bool, byte: u8) -> Option<LexemeKind>
     ensures { result ≡ begun_outside goes_on byte (structural byte) }
 {
     match structural(byte) {
@@ -86,12 +86,12 @@ fn begun_outside(goes_on: bool, byte: u8) -> Option<Sign>
 }
 
 /// The lexeme that begins at a byte, if one does.
-fn begun(mode: Mode, byte: u8) -> Option<Sign>
+fn kind_begun_at(mode: Mode, byte: u8) -> Option<LexemeKind>
     ensures { result ≡ begun mode byte }
 {
     match mode {
-        Mode::Between => begun_outside(false, byte),
-        Mode::Word => begun_outside(true, byte),
+        Mode::Between => kind_outside(false, byte),
+        Mode::Word => kind_outside(true, byte),
         Mode::Quoted | Mode::Escaped => None,
     }
 }
@@ -101,7 +101,7 @@ fn mode_outside(byte: u8) -> Mode
     ensures { result ≡ mode_outside byte (structural byte) }
 {
     match structural(byte) {
-        Some(Sign::Text) => Mode::Quoted,
+        Some(LexemeKind::Text) => Mode::Quoted,
         Some(_) => Mode::Between,
         None if is_space(byte) => Mode::Between,
         None => Mode::Word,
@@ -128,14 +128,14 @@ fn mode_after(mode: Mode, byte: u8) -> Mode
 /// # Errors
 ///
 /// Out of memory.
-pub(crate) fn marks_of(alloc: Global, text: &[u8]) -> Result<Vec<Mark>, AllocError>
+pub(crate) fn lexemes_of(alloc: Global, text: &[u8]) -> Result<Vec<LexemeAt>, AllocError>
     ensures { IfOk result (λ marks. marks.items ≡ marks_of text.now) }
 {
     let mut marks = Vec::new(alloc);
     let mut mode = Mode::Between;
     for (at, byte) in text.iter().enumerate() {
-        if let Some(sign) = begun(mode, *byte) {
-            marks.push(Mark { at, sign })?;
+        if let Some(sign) = kind_begun_at(mode, *byte) {
+            marks.push(LexemeAt { at, sign })?;
         }
         mode = mode_after(mode, *byte);
     }

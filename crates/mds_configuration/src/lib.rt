@@ -6,23 +6,23 @@ mod finding;
 mod gathering;
 mod grammar;
 mod limits;
-mod marks;
+mod lexemes;
 mod members;
 mod nearest;
 mod paths;
-mod place;
-mod spots;
+mod position;
+mod located_members;
 mod walk;
 mod warning;
 mod zoning;
 
-pub use finding::{Finding, What};
+pub use finding::{ConfigFinding, FindingKind};
 pub use gathering::review;
 pub use limits::Limits;
-pub use members::{Known, MOST_NAME};
+pub use members::{KnownMember, MOST_NAME};
 pub use nearest::Hint;
-pub use place::{Place, place_of};
-pub use zoning::{Zoned, named_zone, with_zone};
+pub use position::{TextPosition, position_of};
+pub use zoning::{ResolvedZone, zone_name_in, with_zone};
 
 #[cfg(test)]
 mod tests;

@@ -2,13 +2,13 @@
 ghost use Rattle.std.specs.Prelude.{◌≡◌, ◌+◌, ◌<◌, ◌≤◌, length, IfOk, string_bytes};
 ghost use Rattle.mds_configuration.specs.Pieces.{piece, unquoted};
 
-use crate::marks::Sign;
+use crate::lexemes::LexemeKind;
 use mds_text::{TextFault, Tree, read_tree};
 use std::alloc::{AllocError, Global};
 
 /// The object that a member belongs to.
 #[derive(Clone, Copy, Debug, PartialEq, Eq)]
-pub(crate) enum Owner {
+pub(crate) enum MemberOwner {
     /// The configuration itself.
     Document,
     /// The operator at this place.
@@ -21,13 +21,13 @@ pub(crate) enum Owner {
 pub(crate) struct Value {
     pub(crate) from: usize,
     pub(crate) to: usize,
-    pub(crate) sign: Sign,
+    pub(crate) sign: LexemeKind,
 }
 
 /// A member, or an operator, which has no name.
 #[derive(Drop)]
-pub(crate) struct Spot {
-    pub(crate) owner: Owner,
+pub(crate) struct LocatedMember {
+    pub(crate) owner: MemberOwner,
     pub(crate) name: Option<String>,
     /// The offset of its name, or of an operator's value.
     pub(crate) at: usize,
@@ -51,7 +51,7 @@ pub(crate) fn piece(text: &[u8], from: usize, to: usize) -> &[u8]
 /// # Errors
 ///
 /// Out of memory.
-pub(crate) fn unquoted(alloc: Global, written: &[u8]) -> Result<String, AllocError>
+pub(crate) fn string_text(alloc: Global, written: &[u8]) -> Result<String, AllocError>
     ensures { IfOk result (λ s. string_bytes s ≡ unquoted written.now) }
 {
     match read_tree(alloc, written) {

@@ -1,16 +1,16 @@
 //! The members of a configuration that the server reads.
 ghost use Rattle.std.specs.Prelude.{◌≡◌, find, option_copied};
 ghost use Rattle.mds_configuration.specs.Names.{name_of, known_of, others_of};
-ghost use Rattle.mds_configuration.specs.Found.{find_known};
+ghost use Rattle.mds_configuration.specs.FindKnown.{find_known};
 
-use crate::spots::Owner;
+use crate::located_members::MemberOwner;
 
 /// The most bytes of an operator's `name`, as `mds_app` reads it.
 pub const MOST_NAME: usize = 256;
 
 /// A member that the server reads.
 #[derive(Clone, Copy, Debug, PartialEq, Eq)]
-pub enum Known {
+pub enum KnownMember {
     Author,
     Operators,
     /// Whether the public documents are served: `true` or `false`.
@@ -23,51 +23,51 @@ pub enum Known {
     Token,
 }
 
-impl Known {
+impl KnownMember {
     /// The member's name in a configuration.
     pub fn name(self) -> &'static str
         ensures { result.now ≡ name_of self }
     {
         match self {
-            Known::Author => "author",
-            Known::Operators => "operators",
-            Known::Public => "public",
-            Known::Zone => "zone",
-            Known::Id => "id",
-            Known::Limit => "limit",
-            Known::Name => "name",
-            Known::Token => "token",
+            KnownMember::Author => "author",
+            KnownMember::Operators => "operators",
+            KnownMember::Public => "public",
+            KnownMember::Zone => "zone",
+            KnownMember::Id => "id",
+            KnownMember::Limit => "limit",
+            KnownMember::Name => "name",
+            KnownMember::Token => "token",
         }
     }
 }
 
 /// The members of the configuration.
-const OF_DOCUMENT: [Known; 4] = [Known::Author, Known::Operators, Known::Public, Known::Zone];
+const OF_DOCUMENT: [KnownMember; 4] = [KnownMember::Author, KnownMember::Operators, KnownMember::Public, KnownMember::Zone];
 /// The members of an operator.
-const OF_OPERATOR: [Known; 4] = [Known::Id, Known::Limit, Known::Name, Known::Token];
+const OF_OPERATOR: [KnownMember; 4] = [KnownMember::Id, KnownMember::Limit, KnownMember::Name, KnownMember::Token];
 
 /// The members of an object that the server reads.
-pub(crate) fn known_of(owner: Owner) -> &'static [Known]
+pub(crate) fn known_of(owner: MemberOwner) -> &'static [KnownMember]
     ensures { result.now ≡ known_of owner }
 {
     match owner {
-        Owner::Document => &OF_DOCUMENT,
-        Owner::Operator(_) => &OF_OPERATOR,
+        MemberOwner::Document => &OF_DOCUMENT,
+        MemberOwner::Operator(_) => &OF_OPERATOR,
     }
 }
 
 /// The members that it reads of the other object.
-pub(crate) fn others_of(owner: Owner) -> &'static [Known]
+pub(crate) fn others_of(owner: MemberOwner) -> &'static [KnownMember]
     ensures { result.now ≡ others_of owner }
 {
     match owner {
-        Owner::Document => &OF_OPERATOR,
-        Owner::Operator(_) => &OF_DOCUMENT,
+        MemberOwner::Document => &OF_OPERATOR,
+        MemberOwner::Operator(_) => &OF_DOCUMENT,
     }
 }
 
 /// The one of these with a name.
-pub(crate) fn find_known<'k>(members: &'k [Known], name: &str) -> Option<&'k Known>
+pub(crate) fn find_known<'k>(members: &'k [KnownMember], name: &str) -> Option<&'k KnownMember>
     ensures { option_copied result ≡ find_known name.now members.now }
 {
     members.iter().find(|known| name == known.name())

@@ -3,8 +3,8 @@ ghost use Rattle.std.specs.Prelude.{◌≡◌, IfOk};
 ghost use Rattle.std.specs.Str.{chars};
 ghost use Rattle.mds_configuration.specs.Nearest.{edits_to, hint, is_nearer, most_edits, nearer, nearest, nearest_from};
 
-use crate::members::{Known, known_of, others_of};
-use crate::spots::Owner;
+use crate::members::{KnownMember, known_of, others_of};
+use crate::located_members::MemberOwner;
 use std::alloc::{AllocError, Global};
 use strsim::osa_distance;
 
@@ -17,15 +17,15 @@ pub enum Hint {
     /// No known name is close enough.
     Nothing,
     /// This one, which belongs to the same object.
-    Here(Known),
+    Here(KnownMember),
     /// This one, which belongs to the other object.
-    Elsewhere(Known),
+    Elsewhere(KnownMember),
 }
 
 /// A known name, and its edit distance.
 #[derive(Clone, Copy, Debug, PartialEq, Eq)]
 struct Near {
-    known: Known,
+    known: KnownMember,
     edits: usize,
 }
 
@@ -50,7 +50,7 @@ fn nearer(
     alloc: Global,
     name: &str,
     best: Option<Near>,
-    known: Known,
+    known: KnownMember,
 ) -> Result<Option<Near>, AllocError>
     ensures { IfOk result (λ near. near ≡ nearer name.now best known) }
 {
@@ -63,7 +63,7 @@ fn nearer(
 }
 
 /// The nearest of these to a name; none for a name of more than 64 bytes.
-fn nearest(alloc: Global, name: &str, members: &[Known]) -> Result<Option<Known>, AllocError>
+fn nearest(alloc: Global, name: &str, members: &[KnownMember]) -> Result<Option<KnownMember>, AllocError>
     ensures { IfOk result (λ known. known ≡ nearest name.now members.now) }
 {
     if name.len() > MOST_COMPARED {
@@ -84,7 +84,7 @@ fn nearest(alloc: Global, name: &str, members: &[Known]) -> Result<Option<Known>
 /// # Errors
 ///
 /// Out of memory.
-pub(crate) fn hint_for(alloc: Global, owner: Owner, name: &str) -> Result<Hint, AllocError>
+pub(crate) fn hint_for(alloc: Global, owner: MemberOwner, name: &str) -> Result<Hint, AllocError>
     ensures { IfOk result (λ found. found ≡ hint owner name.now) }
 {
     if let Some(known) = nearest(alloc, name, known_of(owner))? {

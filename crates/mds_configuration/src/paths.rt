@@ -2,11 +2,11 @@
 ghost use Rattle.std.specs.Prelude.{◌≡◌, ◌++◌, None, IfOk, OnOk, ◌<◌, map, string_bytes};
 ghost use Rattle.mds_configuration.specs.Names.{name_of};
 ghost use Rattle.mds_configuration.specs.Paths.{flaw_path, is_document, is_meant, is_nameless, is_operator, key_member, last_meant, names_or_is, operator_text, path_text, shown, shown_byte, spot_text, wrong_path};
-ghost use Rattle.mds_configuration.specs.Spots.{has_name, seen};
+ghost use Rattle.mds_configuration.specs.LocatedMembers.{has_name, seen};
 
-use crate::members::Known;
-use crate::spots::{Owner, Spot, Value};
-use mds_diagnosis::{Flaw, Key, Wrong};
+use crate::members::KnownMember;
+use crate::located_members::{MemberOwner, LocatedMember, Value};
+use mds_diagnosis::{OperatorFlaw, Key, Wrong};
 use std::alloc::{AllocError, Global};
 
 /// The path of an error.
@@ -15,30 +15,30 @@ pub(crate) enum Path {
     /// The whole text.
     Document,
     /// A member of the configuration.
-    Member(Known),
+    Member(KnownMember),
     /// The operator at this place.
     Operator(usize),
     /// A member of the operator at this place.
-    OfOperator(usize, Known),
+    OfOperator(usize, KnownMember),
 }
 
-fn flaw_path(place: usize, flaw: Flaw) -> Path
+fn flaw_path(place: usize, flaw: OperatorFlaw) -> Path
     ensures { result ≡ flaw_path place flaw }
 {
     match flaw {
-        Flaw::Entry => Path::Operator(place),
-        Flaw::Id => Path::OfOperator(place, Known::Id),
-        Flaw::Limit | Flaw::LimitRange => Path::OfOperator(place, Known::Limit),
-        Flaw::Token => Path::OfOperator(place, Known::Token),
+        OperatorFlaw::Entry => Path::Operator(place),
+        OperatorFlaw::Id => Path::OfOperator(place, KnownMember::Id),
+        OperatorFlaw::Limit | OperatorFlaw::LimitRange => Path::OfOperator(place, KnownMember::Limit),
+        OperatorFlaw::Token => Path::OfOperator(place, KnownMember::Token),
     }
 }
 
-fn key_member(key: Key) -> Known
+fn key_member(key: Key) -> KnownMember
     ensures { result ≡ key_member key }
 {
     match key {
-        Key::Id => Known::Id,
-        Key::Token => Known::Token,
+        Key::Id => KnownMember::Id,
+        Key::Token => KnownMember::Token,
     }
 }
 
@@ -48,26 +48,26 @@ pub(crate) fn wrong_path(wrong: Wrong) -> Path
 {
     match wrong {
         Wrong::Json | Wrong::Document => Path::Document,
-        Wrong::Author => Path::Member(Known::Author),
-        Wrong::Operators | Wrong::TooManyOperators => Path::Member(Known::Operators),
+        Wrong::Author => Path::Member(KnownMember::Author),
+        Wrong::Operators | Wrong::TooManyOperators => Path::Member(KnownMember::Operators),
         Wrong::Operator(place, flaw) => flaw_path(place, flaw),
-        Wrong::Zone => Path::Member(Known::Zone),
+        Wrong::Zone => Path::Member(KnownMember::Zone),
         Wrong::Alike(key, _, second) => Path::OfOperator(second, key_member(key)),
-        Wrong::AuthorsToken(place) => Path::OfOperator(place, Known::Token),
+        Wrong::AuthorsToken(place) => Path::OfOperator(place, KnownMember::Token),
     }
 }
 
-fn is_operator(place: usize, owner: Owner) -> bool
+fn is_operator(place: usize, owner: MemberOwner) -> bool
     ensures { result ≡ is_operator place owner }
 {
     match owner {
-        Owner::Document => false,
-        Owner::Operator(own) => place == own,
+        MemberOwner::Document => false,
+        MemberOwner::Operator(own) => place == own,
     }
 }
 
 /// Whether a member has this name.
-fn has_name(known: Known, spot: &Spot) -> bool
+fn has_name(known: KnownMember, spot: &LocatedMember) -> bool
     ensures { result ≡ has_name (name_of known) (seen spot.now).name }
 {
     match &spot.name {
@@ -77,7 +77,7 @@ fn has_name(known: Known, spot: &Spot) -> bool
 }
 
 /// Whether this is an operator itself, or its member with this name.
-fn names_or_is(known: Known, spot: &Spot) -> bool
+fn names_or_is(known: KnownMember, spot: &LocatedMember) -> bool
     ensures { result ≡ names_or_is (name_of known) (seen spot.now).name }
 {
     match &spot.name {
@@ -87,12 +87,12 @@ fn names_or_is(known: Known, spot: &Spot) -> bool
 }
 
 /// Whether a path means this member, or this operator, which may lack it.
-fn is_meant(path: Path, spot: &Spot) -> bool
+fn is_meant(path: Path, spot: &LocatedMember) -> bool
     ensures { result ≡ is_meant path (seen spot.now) }
 {
     match path {
         Path::Document => false,
-        Path::Member(known) => spot.owner == Owner::Document && has_name(known, spot),
+        Path::Member(known) => spot.owner == MemberOwner::Document && has_name(known, spot),
         Path::Operator(place) => is_operator(place, spot.owner) && spot.name.is_none(),
         Path::OfOperator(place, known) => {
             is_operator(place, spot.owner) && names_or_is(known, spot)
@@ -101,7 +101,7 @@ fn is_meant(path: Path, spot: &Spot) -> bool
 }
 
 /// The last value that a path means.
-pub(crate) fn last_meant(path: Path, spots: &[Spot]) -> Option<Value>
+pub(crate) fn last_value(path: Path, spots: &[LocatedMember]) -> Option<Value>
     ensures { result ≡ last_meant path None (map seen spots.now) }
 {
     let mut found = None;
@@ -114,7 +114,7 @@ pub(crate) fn last_meant(path: Path, spots: &[Spot]) -> Option<Value>
 }
 
 /// A byte of printable ASCII, or a question mark in place of any other.
-fn shown_byte(byte: u8) -> u8
+fn printable_byte(byte: u8) -> u8
     ensures value { result ≡ shown_byte byte }
     ensures ascii { result < 128 }
 {
@@ -126,11 +126,11 @@ fn shown_byte(byte: u8) -> u8
 }
 
 /// Adds a name as messages show it.
-fn add_shown(text: &mut String, name: &str) -> Result<(), AllocError>
+fn add_printable(text: &mut String, name: &str) -> Result<(), AllocError>
     ensures { OnOk result (string_bytes text.new ≡ string_bytes text.old ++ shown name.now) }
 {
     for byte in name.as_bytes() {
-        text.push(char::from(shown_byte(*byte)))?;
+        text.push(char::from(printable_byte(*byte)))?;
     }
     Ok(())
 }
@@ -168,18 +168,18 @@ pub(crate) fn path_text(alloc: Global, path: Path) -> Result<String, AllocError>
 /// # Errors
 ///
 /// Out of memory.
-pub(crate) fn spot_text(alloc: Global, spot: &Spot) -> Result<String, AllocError>
+pub(crate) fn member_text(alloc: Global, spot: &LocatedMember) -> Result<String, AllocError>
     ensures { IfOk result (λ text. string_bytes text ≡ spot_text (seen spot.now)) }
 {
     let mut text = match spot.owner {
-        Owner::Document => String::new(alloc),
-        Owner::Operator(place) => operator_text(alloc, place)?,
+        MemberOwner::Document => String::new(alloc),
+        MemberOwner::Operator(place) => operator_text(alloc, place)?,
     };
     if let Some(name) = &spot.name {
-        if spot.owner != Owner::Document {
+        if spot.owner != MemberOwner::Document {
             text.push_str(".")?;
         }
-        add_shown(&mut text, name.as_str())?;
+        add_printable(&mut text, name.as_str())?;
     }
     Ok(text)
 }

@@ -1,10 +1,10 @@
 //! Lines and columns of a text.
 ghost use Rattle.std.specs.Prelude.{◌≡◌};
-ghost use Rattle.mds_configuration.specs.Places.{begins_char, past, place_at};
+ghost use Rattle.mds_configuration.specs.Positions.{begins_char, past, place_at};
 
 /// A position in a text. Lines and columns count from 1, columns in characters (Unicode scalar values).
 #[derive(Clone, Copy, Debug, PartialEq, Eq)]
-pub struct Place {
+pub struct TextPosition {
     pub line: u64,
     pub column: u64,
 }
@@ -17,7 +17,7 @@ fn begins_char(byte: u8) -> bool
 }
 
 /// The position of the byte with this offset; that of the end where the text has none.
-pub fn place_of(text: &[u8], offset: usize) -> Place
+pub fn position_of(text: &[u8], offset: usize) -> TextPosition
     ensures { result ≡ place_at text.now offset }
 {
     let mut line = 1;
@@ -30,5 +30,5 @@ pub fn place_of(text: &[u8], offset: usize) -> Place
             column += 1;
         }
     }
-    Place { line, column }
+    TextPosition { line, column }
 }

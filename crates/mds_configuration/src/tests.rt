@@ -1,8 +1,8 @@
 //! Tests of the findings in configurations.
-use crate::{Limits, Zoned, named_zone, review, with_zone};
+use crate::{Limits, ResolvedZone, zone_name_in, review, with_zone};
 use mds_request::Config;
 use mds_text::Id;
-use mds_zones::{ZoneFault, ZoneRule};
+use mds_zones::{ZoneFileFault, ZoneRule};
 use std::alloc::{AllocError, Global};
 use std::test::Fail;
 
@@ -17,7 +17,7 @@ fn city(alloc: Global, limit: &str, token: &str, zone: &str) -> Result<String, A
 }
 
 /// The findings in a text as lines, each error with an exclamation mark before it.
-fn lines_of(alloc: Global, text: &str, zoned: &Zoned) -> Result<String, AllocError> {
+fn lines_of(alloc: Global, text: &str, zoned: &ResolvedZone) -> Result<String, AllocError> {
     let mut lines = String::new(alloc);
     for finding in &review(alloc, text.as_bytes(), zoned)? {
         if finding.is_error() {
@@ -31,7 +31,7 @@ fn lines_of(alloc: Global, text: &str, zoned: &Zoned) -> Result<String, AllocErr
 
 /// Whether the findings are exactly these lines.
 fn finds(alloc: Global, text: &str, wanted: &str) -> Result<bool, AllocError> {
-    let lines = lines_of(alloc, text, &Zoned::Plain)?;
+    let lines = lines_of(alloc, text, &ResolvedZone::Plain)?;
     Ok(lines.as_str() == wanted)
 }
 
@@ -145,7 +145,7 @@ fn finds_the_name_of_a_zone(rt: HostRuntime) -> Result<(), Fail> {
     ] {
         let written = format!(in alloc; "\"{zone}\"")?;
         let text = city(alloc, "500", token, written.as_str())?;
-        match named_zone(alloc, text.as_bytes())? {
+        match zone_name_in(alloc, text.as_bytes())? {
             Some(name) => assert!(rt; is_name && name.as_str() == zone),
             None => assert!(rt; !is_name),
         }
@@ -189,12 +189,12 @@ fn reviews_by_the_rule(rt: HostRuntime) -> Result<(), Fail> {
         ", \"token\": \"scoot\"",
         "\"America/New_York\"",
     )?;
-    let ruled = Zoned::Rule(rule(alloc, "EST5EDT,M3.2.0,M11.1.0")?);
+    let ruled = ResolvedZone::Rule(rule(alloc, "EST5EDT,M3.2.0,M11.1.0")?);
     assert!(rt; lines_of(alloc, text.as_str(), &ruled)?.as_str() == "");
-    let none = Zoned::Rule(rule(alloc, "nothing")?);
+    let none = ResolvedZone::Rule(rule(alloc, "nothing")?);
     let wanted = "!c.json:6:11: zone: not a time zone (Z, +hh:mm, -hh:mm or a POSIX rule)\n";
     assert!(rt; lines_of(alloc, text.as_str(), &none)?.as_str() == wanted);
-    let missing = Zoned::Fault(ZoneFault::Unreadable);
+    let missing = ResolvedZone::Fault(ZoneFileFault::Unreadable);
     let wanted = "!c.json:6:11: zone: its file in /usr/share/zoneinfo can't be read\n";
     assert!(rt; lines_of(alloc, text.as_str(), &missing)?.as_str() == wanted);
     Ok(())

@@ -1,9 +1,9 @@
 //! Finds the members among the lexemes of a text.
 ghost use Rattle.std.specs.Prelude.{◌≡◌, ◌+◌, ◌++◌, ◌<◌, ◌≤◌, ◌^◌, map, length, option_map, option_to_list, IfOk, OnOk};
-ghost use Rattle.mds_configuration.specs.Spots.{begins_value, entry_from, is_colon, is_in_list, is_list, is_text, lists_operators, member_from, next_at, seen, spot_in, spots_from, start, value_at, walk_after};
+ghost use Rattle.mds_configuration.specs.LocatedMembers.{begins_value, entry_from, is_colon, is_in_list, is_list, is_text, lists_operators, member_from, next_at, seen, spot_in, spots_from, start, value_at, walk_after};
 
-use crate::marks::{Mark, Sign};
-use crate::spots::{Owner, Spot, Value, piece, unquoted};
+use crate::lexemes::{LexemeAt, LexemeKind};
+use crate::located_members::{MemberOwner, LocatedMember, Value, piece, string_text};
 use std::alloc::{AllocError, Global};
 
 /// The state of a walk over lexemes.
@@ -17,18 +17,18 @@ pub(crate) struct Walk {
     pub(crate) place: usize,
 }
 
-fn begins_value(sign: Sign) -> bool
+fn begins_value(sign: LexemeKind) -> bool
     ensures { result ≡ begins_value sign }
 {
     match sign {
-        Sign::OpenObject | Sign::OpenList | Sign::Text => true,
-        Sign::Truth | Sign::Null | Sign::Number => true,
-        Sign::CloseObject | Sign::CloseList | Sign::Colon | Sign::Comma => false,
+        LexemeKind::OpenObject | LexemeKind::OpenList | LexemeKind::Text => true,
+        LexemeKind::Truth | LexemeKind::Null | LexemeKind::Number => true,
+        LexemeKind::CloseObject | LexemeKind::CloseList | LexemeKind::Colon | LexemeKind::Comma => false,
     }
 }
 
 /// The value that begins with this lexeme, by the lexemes after it and the text's end.
-fn value_at(end: usize, first: Mark, behind: &[Mark]) -> Value
+fn value_at(end: usize, first: LexemeAt, behind: &[LexemeAt]) -> Value
     ensures { result ≡ value_at end first behind.now }
 {
     let to = match behind {
@@ -46,33 +46,33 @@ fn value_at(end: usize, first: Mark, behind: &[Mark]) -> Value
 fn member_from(
     alloc: Global,
     text: &[u8],
-    owner: Owner,
-    marks: &[Mark],
-) -> Result<Option<Spot>, AllocError>
+    owner: MemberOwner,
+    marks: &[LexemeAt],
+) -> Result<Option<LocatedMember>, AllocError>
     ensures { IfOk result (λ spot. option_map seen spot ≡ member_from text.now owner marks.now) }
 {
     let [name, colon, first, behind @ ..] = marks else {
         return Ok(None);
     };
-    if name.sign != Sign::Text || colon.sign != Sign::Colon {
+    if name.sign != LexemeKind::Text || colon.sign != LexemeKind::Colon {
         return Ok(None);
     }
     let written = piece(text, name.at, colon.at);
-    Ok(Some(Spot {
+    Ok(Some(LocatedMember {
         owner,
-        name: Some(unquoted(alloc, written)?),
+        name: Some(string_text(alloc, written)?),
         at: name.at,
         value: value_at(text.len(), *first, behind),
     }))
 }
 
 /// The entry of the operators' list at the beginning of these lexemes.
-fn entry_from(text: &[u8], place: usize, marks: &[Mark]) -> Option<Spot>
+fn entry_from(text: &[u8], place: usize, marks: &[LexemeAt]) -> Option<LocatedMember>
     ensures { option_map seen result ≡ entry_from text.now place marks.now }
 {
     match marks {
-        [first, behind @ ..] if begins_value(first.sign) => Some(Spot {
-            owner: Owner::Operator(place),
+        [first, behind @ ..] if begins_value(first.sign) => Some(LocatedMember {
+            owner: MemberOwner::Operator(place),
             name: None,
             at: first.at,
             value: value_at(text.len(), *first, behind),
@@ -90,22 +90,22 @@ impl Walk {
     }
 
     /// The member or operator at the beginning of these lexemes.
-    fn spot_in(self, alloc: Global, text: &[u8], marks: &[Mark]) -> Result<Option<Spot>, AllocError>
+    fn member_in(self, alloc: Global, text: &[u8], marks: &[LexemeAt]) -> Result<Option<LocatedMember>, AllocError>
         ensures { IfOk result (λ spot. option_map seen spot ≡ spot_in text.now self marks.now) }
     {
         if self.depth == 1 {
-            member_from(alloc, text, Owner::Document, marks)
+            member_from(alloc, text, MemberOwner::Document, marks)
         } else if self.is_in_list() {
             Ok(entry_from(text, self.place, marks))
         } else if self.listed && self.depth == 3 {
-            member_from(alloc, text, Owner::Operator(self.place), marks)
+            member_from(alloc, text, MemberOwner::Operator(self.place), marks)
         } else {
             Ok(None)
         }
     }
 
     /// The state after a lexeme.
-    fn after(self, sign: Sign, spot: &Option<Spot>) -> Walk
+    fn after(self, sign: LexemeKind, spot: &Option<LocatedMember>) -> Walk
         requires depth { self.depth + 1 < 2 ^ 64 }
         requires place { self.place + 1 < 2 ^ 64 }
         ensures value { result ≡ walk_after self sign (option_map seen spot.now) }
@@ -118,22 +118,22 @@ impl Walk {
             place,
         } = self;
         match sign {
-            Sign::OpenObject | Sign::OpenList => Walk {
+            LexemeKind::OpenObject | LexemeKind::OpenList => Walk {
                 depth: depth + 1,
                 listed,
                 place,
             },
-            Sign::CloseObject | Sign::CloseList => Walk {
+            LexemeKind::CloseObject | LexemeKind::CloseList => Walk {
                 depth: depth.saturating_sub(1),
                 listed: listed && 2 < depth,
                 place,
             },
-            Sign::Comma if self.is_in_list() => Walk {
+            LexemeKind::Comma if self.is_in_list() => Walk {
                 depth,
                 listed,
                 place: place + 1,
             },
-            Sign::Text if depth == 1 => Walk {
+            LexemeKind::Text if depth == 1 => Walk {
                 depth,
                 listed: lists_operators(spot),
                 place: 0,
@@ -144,12 +144,12 @@ impl Walk {
 }
 
 /// Whether the operators' list begins after this member's name.
-fn lists_operators(spot: &Option<Spot>) -> bool
+fn lists_operators(spot: &Option<LocatedMember>) -> bool
     ensures { result ≡ lists_operators (option_map seen spot.now) }
 {
     match spot {
         Some(spot) => match &spot.name {
-            Some(name) => name.as_str() == "operators" && spot.value.sign == Sign::OpenList,
+            Some(name) => name.as_str() == "operators" && spot.value.sign == LexemeKind::OpenList,
             None => false,
         },
         None => false,
@@ -157,7 +157,7 @@ fn lists_operators(spot: &Option<Spot>) -> bool
 }
 
 /// Adds the member or operator that was found, if one was.
-fn add_spot(spots: &mut Vec<Spot>, spot: Option<Spot>) -> Result<(), AllocError>
+fn add_member(spots: &mut Vec<LocatedMember>, spot: Option<LocatedMember>) -> Result<(), AllocError>
     ensures { OnOk result (map seen spots.new.items ≡ map seen spots.old.items ++ option_to_list (option_map seen spot)) }
 {
     if let Some(spot) = spot {
@@ -171,7 +171,7 @@ fn add_spot(spots: &mut Vec<Spot>, spot: Option<Spot>) -> Result<(), AllocError>
 /// # Errors
 ///
 /// Out of memory.
-pub(crate) fn spots_of(alloc: Global, text: &[u8], marks: &[Mark]) -> Result<Vec<Spot>, AllocError>
+pub(crate) fn members_of_text(alloc: Global, text: &[u8], marks: &[LexemeAt]) -> Result<Vec<LocatedMember>, AllocError>
     ensures { IfOk result (λ spots. map seen spots.items ≡ spots_from text.now start marks.now) }
 {
     let mut spots = Vec::new(alloc);
@@ -181,9 +181,9 @@ pub(crate) fn spots_of(alloc: Global, text: &[u8], marks: &[Mark]) -> Result<Vec
         place: 0,
     };
     for (place, mark) in marks.iter().enumerate() {
-        let spot = walk.spot_in(alloc, text, &marks[place..])?;
+        let spot = walk.member_in(alloc, text, &marks[place..])?;
         walk = walk.after(mark.sign, &spot);
-        add_spot(&mut spots, spot)?;
+        add_member(&mut spots, spot)?;
     }
     Ok(spots)
 }

@@ -1,22 +1,22 @@
 //! The warning about a member that nobody reads, or whose value isn't read as it is written.
 ghost use Rattle.std.specs.Prelude.{◌≡◌, IfOk, length, option_map, string_bytes};
-ghost use Rattle.mds_configuration.specs.Found.{find_known};
+ghost use Rattle.mds_configuration.specs.FindKnown.{find_known};
 ghost use Rattle.mds_configuration.specs.Names.{known_of};
 ghost use Rattle.mds_configuration.specs.Members.{is_name, is_truth, warning, warning_named, warning_of};
-ghost use Rattle.mds_configuration.specs.Spots.{seen};
+ghost use Rattle.mds_configuration.specs.LocatedMembers.{seen};
 
-use crate::finding::What;
-use crate::marks::Sign;
-use crate::members::{Known, MOST_NAME, find_known, known_of};
+use crate::finding::FindingKind;
+use crate::lexemes::LexemeKind;
+use crate::members::{KnownMember, MOST_NAME, find_known, known_of};
 use crate::nearest::hint_for;
-use crate::spots::{Owner, Spot, Value, piece, unquoted};
+use crate::located_members::{MemberOwner, LocatedMember, Value, piece, string_text};
 use std::alloc::{AllocError, Global};
 
 /// Whether a value is `true`, `false`, or null, which counts as absent.
-fn is_truth(sign: Sign) -> bool
+fn is_truth(sign: LexemeKind) -> bool
     ensures { result ≡ is_truth sign }
 {
-    sign == Sign::Truth || sign == Sign::Null
+    sign == LexemeKind::Truth || sign == LexemeKind::Null
 }
 
 /// Whether a value is a text of at most `MOST_NAME` bytes, or null, which counts as absent.
@@ -24,11 +24,11 @@ fn is_name(alloc: Global, text: &[u8], value: Value) -> Result<bool, AllocError>
     ensures { IfOk result (λ is. is ≡ is_name text.now value value.sign) }
 {
     match value.sign {
-        Sign::Text => {
-            let name = unquoted(alloc, piece(text, value.from, value.to))?;
+        LexemeKind::Text => {
+            let name = string_text(alloc, piece(text, value.from, value.to))?;
             Ok(name.len() <= MOST_NAME)
         }
-        Sign::Null => Ok(true),
+        LexemeKind::Null => Ok(true),
         _ => Ok(false),
     }
 }
@@ -37,26 +37,26 @@ fn is_name(alloc: Global, text: &[u8], value: Value) -> Result<bool, AllocError>
 fn warning_of(
     alloc: Global,
     text: &[u8],
-    owner: Owner,
+    owner: MemberOwner,
     name: &str,
     value: Value,
-) -> Result<Option<What>, AllocError>
+) -> Result<Option<FindingKind>, AllocError>
     ensures { IfOk result (λ told. told ≡ warning_of text.now owner name.now value (find_known name.now (known_of owner))) }
 {
     match find_known(known_of(owner), name) {
-        None => Ok(Some(What::Unread(hint_for(alloc, owner, name)?))),
-        Some(Known::Public) => {
+        None => Ok(Some(FindingKind::Unread(hint_for(alloc, owner, name)?))),
+        Some(KnownMember::Public) => {
             if is_truth(value.sign) {
                 Ok(None)
             } else {
-                Ok(Some(What::NoTruth))
+                Ok(Some(FindingKind::NoTruth))
             }
         }
-        Some(Known::Name) => {
+        Some(KnownMember::Name) => {
             if is_name(alloc, text, value)? {
                 Ok(None)
             } else {
-                Ok(Some(What::NoName))
+                Ok(Some(FindingKind::NoName))
             }
         }
         Some(_) => Ok(None),
@@ -68,7 +68,7 @@ fn warning_of(
 /// # Errors
 ///
 /// Out of memory.
-pub(crate) fn warning(alloc: Global, text: &[u8], spot: &Spot) -> Result<Option<What>, AllocError>
+pub(crate) fn warning(alloc: Global, text: &[u8], spot: &LocatedMember) -> Result<Option<FindingKind>, AllocError>
     ensures { IfOk result (λ told. told ≡ warning text.now (seen spot.now)) }
 {
     match &spot.name {

@@ -4,33 +4,33 @@ ghost use Rattle.std.specs.Result.{is_ok};
 ghost use Rattle.mds_match.specs.Zone.{zone_of};
 ghost use Rattle.mds_configuration.specs.Zoning.{ended, name_in, named_zone, replaced, stand_in, with_rule, with_zone, written_end, zone_value};
 
-use crate::marks::{Sign, is_space, marks_of};
-use crate::members::Known;
-use crate::paths::{Path, last_meant};
-use crate::spots::{Value, piece, unquoted};
-use crate::walk::spots_of;
+use crate::lexemes::{LexemeKind, is_space, lexemes_of};
+use crate::members::KnownMember;
+use crate::paths::{Path, last_value};
+use crate::located_members::{Value, piece, string_text};
+use crate::walk::members_of_text;
 use mds_match::Zone;
-use mds_zones::{ZoneFault, ZoneName, ZoneRule};
+use mds_zones::{ZoneFileFault, ZoneName, ZoneRule};
 use std::alloc::{AllocError, Global};
 
 /// What the zone of a configuration is.
 #[derive(Drop)]
-pub enum Zoned {
+pub enum ResolvedZone {
     /// The text itself.
     Plain,
     /// A name, with this rule.
     Rule(ZoneRule),
     /// A name for which there is no rule.
-    Fault(ZoneFault),
+    Fault(ZoneFileFault),
 }
 
 /// The value of the configuration's member `zone`.
 fn zone_value(alloc: Global, text: &[u8]) -> Result<Option<Value>, AllocError>
     ensures { IfOk result (λ value. value ≡ zone_value text.now) }
 {
-    let marks = marks_of(alloc, text)?;
-    let spots = spots_of(alloc, text, &marks)?;
-    Ok(last_meant(Path::Member(Known::Zone), &spots))
+    let marks = lexemes_of(alloc, text)?;
+    let spots = members_of_text(alloc, text, &marks)?;
+    Ok(last_value(Path::Member(KnownMember::Zone), &spots))
 }
 
 /// Whether a text is a zone by itself.
@@ -46,16 +46,16 @@ fn is_zone(text: &str) -> bool
 /// # Errors
 ///
 /// Out of memory.
-pub fn named_zone(alloc: Global, text: &[u8]) -> Result<Option<ZoneName>, AllocError>
+pub fn zone_name_in(alloc: Global, text: &[u8]) -> Result<Option<ZoneName>, AllocError>
     ensures { IfOk result (λ name. option_map (λ n. n) name ≡ named_zone text.now) }
 {
     let Some(value) = zone_value(alloc, text)? else {
         return Ok(None);
     };
-    if value.sign != Sign::Text {
+    if value.sign != LexemeKind::Text {
         return Ok(None);
     }
-    let name = unquoted(alloc, piece(text, value.from, value.to))?;
+    let name = string_text(alloc, piece(text, value.from, value.to))?;
     if is_zone(name.as_str()) {
         return Ok(None);
     }
@@ -78,7 +78,7 @@ fn written_end(text: &[u8], value: Value) -> usize
 }
 
 /// The text with another string in place of a value.
-fn replaced(alloc: Global, text: &[u8], value: Value, rule: &str) -> Result<Vec<u8>, AllocError>
+fn replace_value(alloc: Global, text: &[u8], value: Value, rule: &str) -> Result<Vec<u8>, AllocError>
     ensures { IfOk result (λ new. new.items ≡ replaced text.now value rule.now) }
 {
     let mut new = Vec::new(alloc);
@@ -95,7 +95,7 @@ fn with_text(alloc: Global, text: &[u8], rule: &str) -> Result<Vec<u8>, AllocErr
     ensures { IfOk result (λ new. new.items ≡ with_zone text.now rule.now) }
 {
     match zone_value(alloc, text)? {
-        Some(value) if value.sign == Sign::Text => replaced(alloc, text, value, rule),
+        Some(value) if value.sign == LexemeKind::Text => replace_value(alloc, text, value, rule),
         _ => Vec::from_slice(alloc, text),
     }
 }
@@ -117,12 +117,12 @@ pub fn with_zone(alloc: Global, text: &[u8], rule: &ZoneRule) -> Result<Vec<u8>,
 /// # Errors
 ///
 /// Out of memory.
-pub(crate) fn stand_in(alloc: Global, text: &[u8], zoned: &Zoned) -> Result<Vec<u8>, AllocError>
+pub(crate) fn text_to_check(alloc: Global, text: &[u8], zoned: &ResolvedZone) -> Result<Vec<u8>, AllocError>
     ensures { IfOk result (λ new. new.items ≡ stand_in text.now zoned.now) }
 {
     match zoned {
-        Zoned::Plain => Vec::from_slice(alloc, text),
-        Zoned::Rule(rule) => with_zone(alloc, text, rule),
-        Zoned::Fault(_) => with_text(alloc, text, "Z"),
+        ResolvedZone::Plain => Vec::from_slice(alloc, text),
+        ResolvedZone::Rule(rule) => with_zone(alloc, text, rule),
+        ResolvedZone::Fault(_) => with_text(alloc, text, "Z"),
     }
 }

@@ -10,25 +10,25 @@ use tokio::time::{Handle, Sleep};
 /// A connection that was accepted, or a pause after a failed accept: where no descriptor is left,
 /// the next one would fail too.
 #[derive(Drop)]
-pub struct Admission {
+pub struct AcceptOrPause {
     socket: Option<TcpStream>,
     pause: Option<Sleep>,
 }
 
-impl Admission {
+impl AcceptOrPause {
     /// The outcome of an accept. What is written to the connection is sent at once (`TCP_NODELAY`),
     /// so that no response waits until the one before it was acknowledged (RFC 9293, section
     /// 3.7.4); where the system refuses that, the connection is served all the same.
-    pub fn new<C: Clock>(accepted: io::Result<TcpStream>, clock: &C, timers: &Handle) -> Admission {
+    pub fn new<C: Clock>(accepted: io::Result<TcpStream>, clock: &C, timers: &Handle) -> AcceptOrPause {
         match accepted {
             Ok(socket) => {
                 socket.set_nodelay(true).ok();
-                Admission {
+                AcceptOrPause {
                     socket: Some(socket),
                     pause: None,
                 }
             }
-            Err(_) => Admission {
+            Err(_) => AcceptOrPause {
                 socket: None,
                 pause: timers
                     .sleep(clock, Duration::from_millis(ACCEPT_PAUSE_MILLIS))
@@ -38,7 +38,7 @@ impl Admission {
     }
 }
 
-impl Future for Admission {
+impl Future for AcceptOrPause {
     type Output = Option<TcpStream>;
 
     fn poll(&mut self, cx: &mut Context<'_>) -> Poll<Option<TcpStream>> {

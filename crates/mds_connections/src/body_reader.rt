@@ -3,14 +3,14 @@ ghost use Rattle.std.specs.Prelude.{◌≡◌, ◌≢◌, ◌⊎◌, None, [], I
 ghost use Rattle.futures.specs.Task.{Keeps};
 ghost use Rattle.mds_limits.specs.Arrival.{arrived_of};
 ghost use Rattle.mds_limits.specs.declared.arrival.Arrived.TheVariants.{TooLong, NoMemory};
-ghost use Rattle.mds_limits.specs.declared.arrival.End.TheVariants.{Over};
+ghost use Rattle.mds_limits.specs.declared.arrival.BodyEnd.TheVariants.{Over};
 
 use bytes::{Bytes, BytesQueue};
 use futures::task::{Context, Poll};
 use futures::{Future, ready};
 use http_body::{Body, Frame};
 use hyper::body::Incoming;
-use mds_limits::{Arrived, End, Piece, counted};
+use mds_limits::{Arrived, BodyEnd, Piece, load_bytes_of};
 use std::alloc::Global;
 
 /// How many pieces are read in a row before other tasks may run.
@@ -18,7 +18,7 @@ const PIECES: usize = 32;
 
 /// The future of a body: its bytes, within the limit of a body. One that is too long is discarded.
 #[derive(Drop)]
-pub struct Intake<I> {
+pub struct BodyReader<I> {
     body: Incoming<I>,
     alloc: Global,
     /// What came; none, where the body is discarded.
@@ -27,10 +27,10 @@ pub struct Intake<I> {
     length: usize,
 }
 
-impl<I: Drop> Intake<I> {
+impl<I: Drop> BodyReader<I> {
     /// Reads a body of which nothing was read.
-    pub fn new(alloc: Global, body: Incoming<I>) -> Intake<I> {
-        Intake {
+    pub fn new(alloc: Global, body: Incoming<I>) -> BodyReader<I> {
+        BodyReader {
             body,
             alloc,
             kept: Some(BytesQueue::new(alloc)),
@@ -39,17 +39,17 @@ impl<I: Drop> Intake<I> {
     }
 
     /// How many bytes the body counts as.
-    pub fn counts(&self) -> usize {
-        counted(self.body.size_hint().exact())
+    pub fn load_bytes(&self) -> usize {
+        load_bytes_of(self.body.size_hint().exact())
     }
 
     /// From now on the body is read and discarded.
-    pub fn pass(&mut self) {
+    pub fn discard(&mut self) {
         self.kept = None;
     }
 
     /// Takes a piece of the body; its end, where nothing more is to be read.
-    fn take(&mut self, frame: Frame<Bytes>) -> Option<End>
+    fn push_frame(&mut self, frame: Frame<Bytes>) -> Option<BodyEnd>
         ensures { self.new.body ≡ self.old.body }
     {
         let Ok(data) = frame.into_data() else {
@@ -58,42 +58,42 @@ impl<I: Drop> Intake<I> {
         let piece = Piece::at(self.length, data.len());
         self.length = self.length.saturating_add(data.len());
         match piece {
-            Piece::Kept => self.keep(data),
+            Piece::Kept => self.push_piece(data),
             Piece::Passed => {
                 self.kept = None;
                 None
             }
-            Piece::Refused => Some(End::Refused),
+            Piece::Refused => Some(BodyEnd::Refused),
         }
     }
 
     /// Stores a piece, unless the body is discarded.
-    fn keep(&mut self, data: Bytes) -> Option<End>
+    fn push_piece(&mut self, data: Bytes) -> Option<BodyEnd>
         ensures { self.new.body ≡ self.old.body }
     {
         match self.kept.as_mut()?.push(data) {
             Ok(()) => None,
-            Err(_) => Some(End::NoMemory),
+            Err(_) => Some(BodyEnd::NoMemory),
         }
     }
 
     /// The body, once its reading ended so. A discarded one is too long, or its request may not
     /// wait, and then the result isn't used. Where there is no memory to join what was stored, it
     /// is `NoMemory`.
-    fn arrival(&mut self, end: End) -> Arrived
+    fn arrival(&mut self, end: BodyEnd) -> Arrived
         ensures joined { end ≡ Over → IfSome self.old.kept
             (λ kept. (result ≡ arrived_of Over kept) ⊎ (result ≡ NoMemory)) }
         ensures passed { end ≡ Over → self.old.kept ≡ None → result ≡ TooLong }
         ensures unfinished { end ≢ Over → result ≡ arrived_of end [] }
     {
-        if end != End::Over {
+        if end != BodyEnd::Over {
             return Arrived::of(end, Bytes::new());
         }
         let Some(kept) = self.kept.take() else {
             return Arrived::TooLong;
         };
         match join(self.alloc, kept) {
-            Some(body) => Arrived::of(End::Over, body),
+            Some(body) => Arrived::of(BodyEnd::Over, body),
             None => Arrived::NoMemory,
         }
     }
@@ -108,23 +108,23 @@ fn join(alloc: Global, mut pieces: BytesQueue) -> Option<Bytes>
 }
 
 /// How the reading of a body ends with this error.
-fn end_of(error: &hyper::Error) -> End {
+fn end_of(error: &hyper::Error) -> BodyEnd {
     if error.is_out_of_memory() {
-        End::NoMemory
+        BodyEnd::NoMemory
     } else {
-        End::Broken
+        BodyEnd::Broken
     }
 }
 
-impl<I: Drop> Future for Intake<I> {
+impl<I: Drop> Future for BodyReader<I> {
     type Output = Arrived;
 
     fn poll(&mut self, cx: &mut Context<'_>) -> Poll<Arrived> {
         for _ in 0..PIECES {
             let end = match ready!(self.body.poll_frame(cx)) {
-                None => Some(End::Over),
+                None => Some(BodyEnd::Over),
                 Some(Err(error)) => Some(end_of(&error)),
-                Some(Ok(frame)) => self.take(frame),
+                Some(Ok(frame)) => self.push_frame(frame),
             };
             if let Some(end) = end {
                 return Poll::Ready(self.arrival(end));

@@ -1,11 +1,11 @@
 //! The handles of a server's connections, and that of its acceptor.
 ghost use Rattle.std.specs.Prelude.{IfOk};
 
-use crate::house::{Answers, Crowded, House};
-use crate::seats::{Admittance, Seat};
-use crate::sits::Sits;
+use crate::server_context::{RequestService, Crowded, ServerContext};
+use crate::slots::{Admittance, ConnSlot};
+use crate::server_conn::ServerConn;
 use crate::turn::Turn;
-use crate::watch::Bell;
+use crate::keepalive::ReactorNudge;
 use http::request::Parts;
 use mds_limits::{Arrived, CROWDED_PAUSE_MILLIS, Cost};
 use mds_request::Actor;
@@ -19,17 +19,17 @@ use tokio::time::Sleep;
 /// A reference to what connections share, and a slot, under a key in the table of connections. The
 /// acceptor has no key.
 #[derive(Drop)]
-pub struct Sitting<A, C> {
-    house: Arc<House<A, C>>,
-    seat: Arc<Seat>,
-    bell: Arc<Bell>,
+pub struct ConnHandle<A, C> {
+    house: Arc<ServerContext<A, C>>,
+    seat: Arc<ConnSlot>,
+    bell: Arc<ReactorNudge>,
     key: Option<usize>,
 }
 
-impl<A, C> Sitting<A, C> {
+impl<A, C> ConnHandle<A, C> {
     /// The acceptor's handle.
-    pub fn usher(house: Arc<House<A, C>>, seat: Arc<Seat>, bell: Arc<Bell>) -> Sitting<A, C> {
-        Sitting {
+    pub fn acceptor(house: Arc<ServerContext<A, C>>, seat: Arc<ConnSlot>, bell: Arc<ReactorNudge>) -> ConnHandle<A, C> {
+        ConnHandle {
             house,
             seat,
             bell,
@@ -38,21 +38,21 @@ impl<A, C> Sitting<A, C> {
     }
 }
 
-impl<A: Answers, C: Clock + Wait + Drop> Sits for Sitting<A, C> {
+impl<A: RequestService, C: Clock + Wait + Drop> ServerConn for ConnHandle<A, C> {
     type Head = A::Head;
 
     type Reply = A::Reply;
 
     ghost may_answer = { A.may_answer };
 
-    fn enter(&self) -> Option<Sitting<A, C>> {
+    fn open_conn(&self) -> Option<ConnHandle<A, C>> {
         let alloc = self.house.alloc;
-        let seat = Arc::new(alloc, Seat::new(alloc).ok()?).ok()?;
+        let seat = Arc::new(alloc, ConnSlot::new(alloc).ok()?).ok()?;
         let shared = Arc::try_clone(&seat).ok()?;
         let bell = Arc::try_clone(&self.bell).ok()?;
         let house = Arc::try_clone(&self.house).ok()?;
-        let key = house.register.lock(&house.clock).enter(shared)?;
-        Some(Sitting {
+        let key = house.register.lock(&house.clock).add_conn(shared)?;
+        Some(ConnHandle {
             house,
             seat,
             bell,
@@ -60,8 +60,8 @@ impl<A: Answers, C: Clock + Wait + Drop> Sits for Sitting<A, C> {
         })
     }
 
-    fn again(&self) -> Result<Sitting<A, C>, AllocError> {
-        Ok(Sitting {
+    fn clone_handle(&self) -> Result<ConnHandle<A, C>, AllocError> {
+        Ok(ConnHandle {
             house: Arc::try_clone(&self.house)?,
             seat: Arc::try_clone(&self.seat)?,
             bell: Arc::try_clone(&self.bell)?,
@@ -101,16 +101,16 @@ impl<A: Answers, C: Clock + Wait + Drop> Sits for Sitting<A, C> {
         }
     }
 
-    fn pace(&self) -> u64 {
+    fn progress(&self) -> u64 {
         self.seat.pace.load(Ordering::SeqCst)
     }
 
-    fn told(&self) -> Result<OwnedNotified, AllocError> {
-        self.seat.told()
+    fn close_notice(&self) -> Result<OwnedNotified, AllocError> {
+        self.seat.close_notice()
     }
 
-    fn last(&self) -> Result<OwnedNotified, AllocError> {
-        self.seat.last()
+    fn shutdown_notice(&self) -> Result<OwnedNotified, AllocError> {
+        self.seat.shutdown_notice()
     }
 
     fn resolve(&self, parts: Parts) -> A::Head {
@@ -125,14 +125,14 @@ impl<A: Answers, C: Clock + Wait + Drop> Sits for Sitting<A, C> {
         A::cost(head, length)
     }
 
-    fn ask(&self, actor: Actor, bytes: usize) -> Admittance {
+    fn admit(&self, actor: Actor, bytes: usize) -> Admittance {
         self.seat.pace.fetch_add(1, Ordering::SeqCst);
         match self.key {
             Some(key) => self
                 .house
                 .register
                 .lock(&self.house.clock)
-                .ask(key, actor, bytes),
+                .admit(key, actor, bytes),
             None => Admittance::Busy,
         }
     }
@@ -146,27 +146,27 @@ impl<A: Answers, C: Clock + Wait + Drop> Sits for Sitting<A, C> {
         ensures { IfOk result A.Reply.can_poll }
     {
         if A::cost(head, body.bytes().len()) == Cost::Exclusive {
-            self.bell.ring();
+            self.bell.nudge();
         }
         self.house.answers.answer(head, body)
     }
 
-    fn made(&self) {
+    fn finish_request(&self) {
         self.seat.pace.fetch_add(1, Ordering::SeqCst);
         if let Some(key) = self.key {
-            self.house.register.lock(&self.house.clock).answered(key);
+            self.house.register.lock(&self.house.clock).finish_request(key);
         }
     }
 
-    fn rest(&self) {
+    fn become_idle(&self) {
         if let Some(key) = self.key {
-            self.house.register.lock(&self.house.clock).rest(key);
+            self.house.register.lock(&self.house.clock).set_idle(key);
         }
     }
 
-    fn leave(&self) {
+    fn release(&self) {
         if let Some(key) = self.key {
-            self.house.register.lock(&self.house.clock).leave(key);
+            self.house.register.lock(&self.house.clock).remove_conn(key);
         }
     }
 }

@@ -1,6 +1,6 @@
 //! The HTTP service of a connection.
-use crate::exchange::Exchange;
-use crate::sits::Sits;
+use crate::request_future::RequestFuture;
+use crate::server_conn::ServerConn;
 use bytes::Bytes;
 use http_body_util::Full;
 use hyper::body::Incoming;
@@ -10,21 +10,21 @@ use std::alloc::AllocError;
 
 /// The HTTP service of one connection.
 #[derive(Drop)]
-pub struct Door<P> {
+pub struct HttpService<P> {
     pub sitting: P,
 }
 
-impl<P: Sits, I: Drop> Service<Request<Incoming<I>>> for Door<P> {
+impl<P: ServerConn, I: Drop> Service<Request<Incoming<I>>> for HttpService<P> {
     type Response = Response<Full<Bytes>>;
 
     type Error = AllocError;
 
-    type Future = Exchange<P, P::Head, P::Reply, I>;
+    type Future = RequestFuture<P, P::Head, P::Reply, I>;
 
     ghost can_call = { λ _. P.may_answer };
 
-    fn call(&self, req: Request<Incoming<I>>) -> Exchange<P, P::Head, P::Reply, I> {
+    fn call(&self, req: Request<Incoming<I>>) -> RequestFuture<P, P::Head, P::Reply, I> {
         let (parts, body) = req.into_parts();
-        Exchange::new(&self.sitting, parts, body)
+        RequestFuture::new(&self.sitting, parts, body)
     }
 }

@@ -7,14 +7,14 @@ use tokio::sync::mpsc::{Receiver, Sender, channel};
 /// Wakes the reactor's keep-alive task. A thread that finds a request while it waits for events
 /// wakes no other to wait in its place, and the answer may take long.
 #[derive(Drop)]
-pub struct Bell {
+pub struct ReactorNudge {
     calls: Sender<()>,
 }
 
 /// The reactor's keep-alive task: it does nothing when it is woken, and ends once there is no
 /// `Bell`. The thread that wakes for it then waits for events.
 #[derive(Drop)]
-pub struct Watch {
+pub struct ReactorKeepalive {
     calls: Receiver<()>,
 }
 
@@ -23,21 +23,21 @@ pub struct Watch {
 /// # Errors
 ///
 /// Out of memory.
-pub fn watched(alloc: Global) -> Result<(Bell, Watch), AllocError> {
+pub fn keepalive_pair(alloc: Global) -> Result<(ReactorNudge, ReactorKeepalive), AllocError> {
     let (sender, receiver) = channel(alloc, 1)?;
-    let bell = Bell { calls: sender };
-    let watch = Watch { calls: receiver };
+    let bell = ReactorNudge { calls: sender };
+    let watch = ReactorKeepalive { calls: receiver };
     Ok((bell, watch))
 }
 
-impl Bell {
+impl ReactorNudge {
     /// Wakes the task. Where it has been woken already and hasn't run, nothing is added.
-    pub fn ring(&self) {
+    pub fn nudge(&self) {
         let _ = self.calls.try_send(());
     }
 }
 
-impl Future for Watch {
+impl Future for ReactorKeepalive {
     type Output = ();
 
     fn poll(&mut self, cx: &mut Context<'_>) -> Poll<()> {

@@ -2,34 +2,34 @@
 //! client, limits and deadlines.
 #![tactic(auto)]
 
-mod admission;
-mod door;
-mod ending;
-mod exchange;
-mod hosting;
-mod house;
-mod intake;
+mod accept;
+mod http_service;
+mod shutdown;
+mod request_future;
+mod server;
+mod server_context;
+mod body_reader;
 mod moments;
-mod paced;
+mod timed_io;
 mod queues;
 mod replies;
 mod runtime;
-mod seats;
-mod sending;
+mod slots;
+mod write_progress;
 mod serving;
-mod sits;
-mod sitting;
+mod server_conn;
+mod conn_handle;
 mod turn;
-mod watch;
+mod keepalive;
 
-pub use admission::Admission;
-pub use ending::{Closed, Closing};
-pub use hosting::{Ended, bound, serve_by, serve_up_to};
-pub use house::{Answers, Crowded, House};
+pub use accept::AcceptOrPause;
+pub use shutdown::{ShutdownFuture, ShutdownHandle};
+pub use server::{ServeOutcome, bind_first, serve_by, serve_up_to};
+pub use server_context::{RequestService, Crowded, ServerContext};
 pub use moments::{MachineClock, Moments};
 pub use queues::Queues;
-pub use replies::{busy, closing, finished};
+pub use replies::{busy, with_close, close_unless_whole};
 pub use runtime::ConnectionRuntime;
-pub use seats::{Admittance, Register, Seat};
-pub use serving::{Seating, serve_all};
+pub use slots::{Admittance, ConnTable, ConnSlot};
+pub use serving::{AcceptorParts, serve_all};
 pub use turn::{Permits, Turn};

@@ -14,7 +14,7 @@ use tokio::sync::Semaphore;
 
 /// The queue of one client.
 #[derive(Drop)]
-struct Queue {
+struct ClientQueue {
     /// One permit. A long answer holds it while it waits for the permits below and while it has
     /// them, so that no second long answer waits for them ahead of a short one.
     line: Arc<Semaphore>,
@@ -26,19 +26,19 @@ struct Queue {
 /// A queue for each client, at the client's index.
 #[derive(Drop)]
 pub struct Queues {
-    queues: Vec<Queue>,
+    queues: Vec<ClientQueue>,
 }
 
-impl Queue {
+impl ClientQueue {
     /// An empty queue.
     ///
     /// # Errors
     ///
     /// Out of memory.
-    fn new(alloc: Global) -> Result<Queue, AllocError> {
+    fn new(alloc: Global) -> Result<ClientQueue, AllocError> {
         let line = Semaphore::new(alloc, 1)?;
         let permits = Semaphore::new(alloc, MOST_SHORT as usize)?;
-        Ok(Queue {
+        Ok(ClientQueue {
             line: Arc::new(alloc, line)?,
             permits: Arc::new(alloc, permits)?,
         })
@@ -76,13 +76,13 @@ impl Queues {
         let askers = config.operators().len() + 2;
         let mut queues = Vec::with_capacity(alloc, askers)?;
         for _ in 0..askers {
-            queues.push(Queue::new(alloc)?)?;
+            queues.push(ClientQueue::new(alloc)?)?;
         }
         Ok(Queues { queues })
     }
 
     /// How many clients there are: anonymous, the author and the operators.
-    pub fn askers(&self) -> usize {
+    pub fn clients(&self) -> usize {
         self.queues.len()
     }
 

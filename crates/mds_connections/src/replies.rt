@@ -21,7 +21,7 @@ pub fn busy(alloc: Global) -> HttpResult
     ensures { IfOk result SaysBusy }
 {
     let body = Bytes::from_static(b"{\"error\":\"busy\"}");
-    closing(json_response(alloc, StatusCode::SERVICE_UNAVAILABLE, body)?)
+    with_close(json_response(alloc, StatusCode::SERVICE_UNAVAILABLE, body)?)
 }
 
 /// The same response, which says that the connection is closed after it.
@@ -29,7 +29,7 @@ pub fn busy(alloc: Global) -> HttpResult
 /// # Errors
 ///
 /// Out of memory.
-pub fn closing(response: Response<Full<Bytes>>) -> HttpResult
+pub fn with_close(response: Response<Full<Bytes>>) -> HttpResult
     ensures { IfOk result (Closes response) }
 {
     with_field(response, CONNECTION, HeaderValue::from_static("close"))
@@ -41,12 +41,12 @@ pub fn closing(response: Response<Full<Bytes>>) -> HttpResult
 /// # Errors
 ///
 /// Out of memory.
-pub fn finished(response: Response<Full<Bytes>>, arrived: &Arrived) -> HttpResult
+pub fn close_unless_whole(response: Response<Full<Bytes>>, arrived: &Arrived) -> HttpResult
     ensures closes { IsTrue (closes_after arrived.now) → IfOk result (Closes response) }
     ensures same { IsFalse (closes_after arrived.now) → result ≡ Ok response }
 {
     if arrived.closes() {
-        closing(response)
+        with_close(response)
     } else {
         Ok(response)
     }

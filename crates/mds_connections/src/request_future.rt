@@ -6,20 +6,20 @@ ghost use Rattle.futures.specs.Poll.{IfReady, OnPending};
 ghost use Rattle.mds_limits.specs.Arrival.{body_in, closes_after};
 ghost use Rattle.mds_connections.specs.Busy.{SaysBusy};
 ghost use Rattle.mds_connections.specs.Turn.{IsWaiting};
-ghost use Rattle.mds_connections.specs.declared.seats.Admittance.TheVariants.{Busy};
+ghost use Rattle.mds_connections.specs.declared.slots.Admittance.TheVariants.{Busy};
 
-use crate::house::Crowded;
-use crate::intake::Intake;
-use crate::replies::{busy, finished};
-use crate::seats::Admittance;
-use crate::sits::Sits;
+use crate::server_context::Crowded;
+use crate::body_reader::BodyReader;
+use crate::replies::{busy, close_unless_whole};
+use crate::slots::Admittance;
+use crate::server_conn::ServerConn;
 use crate::turn::Turn;
 use bytes::Bytes;
 use futures::task::{Context, Poll};
 use futures::{Future, ready};
 use http::request::Parts;
 use hyper::body::Incoming;
-use mds_limits::{Arrived, BODY_SECONDS, PASSING_SECONDS};
+use mds_limits::{Arrived, BODY_SECONDS, DISCARD_SECONDS};
 use mds_request::Actor;
 use mds_responses::HttpResult;
 use std::alloc::AllocError;
@@ -31,12 +31,12 @@ const MOST_PAUSES: u32 = 500;
 
 /// The future of a request, from its head to its response.
 #[derive(Drop)]
-pub struct Exchange<P, H, F, I> {
+pub struct RequestFuture<P, H, F, I> {
     sitting: Option<P>,
     admittance: Admittance,
     head: H,
     /// The rest of the body.
-    body: Option<Intake<I>>,
+    body: Option<BodyReader<I>>,
     /// When the body is late; once it has arrived, when a pause is over.
     deadline: Option<Sleep>,
     /// The body as it arrived, once it has. Its bytes are held until the response is pending.
@@ -49,20 +49,20 @@ pub struct Exchange<P, H, F, I> {
     reply: Option<F>,
 }
 
-impl<P: Sits, I: Drop> Exchange<P, P::Head, P::Reply, I> {
+impl<P: ServerConn, I: Drop> RequestFuture<P, P::Head, P::Reply, I> {
     /// The future of a request whose head has come.
-    pub fn new(sitting: &P, parts: Parts, body: Incoming<I>) -> Exchange<P, P::Head, P::Reply, I>
+    pub fn new(sitting: &P, parts: Parts, body: Incoming<I>) -> RequestFuture<P, P::Head, P::Reply, I>
         ensures turn { result.turn ≡ None }
         ensures reply { result.reply ≡ None }
     {
-        let mut body = Intake::new(sitting.alloc(), body);
+        let mut body = BodyReader::new(sitting.alloc(), body);
         let head = sitting.resolve(parts);
-        let admittance = sitting.ask(P::actor(&head), body.counts());
+        let admittance = sitting.admit(P::actor(&head), body.load_bytes());
         if admittance == Admittance::Busy {
-            body.pass();
+            body.discard();
         }
-        Exchange {
-            sitting: sitting.again().ok(),
+        RequestFuture {
+            sitting: sitting.clone_handle().ok(),
             admittance,
             head,
             body: Some(body),
@@ -120,7 +120,7 @@ impl<P: Sits, I: Drop> Exchange<P, P::Head, P::Reply, I> {
     }
 
     /// Waits until the pause of a request is over, and puts it in this client's queue again then.
-    fn rest(&mut self, actor: Actor, cx: &mut Context<'_>) -> Poll<()>
+    fn wait_pause(&mut self, actor: Actor, cx: &mut Context<'_>) -> Poll<()>
         requires turn { IfSome self.old.turn IsWaiting }
         ensures admittance { self.new.admittance ≡ self.old.admittance }
         ensures turn { IfSome self.new.turn IsWaiting }
@@ -143,7 +143,7 @@ impl<P: Sits, I: Drop> Exchange<P, P::Head, P::Reply, I> {
     /// # Errors
     ///
     /// The client's share is used up: nothing was asked.
-    fn ask(&mut self) -> Result<(), Crowded>
+    fn start_answer(&mut self) -> Result<(), Crowded>
         requires ready { P.may_answer }
         ensures admittance { self.new.admittance ≡ self.old.admittance }
         ensures turn { self.new.turn ≡ None }
@@ -172,14 +172,14 @@ impl<P: Sits, I: Drop> Exchange<P, P::Head, P::Reply, I> {
         ensures kept { Keeps cx.old cx.new }
     {
         let Some(turn) = &mut self.turn else {
-            return Poll::Ready(self.ask());
+            return Poll::Ready(self.start_answer());
         };
         match turn.poll(cx) {
             Poll::Pending => Poll::Pending,
-            Poll::Ready(Ok(_permits)) => Poll::Ready(self.ask()),
+            Poll::Ready(Ok(_permits)) => Poll::Ready(self.start_answer()),
             Poll::Ready(Err(_)) => {
                 self.taken = Arrived::NoMemory;
-                Poll::Ready(self.ask())
+                Poll::Ready(self.start_answer())
             }
         }
     }
@@ -223,7 +223,7 @@ impl<P: Sits, I: Drop> Exchange<P, P::Head, P::Reply, I> {
     }
 
     /// Waits for the pending response.
-    fn tell(&mut self, cx: &mut Context<'_>) -> Poll<HttpResult>
+    fn poll_reply(&mut self, cx: &mut Context<'_>) -> Poll<HttpResult>
         requires reply { IfSome self.old.reply P.Reply.can_poll }
         ensures admittance { self.new.admittance ≡ self.old.admittance }
         ensures turn { self.new.turn ≡ self.old.turn }
@@ -238,7 +238,7 @@ impl<P: Sits, I: Drop> Exchange<P, P::Head, P::Reply, I> {
             Poll::Pending => Poll::Pending,
             Poll::Ready(told) => {
                 if let Some(sitting) = self.sitting.take() {
-                    sitting.made();
+                    sitting.finish_request();
                 }
                 Poll::Ready(self.finish(told))
             }
@@ -247,7 +247,7 @@ impl<P: Sits, I: Drop> Exchange<P, P::Head, P::Reply, I> {
 
     /// The response as it is sent.
     fn finish(&self, told: HttpResult) -> HttpResult {
-        finished(told?, &self.taken)
+        close_unless_whole(told?, &self.taken)
     }
 
     /// Reads the body, waits for this client's turn, answers, and waits for the pending response. A
@@ -272,16 +272,16 @@ impl<P: Sits, I: Drop> Exchange<P, P::Head, P::Reply, I> {
             }
         }
         if self.reply.is_none() {
-            ready!(self.rest(actor, cx));
+            ready!(self.wait_pause(actor, cx));
             if let Err(Crowded) = ready!(self.take_turn(cx)) {
                 return self.pause(cx);
             }
         }
-        self.tell(cx)
+        self.poll_reply(cx)
     }
 
     /// Discards the body, and then says that the server is busy.
-    fn pass(&mut self, cx: &mut Context<'_>) -> Poll<HttpResult>
+    fn discard(&mut self, cx: &mut Context<'_>) -> Poll<HttpResult>
         ensures says { IfReady result (λ r. IfOk r SaysBusy) }
         ensures admittance { self.new.admittance ≡ self.old.admittance }
         ensures turn { self.new.turn ≡ self.old.turn }
@@ -291,7 +291,7 @@ impl<P: Sits, I: Drop> Exchange<P, P::Head, P::Reply, I> {
     {
         if let Some(body) = &mut self.body
             && body.poll(cx).is_pending()
-            && !self.is_late(PASSING_SECONDS, cx)
+            && !self.is_late(DISCARD_SECONDS, cx)
         {
             return Poll::Pending;
         }
@@ -309,12 +309,12 @@ impl<P: Sits, I: Drop> Exchange<P, P::Head, P::Reply, I> {
         let Some(sitting) = self.sitting.take() else {
             return Err(AllocError);
         };
-        sitting.made();
+        sitting.finish_request();
         busy(sitting.alloc())
     }
 }
 
-impl<P: Sits, I: Drop> Future for Exchange<P, P::Head, P::Reply, I> {
+impl<P: ServerConn, I: Drop> Future for RequestFuture<P, P::Head, P::Reply, I> {
     type Output = HttpResult;
 
     ghost can_poll = { λ e. IfSome e.turn IsWaiting × IfSome e.reply P.Reply.can_poll × P.may_answer };
@@ -324,7 +324,7 @@ impl<P: Sits, I: Drop> Future for Exchange<P, P::Head, P::Reply, I> {
     fn poll(&mut self, cx: &mut Context<'_>) -> Poll<Self::Output> {
         match self.admittance {
             Admittance::Admitted(actor) => self.proceed(actor, cx),
-            Admittance::Busy => self.pass(cx),
+            Admittance::Busy => self.discard(cx),
         }
     }
 }

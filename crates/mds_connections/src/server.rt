@@ -1,12 +1,12 @@
 //! Serves a listener by any service, until so many connections are over or the server is to end.
 
-use crate::admission::Admission;
-use crate::ending::Closing;
-use crate::house::{Answers, House};
+use crate::accept::AcceptOrPause;
+use crate::shutdown::ShutdownHandle;
+use crate::server_context::{RequestService, ServerContext};
 use crate::queues::Queues;
 use crate::runtime::ConnectionRuntime;
-use crate::seats::Register;
-use crate::serving::{Seating, serve_all};
+use crate::slots::ConnTable;
+use crate::serving::{AcceptorParts, serve_all};
 use futures::StreamExt;
 use hyper::rt::TokioTimer;
 use hyper::server::conn::http1::Builder;
@@ -24,7 +24,7 @@ use tokio::time::Handle;
 /// # Errors
 ///
 /// The name stands for no address, or none of them can be listened to.
-pub fn bound<N: Net>(net: &N, address: &str, reactor: &reactor::Handle) -> io::Result<TcpListener> {
+pub fn bind_first<N: Net>(net: &N, address: &str, reactor: &reactor::Handle) -> io::Result<TcpListener> {
     for address in address.to_socket_addrs(net)? {
         if let Ok(listener) = TcpListener::bind(net, address, reactor) {
             return Ok(listener);
@@ -35,56 +35,56 @@ pub fn bound<N: Net>(net: &N, address: &str, reactor: &reactor::Handle) -> io::R
 
 /// What connections need in addition to their service.
 #[derive(Drop)]
-struct Fittings<R> {
+struct HttpParts<R> {
     timers: Handle,
     pauses: Handle,
     http: Builder<TokioTimer<R>>,
-    seating: Seating,
+    seating: AcceptorParts,
 }
 
-impl<R: ConnectionRuntime + Copy> Fittings<R> {
-    fn new(rt: &R, runtime: &Runtime) -> io::Result<Fittings<R>> {
+impl<R: ConnectionRuntime + Copy> HttpParts<R> {
+    fn new(rt: &R, runtime: &Runtime) -> io::Result<HttpParts<R>> {
         let timers = runtime.handle().time().clone()?;
         let pauses = timers.clone()?;
         let timer = TokioTimer::new(*rt, timers.clone()?);
         let mut http = Builder::new(rt.alloc(), RandomState::new(rt)?).timer(timer);
         http.header_read_timeout(None);
-        Ok(Fittings {
+        Ok(HttpParts {
             timers,
             pauses,
             http,
-            seating: Seating::new(rt.alloc())?,
+            seating: AcceptorParts::new(rt.alloc())?,
         })
     }
 }
 
 /// A server, before its connections come.
 #[derive(Drop)]
-struct Opened<A, R> {
+struct ServerParts<A, R> {
     http: Builder<TokioTimer<R>>,
-    seating: Seating,
+    seating: AcceptorParts,
     pauses: Handle,
-    house: Arc<House<A, R>>,
-    shared: Arc<House<A, R>>,
+    house: Arc<ServerContext<A, R>>,
+    shared: Arc<ServerContext<A, R>>,
 }
 
 /// What connections share, for this service and these queues, with no connection yet.
-fn open_house<A: Drop, R: ConnectionRuntime + Copy>(
+fn open_server<A: Drop, R: ConnectionRuntime + Copy>(
     rt: &R,
     runtime: &Runtime,
     answers: A,
     queues: Queues,
-) -> io::Result<Opened<A, R>> {
-    let Fittings {
+) -> io::Result<ServerParts<A, R>> {
+    let HttpParts {
         timers,
         pauses,
         http,
         seating,
-    } = Fittings::new(rt, runtime)?;
-    let register = Register::new(rt.alloc(), queues.askers())?;
+    } = HttpParts::new(rt, runtime)?;
+    let register = ConnTable::new(rt.alloc(), queues.clients())?;
     let house = Arc::new(
         rt.alloc(),
-        House {
+        ServerContext {
             alloc: rt.alloc(),
             answers,
             queues,
@@ -93,7 +93,7 @@ fn open_house<A: Drop, R: ConnectionRuntime + Copy>(
             timers,
         },
     )?;
-    Ok(Opened {
+    Ok(ServerParts {
         http,
         seating,
         pauses,
@@ -104,7 +104,7 @@ fn open_house<A: Drop, R: ConnectionRuntime + Copy>(
 
 /// A server that has ended.
 #[derive(Drop)]
-pub struct Ended<A> {
+pub struct ServeOutcome<A> {
     /// The service; none, where something still holds it.
     pub answers: Option<A>,
     /// Whether it ended in order, or waiting for events failed.
@@ -123,28 +123,28 @@ pub fn serve_up_to<A, R>(
     answers: A,
     queues: Queues,
     connections: Option<usize>,
-) -> io::Result<Ended<A>>
+) -> io::Result<ServeOutcome<A>>
 where
-    A: Answers + Send + Sync,
+    A: RequestService + Send + Sync,
     A::Head: Send,
     A::Reply: Send,
     R: ConnectionRuntime + Copy,
     requires ready { A.may_answer }
 {
-    let Opened {
+    let ServerParts {
         http,
         seating,
         pauses,
         house,
         shared,
-    } = open_house(rt, runtime, answers, queues)?;
+    } = open_server(rt, runtime, answers, queues)?;
     let sockets = listener
         .incoming()
         .take(connections.unwrap_or(usize::MAX))
-        .filter_map(|accepted| Admission::new(accepted, rt, &pauses));
+        .filter_map(|accepted| AcceptOrPause::new(accepted, rt, &pauses));
     let outcome = serve_all(rt, runtime, http, sockets, shared, seating);
     let answers = Arc::into_inner(house).map(|house| house.answers);
-    Ok(Ended { answers, outcome })
+    Ok(ServeOutcome { answers, outcome })
 }
 
 /// Serves the connections of a listener by this service until it is to end, and then what has
@@ -159,28 +159,28 @@ pub fn serve_by<A, R>(
     listener: TcpListener,
     answers: A,
     queues: Queues,
-    closing: &Closing,
-) -> io::Result<Ended<A>>
+    closing: &ShutdownHandle,
+) -> io::Result<ServeOutcome<A>>
 where
-    A: Answers + Send + Sync,
+    A: RequestService + Send + Sync,
     A::Head: Send,
     A::Reply: Send,
     R: ConnectionRuntime + Copy,
     requires ready { A.may_answer }
 {
-    let Opened {
+    let ServerParts {
         http,
         seating,
         pauses,
         house,
         shared,
-    } = open_house(rt, runtime, answers, queues)?;
-    let closed = closing.closed(Arc::try_clone(&house)?)?;
+    } = open_server(rt, runtime, answers, queues)?;
+    let closed = closing.shutdown_future(Arc::try_clone(&house)?)?;
     let sockets = listener
         .incoming()
         .take_until(closed)
-        .filter_map(|accepted| Admission::new(accepted, rt, &pauses));
+        .filter_map(|accepted| AcceptOrPause::new(accepted, rt, &pauses));
     let outcome = serve_all(rt, runtime, http, sockets, shared, seating);
     let answers = Arc::into_inner(house).map(|house| house.answers);
-    Ok(Ended { answers, outcome })
+    Ok(ServeOutcome { answers, outcome })
 }

@@ -1,6 +1,6 @@
 //! A connection's handle to its server.
-use crate::house::Crowded;
-use crate::seats::Admittance;
+use crate::server_context::Crowded;
+use crate::slots::Admittance;
 use crate::turn::Turn;
 use futures::Future;
 use http::request::Parts;
@@ -15,7 +15,7 @@ use tokio::time::Sleep;
 /// A connection's handle to what all connections share, or the acceptor's. The types of a
 /// connection have it as a parameter: the proof of the code that serves them covers all that stands
 /// in a type, and so nothing of what is shared.
-pub trait Sits: Drop {
+pub trait ServerConn: Drop {
     ghost use Rattle.std.specs.Prelude.{◌≡◌, ⊤, None, IfOk, IfSome};
     ghost use Rattle.mds_limits.specs.declared.cost.Cost.TheVariants.{Free};
     ghost use Rattle.mds_connections.specs.Turn.{IsWaiting};
@@ -32,14 +32,14 @@ pub trait Sits: Drop {
 
     /// A handle for a new connection, which is anonymous at first; none, where there is no slot for
     /// it.
-    fn enter(&self) -> Option<Self>;
+    fn open_conn(&self) -> Option<Self>;
 
     /// One more handle of the same connection.
     ///
     /// # Errors
     ///
     /// There are too many references.
-    fn again(&self) -> Result<Self, AllocError>;
+    fn clone_handle(&self) -> Result<Self, AllocError>;
 
     /// The allocator.
     fn alloc(&self) -> Global;
@@ -59,21 +59,21 @@ pub trait Sits: Drop {
     fn seconds_since(&self, since: Instant) -> u32;
 
     /// How far the connection is: even while it waits for a head, odd while a request is answered.
-    fn pace(&self) -> u64;
+    fn progress(&self) -> u64;
 
     /// A future that ends when the connection is told to close.
     ///
     /// # Errors
     ///
     /// There are too many references.
-    fn told(&self) -> Result<OwnedNotified, AllocError>;
+    fn close_notice(&self) -> Result<OwnedNotified, AllocError>;
 
     /// A future that ends when the server shuts down.
     ///
     /// # Errors
     ///
     /// There are too many references.
-    fn last(&self) -> Result<OwnedNotified, AllocError>;
+    fn shutdown_notice(&self) -> Result<OwnedNotified, AllocError>;
 
     /// Resolves a head that has come: once, before its body is read.
     fn resolve(&self, parts: Parts) -> Self::Head;
@@ -86,7 +86,7 @@ pub trait Sits: Drop {
 
     /// A head of this client has come, whose body counts as so many bytes: whether the request may
     /// wait.
-    fn ask(&self, actor: Actor, bytes: usize) -> Admittance;
+    fn admit(&self, actor: Actor, bytes: usize) -> Admittance;
 
     /// The turn of an answer that takes so much of its client's queue; none for what takes nothing
     /// of it, and where there is no queue for it.
@@ -105,11 +105,11 @@ pub trait Sits: Drop {
         ensures { IfOk result Self.Reply.can_poll };
 
     /// The request waits no more: its response is made, and it is taken off its client's load.
-    fn made(&self);
+    fn finish_request(&self);
 
     /// The last response is written whole, and no further head has come.
-    fn rest(&self);
+    fn become_idle(&self);
 
     /// The connection has ended.
-    fn leave(&self);
+    fn release(&self);
 }

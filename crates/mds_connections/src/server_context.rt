@@ -1,6 +1,6 @@
 //! What all connections of a server share, and the service that answers them.
 use crate::queues::Queues;
-use crate::seats::Register;
+use crate::slots::ConnTable;
 use futures::Future;
 use http::request::Parts;
 use mds_limits::{Arrived, Cost};
@@ -15,7 +15,7 @@ use tokio::time::Handle;
 pub struct Crowded;
 
 /// A service: resolves the heads of requests, and answers them once their bodies have arrived.
-pub trait Answers: Drop {
+pub trait RequestService: Drop {
     ghost use Rattle.std.specs.Prelude.{⊤, IfOk};
 
     /// A head with what it was resolved to: which client asks, and for what.
@@ -48,11 +48,11 @@ pub trait Answers: Drop {
 
 /// What all connections share.
 #[derive(Drop)]
-pub struct House<A, C> {
+pub struct ServerContext<A, C> {
     pub alloc: Global,
     pub answers: A,
     pub queues: Queues,
-    pub register: Mutex<Register>,
+    pub register: Mutex<ConnTable>,
     pub clock: C,
     pub timers: Handle,
 }

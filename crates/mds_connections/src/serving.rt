@@ -2,15 +2,15 @@
 ghost use Rattle.std.specs.Prelude.{IfSome, ⊤};
 ghost use Rattle.futures.specs.declared.future.either.Either.TheVariants.{Left, Right};
 
-use crate::door::Door;
-use crate::ending::Ending;
-use crate::house::{Answers, House};
-use crate::paced::Paced;
+use crate::http_service::HttpService;
+use crate::shutdown::GracePeriod;
+use crate::server_context::{RequestService, ServerContext};
+use crate::timed_io::TimedIo;
 use crate::runtime::ConnectionRuntime;
-use crate::seats::Seat;
-use crate::sits::Sits;
-use crate::sitting::Sitting;
-use crate::watch::{Bell, Watch, watched};
+use crate::slots::ConnSlot;
+use crate::server_conn::ServerConn;
+use crate::conn_handle::ConnHandle;
+use crate::keepalive::{ReactorNudge, ReactorKeepalive, keepalive_pair};
 use bytes::Bytes;
 use futures::future::Either;
 use futures::task::{Context, Poll};
@@ -27,74 +27,74 @@ use tokio::sync::OwnedNotified;
 
 /// What the accept loop owns, and the reactor's keep-alive task.
 #[derive(Drop)]
-pub struct Seating {
-    seat: Arc<Seat>,
-    bell: Arc<Bell>,
-    watch: Watch,
+pub struct AcceptorParts {
+    seat: Arc<ConnSlot>,
+    bell: Arc<ReactorNudge>,
+    watch: ReactorKeepalive,
 }
 
-impl Seating {
+impl AcceptorParts {
     /// The same, of no connection.
     ///
     /// # Errors
     ///
     /// Out of memory.
-    pub fn new(alloc: Global) -> Result<Seating, AllocError> {
-        let (bell, watch) = watched(alloc)?;
+    pub fn new(alloc: Global) -> Result<AcceptorParts, AllocError> {
+        let (bell, watch) = keepalive_pair(alloc)?;
         let bell = Arc::new(alloc, bell)?;
-        let seat = Arc::new(alloc, Seat::new(alloc)?)?;
-        Ok(Seating { seat, bell, watch })
+        let seat = Arc::new(alloc, ConnSlot::new(alloc)?)?;
+        Ok(AcceptorParts { seat, bell, watch })
     }
 }
 
 /// A new connection: its socket with deadlines, its HTTP service, the future that ends when the
 /// server shuts down, and the handle that gives its slot back.
 #[derive(Drop)]
-struct Newcomer<I, P> {
-    io: Paced<I, P>,
-    door: Door<P>,
+struct NewConn<I, P> {
+    io: TimedIo<I, P>,
+    door: HttpService<P>,
     last: OwnedNotified,
     sitting: P,
 }
 
 /// A new connection; none, where there is no slot for it.
-fn entered<I: Drop, P: Sits>(io: I, usher: &P) -> Option<Newcomer<I, P>> {
-    let sitting = usher.enter()?;
-    match fitted(io, &sitting) {
-        Ok((io, door, last)) => Some(Newcomer {
+fn new_conn<I: Drop, P: ServerConn>(io: I, usher: &P) -> Option<NewConn<I, P>> {
+    let sitting = usher.open_conn()?;
+    match conn_parts(io, &sitting) {
+        Ok((io, door, last)) => Some(NewConn {
             io,
             door,
             last,
             sitting,
         }),
         Err(_) => {
-            sitting.leave();
+            sitting.release();
             None
         }
     }
 }
 
 /// A socket with deadlines, its HTTP service, and the future that ends when the server shuts down.
-fn fitted<I: Drop, P: Sits>(
+fn conn_parts<I: Drop, P: ServerConn>(
     io: I,
     sitting: &P,
-) -> Result<(Paced<I, P>, Door<P>, OwnedNotified), AllocError> {
-    let door = Door {
-        sitting: sitting.again()?,
+) -> Result<(TimedIo<I, P>, HttpService<P>, OwnedNotified), AllocError> {
+    let door = HttpService {
+        sitting: sitting.clone_handle()?,
     };
-    let last = sitting.last()?;
-    Ok((Paced::new(io, sitting.again()?)?, door, last))
+    let last = sitting.shutdown_notice()?;
+    Ok((TimedIo::new(io, sitting.clone_handle()?)?, door, last))
 }
 
 /// A connection's future, which gives its slot back at the end.
 #[derive(Drop)]
-struct Seated<F, P> {
+struct ConnTask<F, P> {
     future: F,
-    ending: Ending,
+    ending: GracePeriod,
     sitting: P,
 }
 
-impl<F: Future<Output: Drop>, P: Sits> Future for Seated<F, P> {
+impl<F: Future<Output: Drop>, P: ServerConn> Future for ConnTask<F, P> {
     type Output = ();
 
     ghost can_poll = { λ seated. F.can_poll seated.future };
@@ -103,51 +103,51 @@ impl<F: Future<Output: Drop>, P: Sits> Future for Seated<F, P> {
         if self.future.poll(cx).is_pending() && !self.ending.is_over(&self.sitting, cx) {
             return Poll::Pending;
         }
-        self.sitting.leave();
+        self.sitting.release();
         Poll::Ready(())
     }
 }
 
 /// Makes the tasks of connections.
-trait Host<I>: Drop {
+trait ConnFactory<I>: Drop {
     type Task: Future<Output = ()>;
 
     /// Holds of a factory that may make the task of any connection.
     ghost can_seat: { Self → Type 0 } = { λ _. ⊤ };
 
     /// The task of a connection; none, where as many are served as may be.
-    fn seat(&self, io: I) -> Option<Self::Task>
+    fn task_for(&self, io: I) -> Option<Self::Task>
         requires { can_seat self.now }
         ensures { IfSome result Self.Task.can_poll };
 }
 
 /// What each connection of a server is made with: the HTTP settings, and the acceptor's handle.
 #[derive(Drop)]
-struct Table<P, T> {
+struct HttpConnFactory<P, T> {
     http: Builder<T>,
     usher: P,
 }
 
-impl<I, P, T> Host<I> for Table<P, T>
+impl<I, P, T> ConnFactory<I> for HttpConnFactory<P, T>
 where
     I: AsyncRead + AsyncWrite,
-    P: Sits,
+    P: ServerConn,
     T: Timer,
 {
-    type Task = Seated<Connection<Paced<I, P>, Door<P>, Full<Bytes>, T>, P>;
+    type Task = ConnTask<Connection<TimedIo<I, P>, HttpService<P>, Full<Bytes>, T>, P>;
 
     ghost can_seat = { λ _. P.may_answer };
 
-    fn seat(&self, io: I) -> Option<Self::Task> {
-        let Newcomer {
+    fn task_for(&self, io: I) -> Option<Self::Task> {
+        let NewConn {
             io,
             door,
             last,
             sitting,
-        } = entered(io, &self.usher)?;
-        Some(Seated {
+        } = new_conn(io, &self.usher)?;
+        Some(ConnTask {
             future: self.http.serve_connection(io, door),
-            ending: Ending::new(last),
+            ending: GracePeriod::new(last),
             sitting,
         })
     }
@@ -155,14 +155,14 @@ where
 
 /// The tasks of a server: the reactor's keep-alive task, then each connection that gets a slot.
 #[derive(Drop)]
-struct Tasks<S, H> {
-    watch: Option<Watch>,
+struct ServerTasks<S, H> {
+    watch: Option<ReactorKeepalive>,
     sockets: S,
     host: H,
 }
 
-impl<S: Stream, H: Host<S::Item>> Stream for Tasks<S, H> {
-    type Item = Either<H::Task, Watch>;
+impl<S: Stream, H: ConnFactory<S::Item>> Stream for ServerTasks<S, H> {
+    type Item = Either<H::Task, ReactorKeepalive>;
 
     ghost can_poll = { λ tasks. S.can_poll tasks.sockets × H.can_seat tasks.host };
 
@@ -174,7 +174,7 @@ impl<S: Stream, H: Host<S::Item>> Stream for Tasks<S, H> {
             return Poll::Ready(Some(Either::Right(watch)));
         }
         match self.sockets.poll_next(cx) {
-            Poll::Ready(Some(io)) => match self.host.seat(io) {
+            Poll::Ready(Some(io)) => match self.host.task_for(io) {
                 Some(task) => Poll::Ready(Some(Either::Left(task))),
                 None => cx.yield_now(),
             },
@@ -185,11 +185,11 @@ impl<S: Stream, H: Host<S::Item>> Stream for Tasks<S, H> {
 }
 
 /// Runs all tasks of a server to their end.
-fn run_tasks<R, S, H>(rt: &R, runtime: &mut Runtime, tasks: Tasks<S, H>) -> io::Result<()>
+fn run_tasks<R, S, H>(rt: &R, runtime: &mut Runtime, tasks: ServerTasks<S, H>) -> io::Result<()>
 where
     R: ConnectionRuntime,
     S: Stream,
-    H: Host<S::Item>,
+    H: ConnFactory<S::Item>,
     H::Task: Send,
     requires sockets { S.can_poll tasks.sockets }
     requires seats { H.can_seat tasks.host }
@@ -203,22 +203,22 @@ pub fn serve_all<R, S, I, A, T>(
     runtime: &mut Runtime,
     http: Builder<T>,
     sockets: S,
-    house: Arc<House<A, R>>,
-    seating: Seating,
+    house: Arc<ServerContext<A, R>>,
+    seating: AcceptorParts,
 ) -> io::Result<()>
 where
     R: ConnectionRuntime,
     S: Stream<Item = I>,
     I: AsyncRead + AsyncWrite + Send,
-    A: Answers + Send + Sync,
+    A: RequestService + Send + Sync,
     A::Head: Send,
     A::Reply: Send,
     T: Timer + Send,
     requires sockets { S.can_poll sockets }
     requires ready { A.may_answer }
 {
-    let Seating { seat, bell, watch } = seating;
-    let usher = Sitting::usher(house, seat, bell);
+    let AcceptorParts { seat, bell, watch } = seating;
+    let usher = ConnHandle::acceptor(house, seat, bell);
     serve_with(rt, runtime, http, sockets, usher, watch)
 }
 
@@ -229,23 +229,23 @@ fn serve_with<R, S, I, P, T>(
     http: Builder<T>,
     sockets: S,
     usher: P,
-    watch: Watch,
+    watch: ReactorKeepalive,
 ) -> io::Result<()>
 where
     R: ConnectionRuntime,
     S: Stream<Item = I>,
     I: AsyncRead + AsyncWrite + Send,
-    P: Sits + Send,
+    P: ServerConn + Send,
     P::Head: Send,
     P::Reply: Send,
     T: Timer + Send,
     requires sockets { S.can_poll sockets }
     requires ready { P.may_answer }
 {
-    let tasks = Tasks {
+    let tasks = ServerTasks {
         watch: Some(watch),
         sockets,
-        host: Table { http, usher },
+        host: HttpConnFactory { http, usher },
     };
     run_tasks(rt, runtime, tasks)
 }

@@ -1,8 +1,8 @@
 //! Graceful shutdown: what has begun is answered, within a deadline.
 ghost use Rattle.futures.specs.Task.{Keeps};
 
-use crate::house::House;
-use crate::sits::Sits;
+use crate::server_context::ServerContext;
+use crate::server_conn::ServerConn;
 use futures::Future;
 use futures::task::{Context, Poll};
 use std::alloc::{AllocError, Global};
@@ -16,7 +16,7 @@ const CLOSING_SECONDS: u64 = 10;
 
 /// Shuts a server down, from any thread, and says how many connections it has.
 #[derive(Drop)]
-pub struct Closing {
+pub struct ShutdownHandle {
     bell: Arc<Notify>,
     connections: Arc<AtomicU64>,
 }
@@ -24,26 +24,26 @@ pub struct Closing {
 /// Ends once the server is to shut down. The table of its connections is closed then, and each
 /// connection has been notified.
 #[derive(Drop)]
-pub struct Closed<A, C> {
+pub struct ShutdownFuture<A, C> {
     rung: OwnedNotified,
-    house: Arc<House<A, C>>,
+    house: Arc<ServerContext<A, C>>,
 }
 
 /// The grace period of a connection, once its server shuts down.
 #[derive(Drop)]
-pub struct Ending {
+pub struct GracePeriod {
     last: OwnedNotified,
     limit: Option<Sleep>,
 }
 
-impl Closing {
+impl ShutdownHandle {
     /// A handle for a server that isn't to shut down yet.
     ///
     /// # Errors
     ///
     /// Out of memory.
-    pub fn new(alloc: Global) -> Result<Closing, AllocError> {
-        Ok(Closing {
+    pub fn new(alloc: Global) -> Result<ShutdownHandle, AllocError> {
+        Ok(ShutdownHandle {
             bell: Arc::new(alloc, Notify::new(alloc)?)?,
             connections: Arc::new(alloc, AtomicU64::new(0))?,
         })
@@ -71,20 +71,20 @@ impl Closing {
     /// # Errors
     ///
     /// There are too many references.
-    pub fn closed<A: Drop, C: Wait + Drop>(
+    pub fn shutdown_future<A: Drop, C: Wait + Drop>(
         &self,
-        house: Arc<House<A, C>>,
-    ) -> Result<Closed<A, C>, AllocError> {
+        house: Arc<ServerContext<A, C>>,
+    ) -> Result<ShutdownFuture<A, C>, AllocError> {
         let connections = self.connections()?;
         house.register.lock(&house.clock).count_at(connections);
-        Ok(Closed {
+        Ok(ShutdownFuture {
             rung: Notify::notified_owned(Arc::try_clone(&self.bell)?),
             house,
         })
     }
 }
 
-impl<A: Drop, C: Wait + Drop> Future for Closed<A, C> {
+impl<A: Drop, C: Wait + Drop> Future for ShutdownFuture<A, C> {
     type Output = ();
 
     fn poll(&mut self, cx: &mut Context<'_>) -> Poll<()> {
@@ -93,19 +93,19 @@ impl<A: Drop, C: Wait + Drop> Future for Closed<A, C> {
         }
         let mut register = self.house.register.lock(&self.house.clock);
         register.close();
-        register.tell();
+        register.notify_shutdown();
         Poll::Ready(())
     }
 }
 
-impl Ending {
+impl GracePeriod {
     /// The grace period of a connection whose server isn't shutting down.
-    pub fn new(last: OwnedNotified) -> Ending {
-        Ending { last, limit: None }
+    pub fn new(last: OwnedNotified) -> GracePeriod {
+        GracePeriod { last, limit: None }
     }
 
     /// Whether the server shuts down, and the connection's grace period is over.
-    pub fn is_over<P: Sits>(&mut self, sitting: &P, cx: &mut Context<'_>) -> bool
+    pub fn is_over<P: ServerConn>(&mut self, sitting: &P, cx: &mut Context<'_>) -> bool
         ensures { Keeps cx.old cx.new }
     {
         if self.limit.is_none() {

@@ -1,8 +1,8 @@
 //! The table of a server's connections: whose they are, and what waits of each client.
 ghost use Rattle.std.specs.Prelude.{◌≡◌, None, true, false};
-ghost use Rattle.mds_connections.specs.declared.seats.Admittance.TheVariants.{Busy};
+ghost use Rattle.mds_connections.specs.declared.slots.Admittance.TheVariants.{Busy};
 
-use mds_limits::{Decision, Load, index_of, may_wait, seat_for};
+use mds_limits::{Decision, Load, index_of, may_wait, slot_for};
 use mds_request::Actor;
 use slab::Slab;
 use std::alloc::{AllocError, Global};
@@ -13,7 +13,7 @@ use tokio::sync::{Notify, OwnedNotified};
 
 /// The connection's slot: what all parts of a connection share.
 #[derive(Drop)]
-pub struct Seat {
+pub struct ConnSlot {
     /// How far it is: even while it waits for a head, odd while a request is answered.
     pub pace: AtomicU64,
     /// Notifies the connection that it has to close.
@@ -34,7 +34,7 @@ pub enum Admittance {
 
 /// A connection that has a slot.
 #[derive(Drop)]
-struct Sitter {
+struct ConnEntry {
     /// The index of the client that uses it.
     asker: usize,
     /// It was told to close, and isn't counted any more.
@@ -43,13 +43,13 @@ struct Sitter {
     since: Option<u64>,
     /// The bytes that the body of its unanswered request counts as.
     waits: Option<usize>,
-    seat: Arc<Seat>,
+    seat: Arc<ConnSlot>,
 }
 
 /// The table of connections, and what waits.
 #[derive(Drop)]
-pub struct Register {
-    sitters: Slab<Sitter>,
+pub struct ConnTable {
+    sitters: Slab<ConnEntry>,
     /// How often a connection began to be idle: later ones have a higher number.
     rests: u64,
     /// The keys of each client's idle connections, by since when they are idle.
@@ -68,14 +68,14 @@ pub struct Register {
     is_closed: bool,
 }
 
-impl Seat {
+impl ConnSlot {
     /// The slot of a connection that waits for its first head.
     ///
     /// # Errors
     ///
     /// Out of memory.
-    pub fn new(alloc: Global) -> Result<Seat, AllocError> {
-        Ok(Seat {
+    pub fn new(alloc: Global) -> Result<ConnSlot, AllocError> {
+        Ok(ConnSlot {
             pace: AtomicU64::new(0),
             leave: Arc::new(alloc, Notify::new(alloc)?)?,
             last: Arc::new(alloc, Notify::new(alloc)?)?,
@@ -87,7 +87,7 @@ impl Seat {
     /// # Errors
     ///
     /// There are too many references.
-    pub fn told(&self) -> Result<OwnedNotified, AllocError> {
+    pub fn close_notice(&self) -> Result<OwnedNotified, AllocError> {
         Ok(Notify::notified_owned(Arc::try_clone(&self.leave)?))
     }
 
@@ -96,18 +96,18 @@ impl Seat {
     /// # Errors
     ///
     /// There are too many references.
-    pub fn last(&self) -> Result<OwnedNotified, AllocError> {
+    pub fn shutdown_notice(&self) -> Result<OwnedNotified, AllocError> {
         Ok(Notify::notified_owned(Arc::try_clone(&self.last)?))
     }
 }
 
-impl Register {
+impl ConnTable {
     /// A table of no connection, for so many clients.
     ///
     /// # Errors
     ///
     /// Out of memory.
-    pub fn new(alloc: Global, askers: usize) -> Result<Register, AllocError> {
+    pub fn new(alloc: Global, askers: usize) -> Result<ConnTable, AllocError> {
         let none = Load {
             requests: 0,
             bytes: 0,
@@ -116,7 +116,7 @@ impl Register {
         for _ in 0..askers {
             idle.push(BTreeMap::new(alloc))?;
         }
-        Ok(Register {
+        Ok(ConnTable {
             sitters: Slab::new(alloc),
             rests: 0,
             idle,
@@ -142,11 +142,11 @@ impl Register {
         ensures { self.new.is_closed ≡ self.old.is_closed }
     {
         self.open = Some(open);
-        self.tell_open();
+        self.store_open();
     }
 
     /// Stores the number of open connections, where it is wanted.
-    fn tell_open(&self) {
+    fn store_open(&self) {
         if let Some(open) = &self.open {
             open.store(self.sitters.len() as u64, Ordering::SeqCst);
         }
@@ -154,7 +154,7 @@ impl Register {
 
     /// Notifies each connection that the server shuts down. One that waits for a head closes at
     /// once, another once its response is written.
-    pub fn tell(&self) {
+    pub fn notify_shutdown(&self) {
         for (_, sitter) in self.sitters.iter() {
             sitter.seat.leave.notify_one();
             sitter.seat.last.notify_one();
@@ -163,7 +163,7 @@ impl Register {
 
     /// Gives an anonymous connection a slot, and returns its key; none, where there is no slot for
     /// it or the table is closed.
-    pub fn enter(&mut self, seat: Arc<Seat>) -> Option<usize>
+    pub fn add_conn(&mut self, seat: Arc<ConnSlot>) -> Option<usize>
         ensures closed { self.old.is_closed ≡ true → result ≡ None }
         ensures kept { self.new.is_closed ≡ self.old.is_closed }
     {
@@ -171,10 +171,10 @@ impl Register {
             return None;
         }
         let asker = index_of(Actor::Nobody);
-        if !self.makes_room(asker) {
+        if !self.take_slot(asker) {
             return None;
         }
-        let sitter = Sitter {
+        let sitter = ConnEntry {
             asker,
             is_told: false,
             since: None,
@@ -183,8 +183,8 @@ impl Register {
         };
         match self.sitters.insert(sitter) {
             Ok(key) => {
-                self.rest(key);
-                self.tell_open();
+                self.set_idle(key);
+                self.store_open();
                 Some(key)
             }
             Err(_) => {
@@ -196,10 +196,10 @@ impl Register {
 
     /// The connection is idle from now on: its last response is written whole, and no further head
     /// has come. Where there is no memory to note it, it isn't told to close.
-    pub fn rest(&mut self, key: usize)
+    pub fn set_idle(&mut self, key: usize)
         ensures { self.new.is_closed ≡ self.old.is_closed }
     {
-        self.stir(key);
+        self.set_busy(key);
         let Some(sitter) = self.sitters.get_mut(key) else {
             return;
         };
@@ -216,7 +216,7 @@ impl Register {
 
     /// Whether a request of this client, whose body counts as so many bytes, may wait. Where it
     /// may, it waits from now on.
-    pub fn ask(&mut self, key: usize, actor: Actor, bytes: usize) -> Admittance
+    pub fn admit(&mut self, key: usize, actor: Actor, bytes: usize) -> Admittance
         ensures closed { self.old.is_closed ≡ true → result ≡ Busy }
         ensures kept { self.new.is_closed ≡ self.old.is_closed }
     {
@@ -227,11 +227,11 @@ impl Register {
             Some(sitter) if !sitter.is_told => {}
             _ => return Admittance::Busy,
         }
-        self.stir(key);
-        if actor != Actor::Nobody && !self.becomes(key, index_of(actor)) {
+        self.set_busy(key);
+        if actor != Actor::Nobody && !self.assign_to(key, index_of(actor)) {
             return Admittance::Busy;
         }
-        if self.waits(key, bytes) {
+        if self.start_wait(key, bytes) {
             Admittance::Admitted(actor)
         } else {
             Admittance::Busy
@@ -239,7 +239,7 @@ impl Register {
     }
 
     /// The connection's request is answered: it waits no more.
-    pub fn answered(&mut self, key: usize)
+    pub fn finish_request(&mut self, key: usize)
         ensures { self.new.is_closed ≡ self.old.is_closed }
     {
         let Some(sitter) = self.sitters.get_mut(key) else {
@@ -257,21 +257,21 @@ impl Register {
     }
 
     /// The connection has ended.
-    pub fn leave(&mut self, key: usize)
+    pub fn remove_conn(&mut self, key: usize)
         ensures { self.new.is_closed ≡ self.old.is_closed }
     {
-        self.stir(key);
-        self.answered(key);
+        self.set_busy(key);
+        self.finish_request(key);
         if let Some(sitter) = self.sitters.try_remove(key)
             && !sitter.is_told
         {
             self.uncount(sitter.asker);
         }
-        self.tell_open();
+        self.store_open();
     }
 
     /// The connection isn't idle any more.
-    fn stir(&mut self, key: usize)
+    fn set_busy(&mut self, key: usize)
         ensures { self.new.is_closed ≡ self.old.is_closed }
     {
         let Some(sitter) = self.sitters.get_mut(key) else {
@@ -305,14 +305,14 @@ impl Register {
 
     /// Counts one more connection of this client. Another one may be told to close for it; false,
     /// where none can be.
-    fn makes_room(&mut self, asker: usize) -> bool
+    fn take_slot(&mut self, asker: usize) -> bool
         ensures { self.new.is_closed ≡ self.old.is_closed }
     {
         self.count(asker);
-        match seat_for(&self.counts, self.all, asker) {
+        match slot_for(&self.counts, self.all, asker) {
             Decision::Take => true,
             Decision::Close(of) => {
-                let is_told = self.tells_oldest(of);
+                let is_told = self.close_oldest(of);
                 if !is_told {
                     self.uncount(asker);
                 }
@@ -322,7 +322,7 @@ impl Register {
     }
 
     /// Tells the oldest idle connection of this client to close; false, where none is idle.
-    fn tells_oldest(&mut self, asker: usize) -> bool
+    fn close_oldest(&mut self, asker: usize) -> bool
         ensures { self.new.is_closed ≡ self.old.is_closed }
     {
         let Some(idle) = self.idle.get_mut(asker) else {
@@ -341,7 +341,7 @@ impl Register {
     }
 
     /// The connection becomes one of this client's; false, where there is no slot for it.
-    fn becomes(&mut self, key: usize, asker: usize) -> bool
+    fn assign_to(&mut self, key: usize, asker: usize) -> bool
         ensures { self.new.is_closed ≡ self.old.is_closed }
     {
         let former = match self.sitters.get(key) {
@@ -352,7 +352,7 @@ impl Register {
             return true;
         }
         self.uncount(former);
-        if !self.makes_room(asker) {
+        if !self.take_slot(asker) {
             self.count(former);
             return false;
         }
@@ -363,7 +363,7 @@ impl Register {
     }
 
     /// Lets the connection's request wait; false, where too much waits already.
-    fn waits(&mut self, key: usize, bytes: usize) -> bool
+    fn start_wait(&mut self, key: usize, bytes: usize) -> bool
         ensures { self.new.is_closed ≡ self.old.is_closed }
     {
         let Some(sitter) = self.sitters.get_mut(key) else {

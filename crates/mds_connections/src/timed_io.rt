@@ -2,11 +2,11 @@
 ghost use Rattle.std.specs.Prelude.{◌≡◌};
 ghost use Rattle.futures.specs.Task.{Keeps};
 
-use crate::sending::Sending;
-use crate::sits::Sits;
+use crate::write_progress::WriteProgress;
+use crate::server_conn::ServerConn;
 use futures::Future;
 use futures::task::{Context, Poll};
-use mds_limits::{Stage, is_answering};
+use mds_limits::{HeadPhase, is_answering};
 use std::alloc::AllocError;
 use std::io;
 use tokio::io::{AsyncRead, AsyncWrite};
@@ -16,7 +16,7 @@ use tokio::time::Sleep;
 /// The deadline of a head, or of an idle connection.
 #[derive(Drop)]
 struct Limit {
-    stage: Stage,
+    stage: HeadPhase,
     sleep: Sleep,
 }
 
@@ -24,34 +24,34 @@ struct Limit {
 /// where none begins for `IDLE_SECONDS`, or where the connection is told to close while it waits
 /// for one; and whose writes fail where too little of a response is written.
 #[derive(Drop)]
-pub struct Paced<I, P> {
+pub struct TimedIo<I, P> {
     io: I,
     sitting: P,
     told: OwnedNotified,
     limit: Option<Limit>,
     /// How many bytes of a response were written, until all of it is.
     taken: u64,
-    sending: Option<Sending>,
+    sending: Option<WriteProgress>,
 }
 
 impl Limit {
     /// The deadline of a stage; none, where the clock can't be read or memory is refused.
-    fn new<P: Sits>(sitting: &P, stage: Stage) -> Option<Limit> {
+    fn new<P: ServerConn>(sitting: &P, stage: HeadPhase) -> Option<Limit> {
         let sleep = sitting.sleep(stage.seconds())?;
         Some(Limit { stage, sleep })
     }
 }
 
-impl<I: Drop, P: Sits> Paced<I, P> {
+impl<I: Drop, P: ServerConn> TimedIo<I, P> {
     /// A socket of which nothing was read.
     ///
     /// # Errors
     ///
     /// There are too many references.
-    pub fn new(io: I, sitting: P) -> Result<Paced<I, P>, AllocError> {
-        Ok(Paced {
+    pub fn new(io: I, sitting: P) -> Result<TimedIo<I, P>, AllocError> {
+        Ok(TimedIo {
             io,
-            told: sitting.told()?,
+            told: sitting.close_notice()?,
             sitting,
             limit: None,
             taken: 0,
@@ -64,12 +64,12 @@ impl<I: Drop, P: Sits> Paced<I, P> {
     fn begin(&mut self, is_head: bool)
         ensures { self.new.io ≡ self.old.io }
     {
-        let pace = self.sitting.pace();
-        if is_answering(pace) || (!is_head && self.is_sending()) {
+        let pace = self.sitting.progress();
+        if is_answering(pace) || (!is_head && self.is_writing()) {
             self.limit = None;
             return;
         }
-        let stage = Stage { pace, is_head };
+        let stage = HeadPhase { pace, is_head };
         if self
             .limit
             .as_ref()
@@ -78,7 +78,7 @@ impl<I: Drop, P: Sits> Paced<I, P> {
             return;
         }
         if !is_head {
-            self.sitting.rest();
+            self.sitting.become_idle();
         }
         self.limit = Limit::new(&self.sitting, stage);
     }
@@ -95,27 +95,27 @@ impl<I: Drop, P: Sits> Paced<I, P> {
     }
 
     /// Whether a response isn't written whole.
-    fn is_sending(&self) -> bool {
+    fn is_writing(&self) -> bool {
         self.taken > 0 || self.sending.is_some()
     }
 
     /// So many bytes of a response were written.
-    fn take(&mut self, count: usize)
+    fn count_written(&mut self, count: usize)
         ensures { self.new.io ≡ self.old.io }
     {
         self.taken = self.taken.saturating_add(count as u64);
         if let Some(sending) = &mut self.sending {
-            sending.moves();
+            sending.note_progress();
         }
     }
 
     /// Whether too little of a response is written, of which nothing can be written now.
-    fn is_untaken(&mut self, cx: &mut Context<'_>) -> bool
+    fn is_too_slow(&mut self, cx: &mut Context<'_>) -> bool
         ensures same { self.new.io ≡ self.old.io }
         ensures kept { Keeps cx.old cx.new }
     {
         if self.sending.is_none() {
-            self.sending = Sending::new(&self.sitting);
+            self.sending = WriteProgress::new(&self.sitting);
         }
         match &mut self.sending {
             Some(sending) => sending.is_late(&self.sitting, self.taken, cx),
@@ -124,7 +124,7 @@ impl<I: Drop, P: Sits> Paced<I, P> {
     }
 
     /// The response is written whole, and the connection waits for a request.
-    fn rest(&mut self)
+    fn finish_write(&mut self)
         ensures { self.new.io ≡ self.old.io }
     {
         self.taken = 0;
@@ -133,7 +133,7 @@ impl<I: Drop, P: Sits> Paced<I, P> {
     }
 }
 
-impl<I: AsyncRead, P: Sits> AsyncRead for Paced<I, P> {
+impl<I: AsyncRead, P: ServerConn> AsyncRead for TimedIo<I, P> {
     ghost reads = { λ a xs b. I.reads a.io xs b.io };
 
     ghost is_at_end = { λ r. I.is_at_end r.io };
@@ -162,7 +162,7 @@ impl<I: AsyncRead, P: Sits> AsyncRead for Paced<I, P> {
     }
 }
 
-impl<I: AsyncWrite, P: Sits> AsyncWrite for Paced<I, P> {
+impl<I: AsyncWrite, P: ServerConn> AsyncWrite for TimedIo<I, P> {
     ghost writes = { λ a xs b. I.writes a.io xs b.io };
 
     ghost is_flushed = { λ w. I.is_flushed w.io };
@@ -178,12 +178,12 @@ impl<I: AsyncWrite, P: Sits> AsyncWrite for Paced<I, P> {
     fn poll_write(&mut self, cx: &mut Context<'_>, buf: &[u8]) -> Poll<io::Result<usize>> {
         match self.io.poll_write(cx, buf) {
             Poll::Ready(Ok(count)) => {
-                self.take(count);
+                self.count_written(count);
                 Poll::Ready(Ok(count))
             }
             Poll::Ready(Err(error)) => Poll::Ready(Err(error)),
             Poll::Pending => {
-                if self.is_untaken(cx) {
+                if self.is_too_slow(cx) {
                     return Poll::Ready(Err(io::ErrorKind::TimedOut.into()));
                 }
                 Poll::Pending
@@ -194,7 +194,7 @@ impl<I: AsyncWrite, P: Sits> AsyncWrite for Paced<I, P> {
     fn poll_flush(&mut self, cx: &mut Context<'_>) -> Poll<io::Result<()>> {
         match self.io.poll_flush(cx) {
             Poll::Ready(Ok(())) => {
-                self.rest();
+                self.finish_write();
                 if self.is_over(cx) {
                     return Poll::Ready(Err(io::ErrorKind::TimedOut.into()));
                 }

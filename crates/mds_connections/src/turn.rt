@@ -12,7 +12,7 @@ use tokio::sync::{AcquireError, AcquireOwned, OwnedSemaphorePermit, Semaphore};
 
 /// How far an answer is with the line, which one long answer holds at a time.
 #[derive(Drop)]
-enum Line {
+enum LineState {
     /// It is a short answer: it doesn't need the line.
     Open,
     /// It waits until it holds the line.
@@ -25,7 +25,7 @@ enum Line {
 /// then its permits.
 #[derive(Drop)]
 pub struct Turn {
-    line: Line,
+    line: LineState,
     permits: AcquireOwned,
 }
 
@@ -34,7 +34,7 @@ pub struct Turn {
 #[derive(Drop)]
 pub struct Permits {
     permits: OwnedSemaphorePermit,
-    line: Line,
+    line: LineState,
 }
 
 impl Turn {
@@ -45,7 +45,7 @@ impl Turn {
         ensures line { is_for_line result.line ≡ false }
     {
         Turn {
-            line: Line::Open,
+            line: LineState::Open,
             permits: Semaphore::acquire_owned(permits),
         }
     }
@@ -57,7 +57,7 @@ impl Turn {
         ensures line { is_for_line result.line ≡ true }
     {
         Turn {
-            line: Line::Waiting(Semaphore::acquire_owned(line)),
+            line: LineState::Waiting(Semaphore::acquire_owned(line)),
             permits: Semaphore::acquire_many_owned(permits, MOST_SHORT),
         }
     }
@@ -73,16 +73,16 @@ impl Future for Turn {
     ghost gives = { Holds };
 
     fn poll(&mut self, cx: &mut Context<'_>) -> Poll<Result<Permits, AcquireError>> {
-        if let Line::Waiting(line) = &mut self.line {
+        if let LineState::Waiting(line) = &mut self.line {
             match ready!(line.poll(cx)) {
-                Ok(permit) => self.line = Line::Held(permit),
+                Ok(permit) => self.line = LineState::Held(permit),
                 Err(error) => return Poll::Ready(Err(error)),
             }
         }
         match self.permits.poll(cx) {
             Poll::Pending => Poll::Pending,
             Poll::Ready(Ok(permits)) => {
-                let line = mem::replace(&mut self.line, Line::Open);
+                let line = mem::replace(&mut self.line, LineState::Open);
                 Poll::Ready(Ok(Permits { permits, line }))
             }
             Poll::Ready(Err(error)) => Poll::Ready(Err(error)),

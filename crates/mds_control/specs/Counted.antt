@@ -1,28 +1,28 @@
 -- The kinds of what is counted, and their rows.
 use Rattle.std.specs.Prelude.{ℕ, ◌+◌, ◌*◌, nat_lt, if◌then◌else◌}
-use Rattle.mds_control.specs.declared.counters.Kind.{Kind}
-use Rattle.mds_control.specs.declared.counters.Kind.TheVariants.{Read, Change, Publish}
-use Rattle.mds_control.specs.declared.counters.Outcome.{Outcome}
-use Rattle.mds_control.specs.declared.counters.Outcome.TheVariants.{Done, Refused, Failed}
+use Rattle.mds_control.specs.declared.counters.CallKind.{CallKind}
+use Rattle.mds_control.specs.declared.counters.CallKind.TheVariants.{Read, Change, Publish}
+use Rattle.mds_control.specs.declared.counters.StatusClass.{StatusClass}
+use Rattle.mds_control.specs.declared.counters.StatusClass.TheVariants.{Done, Refused, Failed}
 use Rattle.mds_control.specs.declared.counters.Figure.{Figure}
 use Rattle.mds_control.specs.declared.counters.Figure.TheVariants.{JournalBytes, Syncs, Pending, Revision}
 
 -- the class of a status (RFC 9110, section 15): 4xx is the client's fault, 5xx the server's
-abbrev pub outcome_of : ℕ → Outcome
+abbrev pub outcome_of : ℕ → StatusClass
 outcome_of status = if nat_lt status 400 then Done else (if nat_lt status 500 then Refused else Failed)
 
-abbrev pub kind_place : Kind → ℕ
+abbrev pub kind_place : CallKind → ℕ
 kind_place Read = 0
 kind_place Change = 1
 kind_place Publish = 2
 
-abbrev pub outcome_place : Outcome → ℕ
+abbrev pub outcome_place : StatusClass → ℕ
 outcome_place Done = 0
 outcome_place Refused = 1
 outcome_place Failed = 2
 
 -- three rows for each kind of request
-abbrev pub request_place : Kind → Outcome → ℕ
+abbrev pub request_place : CallKind → StatusClass → ℕ
 request_place kind outcome = 3 * kind_place kind + outcome_place outcome
 
 -- after the nine rows of requests

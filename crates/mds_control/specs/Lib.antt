@@ -4,4 +4,4 @@ pub mod Hosts
 pub mod Admission
 pub mod Requests
 pub mod Pages
-pub mod Places
+pub mod PortAddress

@@ -3,7 +3,7 @@ use Rattle.std.specs.Prelude.{ℕ, ◌==◌, List, [], ◌++◌, codes, decimal,
 use Rattle.mds_control.specs.declared.families.Family as families
 use Rattle.mds_control.specs.declared.lines.Metadata.{Metadata}
 use Rattle.mds_control.specs.declared.lines.Metadata.TheVariants.{Family, Nothing}
-use Rattle.mds_control.specs.declared.lines.Line.{Line}
+use Rattle.mds_control.specs.declared.lines.MetricLine.{MetricLine}
 
 -- the first line of a family has its metadata before it
 abbrev pub metadata_of : families.Family → ℕ → Metadata
@@ -16,7 +16,7 @@ metadata_text (Family family) =
     codes "# HELP " ++ family.name.now ++ codes " " ++ family.help.now
     ++ codes "\n# TYPE " ++ family.name.now ++ codes " " ++ family.kind.now ++ codes "\n"
 
-abbrev pub line_text : Line → List ℕ
+abbrev pub line_text : MetricLine → List ℕ
 line_text line = metadata_text line.metadata ++ line.name.now ++ line.end.now ++ codes " " ++ decimal line.value ++ codes "\n"
 
 -- the label of an operator's lines: its identifier needs no escape since it is a UUID

@@ -1,10 +1,10 @@
 -- Where a control port listens, by its address.
 use Rattle.std.specs.Prelude.{◌≡◌, ℕ, List, ◌++◌, codes}
-use Rattle.mds_control.specs.declared.port.Place.{Place}
-use Rattle.mds_control.specs.declared.port.Place.TheVariants.{Tcp, Unix}
+use Rattle.mds_control.specs.declared.port.PortAddress.{PortAddress}
+use Rattle.mds_control.specs.declared.port.PortAddress.TheVariants.{Tcp, Unix}
 
 -- an address that begins with `unix:` is that of a Unix socket, and any other is one of TCP
-abbrev pub PlaceOf : List ℕ → Place → Type 0
+abbrev pub PlaceOf : List ℕ → PortAddress → Type 0
 PlaceOf address (Unix path) = address ≡ codes "unix:" ++ path.now
 PlaceOf address (Tcp place) = (place.now ≡ address) × ((path : List ℕ) → ¬ (address ≡ codes "unix:" ++ path))
 

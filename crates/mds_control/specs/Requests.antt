@@ -7,35 +7,35 @@ use Rattle.mds_control.specs.Pages.{answer_of}
 use Rattle.mds_control.specs.declared.admission.Admission.{Admission}
 use Rattle.mds_control.specs.declared.admission.Admission.TheVariants.{Admitted, Malformed, Forbidden}
 use Rattle.mds_control.specs.declared.hosts.Hosts.{Hosts}
-use Rattle.mds_control.specs.declared.pages.Answer.{Answer}
-use Rattle.mds_control.specs.declared.pages.Answer.TheVariants as answers
-use Rattle.mds_control.specs.declared.request.Heading.{Heading}
-use Rattle.mds_control.specs.declared.request.Heading.TheVariants.{Whole, Partial, Broken}
+use Rattle.mds_control.specs.declared.pages.ControlAnswer.{ControlAnswer}
+use Rattle.mds_control.specs.declared.pages.ControlAnswer.TheVariants as answers
+use Rattle.mds_control.specs.declared.request.ControlHead.{ControlHead}
+use Rattle.mds_control.specs.declared.request.ControlHead.TheVariants.{Whole, Partial, Broken}
 use Rattle.mds_control.specs.declared.request.TheConstants.{MOST_FIELDS, MOST_OF_HEAD}
 
 -- a request gets its own answer only where it is let in
-abbrev pub answer_if : Admission → Answer → Answer
+abbrev pub answer_if : Admission → ControlAnswer → ControlAnswer
 answer_if Admitted asked = asked
 answer_if Malformed asked = answers.Unread
 answer_if Forbidden asked = answers.Forbidden
 
-abbrev pub answer_to : Hosts → Bool → RequestHead → Answer
+abbrev pub answer_to : Hosts → Bool → RequestHead → ControlAnswer
 answer_to hosts serves head =
     answer_if (admission_of hosts head.minor (map name_and_value head.fields)) (answer_of head.method head.target serves)
 
 -- the bytes begin with a head that has this answer
-abbrev pub IsAnswered : List ℕ → Hosts → Bool → Answer → Type 0
+abbrev pub IsAnswered : List ℕ → Hosts → Bool → ControlAnswer → Type 0
 IsAnswered bytes hosts serves answer =
     (head : RequestHead) × (rest : List ℕ) × ReadsRequest bytes head rest × (answer ≡ answer_to hosts serves head)
 
 -- a head at the start of the bytes; none yet; or the bytes can begin with none that has no more fields than are read
-abbrev pub HeadingOf : List ℕ → Hosts → Bool → Heading → Type 0
+abbrev pub HeadingOf : List ℕ → Hosts → Bool → ControlHead → Type 0
 HeadingOf bytes hosts serves (Whole answer) = IsAnswered bytes hosts serves answer
 HeadingOf bytes hosts serves Partial = HasNoRequest bytes
 HeadingOf bytes hosts serves Broken = RequestOverflows MOST_FIELDS bytes
 
 -- the answer that is due: none yet, while more of a head may come
-abbrev pub due_of : Heading → ℕ → Bool → Option Answer
+abbrev pub due_of : ControlHead → ℕ → Bool → Option ControlAnswer
 due_of (Whole answer) count is_over = Some answer
 due_of Broken count is_over = Some answers.Unread
 due_of Partial count is_over = if is_over || nat_lt MOST_OF_HEAD count then Some answers.Unread else None

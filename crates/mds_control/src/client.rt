@@ -1,8 +1,8 @@
 //! The client of a control port, which stops a server.
 ghost use Rattle.std.specs.Prelude.{◌≡◌, IfOk, string_bytes};
-ghost use Rattle.mds_control.specs.Places.{stop_request};
+ghost use Rattle.mds_control.specs.PortAddress.{stop_request};
 
-use crate::port::{Place, place_of};
+use crate::port::{PortAddress, port_address_of};
 use std::alloc::{AllocError, AllocGlobal, Global};
 use std::io::{self, Read, Write};
 use std::net::{Net, OpenStream, TcpStream};
@@ -44,14 +44,14 @@ fn ask<C: Read + Write>(stream: &mut C, request: &str) -> io::Result<bool> {
 /// Nothing listens there, no answer comes in five seconds, or memory ran out.
 pub fn stop<R: Net + AllocGlobal>(rt: &R, address: &str) -> io::Result<bool> {
     let limit = Some(Duration::from_secs(ANSWER_SECONDS));
-    match place_of(address) {
-        Place::Tcp(address) => {
+    match port_address_of(address) {
+        PortAddress::Tcp(address) => {
             let mut stream = TcpStream::connect(rt, address)?;
             stream.set_read_timeout(limit)?;
             let host = format!(in rt.alloc(); "{}", stream.peer_addr()?)?;
             ask(&mut stream, &stop_request(rt.alloc(), &host)?)
         }
-        Place::Unix(path) => {
+        PortAddress::Unix(path) => {
             let mut stream = UnixStream::connect(rt, path)?;
             stream.set_read_timeout(limit)?;
             ask(&mut stream, &stop_request(rt.alloc(), "localhost")?)

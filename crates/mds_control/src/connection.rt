@@ -1,10 +1,10 @@
 //! A connection of the control port, whose calls don't block.
-use crate::control::{Server, Stop};
+use crate::control::{ControlledServer, StopServer};
 use crate::counters::Counters;
 use crate::hosts::Hosts;
 use crate::lines::metrics;
-use crate::pages::Answer;
-use crate::request::{MOST_OF_HEAD, answer_due, heading_of};
+use crate::pages::ControlAnswer;
+use crate::request::{MOST_OF_HEAD, answer_due, control_head_of};
 use std::alloc::{AllocError, AllocGlobal, Global};
 use std::io::{self, ErrorKind, Read, Write};
 use std::time::{Clock, Duration, Instant};
@@ -14,7 +14,7 @@ const LIMIT_SECONDS: u64 = 5;
 
 /// Whether a connection goes on.
 #[derive(Clone, Copy, PartialEq, Eq)]
-pub(crate) enum Turn {
+pub(crate) enum ConnProgress {
     /// It waits for its bytes, or to write its response.
     Waits,
     /// Its request is answered.
@@ -23,7 +23,7 @@ pub(crate) enum Turn {
 
 /// A response that is being written.
 #[derive(Drop)]
-struct Reply {
+struct ReplyWriter {
     text: String,
     /// How many of its bytes are written.
     written: usize,
@@ -36,31 +36,31 @@ pub(crate) struct Connection<C> {
     hosts: Hosts,
     head: Vec<u8>,
     /// None, until the head has come.
-    reply: Option<Reply>,
+    reply: Option<ReplyWriter>,
     /// When it was accepted, and then when its head had come.
     since: Instant,
 }
 
-impl Reply {
+impl ReplyWriter {
     /// Writes as much as the socket takes.
     ///
     /// # Errors
     ///
     /// The connection's.
-    fn write_to<C: Write>(&mut self, stream: &mut C) -> io::Result<Turn> {
+    fn write_to<C: Write>(&mut self, stream: &mut C) -> io::Result<ConnProgress> {
         for _ in 0..=self.text.len() {
             let rest = self.text.as_bytes().get(self.written..).unwrap_or_default();
             if rest.is_empty() {
-                return Ok(Turn::Ends);
+                return Ok(ConnProgress::Ends);
             }
             match stream.write(rest) {
                 Ok(0) => return Err(ErrorKind::WriteZero.into()),
                 Ok(count) => self.written = self.written.saturating_add(count),
-                Err(error) if error.kind() == ErrorKind::WouldBlock => return Ok(Turn::Waits),
+                Err(error) if error.kind() == ErrorKind::WouldBlock => return Ok(ConnProgress::Waits),
                 Err(error) => return Err(error),
             }
         }
-        Ok(Turn::Ends)
+        Ok(ConnProgress::Ends)
     }
 }
 
@@ -89,7 +89,7 @@ impl<C: Read + Write> Connection<C> {
     /// # Errors
     ///
     /// The connection's, or memory ran out.
-    fn read_head(&mut self, serves: bool) -> io::Result<Option<Answer>> {
+    fn read_head(&mut self, serves: bool) -> io::Result<Option<ControlAnswer>> {
         let mut part = [0u8; 512];
         for _ in 0..=MOST_OF_HEAD {
             let count = match self.stream.read(&mut part) {
@@ -99,7 +99,7 @@ impl<C: Read + Write> Connection<C> {
             };
             self.head
                 .extend_from_slice(part.get(..count).unwrap_or_default())?;
-            let heading = heading_of(&self.head, &self.hosts, serves);
+            let heading = control_head_of(&self.head, &self.hosts, serves);
             let answer = answer_due(heading, self.head.len(), count == 0);
             if answer.is_some() {
                 return Ok(answer);
@@ -113,10 +113,10 @@ impl<C: Read + Write> Connection<C> {
     /// # Errors
     ///
     /// `TimedOut` where its time is over, the connection's, or memory ran out.
-    pub(crate) fn advance<R, S>(&mut self, rt: &R, server: &Server<'_, S>) -> io::Result<Turn>
+    pub(crate) fn advance<R, S>(&mut self, rt: &R, server: &ControlledServer<'_, S>) -> io::Result<ConnProgress>
     where
         R: Clock + AllocGlobal,
-        S: Stop,
+        S: StopServer,
     {
         if self.since.elapsed(rt)? >= Duration::from_secs(LIMIT_SECONDS) {
             return Err(ErrorKind::TimedOut.into());
@@ -126,31 +126,31 @@ impl<C: Read + Write> Connection<C> {
         {
             let body = body(rt.alloc(), answer, server.counters)?;
             let text = reply_text(rt.alloc(), answer.status(), &body)?;
-            self.reply = Some(Reply { text, written: 0 });
+            self.reply = Some(ReplyWriter { text, written: 0 });
             self.since = Instant::now(rt)?;
-            if answer == Answer::Stops {
-                server.control.stops();
+            if answer == ControlAnswer::Stops {
+                server.control.set_stopping();
                 server.stop.stop();
             }
         }
         match &mut self.reply {
             Some(reply) => reply.write_to(&mut self.stream),
-            None => Ok(Turn::Waits),
+            None => Ok(ConnProgress::Waits),
         }
     }
 }
 
 /// The body of the response.
-fn body(alloc: Global, answer: Answer, counters: &Counters) -> Result<String, AllocError> {
+fn body(alloc: Global, answer: ControlAnswer, counters: &Counters) -> Result<String, AllocError> {
     let text = match answer {
-        Answer::Metrics => return metrics(alloc, &counters.lines(alloc)?),
-        Answer::Healthy => "ok\n",
-        Answer::Unready => "not ready\n",
-        Answer::Stops => "stopping\n",
-        Answer::Unread => "bad request\n",
-        Answer::Forbidden => "forbidden\n",
-        Answer::NotFound => "not found\n",
-        Answer::NotAllowed => "method not allowed\n",
+        ControlAnswer::Metrics => return metrics(alloc, &counters.lines(alloc)?),
+        ControlAnswer::Healthy => "ok\n",
+        ControlAnswer::Unready => "not ready\n",
+        ControlAnswer::Stops => "stopping\n",
+        ControlAnswer::Unread => "bad request\n",
+        ControlAnswer::Forbidden => "forbidden\n",
+        ControlAnswer::NotFound => "not found\n",
+        ControlAnswer::NotAllowed => "method not allowed\n",
     };
     String::from_str(alloc, text)
 }

@@ -4,7 +4,7 @@ use crate::port::PortWaker;
 use std::sync::atomic::{AtomicBool, Ordering};
 
 /// Stops a server.
-pub trait Stop {
+pub trait StopServer {
     /// The server stops from now on: it accepts nothing more, and what has begun is answered.
     fn stop(&self);
 }
@@ -19,7 +19,7 @@ pub struct Control {
 
 /// The server of a control port.
 #[derive(Drop)]
-pub(crate) struct Server<'a, S> {
+pub(crate) struct ControlledServer<'a, S> {
     pub(crate) control: &'a Control,
     pub(crate) counters: &'a Counters,
     pub(crate) stop: &'a S,
@@ -36,12 +36,12 @@ impl Control {
     }
 
     /// The server serves from now on.
-    pub fn serves(&self) {
+    pub fn set_serving(&self) {
         self.serves.store(true, Ordering::SeqCst);
     }
 
     /// The server stops from now on, whoever began it.
-    pub fn stops(&self) {
+    pub fn set_stopping(&self) {
         self.stops.store(true, Ordering::SeqCst);
     }
 
@@ -55,7 +55,7 @@ impl Control {
 
     /// The server has ended. This wakes its control port, which ends too.
     pub fn end(&self, port: &PortWaker) {
-        self.stops();
+        self.set_stopping();
         self.has_ended.store(true, Ordering::SeqCst);
         port.wake();
     }

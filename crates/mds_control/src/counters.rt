@@ -4,14 +4,14 @@ ghost use Rattle.mds_control.specs.Counted.{outcome_of, place_of, request_place}
 
 use crate::families::{BOUNDS, CONNECTIONS, COUNT, FIRST_BUCKET, PLACES, ROWS, SUM, VEHICLES};
 use crate::fleets::Fleet;
-use crate::lines::{Line, Metadata};
+use crate::lines::{MetricLine, Metadata};
 use std::alloc::{AllocError, Global};
 use std::sync::Arc;
 use std::sync::atomic::{AtomicU64, Ordering};
 
 /// The kinds of requests.
 #[derive(Clone, Copy, PartialEq, Eq)]
-pub enum Kind {
+pub enum CallKind {
     /// It reads, or the table of calls refuses it.
     Read,
     /// It may change the persisted state.
@@ -22,7 +22,7 @@ pub enum Kind {
 
 /// The kinds of answers.
 #[derive(Clone, Copy, PartialEq, Eq)]
-pub enum Outcome {
+pub enum StatusClass {
     /// The request was carried out.
     Done,
     /// The request was refused.
@@ -55,32 +55,32 @@ pub struct Counters {
     fleets: Vec<Fleet>,
 }
 
-impl Outcome {
+impl StatusClass {
     /// The kind of an answer of this status.
-    pub fn of(status: u16) -> Outcome
+    pub fn of(status: u16) -> StatusClass
         ensures { result ≡ outcome_of status }
     {
         match status {
-            0..400 => Outcome::Done,
-            400..500 => Outcome::Refused,
-            _ => Outcome::Failed,
+            0..400 => StatusClass::Done,
+            400..500 => StatusClass::Refused,
+            _ => StatusClass::Failed,
         }
     }
 }
 
 /// The row of requests of this kind with such an answer.
-fn request_place(kind: Kind, outcome: Outcome) -> usize
+fn request_place(kind: CallKind, outcome: StatusClass) -> usize
     ensures { result ≡ request_place kind outcome }
 {
     let first = match kind {
-        Kind::Read => 0,
-        Kind::Change => 3,
-        Kind::Publish => 6,
+        CallKind::Read => 0,
+        CallKind::Change => 3,
+        CallKind::Publish => 6,
     };
     match outcome {
-        Outcome::Done => first,
-        Outcome::Refused => first + 1,
-        Outcome::Failed => first + 2,
+        StatusClass::Done => first,
+        StatusClass::Refused => first + 1,
+        StatusClass::Failed => first + 2,
     }
 }
 
@@ -141,8 +141,8 @@ impl Counters {
 
     /// Counts a request of this kind that was answered with this status, so many milliseconds after
     /// its turn came.
-    pub fn count_answer(&self, kind: Kind, status: u16, millis: u64) {
-        self.bump(request_place(kind, Outcome::of(status)), 1);
+    pub fn count_answer(&self, kind: CallKind, status: u16, millis: u64) {
+        self.bump(request_place(kind, StatusClass::of(status)), 1);
         for (bucket, bound) in BOUNDS.iter().enumerate() {
             if millis <= *bound {
                 self.bump(FIRST_BUCKET + bucket, 1);
@@ -158,7 +158,7 @@ impl Counters {
     }
 
     /// Subtracts what was added before.
-    pub fn take(&self, figure: Figure, by: u64) {
+    pub fn subtract(&self, figure: Figure, by: u64) {
         if let Some(held) = self.values.get(figure.place()) {
             held.fetch_sub(by, Ordering::SeqCst);
         }
@@ -176,16 +176,16 @@ impl Counters {
     /// # Errors
     ///
     /// Out of memory.
-    pub fn lines(&self, alloc: Global) -> Result<Vec<Line<'_>>, AllocError> {
+    pub fn lines(&self, alloc: Global) -> Result<Vec<MetricLine<'_>>, AllocError> {
         let mut lines = Vec::new(alloc);
-        lines.push(Line {
+        lines.push(MetricLine {
             metadata: Metadata::Family(CONNECTIONS),
             name: CONNECTIONS.name,
             end: "",
             value: self.connections.load(Ordering::SeqCst),
         })?;
         for (index, fleet) in self.fleets.iter().enumerate() {
-            lines.push(Line {
+            lines.push(MetricLine {
                 metadata: Metadata::of(VEHICLES, index),
                 name: VEHICLES.name,
                 end: fleet.label(),
@@ -195,7 +195,7 @@ impl Counters {
         for rows in ROWS {
             let values = self.values.get(rows.first..).unwrap_or_default();
             for ((index, end), value) in rows.ends.iter().enumerate().zip(values) {
-                lines.push(Line {
+                lines.push(MetricLine {
                     metadata: Metadata::of(rows.family, index),
                     name: rows.family.name,
                     end,

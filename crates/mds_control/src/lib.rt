@@ -18,16 +18,16 @@ mod request;
 mod serving;
 
 pub use client::stop;
-pub use control::{Control, Stop};
-pub use counters::{Counters, Figure, Kind, Outcome};
+pub use control::{Control, StopServer};
+pub use counters::{Counters, Figure, CallKind, StatusClass};
 pub use families::Family;
 pub use fleets::Fleet;
 pub use hosts::Hosts;
-pub use lines::{Line, Metadata, metrics};
-pub use metered::{MeteredReply, Ticket};
-pub use pages::{Answer, answer_for};
+pub use lines::{MetricLine, Metadata, metrics};
+pub use metered::{MeteredReply, RequestTimer};
+pub use pages::{ControlAnswer, answer_for};
 pub use port::{Port, PortWaker};
-pub use request::{Heading, answer_due, heading_of};
+pub use request::{ControlHead, answer_due, control_head_of};
 pub use serving::serve_control;
 
 #[cfg(test)]

@@ -17,7 +17,7 @@ pub enum Metadata {
 
 /// One line: a metric and its value.
 #[derive(Clone, Copy)]
-pub struct Line<'a> {
+pub struct MetricLine<'a> {
     /// What stands before it.
     pub metadata: Metadata,
     /// The name of the metric.
@@ -57,7 +57,7 @@ impl fmt::Display for Metadata {
     }
 }
 
-impl fmt::Display for Line<'_> {
+impl fmt::Display for MetricLine<'_> {
     ghost use Rattle.std.specs.Prelude.{Some};
     ghost use Rattle.mds_control.specs.Lines.{line_text};
 
@@ -74,7 +74,7 @@ impl fmt::Display for Line<'_> {
 /// # Errors
 ///
 /// Out of memory.
-pub fn metrics(alloc: Global, lines: &[Line<'_>]) -> Result<String, AllocError>
+pub fn metrics(alloc: Global, lines: &[MetricLine<'_>]) -> Result<String, AllocError>
     ensures { IfOk result (λ text. string_bytes text ≡ flat_map line_text lines.now) }
 {
     let mut text = String::new(alloc);

@@ -1,7 +1,7 @@
 //! A pending response that is counted as it leaves.
 ghost use Rattle.std.specs.Prelude.{◌≡◌};
 
-use crate::counters::{Counters, Figure, Kind};
+use crate::counters::{Counters, Figure, CallKind};
 use futures::Future;
 use futures::task::{Context, Poll};
 use mds_responses::HttpResult;
@@ -12,21 +12,21 @@ const SUCCESS: u16 = 200;
 
 /// How a request is counted: its kind, and since when its response has been pending. It counts as
 /// pending until this is dropped: the response has left then, or was given up.
-pub struct Ticket<'a, C> {
+pub struct RequestTimer<'a, C> {
     counters: &'a Counters,
     clock: C,
-    kind: Kind,
+    kind: CallKind,
     since: Option<Instant>,
 }
 
-impl<'a, C: Clock> Ticket<'a, C> {
+impl<'a, C: Clock> RequestTimer<'a, C> {
     /// The ticket of a request of this kind, whose response is pending from now on.
-    pub fn new(counters: &'a Counters, clock: C, kind: Kind) -> Ticket<'a, C>
+    pub fn new(counters: &'a Counters, clock: C, kind: CallKind) -> RequestTimer<'a, C>
         ensures { result.kind ≡ kind }
     {
         counters.add(Figure::Pending, 1);
         let since = Instant::now(&clock).ok();
-        Ticket {
+        RequestTimer {
             counters,
             clock,
             kind,
@@ -48,16 +48,16 @@ impl<'a, C: Clock> Ticket<'a, C> {
     /// Counts an answer with this status.
     fn count(&self, status: u16) {
         self.counters.count_answer(self.kind, status, self.millis());
-        if self.kind == Kind::Publish && status == SUCCESS {
+        if self.kind == CallKind::Publish && status == SUCCESS {
             self.counters.add(Figure::Revision, 1);
         }
     }
 }
 
-impl<C: Drop> Drop for Ticket<'_, C> {
+impl<C: Drop> Drop for RequestTimer<'_, C> {
     fn drop(self) {
-        self.counters.take(Figure::Pending, 1);
-        let Ticket {
+        self.counters.subtract(Figure::Pending, 1);
+        let RequestTimer {
             counters: _counters,
             clock: _clock,
             kind: _kind,
@@ -70,12 +70,12 @@ impl<C: Drop> Drop for Ticket<'_, C> {
 #[derive(Drop)]
 pub struct MeteredReply<'a, F, C> {
     reply: F,
-    ticket: Ticket<'a, C>,
+    ticket: RequestTimer<'a, C>,
 }
 
 impl<'a, F: Future, C> MeteredReply<'a, F, C> {
     /// This pending response, counted by that ticket.
-    pub fn new(reply: F, ticket: Ticket<'a, C>) -> MeteredReply<'a, F, C>
+    pub fn new(reply: F, ticket: RequestTimer<'a, C>) -> MeteredReply<'a, F, C>
         ensures { result.reply ≡ reply }
     {
         MeteredReply { reply, ticket }

@@ -4,7 +4,7 @@ ghost use Rattle.mds_control.specs.Pages.{page_of, takes, answer_at, answer_of, 
 
 /// A page of the control port.
 #[derive(Clone, Copy, PartialEq, Eq)]
-enum Page {
+enum ControlPage {
     /// Whether the server serves.
     Health,
     /// The metrics.
@@ -15,7 +15,7 @@ enum Page {
 
 /// An answer of the control port.
 #[derive(Clone, Copy, Debug, PartialEq, Eq)]
-pub enum Answer {
+pub enum ControlAnswer {
     /// The server serves.
     Healthy,
     /// It doesn't serve yet, or not any more.
@@ -34,16 +34,16 @@ pub enum Answer {
     NotAllowed,
 }
 
-impl Page {
-    fn of(path: &[u8]) -> Option<Page>
+impl ControlPage {
+    fn of(path: &[u8]) -> Option<ControlPage>
         ensures { result ≡ page_of path.now }
     {
         if path == b"/healthz".as_slice() {
-            Some(Page::Health)
+            Some(ControlPage::Health)
         } else if path == b"/metrics".as_slice() {
-            Some(Page::Metrics)
+            Some(ControlPage::Metrics)
         } else if path == b"/stop".as_slice() {
-            Some(Page::Stop)
+            Some(ControlPage::Stop)
         } else {
             None
         }
@@ -54,52 +54,52 @@ impl Page {
         ensures { result ≡ takes self method.now }
     {
         match self {
-            Page::Health | Page::Metrics => method == b"GET".as_slice(),
-            Page::Stop => method == b"POST".as_slice(),
+            ControlPage::Health | ControlPage::Metrics => method == b"GET".as_slice(),
+            ControlPage::Stop => method == b"POST".as_slice(),
         }
     }
 
-    fn answer(self, serves: bool) -> Answer
+    fn answer(self, serves: bool) -> ControlAnswer
         ensures { result ≡ answer_at self serves }
     {
         match self {
-            Page::Health if serves => Answer::Healthy,
-            Page::Health => Answer::Unready,
-            Page::Metrics => Answer::Metrics,
-            Page::Stop => Answer::Stops,
+            ControlPage::Health if serves => ControlAnswer::Healthy,
+            ControlPage::Health => ControlAnswer::Unready,
+            ControlPage::Metrics => ControlAnswer::Metrics,
+            ControlPage::Stop => ControlAnswer::Stops,
         }
     }
 }
 
 /// The answer to a method and a path, where the server serves or doesn't.
-pub fn answer_for(method: &[u8], path: &[u8], serves: bool) -> Answer
+pub fn answer_for(method: &[u8], path: &[u8], serves: bool) -> ControlAnswer
     ensures { result ≡ answer_of method.now path.now serves }
 {
-    match Page::of(path) {
+    match ControlPage::of(path) {
         Some(page) => {
             if page.takes(method) {
                 page.answer(serves)
             } else {
-                Answer::NotAllowed
+                ControlAnswer::NotAllowed
             }
         }
-        None => Answer::NotFound,
+        None => ControlAnswer::NotFound,
     }
 }
 
-impl Answer {
+impl ControlAnswer {
     /// Its status (RFC 9110, section 15).
     pub fn status(self) -> u16
         ensures { result ≡ status_of self }
     {
         match self {
-            Answer::Healthy | Answer::Metrics => 200,
-            Answer::Stops => 202,
-            Answer::Unread => 400,
-            Answer::Forbidden => 403,
-            Answer::NotFound => 404,
-            Answer::NotAllowed => 405,
-            Answer::Unready => 503,
+            ControlAnswer::Healthy | ControlAnswer::Metrics => 200,
+            ControlAnswer::Stops => 202,
+            ControlAnswer::Unread => 400,
+            ControlAnswer::Forbidden => 403,
+            ControlAnswer::NotFound => 404,
+            ControlAnswer::NotAllowed => 405,
+            ControlAnswer::Unready => 503,
         }
     }
 }

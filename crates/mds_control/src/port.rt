@@ -1,5 +1,5 @@
 //! Where a control port listens.
-ghost use Rattle.mds_control.specs.Places.{PlaceOf};
+ghost use Rattle.mds_control.specs.PortAddress.{PlaceOf};
 
 use crate::hosts::Hosts;
 use libc::net::listen;
@@ -31,7 +31,7 @@ const ANY: Token = Token(0);
 
 /// Where to listen, or to connect.
 #[derive(Clone, Copy)]
-pub(crate) enum Place<'a> {
+pub(crate) enum PortAddress<'a> {
     /// An address and a port of TCP.
     Tcp(&'a str),
     /// The path of a Unix socket.
@@ -39,12 +39,12 @@ pub(crate) enum Place<'a> {
 }
 
 /// The endpoint of an address: `unix:` stands before the path of a Unix socket.
-pub(crate) fn place_of(address: &str) -> Place<'_>
+pub(crate) fn port_address_of(address: &str) -> PortAddress<'_>
     ensures { PlaceOf address.now result }
 {
     match address.strip_prefix(UNIX) {
-        Some(path) => Place::Unix(path),
-        None => Place::Tcp(address),
+        Some(path) => PortAddress::Unix(path),
+        None => PortAddress::Tcp(address),
     }
 }
 
@@ -176,14 +176,14 @@ impl Port {
     {
         let alloc = rt.alloc();
         let poll = Poll::new(rt)?;
-        let listener = match place_of(address) {
-            Place::Tcp(address) => {
+        let listener = match port_address_of(address) {
+            PortAddress::Tcp(address) => {
                 let listener = TcpListener::bind(rt, address)?;
                 listener.set_nonblocking(true)?;
                 watch(&poll, listener.as_raw_fd())?;
                 Listener::Tcp(listener)
             }
-            Place::Unix(path) => {
+            PortAddress::Unix(path) => {
                 let listener = bind_unix(rt, path)?;
                 listener.set_nonblocking(true)?;
                 watch(&poll, listener.as_raw_fd())?;

@@ -4,7 +4,7 @@ ghost use Rattle.mds_control.specs.Requests.{answer_if, HeadingOf, due_of};
 
 use crate::admission::{Admission, admission_of};
 use crate::hosts::Hosts;
-use crate::pages::{Answer, answer_for};
+use crate::pages::{ControlAnswer, answer_for};
 use httparse::Status;
 use httparse::spans::{EMPTY_HEADER_SPAN, parse_request};
 
@@ -16,9 +16,9 @@ pub(crate) const MOST_OF_HEAD: usize = 8192;
 
 /// What the bytes that have come begin with.
 #[derive(Clone, Copy, Debug, PartialEq, Eq)]
-pub enum Heading {
+pub enum ControlHead {
     /// A head, and its answer.
-    Whole(Answer),
+    Whole(ControlAnswer),
     /// No whole head yet.
     Partial,
     /// Bytes that can't become a head, or a head with more than 64 fields.
@@ -26,20 +26,20 @@ pub enum Heading {
 }
 
 /// The answer to a request with this admission, whose own answer this is.
-fn answer_if(admission: Admission, asked: Answer) -> Answer
+fn answer_if(admission: Admission, asked: ControlAnswer) -> ControlAnswer
     ensures { result ≡ answer_if admission asked }
 {
     match admission {
         Admission::Admitted => asked,
-        Admission::Malformed => Answer::Unread,
-        Admission::Forbidden => Answer::Forbidden,
+        Admission::Malformed => ControlAnswer::Unread,
+        Admission::Forbidden => ControlAnswer::Forbidden,
     }
 }
 
 /// The answer to the head that bytes begin with (RFC 9112, sections 3 and 5), at a port with these
 /// host names, of a server that serves or doesn't. A line may end by a line feed alone (section
 /// 2.2).
-pub fn heading_of(bytes: &[u8], hosts: &Hosts, serves: bool) -> Heading
+pub fn control_head_of(bytes: &[u8], hosts: &Hosts, serves: bool) -> ControlHead
     ensures { HeadingOf bytes.now hosts.now serves result }
 {
     let mut headers = [EMPTY_HEADER_SPAN; MOST_FIELDS];
@@ -48,22 +48,22 @@ pub fn heading_of(bytes: &[u8], hosts: &Hosts, serves: bool) -> Heading
             let headers = &headers[..found.headers];
             let asked = answer_for(found.method.of(bytes), found.path.of(bytes), serves);
             let admission = admission_of(hosts, found.version, bytes, headers);
-            Heading::Whole(answer_if(admission, asked))
+            ControlHead::Whole(answer_if(admission, asked))
         }
-        Ok(Status::Partial) => Heading::Partial,
-        Err(_) => Heading::Broken,
+        Ok(Status::Partial) => ControlHead::Partial,
+        Err(_) => ControlHead::Broken,
     }
 }
 
 /// The answer that is due to what so many bytes begin with, where they have ended or more may come;
 /// none, while the rest of a head may come.
-pub fn answer_due(heading: Heading, count: usize, is_over: bool) -> Option<Answer>
+pub fn answer_due(heading: ControlHead, count: usize, is_over: bool) -> Option<ControlAnswer>
     ensures { result ≡ due_of heading count is_over }
 {
     match heading {
-        Heading::Whole(answer) => Some(answer),
-        Heading::Broken => Some(Answer::Unread),
-        Heading::Partial if is_over || count > MOST_OF_HEAD => Some(Answer::Unread),
-        Heading::Partial => None,
+        ControlHead::Whole(answer) => Some(answer),
+        ControlHead::Broken => Some(ControlAnswer::Unread),
+        ControlHead::Partial if is_over || count > MOST_OF_HEAD => Some(ControlAnswer::Unread),
+        ControlHead::Partial => None,
     }
 }

@@ -1,6 +1,6 @@
 //! The control port, served by one thread.
-use crate::connection::{Connection, Turn};
-use crate::control::{Control, Server, Stop};
+use crate::connection::{Connection, ConnProgress};
+use crate::control::{Control, ControlledServer, StopServer};
 use crate::counters::Counters;
 use crate::port::{Port, Stream};
 use std::alloc::AllocGlobal;
@@ -23,7 +23,7 @@ type Connections = VecDeque<Connection<Stream>>;
 
 /// What became of the connections that wait to be accepted.
 #[derive(Clone, Copy)]
-enum Backlog {
+enum AcceptBacklog {
     /// All are accepted.
     Empty,
     /// As many were accepted as may be open, and more may wait.
@@ -32,14 +32,14 @@ enum Backlog {
     Refused,
 }
 
-impl Backlog {
+impl AcceptBacklog {
     /// For how long nothing else can be done, with so many open connections; none, until something
     /// comes.
     fn wait_limit(self, open: usize) -> Option<Duration> {
         match self {
-            Backlog::Remains => Some(Duration::ZERO),
-            Backlog::Empty if open == 0 => None,
-            Backlog::Empty | Backlog::Refused => Some(Duration::from_millis(TICK_MILLIS)),
+            AcceptBacklog::Remains => Some(Duration::ZERO),
+            AcceptBacklog::Empty if open == 0 => None,
+            AcceptBacklog::Empty | AcceptBacklog::Refused => Some(Duration::from_millis(TICK_MILLIS)),
         }
     }
 }
@@ -56,9 +56,9 @@ pub fn serve_control<R, S>(
 )
 where
     R: Clock + AllocGlobal,
-    S: Stop,
+    S: StopServer,
 {
-    let server = Server {
+    let server = ControlledServer {
         control,
         counters,
         stop,
@@ -85,23 +85,23 @@ fn advance<R, S>(
     rt: &R,
     mut connection: Connection<Stream>,
     connections: &mut Connections,
-    server: &Server<'_, S>,
+    server: &ControlledServer<'_, S>,
 ) -> io::Result<()>
 where
     R: Clock + AllocGlobal,
-    S: Stop,
+    S: StopServer,
 {
-    if connection.advance(rt, server)? == Turn::Waits {
+    if connection.advance(rt, server)? == ConnProgress::Waits {
         connections.push_back(connection)?;
     }
     Ok(())
 }
 
 /// Lets each connection go on. One that fails is closed.
-fn advance_all<R, S>(rt: &R, connections: &mut Connections, server: &Server<'_, S>)
+fn advance_all<R, S>(rt: &R, connections: &mut Connections, server: &ControlledServer<'_, S>)
 where
     R: Clock + AllocGlobal,
-    S: Stop,
+    S: StopServer,
 {
     for _ in 0..connections.len() {
         if let Some(connection) = connections.pop_front() {
@@ -115,17 +115,17 @@ fn accept_some<R, S>(
     rt: &R,
     port: &Port,
     connections: &mut Connections,
-    server: &Server<'_, S>,
-) -> Backlog
+    server: &ControlledServer<'_, S>,
+) -> AcceptBacklog
 where
     R: Clock + AllocGlobal,
-    S: Stop,
+    S: StopServer,
 {
     for _ in 0..MOST_CONNECTIONS {
         let (stream, hosts) = match port.accept(rt.alloc()) {
             Ok(accepted) => accepted,
-            Err(error) if error.kind() == ErrorKind::WouldBlock => return Backlog::Empty,
-            Err(_) => return Backlog::Refused,
+            Err(error) if error.kind() == ErrorKind::WouldBlock => return AcceptBacklog::Empty,
+            Err(_) => return AcceptBacklog::Refused,
         };
         if connections.len() >= MOST_CONNECTIONS {
             connections.pop_front();
@@ -134,5 +134,5 @@ where
             let _ = advance(rt, connection, connections, server);
         }
     }
-    Backlog::Remains
+    AcceptBacklog::Remains
 }

@@ -1,8 +1,8 @@
 //! Tests of the control port over loopback.
-use crate::counters::{Counters, Figure, Kind};
+use crate::counters::{Counters, Figure, CallKind};
 use crate::fleets::Fleet;
 use crate::{
-    Answer, Control, Heading, Hosts, Port, Stop, answer_due, heading_of, metrics, serve_control,
+    ControlAnswer, Control, ControlHead, Hosts, Port, StopServer, answer_due, control_head_of, metrics, serve_control,
     stop,
 };
 use std::alloc::{AllocError, AllocGlobal, Global};
@@ -21,22 +21,22 @@ use std::time::{Clock, Duration, Instant};
 #[derive(Drop)]
 struct Noted(AtomicBool);
 
-impl Stop for Noted {
+impl StopServer for Noted {
     fn stop(&self) {
         self.0.store(true, Ordering::SeqCst);
     }
 }
 
 /// Counters of a server without connections and operators.
-fn nothing_counted(alloc: Global) -> Result<Counters, AllocError> {
+fn zero_counters(alloc: Global) -> Result<Counters, AllocError> {
     let connections = Arc::new(alloc, AtomicU64::new(0))?;
     Counters::new(alloc, connections, Vec::new(alloc))
 }
 
 /// The answer to a request of these lines at `127.0.0.1:9090`, which has the name `city` too.
-fn answered(alloc: Global, lines: &str) -> Result<Heading, AllocError> {
+fn heading_in(alloc: Global, lines: &str) -> Result<ControlHead, AllocError> {
     let hosts = Hosts::new(alloc, "0.0.0.0", "127.0.0.1", 9090, Some("City.Example"))?;
-    Ok(heading_of(lines.as_bytes(), &hosts, true))
+    Ok(control_head_of(lines.as_bytes(), &hosts, true))
 }
 
 #[test]
@@ -51,8 +51,8 @@ fn lets_in_who_names_its_host(rt: HostRuntime) -> Result<(), Fail> {
         "city.example:9090",
     ] {
         let lines = format!(in rt.alloc(); "GET /healthz HTTP/1.1\r\nhOsT: {host}\r\n\r\n")?;
-        let found = answered(rt.alloc(), &lines)?;
-        assert_eq!(rt; found, Heading::Whole(Answer::Healthy), "{host}");
+        let found = heading_in(rt.alloc(), &lines)?;
+        assert_eq!(rt; found, ControlHead::Whole(ControlAnswer::Healthy), "{host}");
     }
     Ok(())
 }
@@ -71,8 +71,8 @@ fn refuses_another_host(rt: HostRuntime) -> Result<(), Fail> {
         "127.0.0.1:9090, evil.example",
     ] {
         let lines = format!(in rt.alloc(); "POST /stop HTTP/1.1\r\nhost: {host}\r\n\r\n")?;
-        let found = answered(rt.alloc(), &lines)?;
-        assert_eq!(rt; found, Heading::Whole(Answer::Forbidden), "{host}");
+        let found = heading_in(rt.alloc(), &lines)?;
+        assert_eq!(rt; found, ControlHead::Whole(ControlAnswer::Forbidden), "{host}");
     }
     Ok(())
 }
@@ -89,10 +89,10 @@ fn refuses_a_page(rt: HostRuntime) -> Result<(), Fail> {
         let lines = format!(in rt.alloc();
             "POST /stop HTTP/1.1\r\nhost: localhost\r\n{field}\r\n\r\n"
         )?;
-        let found = answered(rt.alloc(), &lines)?;
-        assert_eq!(rt; found, Heading::Whole(Answer::Forbidden), "{field}");
-        let anywhere = heading_of(lines.as_bytes(), &Hosts::Any, true);
-        assert_eq!(rt; anywhere, Heading::Whole(Answer::Forbidden), "{field}");
+        let found = heading_in(rt.alloc(), &lines)?;
+        assert_eq!(rt; found, ControlHead::Whole(ControlAnswer::Forbidden), "{field}");
+        let anywhere = control_head_of(lines.as_bytes(), &Hosts::Any, true);
+        assert_eq!(rt; anywhere, ControlHead::Whole(ControlAnswer::Forbidden), "{field}");
     }
     Ok(())
 }
@@ -100,45 +100,45 @@ fn refuses_a_page(rt: HostRuntime) -> Result<(), Fail> {
 #[test]
 fn wants_one_host(rt: HostRuntime) -> Result<(), Fail> {
     for (lines, wanted) in [
-        ("GET /healthz HTTP/1.1\r\n\r\n", Answer::Unread),
-        ("GET /healthz HTTP/1.0\r\n\r\n", Answer::Healthy),
+        ("GET /healthz HTTP/1.1\r\n\r\n", ControlAnswer::Unread),
+        ("GET /healthz HTTP/1.0\r\n\r\n", ControlAnswer::Healthy),
         (
             "GET /healthz HTTP/1.1\r\nhost: localhost\r\nHost: localhost\r\n\r\n",
-            Answer::Unread,
+            ControlAnswer::Unread,
         ),
         (
             "GET /healthz HTTP/1.0\r\nhost: evil.example\r\n\r\n",
-            Answer::Forbidden,
+            ControlAnswer::Forbidden,
         ),
     ] {
-        let found = answered(rt.alloc(), lines)?;
-        assert_eq!(rt; found, Heading::Whole(wanted), "{lines}");
-        let anywhere = heading_of(b"GET /healthz HTTP/1.1\r\n\r\n", &Hosts::Any, true);
-        assert_eq!(rt; anywhere, Heading::Whole(Answer::Healthy));
+        let found = heading_in(rt.alloc(), lines)?;
+        assert_eq!(rt; found, ControlHead::Whole(wanted), "{lines}");
+        let anywhere = control_head_of(b"GET /healthz HTTP/1.1\r\n\r\n", &Hosts::Any, true);
+        assert_eq!(rt; anywhere, ControlHead::Whole(ControlAnswer::Healthy));
     }
     Ok(())
 }
 
 #[test]
 fn ends_a_head_at_line_feeds(rt: HostRuntime) -> Result<(), Fail> {
-    let whole = answered(rt.alloc(), "GET /healthz HTTP/1.1\nhost: localhost\n\n")?;
-    assert_eq!(rt; whole, Heading::Whole(Answer::Healthy));
-    let part = answered(rt.alloc(), "GET /healthz HTTP/1.1\nhost: localhost\n")?;
-    assert_eq!(rt; part, Heading::Partial);
-    let broken = answered(rt.alloc(), "GET\r\n\r\n")?;
-    assert_eq!(rt; broken, Heading::Broken);
+    let whole = heading_in(rt.alloc(), "GET /healthz HTTP/1.1\nhost: localhost\n\n")?;
+    assert_eq!(rt; whole, ControlHead::Whole(ControlAnswer::Healthy));
+    let part = heading_in(rt.alloc(), "GET /healthz HTTP/1.1\nhost: localhost\n")?;
+    assert_eq!(rt; part, ControlHead::Partial);
+    let broken = heading_in(rt.alloc(), "GET\r\n\r\n")?;
+    assert_eq!(rt; broken, ControlHead::Broken);
     Ok(())
 }
 
 #[test]
 fn waits_for_the_rest_of_a_head(rt: HostRuntime) -> Result<(), Fail> {
-    assert!(rt; answer_due(Heading::Partial, 8192, false).is_none());
+    assert!(rt; answer_due(ControlHead::Partial, 8192, false).is_none());
     for (heading, count, is_over) in [
-        (Heading::Partial, 8193, false),
-        (Heading::Partial, 10, true),
-        (Heading::Broken, 10, false),
+        (ControlHead::Partial, 8193, false),
+        (ControlHead::Partial, 10, true),
+        (ControlHead::Broken, 10, false),
     ] {
-        assert!(rt; answer_due(heading, count, is_over) == Some(Answer::Unread));
+        assert!(rt; answer_due(heading, count, is_over) == Some(ControlAnswer::Unread));
     }
     Ok(())
 }
@@ -161,7 +161,7 @@ fn are_right<R: Net + AllocGlobal>(
     control: &Control,
 ) -> io::Result<bool> {
     let early = reply_to(rt, address, HEALTH)?;
-    control.serves();
+    control.set_serving();
     let served = reply_to(rt, address, HEALTH)?;
     let counted = reply_to(rt, address, "GET /metrics HTTP/1.0\r\n\r\n")?;
     let lost = reply_to(rt, address, "GET /lost HTTP/1.0\r\n\r\n")?;
@@ -192,7 +192,7 @@ fn are_right<R: Net + AllocGlobal>(
 fn answers_and_stops(rt: HostRuntime) -> Result<(), Fail> {
     let mut port = Port::bind(&rt, "127.0.0.1:0", None)?;
     let (address, waker) = (port.local_addr()?, port.waker()?);
-    let counters = nothing_counted(rt.alloc())?;
+    let counters = zero_counters(rt.alloc())?;
     let control = Control::new();
     let noted = Noted(AtomicBool::new(false));
     let (right, ()) = join(
@@ -210,7 +210,7 @@ fn answers_and_stops(rt: HostRuntime) -> Result<(), Fail> {
 }
 
 /// How long a request takes next to so many connections that send nothing.
-fn time_beside<R: Net + Clock + AllocGlobal>(
+fn time_next_to<R: Net + Clock + AllocGlobal>(
     rt: &R,
     address: SocketAddr,
     count: usize,
@@ -228,15 +228,15 @@ fn time_beside<R: Net + Clock + AllocGlobal>(
 fn answers_beside_idle_connections(rt: HostRuntime) -> Result<(), Fail> {
     let mut port = Port::bind(&rt, "127.0.0.1:0", None)?;
     let (address, waker) = (port.local_addr()?, port.waker()?);
-    let counters = nothing_counted(rt.alloc())?;
+    let counters = zero_counters(rt.alloc())?;
     let control = Control::new();
     let noted = Noted(AtomicBool::new(false));
     let (times, ()) = join(
         &rt,
         || {
             let times = (
-                time_beside(&rt, address, 50),
-                time_beside(&rt, address, 200),
+                time_next_to(&rt, address, 50),
+                time_next_to(&rt, address, 200),
             );
             control.end(&waker);
             times
@@ -279,7 +279,7 @@ fn listens_at_a_socket(rt: HostRuntime) -> Result<(), Fail> {
     drop(abandoned);
     let mut port = Port::bind(&rt, SOCKET, None)?;
     let waker = port.waker()?;
-    let counters = nothing_counted(rt.alloc())?;
+    let counters = zero_counters(rt.alloc())?;
     let control = Control::new();
     let noted = Noted(AtomicBool::new(false));
     let (right, ()) = join(
@@ -346,7 +346,7 @@ ruffletuff_answer_milliseconds_count 0\n\
 
 #[test]
 fn tells_each_line(rt: HostRuntime) -> Result<(), Fail> {
-    let counters = nothing_counted(rt.alloc())?;
+    let counters = zero_counters(rt.alloc())?;
     let text = metrics(rt.alloc(), &counters.lines(rt.alloc())?)?;
     assert_eq!(rt; text.as_str(), NOTHING_COUNTED);
     Ok(())
@@ -355,14 +355,14 @@ fn tells_each_line(rt: HostRuntime) -> Result<(), Fail> {
 #[test]
 fn counts_in_its_rows(rt: HostRuntime) -> Result<(), Fail> {
     let alloc = rt.alloc();
-    let counters = nothing_counted(alloc)?;
-    counters.count_answer(Kind::Publish, 503, 20);
-    counters.count_answer(Kind::Read, 200, 2000);
-    counters.count_answer(Kind::Change, 404, 2000);
+    let counters = zero_counters(alloc)?;
+    counters.count_answer(CallKind::Publish, 503, 20);
+    counters.count_answer(CallKind::Read, 200, 2000);
+    counters.count_answer(CallKind::Change, 404, 2000);
     counters.add(Figure::Syncs, 3);
     counters.set(Figure::Revision, 5);
     counters.add(Figure::Pending, 2);
-    counters.take(Figure::Pending, 1);
+    counters.subtract(Figure::Pending, 1);
     for line in [
         "ruffletuff_requests_total{call=\"publish\",status=\"5xx\"} 1",
         "ruffletuff_requests_total{call=\"read\",status=\"2xx\"} 1",

@@ -84,7 +84,7 @@ fn expect_held(rt: &impl Abort, area: &Area) {
 
 /// With one allocation refused, whichever it is, an area is made or memory runs out; a second call makes it.
 #[test]
-fn indexed_or_wants_memory(rt: HostRuntime) {
+fn indexes_or_runs_out_of_memory(rt: HostRuntime) {
     let area = match area(&rt, rt.alloc()) {
         Ok(area) => area,
         Err(_) => area(&rt, rt.alloc()).expect(&rt, "memory"),

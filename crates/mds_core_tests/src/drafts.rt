@@ -1,5 +1,5 @@
 //! Drafts and their publication, with one allocation refused.
-use crate::square::{instant, known, position};
+use crate::square::{instant, id_of, position};
 use mds_catalog::{Batch, Catalogue};
 use mds_drafts::{Draft, Drafts, PublishFault, PublishList, Put, PutFault};
 use mds_exchanges::{CAP, PUBLISH, SQUARE};
@@ -45,12 +45,12 @@ fn draft_at_last(rt: &impl Abort, alloc: Global, kind: DraftKind) -> Draft {
 fn expect_new(rt: &impl Abort, alloc: Global, drafts: &mut Drafts, kind: DraftKind, id: &str) {
     let mut put = drafts.put(draft_at_last(rt, alloc, kind));
     if put == Err(PutFault::NoMemory) {
-        assert!(rt; drafts.get(kind, known(rt, id)).is_none());
+        assert!(rt; drafts.get(kind, id_of(rt, id)).is_none());
         put = drafts.put(draft_at_last(rt, alloc, kind));
     }
     assert!(rt; put == Ok(Put::New));
-    let held = drafts.get(kind, known(rt, id)).expect(rt, "a draft");
-    assert!(rt; held.kind() == kind && held.id() == known(rt, id));
+    let held = drafts.get(kind, id_of(rt, id)).expect(rt, "a draft");
+    assert!(rt; held.kind() == kind && held.id() == id_of(rt, id));
 }
 
 /// Drafts of the square and of the cap.
@@ -64,18 +64,18 @@ fn two_drafts(rt: &impl Abort, alloc: Global) -> Drafts {
 /// With one allocation refused, whichever it is, a draft is put or memory runs out; a second call puts it. Replacing
 /// and dropping it need no memory.
 #[test]
-fn puts_or_wants_memory(rt: HostRuntime) {
+fn puts_or_runs_out_of_memory(rt: HostRuntime) {
     let mut drafts = two_drafts(&rt, rt.alloc());
     let again = draft_at_last(&rt, rt.alloc(), DraftKind::Policy);
     assert!(rt; drafts.put(again) == Ok(Put::Replaced));
     assert!(rt;
         drafts
-            .drop_draft(DraftKind::Policy, known(&rt, CAP_ID))
+            .drop_draft(DraftKind::Policy, id_of(&rt, CAP_ID))
             .is_ok()
     );
     assert!(rt;
         drafts
-            .drop_draft(DraftKind::Policy, known(&rt, CAP_ID))
+            .drop_draft(DraftKind::Policy, id_of(&rt, CAP_ID))
             .is_err()
     );
 }
@@ -143,7 +143,7 @@ fn expect_absorbed(rt: &impl Abort, catalogue: &mut Catalogue, batch: &Arc<Batch
 /// With one allocation refused, whichever it is, a batch is made or memory runs out; a second call makes it. Taking
 /// its drafts out and adopting it need no memory.
 #[test]
-fn publishes_or_wants_memory(rt: HostRuntime) {
+fn publishes_or_runs_out_of_memory(rt: HostRuntime) {
     let alloc = rt.alloc();
     let mut drafts = two_drafts(&rt, alloc);
     let mut adopting = catalogue(&rt, alloc);
@@ -153,33 +153,33 @@ fn publishes_or_wants_memory(rt: HostRuntime) {
     drafts.take_out(&batch);
     assert!(rt;
         drafts
-            .get(DraftKind::Geography, known(&rt, SQUARE_ID))
+            .get(DraftKind::Geography, id_of(&rt, SQUARE_ID))
             .is_none()
     );
-    assert!(rt; drafts.get(DraftKind::Policy, known(&rt, CAP_ID)).is_none());
+    assert!(rt; drafts.get(DraftKind::Policy, id_of(&rt, CAP_ID)).is_none());
     adopting.adopt(batch);
-    assert!(rt; adopting.revision() == 1 && adopting.policy(known(&rt, CAP_ID)).is_some());
+    assert!(rt; adopting.revision() == 1 && adopting.policy(id_of(&rt, CAP_ID)).is_some());
 }
 
 /// Checks that the square and the cap can be borrowed, each under its own kind alone, and that the square holds a
 /// position in it while no geography under the cap's identifier does.
-fn expect_lent(rt: &impl Abort, alloc: Global, catalogue: &Catalogue) {
+fn expect_borrowed(rt: &impl Abort, alloc: Global, catalogue: &Catalogue) {
     let policies = catalogue.policies(alloc, None).expect(rt, "memory");
     let geographies = catalogue.geographies(alloc).expect(rt, "memory");
     assert!(rt; policies.len() == 1 && geographies.len() == 1);
-    assert!(rt; catalogue.policy(known(rt, SQUARE_ID)).is_none());
-    assert!(rt; catalogue.geography(known(rt, CAP_ID)).is_none());
+    assert!(rt; catalogue.policy(id_of(rt, SQUARE_ID)).is_none());
+    assert!(rt; catalogue.geography(id_of(rt, CAP_ID)).is_none());
     let within = position(rt, 50_000_000, 50_000_000);
-    assert!(rt; catalogue.holds(known(rt, SQUARE_ID), within));
-    assert!(rt; !catalogue.holds(known(rt, CAP_ID), within));
+    assert!(rt; catalogue.holds(id_of(rt, SQUARE_ID), within));
+    assert!(rt; !catalogue.holds(id_of(rt, CAP_ID), within));
 }
 
 #[test]
-fn lends_what_is_published(rt: HostRuntime) {
+fn borrows_what_is_published(rt: HostRuntime) {
     let alloc = rt.alloc();
     let drafts = two_drafts(&rt, alloc);
     let mut catalogue = catalogue(&rt, alloc);
     let batch = batch_at_last(&rt, alloc, &drafts, &catalogue);
     catalogue.adopt(batch);
-    expect_lent(&rt, alloc, &catalogue);
+    expect_borrowed(&rt, alloc, &catalogue);
 }

@@ -57,7 +57,7 @@ fn expect_changed(rt: &impl Abort, alloc: Global, book: &mut Book) {
 /// With one allocation refused, whichever it is, one report runs out of memory and changes nothing, and the same
 /// report is accepted at the second try.
 #[test]
-fn takes_and_removes_or_wants_memory(rt: HostRuntime) {
+fn accepts_and_removes_or_runs_out_of_memory(rt: HostRuntime) {
     let alloc = rt.alloc();
     let mut book = Book::new(alloc, DEVICES);
     for number in 0..DEVICES {
@@ -90,7 +90,7 @@ fn shares_words(rt: HostRuntime) {
 /// Texts are read alike by the buffers that a book reuses: again and again, and after a text that is no JSON. So is a
 /// text that is too long for these buffers.
 #[test]
-fn reads_by_what_it_keeps(rt: HostRuntime) {
+fn reads_by_its_own_buffers(rt: HostRuntime) {
     let alloc = rt.alloc();
     let mut book = Book::new(alloc, DEVICES);
     let mut text = Vec::new(alloc);

@@ -1,5 +1,5 @@
 //! A geography, read and served with one allocation refused.
-use crate::square::{known, position};
+use crate::square::{id_of, position};
 use mds_geography::Geography;
 use mds_text::{Moment, Tree, print_tree};
 use std::alloc::{AllocError, Global};
@@ -21,7 +21,7 @@ fn features(rt: &impl Abort, alloc: Global) -> Geography {
 }
 
 /// The tree as which it is served, made a second time where memory ran out.
-fn served(rt: &impl Abort, alloc: Global, geography: &Geography) -> Tree {
+fn served_tree(rt: &impl Abort, alloc: Global, geography: &Geography) -> Tree {
     match geography.served(alloc, Moment::new(1000)) {
         Ok(tree) => tree,
         Err(_) => geography
@@ -31,7 +31,7 @@ fn served(rt: &impl Abort, alloc: Global, geography: &Geography) -> Tree {
 }
 
 /// The printed tree, printed a second time where memory ran out.
-fn printed(alloc: Global, tree: &Tree) -> Result<Vec<u8>, AllocError> {
+fn print_at_last(alloc: Global, tree: &Tree) -> Result<Vec<u8>, AllocError> {
     match print_tree(alloc, tree) {
         Ok(printed) => Ok(printed),
         Err(_) => print_tree(alloc, tree),
@@ -49,15 +49,15 @@ const HELD: &[((i64, i64), bool)] = &[
 /// With one allocation refused, whichever it is, a text is read, served and printed or memory runs out; a second call
 /// succeeds.
 #[test]
-fn reads_and_serves_or_wants_memory(rt: HostRuntime) {
+fn reads_and_serves_or_runs_out_of_memory(rt: HostRuntime) {
     let alloc = rt.alloc();
     let geography = features(&rt, alloc);
-    assert!(rt; geography.id() == known(&rt, "00000000-0000-4000-8000-000000000101"));
+    assert!(rt; geography.id() == id_of(&rt, "00000000-0000-4000-8000-000000000101"));
     assert!(rt; geography.polygons().len() == 2);
     for (at, wanted) in HELD {
         let at = position(&rt, at.0, at.1);
         assert!(rt; geography.holds(at) == *wanted && geography.area().holds(at) == *wanted);
     }
-    let served = served(&rt, alloc, &geography);
-    assert!(rt; printed(alloc, &served).expect(&rt, "memory").as_slice() == SERVED);
+    let served = served_tree(&rt, alloc, &geography);
+    assert!(rt; print_at_last(alloc, &served).expect(&rt, "memory").as_slice() == SERVED);
 }

@@ -1,7 +1,7 @@
 //! Local times in zones, worked out by hand, and the first rule that a vehicle meets. Scripts test windows, words and
 //! bounds.
 
-use crate::square::{NOON, instant, known, one_square, position, words};
+use crate::square::{NOON, instant, id_of, one_square, position, words};
 use mds_match::{Local, ResolvedPolicy, Vehicle, Zone, ZoneFault, first, meets, open_at};
 use mds_policy::Policy;
 use std::alloc::Global;
@@ -10,7 +10,7 @@ use std::process::Abort;
 /// A scooter at a longitude on the tenth parallel.
 fn scooter(rt: &impl Abort, alloc: Global, lng: i64) -> Vehicle {
     Vehicle {
-        device: known(rt, "00000000-0000-4000-8000-000000000401"),
+        device: id_of(rt, "00000000-0000-4000-8000-000000000401"),
         make: words(rt, alloc, "scooter").expect(rt, "memory"),
         condition: words(rt, alloc, "available").expect(rt, "memory"),
         timestamp: instant(rt, 2000),

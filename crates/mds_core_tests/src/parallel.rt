@@ -2,7 +2,7 @@
 
 ghost use Rattle.std.specs.Thread.{IsSync};
 
-use crate::square::{NOON, Square, device, instant, known, one_square, position, words};
+use crate::square::{NOON, Square, device, instant, id_of, one_square, position, words};
 use mds_match::{LocalMoment, Vehicle, Words};
 use mds_parallel::{Chunked, by_threads};
 use mds_policy::Policy;
@@ -18,7 +18,7 @@ const CAP: &str =
 
 /// What is evaluated: a policy over a fleet in the square, at a moment. The local time is noon.
 #[derive(Drop)]
-struct City {
+struct VerdictInput {
     places: Square,
     policy: Policy,
     fleet: Vec<Vehicle>,
@@ -129,8 +129,8 @@ fn fleet_at_last(rt: &impl Abort, alloc: Global) -> Vec<Vehicle> {
 }
 
 /// The fleet under the policy of a text.
-fn make_city(rt: &impl Abort, alloc: Global, text: &str) -> City {
-    City {
+fn make_input(rt: &impl Abort, alloc: Global, text: &str) -> VerdictInput {
+    VerdictInput {
         places: places_at_last(rt, alloc),
         policy: policy_at_last(rt, alloc, text),
         fleet: fleet_at_last(rt, alloc),
@@ -139,21 +139,21 @@ fn make_city(rt: &impl Abort, alloc: Global, text: &str) -> City {
 }
 
 /// References to the vehicles of the fleet.
-fn lent<'a>(alloc: Global, city: &'a City) -> Result<Vec<&'a Vehicle>, AllocError> {
+fn vehicle_refs<'a>(alloc: Global, city: &'a VerdictInput) -> Result<Vec<&'a Vehicle>, AllocError> {
     city.fleet.iter().collect::<Vec<&Vehicle>>(alloc)
 }
 
-fn lent_at_last<'a>(rt: &impl Abort, alloc: Global, city: &'a City) -> Vec<&'a Vehicle> {
-    match lent(alloc, city) {
+fn vehicle_refs_at_last<'a>(rt: &impl Abort, alloc: Global, city: &'a VerdictInput) -> Vec<&'a Vehicle> {
+    match vehicle_refs(alloc, city) {
         Ok(vehicles) => vehicles,
-        Err(_) => lent(alloc, city).expect(rt, "memory"),
+        Err(_) => vehicle_refs(alloc, city).expect(rt, "memory"),
     }
 }
 
 /// The verdicts by one thread.
 fn by_one(
     alloc: Global,
-    city: &City,
+    city: &VerdictInput,
     vehicles: &[&Vehicle],
 ) -> Result<Vec<RuleVerdict>, AllocError> {
     let (policy, places) = (&city.policy, &city.places);
@@ -164,7 +164,7 @@ fn by_one(
 fn by_several<R: Threads + Sync>(
     rt: &R,
     alloc: Global,
-    city: &City,
+    city: &VerdictInput,
     vehicles: &[&Vehicle],
 ) -> Result<Vec<RuleVerdict>, AllocError> {
     let (policy, places) = (&city.policy, &city.places);
@@ -179,7 +179,7 @@ fn by_several<R: Threads + Sync>(
 fn by_chunks<R: Threads + Sync>(
     chunked: &Chunked<R>,
     alloc: Global,
-    city: &City,
+    city: &VerdictInput,
     vehicles: &[&Vehicle],
 ) -> Result<Vec<RuleVerdict>, AllocError>
     requires { IsSync R.row }
@@ -192,7 +192,7 @@ fn by_chunks<R: Threads + Sync>(
 fn expect_exceeded(rt: &impl Abort, found: &[RuleVerdict]) {
     assert!(rt; found.len() == 1);
     for verdict in found {
-        assert!(rt; verdict.rule == known(rt, "00000000-0000-4000-8000-000000000301"));
+        assert!(rt; verdict.rule == id_of(rt, "00000000-0000-4000-8000-000000000301"));
         assert!(rt; verdict.status == Status::Violated && verdict.measure == 5003);
         assert!(rt; verdict.devices.len() == 100);
         expect_every(rt, verdict, 0, 1);
@@ -212,7 +212,7 @@ fn expect_every(rt: &impl Abort, verdict: &RuleVerdict, first: u32, step: u32) {
 fn expect_by_several<R: Abort + Threads + Sync>(
     rt: &R,
     alloc: Global,
-    city: &City,
+    city: &VerdictInput,
     vehicles: &[&Vehicle],
 ) {
     match by_several(rt, alloc, city, vehicles) {
@@ -225,7 +225,7 @@ fn expect_by_several<R: Abort + Threads + Sync>(
 }
 
 /// Checks the verdicts by one thread, at the second try at the latest.
-fn expect_by_one(rt: &impl Abort, alloc: Global, city: &City, vehicles: &[&Vehicle]) {
+fn expect_by_one(rt: &impl Abort, alloc: Global, city: &VerdictInput, vehicles: &[&Vehicle]) {
     match by_one(alloc, city, vehicles) {
         Ok(found) => expect_exceeded(rt, &found),
         Err(_) => expect_exceeded(rt, &by_one(alloc, city, vehicles).expect(rt, "memory")),
@@ -233,7 +233,7 @@ fn expect_by_one(rt: &impl Abort, alloc: Global, city: &City, vehicles: &[&Vehic
 }
 
 /// Checks the verdicts by threads on no vehicles.
-fn expect_none<R: Abort + Threads + Sync>(rt: &R, alloc: Global, city: &City) {
+fn expect_none<R: Abort + Threads + Sync>(rt: &R, alloc: Global, city: &VerdictInput) {
     let found = match by_several(rt, alloc, city, &[]) {
         Ok(found) => found,
         Err(_) => by_several(rt, alloc, city, &[]).expect(rt, "memory"),
@@ -246,10 +246,10 @@ fn expect_none<R: Abort + Threads + Sync>(rt: &R, alloc: Global, city: &City) {
 /// With one allocation refused, whichever it is, vehicles are evaluated or memory runs out; a second call succeeds.
 /// Threads give the same verdicts as one thread.
 #[test]
-fn judges_or_wants_memory(rt: HostRuntime) {
+fn evaluates_or_runs_out_of_memory(rt: HostRuntime) {
     let alloc = rt.alloc();
-    let city = make_city(&rt, alloc, CAP);
-    let vehicles = lent_at_last(&rt, alloc, &city);
+    let city = make_input(&rt, alloc, CAP);
+    let vehicles = vehicle_refs_at_last(&rt, alloc, &city);
     expect_by_several(&rt, alloc, &city, &vehicles);
     expect_by_one(&rt, alloc, &city, &vehicles);
     expect_none(&rt, alloc, &city);
@@ -259,7 +259,7 @@ fn judges_or_wants_memory(rt: HostRuntime) {
 fn by_chunks_at_last<R: Abort + Threads + Sync>(
     chunked: &Chunked<R>,
     alloc: Global,
-    city: &City,
+    city: &VerdictInput,
     vehicles: &[&Vehicle],
 ) -> Vec<RuleVerdict>
     requires { IsSync R.row }
@@ -272,10 +272,10 @@ fn by_chunks_at_last<R: Abort + Threads + Sync>(
 
 /// Little work is left to one thread.
 #[test]
-fn judges_little_or_wants_memory(rt: HostRuntime) {
+fn evaluates_little_or_runs_out_of_memory(rt: HostRuntime) {
     let alloc = rt.alloc();
-    let city = make_city(&rt, alloc, CAP);
-    let vehicles = lent_at_last(&rt, alloc, &city);
+    let city = make_input(&rt, alloc, CAP);
+    let vehicles = vehicle_refs_at_last(&rt, alloc, &city);
     let chunked = Chunked(rt);
     let found = by_chunks_at_last(&chunked, alloc, &city, &vehicles);
     expect_exceeded(&chunked.0, &found);
@@ -306,11 +306,11 @@ fn expect_types(rt: &impl Abort, found: &[RuleVerdict]) {
 /// Enough work for threads: each chunk has more pairs of type and state than a table holds, and each rule has
 /// vehicles in every chunk. Where an allocation is refused to the threads, one thread evaluates.
 #[test]
-fn judges_much_or_wants_memory(rt: HostRuntime) {
+fn evaluates_much_or_runs_out_of_memory(rt: HostRuntime) {
     let alloc = rt.alloc();
     let text = caps_at_last(&rt, alloc);
-    let city = make_city(&rt, alloc, text.as_str());
-    let vehicles = lent_at_last(&rt, alloc, &city);
+    let city = make_input(&rt, alloc, text.as_str());
+    let vehicles = vehicle_refs_at_last(&rt, alloc, &city);
     let chunked = Chunked(rt);
     let found = by_chunks(&chunked, alloc, &city, &vehicles);
     expect_types(

@@ -1,6 +1,6 @@
 //! Trees by both readers, and documents whose texts are borrowed, with one allocation refused.
 use mds_reading::{
-    Node, Source, document_of, entries_of, read_counted, read_tree, required_member, required_text,
+    Node, NodeBuffer, document_of, entries_of, read_and_count, read_tree, required_member, required_text,
 };
 use mds_text::{Field, TextFault, Tree, print_tree};
 use std::alloc::Global;
@@ -85,10 +85,10 @@ fn expect_printed(rt: &impl Abort, alloc: Global, tree: &Tree, text: &str) {
 fn texts_are_read(rt: HostRuntime) {
     let alloc = rt.alloc();
     for (text, printed, count) in TEXTS {
-        let (tree, quoted) = read_counted(alloc, text.as_bytes()).expect(&rt, "a tree");
+        let (tree, quoted) = read_and_count(alloc, text.as_bytes()).expect(&rt, "a tree");
         assert!(rt; quoted == *count, "{text}");
         expect_printed(&rt, alloc, &tree, printed);
-        let (tree, quoted) = mds_text::read_counted(alloc, text.as_bytes()).expect(&rt, "a tree");
+        let (tree, quoted) = mds_text::read_and_count(alloc, text.as_bytes()).expect(&rt, "a tree");
         assert!(rt; quoted == *count, "{text}");
         expect_printed(&rt, alloc, &tree, printed);
     }
@@ -111,7 +111,7 @@ fn tree_at_last(rt: &impl Abort, alloc: Global) -> Tree {
 
 /// With one allocation refused, whichever it is, a text is read or memory runs out; a second call reads it.
 #[test]
-fn reads_or_wants_memory(rt: HostRuntime) {
+fn reads_or_runs_out_of_memory(rt: HostRuntime) {
     let alloc = rt.alloc();
     let tree = tree_at_last(&rt, alloc);
     let printed = match print_tree(alloc, &tree) {
@@ -154,7 +154,7 @@ fn are_pairs(entries: &[Node<'_>]) -> bool {
 }
 
 /// Checks a list of pairs that is borrowed from a source.
-fn expect_pairs(rt: &impl Abort, alloc: Global, source: &mut Source) -> Result<(), TextFault> {
+fn expect_pairs(rt: &impl Abort, alloc: Global, source: &mut NodeBuffer) -> Result<(), TextFault> {
     let ring = source.read(alloc, br#"[[-122.4,37.7],[0.5,"x"]]"#)?;
     assert!(rt; matches!(ring, Node::Pairs(_)));
     let entries = entries_of(alloc, &ring, Field::Coordinates)?;
@@ -163,8 +163,8 @@ fn expect_pairs(rt: &impl Abort, alloc: Global, source: &mut Source) -> Result<(
 }
 
 #[test]
-fn pairs_are_lent(rt: HostRuntime) {
-    let mut source = Source::new(rt.alloc());
+fn pairs_are_borrowed(rt: HostRuntime) {
+    let mut source = NodeBuffer::new(rt.alloc());
     expect_pairs(&rt, rt.alloc(), &mut source).expect(&rt, "pairs");
 }
 
@@ -188,7 +188,7 @@ fn expect_place(rt: &impl Abort, alloc: Global, tree: &Node<'_>) -> Result<(), T
 fn expect_read_by(
     rt: &impl Abort,
     alloc: Global,
-    source: &mut Source,
+    source: &mut NodeBuffer,
     text: &str,
 ) -> Result<(), TextFault> {
     let tree = source.read(alloc, text.as_bytes())?;
@@ -197,12 +197,12 @@ fn expect_read_by(
 
 /// Checks the same with a new source.
 fn expect_source(rt: &impl Abort, alloc: Global, text: &str) -> Result<(), TextFault> {
-    let mut source = Source::new(alloc);
+    let mut source = NodeBuffer::new(alloc);
     expect_read_by(rt, alloc, &mut source, text)
 }
 
 /// Documents with a name and a position: one with an escape in its name, one with another member `name` before.
-const LENT: &[&str] = &[
+const DOCUMENTS: &[&str] = &[
     "{\"name\":\"c\\u0061p\",\"coordinates\":[1.5,-0]}",
     "{\"name\":1,\"coordinates\":[1.5,-0],\"name\":\"cap\"}",
 ];
@@ -210,9 +210,9 @@ const LENT: &[&str] = &[
 /// With one allocation refused, whichever it is, a document's texts are borrowed or memory runs out; a second call
 /// borrows them.
 #[test]
-fn lends_or_wants_memory(rt: HostRuntime) {
+fn borrows_or_runs_out_of_memory(rt: HostRuntime) {
     let alloc = rt.alloc();
-    for text in LENT {
+    for text in DOCUMENTS {
         if let Err(fault) = expect_source(&rt, alloc, text) {
             assert!(rt; matches!(fault, TextFault::NoMemory));
             assert!(rt; expect_source(&rt, alloc, text).is_ok());

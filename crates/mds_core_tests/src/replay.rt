@@ -29,14 +29,14 @@ const CAP_ANSWERS: &[u8] = br#"200 {"result":"new"}
 
 /// A reader that gives few bytes at a time, and of which one read may fail.
 #[derive(Drop)]
-struct Pieces<'a> {
+struct SlowReader<'a> {
     rest: &'a [u8],
     size: usize,
     // how many reads succeed before the one that fails
     sound: Option<usize>,
 }
 
-impl Read for Pieces<'_> {
+impl Read for SlowReader<'_> {
     fn read(&mut self, buffer: &mut [u8]) -> io::Result<usize> {
         match self.sound {
             Some(0) => {
@@ -56,7 +56,7 @@ impl Read for Pieces<'_> {
 
 /// A writer that keeps what is written, few bytes at a time, until a write or a flush fails.
 #[derive(Drop)]
-struct Drip {
+struct SlowWriter {
     written: Vec<u8>,
     size: usize,
     // how many writes succeed before those that fail
@@ -64,9 +64,9 @@ struct Drip {
     flushes: bool,
 }
 
-impl Drip {
-    fn new(alloc: Global, size: usize, sound: usize) -> Drip {
-        Drip {
+impl SlowWriter {
+    fn new(alloc: Global, size: usize, sound: usize) -> SlowWriter {
+        SlowWriter {
             written: Vec::new(alloc),
             size,
             sound,
@@ -75,7 +75,7 @@ impl Drip {
     }
 }
 
-impl Write for Drip {
+impl Write for SlowWriter {
     fn write(&mut self, bytes: &[u8]) -> io::Result<usize> {
         if self.sound == 0 {
             return Err(io::Error::from(ErrorKind::Other));
@@ -96,20 +96,20 @@ impl Write for Drip {
 }
 
 /// The output for a script.
-fn replayed(alloc: Global, script: &[u8]) -> Result<Vec<u8>, ReplayFault> {
+fn replay_output(alloc: Global, script: &[u8]) -> Result<Vec<u8>, ReplayFault> {
     run::<World<Plain>, _, _>(alloc, script, Vec::new(alloc))
 }
 
 const SIZES: &[usize] = &[1, 2, 7, 1000];
 
 /// Whether the script is answered where at most so many bytes are read and written at a time.
-fn is_taken(alloc: Global, size: usize) -> bool {
-    let source = Pieces {
+fn is_answered(alloc: Global, size: usize) -> bool {
+    let source = SlowReader {
         rest: CAP,
         size,
         sound: None,
     };
-    let mut sink = Drip::new(alloc, size, usize::MAX);
+    let mut sink = SlowWriter::new(alloc, size, usize::MAX);
     let ended = run::<World<Plain>, _, _>(alloc, source, &mut sink).map(drop);
     ended == Ok(()) && sink.written.as_slice() == CAP_ANSWERS
 }
@@ -117,25 +117,25 @@ fn is_taken(alloc: Global, size: usize) -> bool {
 #[test]
 fn takes_pieces_of_any_size(rt: HostRuntime) {
     for size in SIZES {
-        assert!(rt; is_taken(rt.alloc(), *size), "{size} at a time");
+        assert!(rt; is_answered(rt.alloc(), *size), "{size} at a time");
     }
 }
 
 /// Whether the replay ended with this fault, after a prefix of the answers was written.
-fn is_cut(ended: Result<(), ReplayFault>, fault: ReplayFault, sink: &Drip) -> bool {
+fn is_prefix_at_fault(ended: Result<(), ReplayFault>, fault: ReplayFault, sink: &SlowWriter) -> bool {
     ended == Err(fault) && CAP_ANSWERS.starts_with(&sink.written)
 }
 
 /// Whether the replay stops at the read after so many.
 fn stops_reading(alloc: Global, sound: usize) -> bool {
-    let source = Pieces {
+    let source = SlowReader {
         rest: CAP,
         size: 100,
         sound: Some(sound),
     };
-    let mut sink = Drip::new(alloc, 1000, usize::MAX);
+    let mut sink = SlowWriter::new(alloc, 1000, usize::MAX);
     let ended = run::<World<Plain>, _, _>(alloc, source, &mut sink).map(drop);
-    is_cut(ended, ReplayFault::Read, &sink)
+    is_prefix_at_fault(ended, ReplayFault::Read, &sink)
 }
 
 /// One read fails, and those after it would succeed: a prefix of the answers was written.
@@ -148,9 +148,9 @@ fn stops_at_a_failed_read(rt: HostRuntime) {
 
 /// Whether the replay stops at the write after so many.
 fn stops_writing(alloc: Global, sound: usize) -> bool {
-    let mut sink = Drip::new(alloc, 40, sound);
+    let mut sink = SlowWriter::new(alloc, 40, sound);
     let ended = run::<World<Plain>, _, _>(alloc, CAP, &mut sink).map(drop);
-    is_cut(ended, ReplayFault::Write, &sink)
+    is_prefix_at_fault(ended, ReplayFault::Write, &sink)
 }
 
 #[test]
@@ -161,8 +161,8 @@ fn stops_at_a_failed_write(rt: HostRuntime) {
 }
 
 #[test]
-fn tells_a_failed_flush(rt: HostRuntime) {
-    let mut sink = Drip::new(rt.alloc(), 1000, usize::MAX);
+fn reports_a_failed_flush(rt: HostRuntime) {
+    let mut sink = SlowWriter::new(rt.alloc(), 1000, usize::MAX);
     sink.flushes = false;
     let ended = run::<World<Plain>, _, _>(rt.alloc(), CAP, &mut sink).map(drop);
     assert!(rt; ended == Err(ReplayFault::Write));
@@ -171,7 +171,7 @@ fn tells_a_failed_flush(rt: HostRuntime) {
 const NO_MEMORY: &[u8] = b"503 {\"error\":\"no_memory\"}\n";
 
 /// Checks that the lines are the answers, or a prefix of them and then one 503 `no_memory`.
-fn assert_answers_or_front(rt: &impl Abort, written: &[u8]) {
+fn assert_answers_or_prefix(rt: &impl Abort, written: &[u8]) {
     let mut lines = written.split_inclusive(|byte| *byte == b'\n');
     for answer in CAP_ANSWERS.split_inclusive(|byte| *byte == b'\n') {
         match lines.next() {
@@ -189,9 +189,9 @@ fn assert_answers_or_front(rt: &impl Abort, written: &[u8]) {
 /// With one allocation refused, whichever it is: either the replay runs out of memory, or one answer is 503 and those
 /// before it are as usual.
 #[test]
-fn survives_want_of_memory(rt: HostRuntime) {
-    match replayed(rt.alloc(), CAP) {
-        Ok(written) => assert_answers_or_front(&rt, &written),
+fn survives_out_of_memory(rt: HostRuntime) {
+    match replay_output(rt.alloc(), CAP) {
+        Ok(written) => assert_answers_or_prefix(&rt, &written),
         // the vector that is written to ran out of memory
         Err(ReplayFault::NoMemory | ReplayFault::Write) => {}
         Err(fault) => panic!(rt; "{}", fault.message()),

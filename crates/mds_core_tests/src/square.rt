@@ -39,7 +39,7 @@ impl Places for Square {
 }
 
 /// The identifier that a text spells.
-pub(crate) fn known(rt: &impl Abort, text: &str) -> Id {
+pub(crate) fn id_of(rt: &impl Abort, text: &str) -> Id {
     Id::read(text).expect(rt, "an identifier")
 }
 
@@ -55,7 +55,7 @@ pub(crate) fn word(rt: &impl Abort, text: &str) -> Token {
 
 /// A word without types.
 pub(crate) fn words(rt: &impl Abort, alloc: Global, text: &str) -> Result<Arc<Words>, AllocError> {
-    Words::shared(alloc, word(rt, text), Vec::new(alloc))
+    Words::new_shared(alloc, word(rt, text), Vec::new(alloc))
 }
 
 /// The position at these coordinates, in units of 10^-7 degree.
@@ -76,7 +76,7 @@ pub(crate) fn device(rt: &impl Abort, number: u32) -> Id {
         *byte = digit(rest % 16);
         rest /= 16;
     }
-    known(rt, std::str::from_utf8(&text).expect(rt, "a text"))
+    id_of(rt, std::str::from_utf8(&text).expect(rt, "a text"))
 }
 
 fn digit(value: u32) -> u8 {
@@ -105,7 +105,7 @@ fn area(rt: &impl Abort, alloc: Global) -> Result<Area, AllocError> {
 /// Places with the square under the identifier that ends in 101.
 pub(crate) fn one_square(rt: &impl Abort, alloc: Global) -> Result<Square, AllocError> {
     Ok(Square {
-        id: known(rt, "00000000-0000-4000-8000-000000000101"),
+        id: id_of(rt, "00000000-0000-4000-8000-000000000101"),
         square: area(rt, alloc)?,
     })
 }

@@ -74,7 +74,7 @@ fn add_two(alloc: Global, members: &mut Vec<Member>, units: Units7) -> Result<()
 }
 
 /// The printed text of a copy of an object, which is built member by member.
-fn made(alloc: Global, units: Units7) -> Result<Vec<u8>, AllocError> {
+fn object_text(alloc: Global, units: Units7) -> Result<Vec<u8>, AllocError> {
     let mut members = Vec::new(alloc);
     add_two(alloc, &mut members, units)?;
     add_member(&mut members, "states", bool_tree(true))?;
@@ -85,7 +85,7 @@ fn made(alloc: Global, units: Units7) -> Result<Vec<u8>, AllocError> {
 #[test]
 fn trees_are_made(rt: HostRuntime) {
     let units = Units7::new(-5_000_000).expect(&rt, "a coordinate");
-    let made = made(rt.alloc(), units).expect(&rt, "memory");
+    let made = object_text(rt.alloc(), units).expect(&rt, "memory");
     assert!(rt; made.as_slice() == MADE);
     let copied = read_tree(rt.alloc(), MADE).expect(&rt, "a tree");
     assert!(rt; matches!(copied, Tree::Object(_)));
@@ -106,7 +106,7 @@ const GEO_FAULTS: &[(GeoFault, &str)] = &[
 ];
 
 #[test]
-fn faults_are_told(rt: HostRuntime) -> Result<(), Fail> {
+fn faults_are_printed(rt: HostRuntime) -> Result<(), Fail> {
     for (fault, wanted) in GEO_FAULTS {
         let told = format!(in rt.alloc(); "{fault}")?;
         assert!(rt; told.as_str() == *wanted, "{wanted}");

@@ -1,6 +1,6 @@
 //! A whole history of requests to a `World`, with one allocation refused, whichever it is.
 use crate::square::instant;
-use mds_exchanges::{CONFIGURATION, Exchange, HISTORY};
+use mds_exchanges::{CONFIGURATION, FixtureExchange, HISTORY};
 use mds_request::{Config, Reply, Request, Verb};
 use mds_verdict::Plain;
 use mds_world::World;
@@ -23,7 +23,7 @@ fn machine_at_last(rt: &impl Abort, alloc: Global) -> World<Plain> {
     }
 }
 
-fn request<'a>(rt: &impl Abort, exchange: &'a Exchange) -> Request<'a> {
+fn request<'a>(rt: &impl Abort, exchange: &'a FixtureExchange) -> Request<'a> {
     Request {
         at: instant(rt, exchange.at),
         token: exchange.token.as_bytes(),
@@ -34,13 +34,13 @@ fn request<'a>(rt: &impl Abort, exchange: &'a Exchange) -> Request<'a> {
 }
 
 /// Whether the reply is 503. Checks that it is `no_memory` then.
-fn wants_memory(rt: &impl Abort, reply: &Reply) -> bool {
+fn is_out_of_memory(rt: &impl Abort, reply: &Reply) -> bool {
     assert!(rt; reply.status() != 503 || reply.body() == NO_MEMORY);
     reply.status() == 503
 }
 
 /// Checks that this is the exchange's reply.
-fn assert_reply(rt: &impl Abort, reply: &Reply, exchange: &Exchange) {
+fn assert_reply(rt: &impl Abort, reply: &Reply, exchange: &FixtureExchange) {
     assert!(rt;
         reply.status() == exchange.status && reply.body() == exchange.reply.as_bytes(),
         "{} at {}",
@@ -52,11 +52,11 @@ fn assert_reply(rt: &impl Abort, reply: &Reply, exchange: &Exchange) {
 /// With one allocation refused, whichever it is, one answer is 503 `no_memory`; the same request is then answered as
 /// if nothing had happened, and so are all others.
 #[test]
-fn answers_or_wants_memory(rt: HostRuntime) {
+fn answers_or_runs_out_of_memory(rt: HostRuntime) {
     let mut world = machine_at_last(&rt, rt.alloc());
     for exchange in HISTORY {
         let mut reply = world.answer(&request(&rt, exchange));
-        if wants_memory(&rt, &reply) {
+        if is_out_of_memory(&rt, &reply) {
             reply = world.answer(&request(&rt, exchange));
         }
         assert_reply(&rt, &reply, exchange);
@@ -64,7 +64,7 @@ fn answers_or_wants_memory(rt: HostRuntime) {
 }
 
 /// Room for the requests of the history, allocated a second time where memory ran out.
-fn room<'a>(rt: &impl Abort, alloc: Global) -> Vec<Request<'a>> {
+fn request_buffer<'a>(rt: &impl Abort, alloc: Global) -> Vec<Request<'a>> {
     match Vec::with_capacity(alloc, HISTORY.len()) {
         Ok(room) => room,
         Err(_) => Vec::with_capacity(alloc, HISTORY.len()).expect(rt, "memory"),
@@ -96,14 +96,14 @@ fn replies_at_last(
 /// All requests in one call. With one allocation refused, whichever it is, the call runs out of memory and a second
 /// one answers them all; or one answer is 503 `no_memory`, and those before it are as they should be.
 #[test]
-fn runs_or_wants_memory(rt: HostRuntime) {
+fn a_run_ends_or_runs_out_of_memory(rt: HostRuntime) {
     let mut world = machine_at_last(&rt, rt.alloc());
-    let mut requests = room(&rt, rt.alloc());
+    let mut requests = request_buffer(&rt, rt.alloc());
     add_requests(&rt, &mut requests);
     let replies = replies_at_last(&rt, &mut world, &requests);
     assert!(rt; replies.len() == HISTORY.len());
     for (reply, exchange) in replies.iter().zip(HISTORY) {
-        if wants_memory(&rt, reply) {
+        if is_out_of_memory(&rt, reply) {
             break;
         }
         assert_reply(&rt, reply, exchange);

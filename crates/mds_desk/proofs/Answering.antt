@@ -15,8 +15,8 @@ use Rattle.mds_request.specs.declared.code.Code.TheVariants.{NotFound}
 use Rattle.mds_machine.specs.Answer.{told, or_code, if_it, leaving, ◌>>=◌}
 use Rattle.mds_machine.specs.Bodies.{list_json, revised_json}
 use Rattle.mds_machine.specs.Published.{policy_json, geography_json, is_shown, policies_reply, geographies_reply, policy_answer, geography_answer}
-use Rattle.mds_desk.specs.Ready.{is_everyones, everyones_reply, AnswersOperator, AnswersAuthor}
-use Rattle.mds_desk.specs.declared.ready.Ready.TheVariants as ready
+use Rattle.mds_desk.specs.CacheKey.{is_everyones, everyones_reply, AnswersOperator, AnswersAuthor}
+use Rattle.mds_desk.specs.declared.cache_key.CacheKey.TheVariants as ready
 
 one : {A : Type 0} (strong : A → Bool) (x : A) (ws ss : List A) (w s : Bool) → s ≡ strong x → (s ≡ true → w ≡ true) → list_all strong (cond w (x ∷ ws) ws) ≡ true
     → (list_all strong ws ≡ true → ws ≡ ss) → cond w (x ∷ ws) ws ≡ cond s (x ∷ ss) ss

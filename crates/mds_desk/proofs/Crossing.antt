@@ -12,29 +12,29 @@ use Rattle.mds_text.proofs.moment.Moment.TheSendSync as moment
 use Rattle.mds_policy.proofs.policy.Policy.TheSendSync as policy
 use Rattle.mds_policy.specs.contracts.policy.Policy as Policy
 use Rattle.mds_geography.proofs.geography.Geography.TheSendSync as geography
-use Rattle.mds_reading.proofs.source.KeptScratch.TheSendSync as scratch
+use Rattle.mds_reading.proofs.node_buffer.ReusableScratch.TheSendSync as scratch
 use Rattle.mds_drafts.specs.contracts.draft.Draft as Draft
 use Rattle.mds_drafts.specs.contracts.drafts.Drafts as Drafts
-use Rattle.mds_catalog.proofs.entries.Entry.TheSendSync as entry
-use Rattle.mds_catalog.proofs.spots.Spot.TheSendSync as spot
+use Rattle.mds_catalog.proofs.entries.PolicyEntry.TheSendSync as entry
+use Rattle.mds_catalog.proofs.spots.DocumentSpot.TheSendSync as spot
 use Rattle.mds_catalog.specs.contracts.batch.Batch as Batch
 use Rattle.mds_catalog.specs.contracts.catalogue.Catalogue as Catalogue
-use Rattle.mds_snapshot.proofs.history.Start.TheSendSync as start
-use Rattle.mds_snapshot.proofs.history.Front.TheSendSync as front
-use Rattle.mds_snapshot.proofs.history.Ledger.TheSendSync as ledger
-use Rattle.mds_snapshot.proofs.history.Trail.TheSendSync as trail
-use Rattle.mds_snapshot.specs.declared.history.Naming.{Ghosts}
+use Rattle.mds_snapshot.proofs.history.NewHistory.TheSendSync as start
+use Rattle.mds_snapshot.proofs.history.PublishedFront.TheSendSync as front
+use Rattle.mds_snapshot.proofs.history.PublicationsHead.TheSendSync as ledger
+use Rattle.mds_snapshot.proofs.history.UnnamedFront.TheSendSync as trail
+use Rattle.mds_snapshot.specs.declared.history.OpeningName.{Ghosts}
 use Rattle.mds_snapshot.specs.contracts.blank.Blank as Blank
-use Rattle.mds_snapshot.specs.contracts.history.Listed as Listed
+use Rattle.mds_snapshot.specs.contracts.history.LoggedBatch as LoggedBatch
 use Rattle.mds_snapshot.specs.contracts.pane.Pane as Pane
 use Rattle.mds_snapshot.specs.contracts.pane.Pane.TheInside as PaneInside
 use Rattle.mds_snapshot.specs.contracts.publisher.Publisher as Publisher
 use Rattle.mds_snapshot.specs.contracts.publisher.Publisher.TheInside as PublisherInside
 use Rattle.mds_snapshot.specs.contracts.rule.Fronts as Fronts
 use Rattle.mds_snapshot.specs.contracts.rule.FrontsProtocolShownArrayListed0.TheImpl as fronts
-use Rattle.mds_snapshot.specs.contracts.shown.Operation as Operation
-use Rattle.mds_snapshot.specs.contracts.shown.Shown as Shown
-use Rattle.mds_snapshot.specs.contracts.shown.ShownAbsorbOperation.TheImpl as absorb
+use Rattle.mds_snapshot.specs.contracts.snapshot_copy.CopyOperation as CopyOperation
+use Rattle.mds_snapshot.specs.contracts.snapshot_copy.SnapshotCopy as SnapshotCopy
+use Rattle.mds_snapshot.specs.contracts.snapshot_copy.SnapshotCopyAbsorbOperation.TheImpl as absorb
 
 pub policy_send : IsSend Policy.the_row
 policy_send = policy.the_send
@@ -78,17 +78,17 @@ catalogue_sync =
     declared_sync Catalogue.the_type
     (search (sendable, crosses) depth 20, (search (sendable, crosses) depth 20, (search (sendable, crosses) depth 20, (search (sendable, crosses) depth 20, (search (sendable, crosses) depth 20, tt)))))
 
-shown_send : IsSend Shown.the_row
-shown_send = declared_send Shown.the_type (catalogue_send, (trail.the_send, tt))
+shown_send : IsSend SnapshotCopy.the_row
+shown_send = declared_send SnapshotCopy.the_type (catalogue_send, (trail.the_send, tt))
 
-shown_sync : IsSync Shown.the_row
-shown_sync = declared_sync Shown.the_type (catalogue_sync, (trail.the_sync, tt))
+shown_sync : IsSync SnapshotCopy.the_row
+shown_sync = declared_sync SnapshotCopy.the_type (catalogue_sync, (trail.the_sync, tt))
 
-operation_send : IsSend Operation.the_row
+operation_send : IsSend CopyOperation.the_row
 operation_send =
     let s = batch_send in
     let y = batch_sync in
-    variants_send Operation.enum (tt, ((search (sendable, crosses) depth 20, (trail.the_send, tt)), tt))
+    variants_send CopyOperation.enum (tt, ((search (sendable, crosses) depth 20, (trail.the_send, tt)), tt))
 
 draft_send : IsSend Draft.the_row
 draft_send =
@@ -112,7 +112,7 @@ module _ (K : RattleType) (g : Ghosts K.Denot) where
   pane_inside : IsSend (PaneInside.the_row K g)
   pane_inside =
       declared_send (PaneInside.the_type K g)
-      (reader.the_send Shown.the_row (Array Listed.the_row tt 0) (Fronts.the_row K) _ (fronts.ghosts K g fronts.no_dict) _ send shown_sync sync frees, (front.the_send K g, tt))
+      (reader.the_send SnapshotCopy.the_row (Array LoggedBatch.the_row tt 0) (Fronts.the_row K) _ (fronts.ghosts K g fronts.no_dict) _ send shown_sync sync frees, (front.the_send K g, tt))
 
   pub pane_send : IsSend (Pane.the_row K g)
   pane_send = view_send _ _ _ _ _ pane_inside
@@ -120,7 +120,7 @@ module _ (K : RattleType) (g : Ghosts K.Denot) where
   publisher_inside : IsSend (PublisherInside.the_row K g)
   publisher_inside =
       declared_send (PublisherInside.the_type K g) (
-        writer.the_send Shown.the_row Operation.the_row (Array Listed.the_row tt 0) (Fronts.the_row K) _ _ absorb.ghosts (fronts.ghosts K g fronts.no_dict) _ shown_send operation_send send shown_sync sync frees,
+        writer.the_send SnapshotCopy.the_row CopyOperation.the_row (Array LoggedBatch.the_row tt 0) (Fronts.the_row K) _ _ absorb.ghosts (fronts.ghosts K g fronts.no_dict) _ shown_send operation_send send shown_sync sync frees,
         (ledger.the_send K g, (front.the_send K g, (catalogue_send, (search sendable depth 20, tt)))),
       )
 

@@ -2,9 +2,9 @@
 use Rattle.std.specs.Prelude.{List}
 use Rattle.std.specs.List.{All}
 use Rattle.mds_catalog.specs.Publication.{Publication}
-use Rattle.mds_desk.specs.declared.shelf.Entry.{Entry}
-use Rattle.mds_desk.specs.Ready.{IsBodyOf}
+use Rattle.mds_desk.specs.declared.cache.CachedBody.{CachedBody}
+use Rattle.mds_desk.specs.CacheKey.{IsBodyOf}
 
 -- each body is that of its key at this front
-abbrev pub AreBodies : List Publication → List Entry → Type 0
+abbrev pub AreBodies : List Publication → List CachedBody → Type 0
 AreBodies front entries = All (λ e. IsBodyOf front e.key e.body) entries

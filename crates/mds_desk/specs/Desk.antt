@@ -11,7 +11,7 @@ use Rattle.mds_request.specs.Reply.{Reply, refused}
 use Rattle.mds_request.specs.declared.code.Code.{Code}
 use Rattle.mds_request.specs.declared.code.Code.TheVariants.{NoMemory, NoSnapshot}
 use Rattle.mds_machine.specs.Desks.{desk_does, IsTurn, IsRun}
-use Rattle.mds_snapshot.specs.declared.history.Naming.{Ghosts}
+use Rattle.mds_snapshot.specs.declared.history.OpeningName.{Ghosts}
 use Rattle.mds_desk.specs.declared.desk.Desk.{Desk}
 
 -- a desk between two requests

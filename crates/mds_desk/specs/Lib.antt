@@ -2,5 +2,5 @@ pub mod Desk
 pub mod Laws
 pub mod Room
 pub mod Answer
-pub mod Ready
-pub mod Shelf
+pub mod CacheKey
+pub mod Cache

@@ -2,7 +2,7 @@
 use Rattle.std.specs.Prelude.{◌≡◌, ◌⊎◌, List, [], ◌∷◌, ◌++◌, Bool, true, false, Option, Some, None, IfSome, Err}
 use Rattle.mds_catalog.specs.Publication.{Publication}
 use Rattle.mds_drafts.specs.Drafts.{Drafts}
-use Rattle.mds_drafts.specs.Shelf.{drafts_of}
+use Rattle.mds_drafts.specs.Values.{drafts_of}
 use Rattle.mds_request.specs.Configuration.{Configuration, configuration}
 use Rattle.mds_request.specs.Request.{Request}
 use Rattle.mds_request.specs.Reply.{Reply, refused}

@@ -6,7 +6,7 @@ use std::marker::Model;
 
 /// Where an answer comes from.
 #[derive(Drop)]
-enum Source {
+enum ReplySource {
     /// A reply that was made for the request.
     Made(Reply),
     /// The cached body of a success.
@@ -16,11 +16,11 @@ enum Source {
 /// The answer to a request: a reply that was made for it, or a success with a cached body. Contracts see its status and
 /// its body.
 #[derive(Drop)]
-pub struct Answer {
-    source: Source,
+pub struct SharedReply {
+    source: ReplySource,
 }
 
-impl Model for Answer {
+impl Model for SharedReply {
     ghost use Rattle.mds_request.specs.Reply.{Reply};
 
     ghost Value = { Reply };
@@ -30,16 +30,16 @@ impl Model for Answer {
     ghost view = { λ a. reply_of a.source };
 }
 
-impl Answer {
+impl SharedReply {
     ghost use Rattle.std.specs.Prelude.{◌≡◌, IfOk};
     ghost use Rattle.mds_request.specs.Reply.{success};
 
     /// A success: status 200 with this body, which isn't copied.
-    pub fn ready(body: Bytes) -> Answer
+    pub fn from_cached(body: Bytes) -> SharedReply
         ensures { result ≡ success body }
     {
-        Answer {
-            source: Source::Ready(body),
+        SharedReply {
+            source: ReplySource::Ready(body),
         }
     }
 
@@ -48,8 +48,8 @@ impl Answer {
         ensures { result ≡ self.now.status }
     {
         match &self.source {
-            Source::Made(reply) => reply.status(),
-            Source::Ready(_) => 200,
+            ReplySource::Made(reply) => reply.status(),
+            ReplySource::Ready(_) => 200,
         }
     }
 
@@ -58,8 +58,8 @@ impl Answer {
         ensures { result.now ≡ self.now.body }
     {
         match &self.source {
-            Source::Made(reply) => reply.body(),
-            Source::Ready(body) => body.as_slice(),
+            ReplySource::Made(reply) => reply.body(),
+            ReplySource::Ready(body) => body.as_slice(),
         }
     }
 
@@ -72,31 +72,31 @@ impl Answer {
         ensures { IfOk result (λ body. body ≡ self.body) }
     {
         match self.source {
-            Source::Made(reply) => Ok(Bytes::from_vec(reply.into_body(alloc)?)?),
-            Source::Ready(body) => Ok(body),
+            ReplySource::Made(reply) => Ok(Bytes::from_vec(reply.into_body(alloc)?)?),
+            ReplySource::Ready(body) => Ok(body),
         }
     }
 }
 
-impl From<Reply> for Answer {
+impl From<Reply> for SharedReply {
     ghost use Rattle.std.specs.Prelude.{◌≡◌};
 
     ghost from_gives = { λ reply answer. answer ≡ reply };
 
-    fn from(reply: Reply) -> Answer {
-        Answer {
-            source: Source::Made(reply),
+    fn from(reply: Reply) -> SharedReply {
+        SharedReply {
+            source: ReplySource::Made(reply),
         }
     }
 }
 
-impl From<Code> for Answer {
+impl From<Code> for SharedReply {
     ghost use Rattle.std.specs.Prelude.{◌≡◌};
     ghost use Rattle.mds_request.specs.Reply.{refused};
 
     ghost from_gives = { λ code answer. answer ≡ refused code };
 
-    fn from(code: Code) -> Answer {
-        Answer::from(Reply::from(code))
+    fn from(code: Code) -> SharedReply {
+        SharedReply::from(Reply::from(code))
     }
 }

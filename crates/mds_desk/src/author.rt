@@ -1,32 +1,32 @@
 //! The author's room: the author's session, with its drafts and the publisher.
 ghost use Rattle.std.specs.Prelude.{◌≡◌, ◌⊎◌};
 
-use crate::answer::Answer;
+use crate::answer::SharedReply;
 use crate::desk::Desk;
-use crate::leave::{Always, Leave};
-use crate::ready::{Ready, ready_for_author};
+use crate::publish_guard::{AlwaysPublish, PublishGuard};
+use crate::cache_key::{CacheKey, author_key};
 use crate::resolving::refusal_of_another;
-use crate::shared::SharedShelf;
-use crate::telling::AuthorTelling;
+use crate::shared_cache::SharedCache;
+use crate::query::RoomQuery;
 use mds_drafts::Drafts;
 use mds_request::{Actor, AuthorCall, Call, Code, Config, Request, Routes, read_call};
-use mds_snapshot::{Naming, Note, Publisher};
+use mds_snapshot::{OpeningName, Note, Publisher};
 use mds_world::{AuthorAct, author_step};
 use std::alloc::{AllocError, Global};
 use std::sync::{Arc, Wait};
 
 /// The author's session: its drafts, and what is published. It is not `Drop`: end it with `finish`. Contracts see the
 /// configuration, the drafts and the list of publications.
-pub struct AuthorRoom<K: Naming> {
+pub struct AuthorRoom<K: OpeningName> {
     alloc: Global,
     config: Arc<Config>,
     routes: Arc<Routes>,
     drafts: Drafts,
     publisher: Publisher<K>,
-    shelf: SharedShelf<K>,
+    shelf: SharedCache<K>,
 }
 
-impl<K: Naming> AuthorRoom<K> {
+impl<K: OpeningName> AuthorRoom<K> {
     ghost use Rattle.std.specs.Prelude.{[], true, false, None, Err, IfErr, IfOk, IfSome, IsSome, MatchBool, Ok};
     ghost use mathlib.Core.List.{IsPrefix};
     ghost use Rattle.mds_request.specs.Call.{call_of};
@@ -38,7 +38,7 @@ impl<K: Naming> AuthorRoom<K> {
     ghost use Rattle.mds_snapshot.specs.Publishing.{IsShorterFront};
     ghost use Rattle.mds_machine.specs.Answer.{Gives};
     ghost use Rattle.mds_machine.specs.Author.{author_does};
-    ghost use Rattle.mds_desk.specs.Ready.{AnswersAuthor};
+    ghost use Rattle.mds_desk.specs.CacheKey.{AnswersAuthor};
     ghost use Rattle.mds_desk.specs.Desk.{state_of};
     ghost use Rattle.mds_desk.specs.Room.{room_of, new_room, held_in, IsNoted, IsRefusedInRoom, TakesRoomTurn};
 
@@ -48,7 +48,7 @@ impl<K: Naming> AuthorRoom<K> {
         config: Arc<Config>,
         routes: Arc<Routes>,
         publisher: Publisher<K>,
-        shelf: SharedShelf<K>,
+        shelf: SharedCache<K>,
     ) -> AuthorRoom<K>
         requires { publisher ≡ record { publications = []; is_open = true } }
         ensures { room_of result ≡ new_room (configuration config.value) }
@@ -69,28 +69,28 @@ impl<K: Naming> AuthorRoom<K> {
     /// any other request it is `too_large` or `token`. A request without success changes nothing. The reply to a
     /// publication is made before it is published, so that nothing is published without a success being reported. Once
     /// memory ran out in the publishing itself, each further publication is answered 503.
-    pub fn answer<R: Wait>(&mut self, rt: &R, request: &Request<'_>) -> (Answer, Option<Note<K>>)
+    pub fn answer<R: Wait>(&mut self, rt: &R, request: &Request<'_>) -> (SharedReply, Option<Note<K>>)
         ensures { TakesRoomTurn (room_of self.old) (request_of request.now) result.0 result.1 (room_of self.new) }
     {
-        self.answer_with(rt, request, &mut Always)
+        self.answer_with(rt, request, &mut AlwaysPublish)
     }
 
     /// The same, but asks `leave` for permission once the reply to a publication is made, just before the publication
     /// becomes visible. Without permission the reply is 503 `no_memory`, and nothing has changed. Where it is given and
     /// the publishing then runs out of memory, the reply is that too, and there is no note.
-    pub fn answer_with<R: Wait, L: Leave>(
+    pub fn answer_with<R: Wait, L: PublishGuard>(
         &mut self,
         rt: &R,
         request: &Request<'_>,
         leave: &mut L,
-    ) -> (Answer, Option<Note<K>>)
+    ) -> (SharedReply, Option<Note<K>>)
         ensures turn { TakesRoomTurn (room_of self.old) (request_of request.now) result.0 result.1 (room_of self.new) }
         ensures given { IfSome result.1 (λ list. L.given leave.new) }
         ensures asked { (leave.new ≡ leave.old) ⊎ (IsSome result.1 ⊎ (result.0 ≡ refused NoMemory)) }
     {
         match self.call(request) {
             Ok(call) => self.carry_out(rt, request, &call, leave),
-            Err(code) => (Answer::from(code), None),
+            Err(code) => (SharedReply::from(code), None),
         }
     }
 
@@ -123,35 +123,35 @@ impl<K: Naming> AuthorRoom<K> {
 
     /// Carries out a call of the author, the one of the request: answers it with the cached body, or makes the answer.
     /// Asks for permission as `answer_with` does, with the same reply and note.
-    pub fn carry_out<R: Wait, L: Leave>(
+    pub fn carry_out<R: Wait, L: PublishGuard>(
         &mut self,
         rt: &R,
         request: &Request<'_>,
         call: &AuthorCall,
         leave: &mut L,
-    ) -> (Answer, Option<Note<K>>)
+    ) -> (SharedReply, Option<Note<K>>)
         requires resolved { call_of (room_of self.old).configuration (request_of request.now) ≡ Ok (ByAuthor call.now) }
         ensures turn { TakesRoomTurn (room_of self.old) (request_of request.now) result.0 result.1 (room_of self.new) }
         ensures given { IfSome result.1 (λ list. L.given leave.new) }
         ensures asked { (leave.new ≡ leave.old) ⊎ (IsSome result.1 ⊎ (result.0 ≡ refused NoMemory)) }
     {
-        let asked = ready_for_author(self.publisher.catalogue(), call);
+        let asked = author_key(self.publisher.catalogue(), call);
         match self.shelf.find(&asked, &self.publisher.note()) {
-            Some(body) => (Answer::ready(body), None),
+            Some(body) => (SharedReply::from_cached(body), None),
             None => self.perform(rt, asked, call, request, leave),
         }
     }
 
     /// Carries out a call without a cached body. After a publication its drafts are removed. A reply about what is
     /// published is cached from then on, until the next publication.
-    fn perform<R: Wait, L: Leave>(
+    fn perform<R: Wait, L: PublishGuard>(
         &mut self,
         rt: &R,
-        asked: Option<Ready>,
+        asked: Option<CacheKey>,
         call: &AuthorCall,
         request: &Request<'_>,
         leave: &mut L,
-    ) -> (Answer, Option<Note<K>>)
+    ) -> (SharedReply, Option<Note<K>>)
         requires { IfSome asked (AnswersAuthor (room_of self.old).publications call.now) }
         ensures same { (room_of self.new).configuration ≡ (room_of self.old).configuration }
         ensures answer { Gives (Unit {0}) (held_in (room_of self.old))
@@ -171,18 +171,18 @@ impl<K: Naming> AuthorRoom<K> {
             }
             AuthorAct::Publish(batch, reply) => {
                 let Ok(share) = Arc::try_clone(&batch) else {
-                    return (Answer::from(Code::NoMemory), None);
+                    return (SharedReply::from(Code::NoMemory), None);
                 };
-                if !leave.may_show() {
-                    return (Answer::from(Code::NoMemory), None);
+                if !leave.may_publish() {
+                    return (SharedReply::from(Code::NoMemory), None);
                 }
                 match self.publisher.publish(rt, share) {
                     Ok(note) => {
                         self.drafts.take_out(&batch);
-                        self.shelf.turn_to(&note);
-                        (Answer::from(reply), Some(note))
+                        self.shelf.advance_to(&note);
+                        (SharedReply::from(reply), Some(note))
                     }
-                    Err(_) => (Answer::from(Code::NoMemory), None),
+                    Err(_) => (SharedReply::from(Code::NoMemory), None),
                 }
             }
         }
@@ -193,10 +193,10 @@ impl<K: Naming> AuthorRoom<K> {
     /// # Errors
     ///
     /// Out of memory.
-    pub fn tell<T: AuthorTelling>(&self, telling: &T) -> Result<T::Told, AllocError>
+    pub fn run_query<T: RoomQuery>(&self, telling: &T) -> Result<T::Told, AllocError>
         ensures { IfOk result (T.tells telling.now (room_of self.now).drafts (room_of self.now).publications) }
     {
-        telling.tell(self.alloc, &self.drafts, self.publisher.catalogue())
+        telling.run_query(self.alloc, &self.drafts, self.publisher.catalogue())
     }
 
     /// A reference to the configuration.

@@ -6,7 +6,7 @@ ghost use Rattle.mds_catalog.specs.Catalogue.{publications_of, lent_policy};
 ghost use Rattle.mds_catalog.specs.Publication.{find_policy, is_geography_published};
 ghost use Rattle.mds_machine.specs.Published.{is_shown};
 ghost use Rattle.mds_request.specs.declared.call.OperatorCall.TheVariants as called;
-ghost use Rattle.mds_desk.specs.Ready.{is_everyones, AnswersOperator, AnswersAuthor};
+ghost use Rattle.mds_desk.specs.CacheKey.{is_everyones, AnswersOperator, AnswersAuthor};
 
 use mds_catalog::{Catalogue, Published, is_meant_for};
 use mds_policy::Policy;
@@ -17,7 +17,7 @@ use std::alloc::Global;
 /// The key of a cached body: a question about the documents that are published at one front, whose answer depends
 /// neither on the client nor on the moment.
 #[derive(Clone, Copy, PartialEq, Eq)]
-pub enum Ready {
+pub enum CacheKey {
     /// All policies, as the author sees them.
     AllPolicies,
     /// The policies that are meant for everyone.
@@ -48,22 +48,22 @@ fn are_everyones(policies: &[Published<'_, Policy>]) -> bool
 
 /// The key for the policies that are visible to an operator: everyone's, where none is meant for it by name. `None`
 /// where memory runs out.
-fn policies_for(alloc: Global, catalogue: &Catalogue, operator: Id) -> Option<Ready>
+fn policies_key(alloc: Global, catalogue: &Catalogue, operator: Id) -> Option<CacheKey>
     ensures { IfSome result (AnswersOperator (publications_of catalogue.now) operator called.Policies) }
 {
     let Ok(policies) = catalogue.policies(alloc, Some(operator)) else {
         return None;
     };
     if are_everyones(&policies) {
-        Some(Ready::EveryonesPolicies)
+        Some(CacheKey::EveryonesPolicies)
     } else {
-        Some(Ready::PoliciesFor(operator))
+        Some(CacheKey::PoliciesFor(operator))
     }
 }
 
 /// Whether the policy with this identifier is published and visible to an operator, or to the author where no operator
 /// is given; the author sees any policy.
-fn is_policy_shown(catalogue: &Catalogue, operator: Option<Id>, id: Id) -> bool
+fn is_policy_visible(catalogue: &Catalogue, operator: Option<Id>, id: Id) -> bool
     ensures { result ≡ option_map_or (is_shown operator) (find_policy (publications_of catalogue.now) id) false }
 {
     match (catalogue.policy(id), operator) {
@@ -74,7 +74,7 @@ fn is_policy_shown(catalogue: &Catalogue, operator: Option<Id>, id: Id) -> bool
 }
 
 /// Whether the geography with this identifier is published.
-fn is_geography_shown(catalogue: &Catalogue, id: Id) -> bool
+fn has_geography(catalogue: &Catalogue, id: Id) -> bool
     ensures { result ≡ is_geography_published (publications_of catalogue.now) id }
 {
     catalogue.geography(id).is_some()
@@ -83,22 +83,22 @@ fn is_geography_shown(catalogue: &Catalogue, id: Id) -> bool
 /// The key of the success to this call of an operator, by its identifier, over the published catalogue: of the
 /// documents that are meant for it. `None` for any other call, for a document that isn't published or isn't meant for
 /// the operator, and where memory runs out.
-pub fn ready_for_operator(
+pub fn operator_key(
     alloc: Global,
     catalogue: &Catalogue,
     operator: Id,
     call: &OperatorCall,
-) -> Option<Ready>
+) -> Option<CacheKey>
     ensures { IfSome result (AnswersOperator (publications_of catalogue.now) operator call.now) }
 {
     match *call {
-        OperatorCall::Policies => policies_for(alloc, catalogue, operator),
-        OperatorCall::Policy(id) if is_policy_shown(catalogue, Some(operator), id) => {
-            Some(Ready::Policy(id))
+        OperatorCall::Policies => policies_key(alloc, catalogue, operator),
+        OperatorCall::Policy(id) if is_policy_visible(catalogue, Some(operator), id) => {
+            Some(CacheKey::Policy(id))
         }
-        OperatorCall::Geographies => Some(Ready::Geographies),
-        OperatorCall::Geography(id) if is_geography_shown(catalogue, id) => {
-            Some(Ready::Geography(id))
+        OperatorCall::Geographies => Some(CacheKey::Geographies),
+        OperatorCall::Geography(id) if has_geography(catalogue, id) => {
+            Some(CacheKey::Geography(id))
         }
         _ => None,
     }
@@ -106,15 +106,15 @@ pub fn ready_for_operator(
 
 /// The key of the success to this call of the author, over the published catalogue. `None` for any other call, and for
 /// a document that isn't published.
-pub fn ready_for_author(catalogue: &Catalogue, call: &AuthorCall) -> Option<Ready>
+pub fn author_key(catalogue: &Catalogue, call: &AuthorCall) -> Option<CacheKey>
     ensures { IfSome result (AnswersAuthor (publications_of catalogue.now) call.now) }
 {
     match *call {
-        AuthorCall::Policies => Some(Ready::AllPolicies),
-        AuthorCall::Policy(id) if is_policy_shown(catalogue, None, id) => Some(Ready::Policy(id)),
-        AuthorCall::Geographies => Some(Ready::Geographies),
-        AuthorCall::Geography(id) if is_geography_shown(catalogue, id) => {
-            Some(Ready::Geography(id))
+        AuthorCall::Policies => Some(CacheKey::AllPolicies),
+        AuthorCall::Policy(id) if is_policy_visible(catalogue, None, id) => Some(CacheKey::Policy(id)),
+        AuthorCall::Geographies => Some(CacheKey::Geographies),
+        AuthorCall::Geography(id) if has_geography(catalogue, id) => {
+            Some(CacheKey::Geography(id))
         }
         _ => None,
     }

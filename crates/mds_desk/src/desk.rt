@@ -8,16 +8,16 @@ ghost use Rattle.mds_request.specs.declared.call.Call.TheVariants.{Operator as O
 ghost use Rattle.mds_request.specs.declared.code.Code.TheVariants.{NoMemory, NoSnapshot};
 ghost use Rattle.mds_world.specs.Lasting.{fits_prop, lasting_in};
 
-use crate::answer::Answer;
+use crate::answer::SharedReply;
 use crate::gate::Gate;
 use crate::operator::answer_call;
-use crate::seat::Seat;
-use crate::telling::Telling;
+use crate::context::DeskContext;
+use crate::query::DeskQuery;
 use core::mem::replace_with;
 use mds_catalog::Catalogue;
 use mds_fleet::Book;
 use mds_request::{Code, OperatorCall, Request};
-use mds_snapshot::{Look, Naming, Note, Pane};
+use mds_snapshot::{Look, OpeningName, Note, Pane};
 use mds_verdict::Evaluator;
 use std::alloc::{AllocError, Global};
 
@@ -25,8 +25,8 @@ use std::alloc::{AllocError, Global};
 /// lock: the response cache is shared by all desks, and is skipped while it is locked. Contracts see the configuration,
 /// the operator's place in it, the publications that were seen or learnt, and the operator's rows.
 #[derive(Drop)]
-pub struct Desk<K: Naming> {
-    seat: Seat<K>,
+pub struct Desk<K: OpeningName> {
+    seat: DeskContext<K>,
     book: Book,
     pane: Pane<K>,
     ghost limit: { Some book.limit ≡ option_map (λ o. o.limit) (slice_get (configuration seat.config.value).operators seat.place) },
@@ -39,23 +39,23 @@ pub struct Desk<K: Naming> {
 /// # Errors
 ///
 /// `NoMemory`: memory ran out.
-fn told<K: Naming, T: Telling>(alloc: Global, look: &Look<K>, telling: &T) -> Result<T::Told, Code>
+fn query_look<K: OpeningName, T: DeskQuery>(alloc: Global, look: &Look<K>, telling: &T) -> Result<T::Told, Code>
     ensures told { IfOk result (T.tells telling.now look.now) }
     ensures refused { IfErr result (λ code. code ≡ NoMemory) }
 {
-    match telling.tell(alloc, look.catalogue()) {
+    match telling.run_query(alloc, look.catalogue()) {
         Ok(told) => Ok(told),
         Err(_) => Err(Code::NoMemory),
     }
 }
 
-impl<K: Naming> Desk<K> {
+impl<K: OpeningName> Desk<K> {
     ghost use Rattle.std.specs.Prelude.{[], map, OnErr};
     ghost use Rattle.mds_request.specs.Request.{request_of};
     ghost use Rattle.mds_desk.specs.Desk.{state_of, new_desk, TakesTurn, TakesRun, Learns};
 
     /// The desk of the operator at this place, which knows no publications and has no vehicles.
-    pub(crate) fn new(seat: Seat<K>, pane: Pane<K>) -> Desk<K>
+    pub(crate) fn new(seat: DeskContext<K>, pane: Pane<K>) -> Desk<K>
         requires { pane ≡ [] }
         ensures { state_of result ≡ new_desk (configuration seat.config.value) seat.place }
     {
@@ -80,13 +80,13 @@ impl<K: Naming> Desk<K> {
         request: &Request<'_>,
         gate: &mut G,
         evaluator: &E,
-    ) -> Answer
+    ) -> SharedReply
         requires { E.may_judge }
         ensures { TakesTurn (state_of self.old) (request_of request.now) result (state_of self.new) }
     {
         match self.seat.call(request) {
             Ok(call) => self.carry_out(request, &call, gate, evaluator),
-            Err(code) => Answer::from(code),
+            Err(code) => SharedReply::from(code),
         }
     }
 
@@ -101,7 +101,7 @@ impl<K: Naming> Desk<K> {
         call: &OperatorCall,
         gate: &mut G,
         evaluator: &E,
-    ) -> Answer
+    ) -> SharedReply
         requires judge { E.may_judge }
         requires resolved { call_of (state_of self.old).configuration (request_of request.now) ≡ Ok (OperatorAt (state_of self.old).place call.now) }
         ensures { TakesTurn (state_of self.old) (request_of request.now) result (state_of self.new) }
@@ -128,7 +128,7 @@ impl<K: Naming> Desk<K> {
         requests: &[Request<'_>],
         gate: &mut G,
         evaluator: &E,
-    ) -> Result<Vec<Answer>, AllocError>
+    ) -> Result<Vec<SharedReply>, AllocError>
         requires { E.may_judge }
         ensures run { IfOk result (λ replies. TakesRun (state_of self.old) (map request_of requests.now) replies.items (state_of self.new)) }
         ensures unchanged { OnErr result (self.new ≡ self.old) }
@@ -162,15 +162,15 @@ impl<K: Naming> Desk<K> {
     /// # Errors
     ///
     /// `NoSnapshot` where there is no snapshot, and the desk is unchanged; `NoMemory` where memory ran out.
-    pub fn tell<T: Telling>(&mut self, telling: &T) -> Result<T::Told, Code>
+    pub fn run_query<T: DeskQuery>(&mut self, telling: &T) -> Result<T::Told, Code>
         ensures learnt { Learns (state_of self.old) (state_of self.new).known (state_of self.new) }
         ensures told { IfOk result (T.tells telling.now (state_of self.new).known) }
         ensures refused { IfErr result (λ code. (code ≡ NoMemory) ⊎ ((code ≡ NoSnapshot) × (state_of self.new ≡ state_of self.old))) }
     {
-        replace_with(self, telling, |desk, telling| desk.telling(telling))
+        replace_with(self, telling, |desk, telling| desk.run_query_owned(telling))
     }
 
-    fn telling<T: Telling>(self, telling: &T) -> (Desk<K>, Result<T::Told, Code>)
+    fn run_query_owned<T: DeskQuery>(self, telling: &T) -> (Desk<K>, Result<T::Told, Code>)
         ensures learnt { Learns (state_of self) (state_of result.0).known (state_of result.0) }
         ensures told { IfOk result.1 (T.tells telling.now (state_of result.0).known) }
         ensures refused { IfErr result.1 (λ code. (code ≡ NoMemory) ⊎ ((code ≡ NoSnapshot) × (state_of result.0 ≡ state_of self))) }
@@ -178,7 +178,7 @@ impl<K: Naming> Desk<K> {
         let Self { seat, book, pane } = self;
         match pane.look() {
             Ok(look) => {
-                let told = told(seat.alloc, &look, telling);
+                let told = query_look(seat.alloc, &look, telling);
                 let pane = look.leave();
                 let desk = Desk { seat, book, pane };
                 (desk, told)
@@ -197,7 +197,7 @@ impl<K: Naming> Desk<K> {
         call: &OperatorCall,
         gate: &mut G,
         evaluator: &E,
-    ) -> (Desk<K>, Answer)
+    ) -> (Desk<K>, SharedReply)
         requires judge { E.may_judge }
         requires resolved { call_of (state_of self).configuration (request_of request.now) ≡ Ok (OperatorAt (state_of self).place call.now) }
         ensures { TakesTurn (state_of self) (request_of request.now) result.1 (state_of result.0) }
@@ -224,7 +224,7 @@ impl<K: Naming> Desk<K> {
                     book,
                     pane: none.pane,
                 };
-                (desk, Answer::from(Code::NoSnapshot))
+                (desk, SharedReply::from(Code::NoSnapshot))
             }
         }
     }

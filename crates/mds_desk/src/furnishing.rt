@@ -7,19 +7,19 @@ ghost use Rattle.mds_desk.specs.Room.{room_of, new_room};
 
 use crate::author::AuthorRoom;
 use crate::desk::Desk;
-use crate::seat::Seat;
-use crate::shared::SharedShelf;
+use crate::context::DeskContext;
+use crate::shared_cache::SharedCache;
 use mds_request::{Config, Routes};
-use mds_snapshot::{Blank, Naming, OpenFault, Pane, open};
+use mds_snapshot::{Blank, OpeningName, OpenFault, Pane, open};
 use std::alloc::{AllocError, Global};
 use std::sync::{Arc, Wait};
 
 /// A desk for each operator, in the order of the configuration.
-fn desks<K: Naming>(
+fn desks<K: OpeningName>(
     alloc: Global,
     config: &Arc<Config>,
     routes: &Arc<Routes>,
-    shelf: &SharedShelf<K>,
+    shelf: &SharedCache<K>,
     panes: Vec<Pane<K>>,
 ) -> Result<Vec<Desk<K>>, AllocError>
     requires { panes.items ≡ replicate (length (configuration config.now.value).operators) [] }
@@ -30,8 +30,8 @@ fn desks<K: Naming>(
         let place = desks.len();
         let config = Arc::try_clone(config)?;
         let routes = Arc::try_clone(routes)?;
-        let shelf = shelf.share()?;
-        let seat = Seat {
+        let shelf = shelf.new_ref()?;
+        let seat = DeskContext {
             alloc,
             config,
             routes,
@@ -50,7 +50,7 @@ fn desks<K: Naming>(
 /// # Errors
 ///
 /// `NoMemory` where memory ran out, `NoPlace` where there is no slot for a further reader.
-pub fn furnish<K: Naming, R: Wait>(
+pub fn furnish<K: OpeningName, R: Wait>(
     rt: &R,
     alloc: Global,
     config: Config,
@@ -66,7 +66,7 @@ pub fn furnish<K: Naming, R: Wait>(
         return Err(OpenFault::NoMemory);
     };
     let (publisher, panes) = open::<K, R>(rt, alloc, blank, config.operators().len())?;
-    let Ok(shelf) = SharedShelf::new(alloc, publisher.note()) else {
+    let Ok(shelf) = SharedCache::new(alloc, publisher.note()) else {
         publisher.finish(rt);
         return Err(OpenFault::NoMemory);
     };

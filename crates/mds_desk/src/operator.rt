@@ -7,26 +7,26 @@ ghost use Rattle.mds_machine.specs.Answer.{Gives};
 ghost use Rattle.mds_machine.specs.Operator.{operator_does};
 ghost use Rattle.mds_world.specs.Lasting.{lasting_in};
 
-use crate::answer::Answer;
-use crate::ready::ready_for_operator;
-use crate::seat::Seat;
+use crate::answer::SharedReply;
+use crate::cache_key::operator_key;
+use crate::context::DeskContext;
 use mds_catalog::Catalogue;
 use mds_fleet::Book;
 use mds_request::{OperatorCall, Request};
-use mds_snapshot::{Look, Naming};
+use mds_snapshot::{Look, OpeningName};
 use mds_verdict::Evaluator;
 use mds_world::operator_step;
 
 /// Answers a call of the desk's operator: with the cached body, or with a reply of its own, which is cached from then
 /// on where it is about what is published.
-pub(crate) fn answer_call<K: Naming, E: Evaluator<Catalogue>>(
-    seat: &Seat<K>,
+pub(crate) fn answer_call<K: OpeningName, E: Evaluator<Catalogue>>(
+    seat: &DeskContext<K>,
     book: &mut Book,
     look: &Look<K>,
     call: &OperatorCall,
     request: &Request<'_>,
     evaluator: &E,
-) -> Answer
+) -> SharedReply
     requires ready { E.may_judge }
     requires limit { Some book.old.limit
         ≡ option_map (λ o. o.limit) (slice_get (configuration seat.now.config.value).operators seat.now.place) }
@@ -38,10 +38,10 @@ pub(crate) fn answer_call<K: Naming, E: Evaluator<Catalogue>>(
     ensures fits { Fits (lasting_in look.now) book.new }
 {
     let catalogue = look.catalogue();
-    let asked = ready_for_operator(seat.alloc, catalogue, seat.operator(), call);
+    let asked = operator_key(seat.alloc, catalogue, seat.operator(), call);
     let note = look.note();
     if let Some(body) = seat.shelf.find(&asked, &note) {
-        return Answer::ready(body);
+        return SharedReply::from_cached(body);
     }
     let reply = operator_step(
         seat.alloc,

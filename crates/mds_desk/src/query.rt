@@ -1,14 +1,14 @@
 //! Queries outside the protocol's calls.
 ghost use Rattle.std.specs.Prelude.{IfOk};
 ghost use Rattle.mds_catalog.specs.Catalogue.{publications_of};
-ghost use Rattle.mds_drafts.specs.Shelf.{drafts_of};
+ghost use Rattle.mds_drafts.specs.Values.{drafts_of};
 
 use mds_catalog::Catalogue;
 use mds_drafts::Drafts;
 use std::alloc::{AllocError, Global};
 
 /// A read-only query about what is published, outside the protocol's calls.
-pub trait Telling {
+pub trait DeskQuery {
     ghost use Rattle.std.specs.Prelude.{List};
     ghost use Rattle.mds_catalog.specs.Publication.{Publication};
 
@@ -23,12 +23,12 @@ pub trait Telling {
     /// # Errors
     ///
     /// Out of memory.
-    fn tell(&self, alloc: Global, catalogue: &Catalogue) -> Result<Self::Told, AllocError>
+    fn run_query(&self, alloc: Global, catalogue: &Catalogue) -> Result<Self::Told, AllocError>
         ensures { IfOk result (tells self.now (publications_of catalogue.now)) };
 }
 
 /// A read-only query about the drafts and about what is published, outside the protocol's calls.
-pub trait AuthorTelling {
+pub trait RoomQuery {
     ghost use Rattle.std.specs.Prelude.{List};
     ghost use Rattle.mds_catalog.specs.Publication.{Publication};
     ghost use Rattle.mds_drafts.specs.Drafts.{Drafts as Held};
@@ -44,7 +44,7 @@ pub trait AuthorTelling {
     /// # Errors
     ///
     /// Out of memory.
-    fn tell(
+    fn run_query(
         &self,
         alloc: Global,
         drafts: &Drafts,

@@ -7,9 +7,9 @@ ghost use Rattle.mds_request.specs.declared.call.Call.TheVariants.{Operator as O
 ghost use Rattle.mds_machine.specs.Desks.{refusal_of};
 ghost use Rattle.mds_desk.specs.Desk.{IsRefusedAt};
 
-use crate::seat::Seat;
+use crate::context::DeskContext;
 use mds_request::{Actor, Call, Code, OperatorCall, Request, read_call};
-use mds_snapshot::Naming;
+use mds_snapshot::OpeningName;
 
 /// The refusal of another client's request that the table of calls refuses with this code: too large a body comes
 /// first.
@@ -22,7 +22,7 @@ pub(crate) fn refusal_of_another(code: Code) -> Code
     }
 }
 
-impl<K: Naming> Seat<K> {
+impl<K: OpeningName> DeskContext<K> {
     /// The operator's call of a request.
     ///
     /// # Errors

@@ -2,45 +2,45 @@
 ghost use Rattle.std.specs.Prelude.{◌≡◌, ◌⊎◌, IfSome, IsSome};
 ghost use Rattle.mds_request.specs.Reply.{refused};
 ghost use Rattle.mds_request.specs.declared.code.Code.TheVariants.{NoMemory};
-ghost use Rattle.mds_desk.specs.Ready.{IsBodyOf, IsFound, IsReplyTo};
+ghost use Rattle.mds_desk.specs.CacheKey.{IsBodyOf, IsFound, IsReplyTo};
 
-use crate::answer::Answer;
-use crate::ready::Ready;
-use crate::shelf::Shelf;
+use crate::answer::SharedReply;
+use crate::cache_key::CacheKey;
+use crate::cache::ResponseCache;
 use bytes::Bytes;
 use mds_request::{Code, Reply};
-use mds_snapshot::{Naming, Note};
+use mds_snapshot::{OpeningName, Note};
 use std::alloc::{AllocError, Global};
 use std::marker::Model;
 use std::sync::{Arc, Mutex, MutexGuard};
 use std::thread::yield_now;
 
 /// How many times a locked cache is tried, yielding to other threads after each try, before it is skipped.
-const TRIES: usize = 4;
+const LOCK_TRIES: usize = 4;
 
 /// A reference to one response cache behind a lock. The lock is held only for a look-up or an insertion, never while a
 /// body is made, and nobody waits for it: a cache that stays locked is skipped. Contracts see nothing of what is
 /// cached.
 #[derive(Drop)]
-pub struct SharedShelf<K: Naming> {
-    shelf: Arc<Mutex<Shelf<K>>>,
+pub struct SharedCache<K: OpeningName> {
+    shelf: Arc<Mutex<ResponseCache<K>>>,
 }
 
-impl<K: Naming> Model for SharedShelf<K> {
+impl<K: OpeningName> Model for SharedCache<K> {
     ghost Value = { Unit {0} };
 
     ghost view = { λ _. tt };
 }
 
-impl<K: Naming> SharedShelf<K> {
+impl<K: OpeningName> SharedCache<K> {
     /// An empty cache for the note's front.
     ///
     /// # Errors
     ///
     /// Out of memory.
-    pub fn new(alloc: Global, note: Note<K>) -> Result<SharedShelf<K>, AllocError> {
-        let shelf = Arc::new(alloc, Mutex::new(Shelf::new(alloc, note)))?;
-        Ok(SharedShelf { shelf })
+    pub fn new(alloc: Global, note: Note<K>) -> Result<SharedCache<K>, AllocError> {
+        let shelf = Arc::new(alloc, Mutex::new(ResponseCache::new(alloc, note)))?;
+        Ok(SharedCache { shelf })
     }
 
     /// Another reference to the cache.
@@ -48,14 +48,14 @@ impl<K: Naming> SharedShelf<K> {
     /// # Errors
     ///
     /// No further reference could be made.
-    pub fn share(&self) -> Result<SharedShelf<K>, AllocError> {
+    pub fn new_ref(&self) -> Result<SharedCache<K>, AllocError> {
         let shelf = Arc::try_clone(&self.shelf)?;
-        Ok(SharedShelf { shelf })
+        Ok(SharedCache { shelf })
     }
 
     /// The locked cache; `None` where another thread holds the lock at each try.
-    fn taken(&self) -> Option<MutexGuard<'_, Shelf<K>>> {
-        for _ in 0..TRIES {
+    fn lock_or_skip(&self) -> Option<MutexGuard<'_, ResponseCache<K>>> {
+        for _ in 0..LOCK_TRIES {
             if let Some(shelf) = self.shelf.try_lock() {
                 return Some(shelf);
             }
@@ -65,20 +65,20 @@ impl<K: Naming> SharedShelf<K> {
     }
 
     /// The cached body for a key at the note's front, if there is one. `None` also where the cache stays locked.
-    pub fn find(&self, asked: &Option<Ready>, note: &Note<K>) -> Option<Bytes>
+    pub fn find(&self, asked: &Option<CacheKey>, note: &Note<K>) -> Option<Bytes>
         ensures { IfSome result (IsFound note.now asked.now) }
     {
         let Some(key) = asked else {
             return None;
         };
-        let shelf = self.taken()?;
+        let shelf = self.lock_or_skip()?;
         shelf.find(key, note)
     }
 
     /// Empties the cache for a later front, unless it stays locked.
-    pub fn turn_to(&self, note: &Note<K>) {
-        if let Some(mut shelf) = self.taken() {
-            shelf.turn_to(note);
+    pub fn advance_to(&self, note: &Note<K>) {
+        if let Some(mut shelf) = self.lock_or_skip() {
+            shelf.advance_to(note);
         }
     }
 
@@ -89,40 +89,40 @@ impl<K: Naming> SharedShelf<K> {
     pub fn answer(
         &self,
         alloc: Global,
-        asked: Option<Ready>,
+        asked: Option<CacheKey>,
         note: &Note<K>,
         reply: Reply,
-    ) -> Answer
+    ) -> SharedReply
         requires { IfSome asked (λ key. IsReplyTo note.now key reply) }
         ensures { (result ≡ reply) ⊎ ((result ≡ refused NoMemory) × IsSome asked) }
     {
         match asked {
-            Some(key) if reply.status() == 200 => self.laid_down(alloc, key, note, reply),
-            _ => Answer::from(reply),
+            Some(key) if reply.status() == 200 => self.cache_success(alloc, key, note, reply),
+            _ => SharedReply::from(reply),
         }
     }
 
     /// The answer with this success, whose body is cached.
-    fn laid_down(&self, alloc: Global, key: Ready, note: &Note<K>, reply: Reply) -> Answer
+    fn cache_success(&self, alloc: Global, key: CacheKey, note: &Note<K>, reply: Reply) -> SharedReply
         requires success { reply.status ≡ 200 }
         requires body { IsBodyOf note.now key reply.body }
         ensures { (result ≡ reply) ⊎ (result ≡ refused NoMemory) }
     {
-        let Ok(body) = Answer::from(reply).into_bytes(alloc) else {
-            return Answer::from(Code::NoMemory);
+        let Ok(body) = SharedReply::from(reply).into_bytes(alloc) else {
+            return SharedReply::from(Code::NoMemory);
         };
         if let Ok(share) = body.clone() {
-            self.keep(note, key, share);
+            self.store_body(note, key, share);
         }
-        Answer::ready(body)
+        SharedReply::from_cached(body)
     }
 
     /// Caches a body of the note's front, unless the cache stays locked.
-    fn keep(&self, note: &Note<K>, key: Ready, body: Bytes)
+    fn store_body(&self, note: &Note<K>, key: CacheKey, body: Bytes)
         requires { IsBodyOf note.now key body }
     {
-        if let Some(mut shelf) = self.taken() {
-            shelf.keep(note, key, body);
+        if let Some(mut shelf) = self.lock_or_skip() {
+            shelf.store_body(note, key, body);
         }
     }
 }

@@ -12,8 +12,8 @@ use Rattle.mds_request.specs.Configuration.{Operator, access_at, in_limits, zone
 use Rattle.mds_request.specs.declared.config.TheConstants.{MOST_OPERATORS}
 use Rattle.mds_diagnosis.specs.declared.wrong.Key.{Key}
 use Rattle.mds_diagnosis.specs.declared.wrong.Key.TheVariants.{Id, Token}
-use Rattle.mds_diagnosis.specs.declared.wrong.Flaw.{Flaw}
-use Rattle.mds_diagnosis.specs.declared.wrong.Flaw.TheVariants as flaw
+use Rattle.mds_diagnosis.specs.declared.wrong.OperatorFlaw.{OperatorFlaw}
+use Rattle.mds_diagnosis.specs.declared.wrong.OperatorFlaw.TheVariants as flaw
 use Rattle.mds_diagnosis.specs.declared.wrong.Wrong.{Wrong}
 use Rattle.mds_diagnosis.specs.declared.wrong.Wrong.TheVariants as wrong
 
@@ -29,12 +29,12 @@ says w (Ok a) = Ok a
 says w (Err fault) = Err w
 
 -- the reading of the operator at this place
-abbrev pub says_at : {A : Type 0} → ℕ → Result A Flaw → Result A Wrong
+abbrev pub says_at : {A : Type 0} → ℕ → Result A OperatorFlaw → Result A Wrong
 says_at place (Ok a) = Ok a
 says_at place (Err f) = Err (wrong.Operator place f)
 
 -- an operator's identifier, limit and access token, in this order
-abbrev pub operator_of : Json → Result Operator Flaw
+abbrev pub operator_of : Json → Result Operator OperatorFlaw
 operator_of value = do
   entry ← says flaw.Entry (object_of OperatorsName value)
   id ← says flaw.Id (required_at id_of entry IdName)

@@ -1,3 +1,3 @@
 pub mod Diagnosis
-pub mod Telling
+pub mod Relations
 pub mod Wording

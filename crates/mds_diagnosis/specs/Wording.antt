@@ -4,14 +4,14 @@ use Rattle.mds_diagnosis.specs.declared.detail.Detail.{Detail}
 use Rattle.mds_diagnosis.specs.declared.detail.Detail.TheVariants.{Unreadable, TooLong, Found, Untold}
 use Rattle.mds_diagnosis.specs.declared.wrong.Key.{Key}
 use Rattle.mds_diagnosis.specs.declared.wrong.Key.TheVariants.{Id, Token}
-use Rattle.mds_diagnosis.specs.declared.wrong.Flaw.{Flaw}
-use Rattle.mds_diagnosis.specs.declared.wrong.Flaw.TheVariants as flaw
+use Rattle.mds_diagnosis.specs.declared.wrong.OperatorFlaw.{OperatorFlaw}
+use Rattle.mds_diagnosis.specs.declared.wrong.OperatorFlaw.TheVariants as flaw
 use Rattle.mds_diagnosis.specs.declared.wrong.Wrong.{Wrong}
 use Rattle.mds_diagnosis.specs.declared.wrong.Wrong.TheVariants as wrong
 use Rattle.mds_diagnosis.specs.Diagnosis.{wrong_in}
 
 -- the text after the operator
-abbrev pub flaw_wording : Flaw → List ℕ
+abbrev pub flaw_wording : OperatorFlaw → List ℕ
 flaw_wording flaw.Entry = codes ": not an object"
 flaw_wording flaw.Id = codes ".id: not a UUID"
 flaw_wording flaw.Limit = codes ".limit: not a whole number"

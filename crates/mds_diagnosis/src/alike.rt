@@ -4,13 +4,13 @@ ghost use Rattle.std.specs.List.{position_from};
 ghost use Rattle.mds_request.specs.Configuration.{tokens};
 ghost use Rattle.mds_request.specs.declared.config.TheConstants.{MOST_OPERATORS};
 ghost use Rattle.mds_diagnosis.specs.Diagnosis.{key_of, pair_of, unlike};
-ghost use Rattle.mds_diagnosis.specs.Telling.{operator};
+ghost use Rattle.mds_diagnosis.specs.Relations.{operator};
 
-use crate::operators::Operator;
+use crate::operators::ReadOperator;
 use crate::wrong::{Key, Wrong};
 
 /// Whether all identifiers and all access tokens differ; else the first two that don't.
-pub(crate) fn unlike(author: &str, operators: &[Operator]) -> Result<(), Wrong>
+pub(crate) fn check_distinct(author: &str, operators: &[ReadOperator]) -> Result<(), Wrong>
     requires { length operators.now ≤ MOST_OPERATORS }
     ensures { result ≡ unlike author.now (map operator operators.now) }
 {
@@ -27,7 +27,7 @@ pub(crate) fn unlike(author: &str, operators: &[Operator]) -> Result<(), Wrong>
 }
 
 /// The index of the first operator with this access token.
-fn place_of_token(operators: &[Operator], token: &str) -> Option<usize>
+fn place_of_token(operators: &[ReadOperator], token: &str) -> Option<usize>
     ensures { result ≡ position_from (bytes_eq token.now) 0 (tokens (map operator operators.now)) }
 {
     for (place, operator) in operators.iter().enumerate() {
@@ -40,7 +40,7 @@ fn place_of_token(operators: &[Operator], token: &str) -> Option<usize>
 
 /// The first operator whose identifier or access token a later one has too, with the first such
 /// one.
-fn pair_of(operators: &[Operator], key: Key) -> Option<(usize, usize)>
+fn pair_of(operators: &[ReadOperator], key: Key) -> Option<(usize, usize)>
     requires { length operators.now ≤ MOST_OPERATORS }
     ensures { result ≡ pair_of key (map operator operators.now) }
 {
@@ -54,7 +54,7 @@ fn pair_of(operators: &[Operator], key: Key) -> Option<(usize, usize)>
 }
 
 /// The index of the first of these others, which begin at `from`, that is like an operator.
-fn place_behind(first: &Operator, from: usize, others: &[Operator], key: Key) -> Option<usize>
+fn place_behind(first: &ReadOperator, from: usize, others: &[ReadOperator], key: Key) -> Option<usize>
     requires { from + length others.now ≤ MOST_OPERATORS }
     ensures { result ≡ position_from (bytes_eq (key_of key (operator first.now))) from (map (key_of key) (map operator others.now)) }
 {
@@ -66,7 +66,7 @@ fn place_behind(first: &Operator, from: usize, others: &[Operator], key: Key) ->
     None
 }
 
-fn are_alike(first: &Operator, second: &Operator, key: Key) -> bool
+fn are_alike(first: &ReadOperator, second: &ReadOperator, key: Key) -> bool
     ensures { result ≡ bytes_eq (key_of key (operator first.now)) (key_of key (operator second.now)) }
 {
     match key {

@@ -4,15 +4,15 @@ ghost use Rattle.mds_reading.specs.Node.{node_view};
 ghost use Rattle.mds_request.specs.Configuration.{zone_at};
 ghost use Rattle.mds_request.specs.declared.config.TheConstants.{MOST_OPERATORS};
 ghost use Rattle.mds_diagnosis.specs.Diagnosis.{says, operators_at, configuration_of, read_configuration as told, wrong_in};
-ghost use Rattle.mds_diagnosis.specs.Telling.{operator, Shows, Tells};
+ghost use Rattle.mds_diagnosis.specs.Relations.{operator, Shows, Tells};
 ghost use Rattle.mds_diagnosis.specs.declared.wrong.Wrong.TheVariants as wrong;
 
-use crate::alike::unlike;
-use crate::operators::{Operator, access_at, operators_of};
-use crate::stop::Stop;
+use crate::alike::check_distinct;
+use crate::operators::{ReadOperator, access_at, operators_of};
+use crate::stop::DiagnosisStop;
 use crate::wrong::Wrong;
 use mds_match::Zone;
-use mds_reading::{Node, Source, document_of, required_list, required_text};
+use mds_reading::{Node, NodeBuffer, document_of, required_list, required_text};
 use mds_request::MOST_OPERATORS;
 use mds_text::{Field, TextFault};
 use std::alloc::{AllocError, Global};
@@ -24,51 +24,51 @@ pub fn diagnose(alloc: Global, text: &[u8]) -> Result<Option<Wrong>, AllocError>
 {
     match read(alloc, text) {
         Ok(()) => Ok(None),
-        Err(Stop::Wrong(wrong)) => Ok(Some(wrong)),
-        Err(Stop::NoMemory) => Err(AllocError),
+        Err(DiagnosisStop::Wrong(wrong)) => Ok(Some(wrong)),
+        Err(DiagnosisStop::NoMemory) => Err(AllocError),
     }
 }
 
 /// Reads a text as a configuration, up to what is wrong.
-fn read(alloc: Global, text: &[u8]) -> Result<(), Stop>
+fn read(alloc: Global, text: &[u8]) -> Result<(), DiagnosisStop>
     ensures { Tells (λ u. u) result (told text.now) }
 {
-    let mut source = Source::new(alloc);
+    let mut source = NodeBuffer::new(alloc);
     match source.read(alloc, text) {
         Ok(tree) => configuration_of(alloc, &tree),
-        Err(TextFault::NoMemory) => Err(Stop::NoMemory),
-        Err(_) => Err(Stop::Wrong(Wrong::Json)),
+        Err(TextFault::NoMemory) => Err(DiagnosisStop::NoMemory),
+        Err(_) => Err(DiagnosisStop::Wrong(Wrong::Json)),
     }
 }
 
-fn configuration_of(alloc: Global, tree: &Node<'_>) -> Result<(), Stop>
+fn configuration_of(alloc: Global, tree: &Node<'_>) -> Result<(), DiagnosisStop>
     ensures { Tells (λ u. u) result (configuration_of (node_view tree.now)) }
 {
     let Ok(document) = document_of(tree) else {
-        return Err(Stop::Wrong(Wrong::Document));
+        return Err(DiagnosisStop::Wrong(Wrong::Document));
     };
     let Ok(author) = access_at(document, Field::Author) else {
-        return Err(Stop::Wrong(Wrong::Author));
+        return Err(DiagnosisStop::Wrong(Wrong::Author));
     };
     let operators = operators_at(alloc, document)?;
     zone_at(document)?;
-    unlike(author, &operators)?;
+    check_distinct(author, &operators)?;
     Ok(())
 }
 
 /// The required member `operators`, with at most `MOST_OPERATORS`.
-fn operators_at(alloc: Global, document: &Node<'_>) -> Result<Vec<Operator>, Stop>
+fn operators_at(alloc: Global, document: &Node<'_>) -> Result<Vec<ReadOperator>, DiagnosisStop>
     ensures reading { Tells (λ v. map operator v.items) result (operators_at (node_view document.now)) }
     ensures few { IfOk result (λ v. vec_len v ≤ MOST_OPERATORS) }
 {
     let list = match required_list(alloc, document, Field::Operators) {
         Ok(list) => list,
-        Err(TextFault::NoMemory) => return Err(Stop::NoMemory),
-        Err(_) => return Err(Stop::Wrong(Wrong::Operators)),
+        Err(TextFault::NoMemory) => return Err(DiagnosisStop::NoMemory),
+        Err(_) => return Err(DiagnosisStop::Wrong(Wrong::Operators)),
     };
     let entries = list.as_slice();
     if entries.len() > MOST_OPERATORS {
-        return Err(Stop::Wrong(Wrong::TooManyOperators));
+        return Err(DiagnosisStop::Wrong(Wrong::TooManyOperators));
     }
     operators_of(alloc, entries)
 }

@@ -11,4 +11,4 @@ mod wrong;
 
 pub use detail::Detail;
 pub use judge::diagnose;
-pub use wrong::{Flaw, Key, Wrong};
+pub use wrong::{OperatorFlaw, Key, Wrong};

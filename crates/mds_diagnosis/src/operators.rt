@@ -5,13 +5,13 @@ ghost use Rattle.mds_text.specs.Fault.{Gives, text_cause, IsCaused};
 ghost use Rattle.mds_reading.specs.Node.{node_view};
 ghost use Rattle.mds_request.specs.Configuration.{is_access_byte, is_access_token, access_at, in_limits};
 ghost use Rattle.mds_diagnosis.specs.Diagnosis.{says, says_at, operator_of, each_from};
-ghost use Rattle.mds_diagnosis.specs.Telling.{operator, Shows, Tells};
+ghost use Rattle.mds_diagnosis.specs.Relations.{operator, Shows, Tells};
 ghost use Rattle.mds_text.specs.Fields.{required_at, int_of};
 ghost use Rattle.mds_text.specs.declared.field.Field.TheVariants.{Limit as LimitName};
-ghost use Rattle.mds_diagnosis.specs.declared.wrong.Flaw.TheVariants as flaw;
+ghost use Rattle.mds_diagnosis.specs.declared.wrong.OperatorFlaw.TheVariants as flaw;
 
-use crate::stop::Stop;
-use crate::wrong::{Flaw, Wrong};
+use crate::stop::DiagnosisStop;
+use crate::wrong::{OperatorFlaw, Wrong};
 use mds_match::MOST_VEHICLES;
 use mds_reading::{Node, int_of, object_of, required_id, required_member, text_of};
 use mds_request::MOST_TOKEN;
@@ -20,14 +20,14 @@ use std::alloc::Global;
 
 /// An operator as it is read.
 #[derive(Drop)]
-pub(crate) struct Operator {
+pub(crate) struct ReadOperator {
     pub(crate) id: Id,
     pub(crate) limit: usize,
     pub(crate) token: String,
 }
 
 /// The operators in order, up to the first that has a flaw.
-pub(crate) fn operators_of(alloc: Global, entries: &[Node<'_>]) -> Result<Vec<Operator>, Stop>
+pub(crate) fn operators_of(alloc: Global, entries: &[Node<'_>]) -> Result<Vec<ReadOperator>, DiagnosisStop>
     ensures reading { Tells (λ v. map operator v.items) result (each_from 0 (map node_view entries.now)) }
     ensures count { IfOk result (λ v. vec_len v ≡ length entries.now) }
 {
@@ -40,34 +40,34 @@ pub(crate) fn operators_of(alloc: Global, entries: &[Node<'_>]) -> Result<Vec<Op
 }
 
 /// The operator at this place.
-fn operator_at(alloc: Global, place: usize, value: &Node<'_>) -> Result<Operator, Stop>
+fn operator_at(alloc: Global, place: usize, value: &Node<'_>) -> Result<ReadOperator, DiagnosisStop>
     ensures { Tells operator result (says_at place (operator_of (node_view value.now))) }
 {
     match operator_of(value) {
         Ok((id, limit, token)) => {
             let token = String::from_str(alloc, token)?;
-            Ok(Operator { id, limit, token })
+            Ok(ReadOperator { id, limit, token })
         }
-        Err(flaw) => Err(Stop::Wrong(Wrong::Operator(place, flaw))),
+        Err(flaw) => Err(DiagnosisStop::Wrong(Wrong::Operator(place, flaw))),
     }
 }
 
 /// An operator's identifier, limit and access token, or the first flaw.
-fn operator_of<'a>(value: &Node<'a>) -> Result<(Id, usize, &'a str), Flaw>
+fn operator_of<'a>(value: &Node<'a>) -> Result<(Id, usize, &'a str), OperatorFlaw>
     ensures { Shows (λ o. record { id = o.0; limit = o.1; token = o.2.now }) result (operator_of (node_view value.now)) }
 {
     let Ok(entry) = object_of(value, Field::Operators) else {
-        return Err(Flaw::Entry);
+        return Err(OperatorFlaw::Entry);
     };
     let Ok(id) = required_id(entry, Field::Id) else {
-        return Err(Flaw::Id);
+        return Err(OperatorFlaw::Id);
     };
     let Ok(number) = number_at(entry) else {
-        return Err(Flaw::Limit);
+        return Err(OperatorFlaw::Limit);
     };
     let limit = in_limits(number)?;
     let Ok(token) = access_at(entry, Field::Token) else {
-        return Err(Flaw::Token);
+        return Err(OperatorFlaw::Token);
     };
     Ok((id, limit, token))
 }
@@ -81,13 +81,13 @@ fn number_at(entry: &Node<'_>) -> Result<i64, TextFault>
 }
 
 /// A limit from 1 to `MOST_VEHICLES`.
-fn in_limits(number: i64) -> Result<usize, Flaw>
+fn in_limits(number: i64) -> Result<usize, OperatorFlaw>
     ensures { Shows (λ n. n) result (says flaw.LimitRange (in_limits number)) }
 {
     if 1 <= number && number <= i64::from(MOST_VEHICLES) {
         Ok(number as usize)
     } else {
-        Err(Flaw::LimitRange)
+        Err(OperatorFlaw::LimitRange)
     }
 }
 

@@ -26,7 +26,7 @@ impl fmt::Display for Key {
 
 /// What is wrong with an operator of a configuration.
 #[derive(Clone, Copy, Debug, PartialEq, Eq)]
-pub enum Flaw {
+pub enum OperatorFlaw {
     /// It is no object.
     Entry,
     /// Its identifier is missing, or is no UUID.
@@ -39,7 +39,7 @@ pub enum Flaw {
     Token,
 }
 
-impl fmt::Display for Flaw {
+impl fmt::Display for OperatorFlaw {
     ghost use Rattle.std.specs.Prelude.{Some};
     ghost use Rattle.mds_diagnosis.specs.Wording.{flaw_wording};
 
@@ -47,11 +47,11 @@ impl fmt::Display for Flaw {
 
     fn fmt<W: fmt::Write>(&self, f: &mut fmt::Formatter<W>) -> fmt::Result {
         f.write_str(match self {
-            Flaw::Entry => ": not an object",
-            Flaw::Id => ".id: not a UUID",
-            Flaw::Limit => ".limit: not a whole number",
-            Flaw::LimitRange => ".limit: out of range (1 to 200000)",
-            Flaw::Token => ".token: not an access token (1 to 64 of A-Z a-z 0-9 - _)",
+            OperatorFlaw::Entry => ": not an object",
+            OperatorFlaw::Id => ".id: not a UUID",
+            OperatorFlaw::Limit => ".limit: not a whole number",
+            OperatorFlaw::LimitRange => ".limit: out of range (1 to 200000)",
+            OperatorFlaw::Token => ".token: not an access token (1 to 64 of A-Z a-z 0-9 - _)",
         })
     }
 }
@@ -70,7 +70,7 @@ pub enum Wrong {
     /// There are more than `mds_request::MOST_OPERATORS`.
     TooManyOperators,
     /// The operator at this place has a flaw, and those before it have none.
-    Operator(usize, Flaw),
+    Operator(usize, OperatorFlaw),
     /// The time zone is missing, or is none.
     Zone,
     /// The operators at these two places have the same identifier or access token.
@@ -81,9 +81,9 @@ pub enum Wrong {
 
 /// The operator at this place, for display.
 #[derive(Clone, Copy)]
-struct Place(usize);
+struct OperatorPlace(usize);
 
-impl fmt::Display for Place {
+impl fmt::Display for OperatorPlace {
     ghost use Rattle.std.specs.Prelude.{Some};
     ghost use Rattle.mds_diagnosis.specs.Wording.{operator_wording};
 
@@ -96,9 +96,9 @@ impl fmt::Display for Place {
 
 /// Two operators, for display.
 #[derive(Clone, Copy)]
-struct Pair(Place, Place);
+struct PlacePair(OperatorPlace, OperatorPlace);
 
-impl fmt::Display for Pair {
+impl fmt::Display for PlacePair {
     ghost use Rattle.std.specs.Prelude.{Some};
     ghost use Rattle.mds_diagnosis.specs.Wording.{pair_wording};
 
@@ -125,16 +125,16 @@ impl fmt::Display for Wrong {
             Wrong::Operators => f.write_str("operators: not a list"),
             Wrong::TooManyOperators => f.write_str("operators: more than 64"),
             Wrong::Operator(place, flaw) => {
-                let operator = Place(*place);
+                let operator = OperatorPlace(*place);
                 write!(f, "{operator}{flaw}")
             }
             Wrong::Zone => f.write_str("zone: not a time zone (Z, +hh:mm, -hh:mm or a POSIX rule)"),
             Wrong::Alike(key, first, second) => {
-                let pair = Pair(Place(*first), Place(*second));
+                let pair = PlacePair(OperatorPlace(*first), OperatorPlace(*second));
                 write!(f, "{pair}: the same {key}")
             }
             Wrong::AuthorsToken(place) => {
-                let operator = Place(*place);
+                let operator = OperatorPlace(*place);
                 write!(f, "author and {operator}: the same token")
             }
         }

@@ -2,4 +2,4 @@ pub mod Drafts
 pub mod Entries
 pub mod Named
 pub mod Publishing
-pub mod Shelf
+pub mod Values

@@ -8,7 +8,7 @@ use crate::draft::Draft;
 use mds_catalog::Batch;
 use mds_geography::Geography;
 use mds_policy::{Policy, PolicyFault};
-use mds_reading::KeptScratch;
+use mds_reading::ReusableScratch;
 use mds_text::{DraftKind, Id};
 use std::alloc::{AllocError, Global};
 use std::sync::Arc;
@@ -44,7 +44,7 @@ pub struct Drafts {
     items: Vec<Draft>,
     policy_count: usize,
     geography_count: usize,
-    reading: KeptScratch,
+    reading: ReusableScratch,
     ghost policies_counted: { policy_count ≡ count_of (drafts_in items.items) kinds.Policy },
     ghost geographies_counted: { geography_count ≡ count_of (drafts_in items.items) kinds.Geography },
 }
@@ -59,7 +59,7 @@ impl Drafts {
     ghost use Rattle.mds_geography.specs.Geography.{geography_document};
     ghost use Rattle.mds_catalog.specs.Publication.{publication_of};
     ghost use Rattle.mds_drafts.specs.Drafts.{kind_of, id_of, draft_at, with_draft, without_draft, taken_out, put_answer, AnswersPut};
-    ghost use Rattle.mds_drafts.specs.Shelf.{drafts_of};
+    ghost use Rattle.mds_drafts.specs.Values.{drafts_of};
 
     /// No drafts. Allocates nothing.
     pub fn new(alloc: Global) -> Drafts
@@ -70,7 +70,7 @@ impl Drafts {
             items: Vec::new(alloc),
             policy_count: 0,
             geography_count: 0,
-            reading: KeptScratch::new(),
+            reading: ReusableScratch::new(),
         }
     }
 

@@ -6,7 +6,7 @@ ghost use Rattle.mds_catalog.specs.Publication.{are_distinct};
 ghost use Rattle.mds_drafts.specs.Named.{distinct_ids_at};
 
 use mds_catalog::are_distinct;
-use mds_reading::{Node, Source, document_of, ids_at};
+use mds_reading::{Node, NodeBuffer, document_of, ids_at};
 use mds_text::{Field, Id, TextFault};
 use std::alloc::Global;
 
@@ -24,7 +24,7 @@ pub struct PublishList {
 
 impl PublishList {
     ghost use Rattle.mds_drafts.specs.Named.{names_nothing, publish_list_of, read_publish_list};
-    ghost use Rattle.mds_drafts.specs.Shelf.{named_of};
+    ghost use Rattle.mds_drafts.specs.Values.{named_of};
 
     /// Reads a publish request: `geographies`, then `policies`, then `withdraw`, each an optional list of identifiers.
     /// Absent and null are the empty list.
@@ -35,7 +35,7 @@ impl PublishList {
     pub fn read(alloc: Global, text: &[u8]) -> Result<PublishList, TextFault>
         ensures { Gives text_cause named_of result (read_publish_list text.now) }
     {
-        let mut source = Source::new(alloc);
+        let mut source = NodeBuffer::new(alloc);
         let tree = source.read(alloc, text)?;
         PublishList::from_tree(alloc, &tree)
     }

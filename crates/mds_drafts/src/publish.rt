@@ -51,7 +51,7 @@ impl Drafts {
     ghost use Rattle.mds_policy.specs.Policy.{policy_document};
     ghost use Rattle.mds_geography.specs.Geography.{geography_document};
     ghost use Rattle.mds_drafts.specs.Drafts.{has_draft};
-    ghost use Rattle.mds_drafts.specs.Shelf.{drafts_of, named_of};
+    ghost use Rattle.mds_drafts.specs.Values.{drafts_of, named_of};
     ghost use Rattle.mds_drafts.specs.Publishing.{first_undrafted, batch_of, AnswersPublish};
 
     /// The first of these identifiers without a draft of this kind.
@@ -67,7 +67,7 @@ impl Drafts {
     }
 
     /// The first identifier of the list without a draft, geographies before policies.
-    fn undrafted(&self, list: &PublishList) -> Option<Id>
+    fn first_missing_draft(&self, list: &PublishList) -> Option<Id>
         ensures { result ≡ first_undrafted (drafts_of self.now) (named_of list.now) }
     {
         match self.first_without(DraftKind::Geography, &list.geographies) {
@@ -77,7 +77,7 @@ impl Drafts {
     }
 
     /// References to the drafts of these policies.
-    fn shared_policies(&self, alloc: Global, ids: &[Id]) -> Result<Vec<Arc<Policy>>, AllocError>
+    fn clone_policies(&self, alloc: Global, ids: &[Id]) -> Result<Vec<Arc<Policy>>, AllocError>
         ensures { IfOk result (λ v. map (λ share. policy_document share.value) v.items
             ≡ filter_map (get (drafts_of self.now).policies) ids.now) }
     {
@@ -91,7 +91,7 @@ impl Drafts {
     }
 
     /// References to the drafts of these geographies.
-    fn shared_geographies(
+    fn clone_geographies(
         &self,
         alloc: Global,
         ids: &[Id],
@@ -131,11 +131,11 @@ impl Drafts {
         if list.is_empty() {
             return Err(PublishFault::Empty);
         }
-        if let Some(id) = self.undrafted(list) {
+        if let Some(id) = self.first_missing_draft(list) {
             return Err(PublishFault::NoDraft(id));
         }
-        let geographies = self.shared_geographies(alloc, &list.geographies)?;
-        let policies = self.shared_policies(alloc, &list.policies)?;
+        let geographies = self.clone_geographies(alloc, &list.geographies)?;
+        let policies = self.clone_policies(alloc, &list.policies)?;
         let withdrawn = Vec::from_slice(alloc, &list.withdraw)?;
         let batch = Batch::new(alloc, moment, geographies, policies, withdrawn)?;
         match refusal(catalogue, &batch) {

@@ -7,8 +7,8 @@ use Rattle.std.proofs.lemmas.Nat.{from_be_bytes-to_be_bytes_4, from_be_bytes-to_
 use Rattle.uuid.specs.Text.{parsed, hyphenated_text, lower}
 use Rattle.uuid.proofs.TextLemmas.{by_index_length}
 use Rattle.mds_text.specs.Fields.{last_moment}
-use Rattle.mds_entries.specs.declared.entry.Asker.{Asker}
-use Rattle.mds_entries.specs.declared.entry.Asker.TheVariants.{Author, Operator}
+use Rattle.mds_entries.specs.declared.entry.EntryClient.{EntryClient}
+use Rattle.mds_entries.specs.declared.entry.EntryClient.TheVariants.{Author, Operator}
 use Rattle.mds_entries.specs.declared.entry.TheConstants.{ENTRY, MOST_TARGET}
 use Rattle.mds_request.specs.declared.request.Verb.{Verb}
 use Rattle.mds_request.specs.declared.request.Verb.TheVariants.{Get, Put, Post, Delete, Other}
@@ -63,7 +63,7 @@ same_id a b r s p q e =
     let f = same_front (id_text a) (id_text b) r s (id_length a ∙ sym (id_length b)) e in
     (same_spelling a b p q f.0, f.1)
 
-pub same_asker : (a b : Asker) (r s : List ℕ) → IsAsker a → IsAsker b → asker_text a ++ r ≡ asker_text b ++ s → (a ≡ b) × (r ≡ s)
+pub same_asker : (a b : EntryClient) (r s : List ℕ) → IsAsker a → IsAsker b → asker_text a ++ r ≡ asker_text b ++ s → (a ≡ b) × (r ≡ s)
 same_asker Author Author r s p q e = (refl, (same_head 0 0 r s e).1)
 same_asker Author (Operator b) r s p q e = absurd (omega (arith, (same_head 0 1 r (id_text b ++ s) e).0))
 same_asker (Operator a) Author r s p q e = absurd (omega (arith, (same_head 1 0 (id_text a ++ r) s e).0))

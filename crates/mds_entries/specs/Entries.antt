@@ -3,25 +3,25 @@ use Rattle.std.specs.Prelude.{◌≡◌, ℕ, ◌≤◌, List, [], ◌∷◌, �
 use Rattle.std.specs.Int.{w32, w64, to_be_bytes}
 use Rattle.uuid.specs.Text.{hyphenated_text, lower, parsed}
 use Rattle.mds_text.specs.Fields.{last_moment}
-use Rattle.mds_entries.specs.declared.entry.Asker.{Asker}
-use Rattle.mds_entries.specs.declared.entry.Asker.TheVariants.{Author, Operator}
-use Rattle.mds_entries.specs.declared.entry.Entry.{Entry as Lent}
+use Rattle.mds_entries.specs.declared.entry.EntryClient.{EntryClient}
+use Rattle.mds_entries.specs.declared.entry.EntryClient.TheVariants.{Author, Operator}
+use Rattle.mds_entries.specs.declared.entry.JournalEntry.{JournalEntry as Lent}
 use Rattle.mds_entries.specs.declared.entry.TheConstants.{ENTRY, MOST_TARGET}
-use Rattle.mds_entries.specs.declared.pieces.TheConstants.{BY_AUTHOR, BY_OPERATOR}
+use Rattle.mds_entries.specs.declared.encoding.TheConstants.{BY_AUTHOR, BY_OPERATOR}
 use Rattle.mds_request.specs.declared.request.Verb.{Verb}
 use Rattle.mds_request.specs.declared.request.Verb.TheVariants.{Get, Put, Post, Delete, Other}
 use Rattle.mds_request.specs.declared.call.TheConstants.{MOST_BODY}
 
-pub record Entry : Type 0 where
-  pub asker : Asker
+pub record JournalEntry : Type 0 where
+  pub asker : EntryClient
   -- the moment at which the request was answered
   pub at : ℕ
   pub verb : Verb
   pub target : List ℕ
   pub body : List ℕ
 
--- the entry of an `Entry` in the code
-abbrev pub entry_of : Lent → Entry
+-- the entry of an `JournalEntry` in the code
+abbrev pub entry_of : Lent → JournalEntry
 entry_of e = record { asker = e.asker; at = e.at; verb = e.verb; target = e.target.now; body = e.body.now }
 
 -- a moment's milliseconds in eight bytes, and a length in four, both big-endian
@@ -43,33 +43,33 @@ verb_code Delete = 4
 verb_code Other = 5
 
 -- the client: a byte, and an operator's identifier
-abbrev pub asker_text : Asker → List ℕ
+abbrev pub asker_text : EntryClient → List ℕ
 asker_text Author = BY_AUTHOR ∷ []
 asker_text (Operator id) = BY_OPERATOR ∷ id_text id
 
 -- the moment, the method, the client, the target after its length, and the body
-abbrev pub fields_text : Entry → List ℕ
+abbrev pub fields_text : JournalEntry → List ℕ
 fields_text e =
     moment_text e.at ++ (verb_code e.verb ∷ (asker_text e.asker ++ (size_text (length e.target) ++ (e.target ++ e.body))))
 
 -- an entry's payload: the layout's version, and the fields
-abbrev pub entry_text : Entry → List ℕ
+abbrev pub entry_text : JournalEntry → List ℕ
 entry_text e = ENTRY ∷ fields_text e
 
 -- an identifier that its spelling reads as
 abbrev pub IsId : List ℕ → Type 0
 IsId id = parsed (hyphenated_text lower id) ≡ Some id
 
-abbrev pub IsAsker : Asker → Type 0
+abbrev pub IsAsker : EntryClient → Type 0
 IsAsker Author = Unit {0}
 IsAsker (Operator id) = IsId id
 
 -- the target and the body are within their limits
-pub record IsShort (e : Entry) : Type 0 where
+pub record IsShort (e : JournalEntry) : Type 0 where
   pub target : length e.target ≤ MOST_TARGET
   pub body : length e.body ≤ MOST_BODY
 
-pub record IsEntry (e : Entry) : Type 0 where
+pub record IsEntry (e : JournalEntry) : Type 0 where
   pub asker : IsAsker e.asker
   pub at : e.at ≤ last_moment
   pub short : IsShort e

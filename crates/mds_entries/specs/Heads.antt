@@ -5,51 +5,51 @@ use Rattle.std.specs.List.{AllByRecursion}
 use Rattle.mds_request.specs.Configuration.{Configuration, Operator}
 use Rattle.mds_entries.specs.Entries.{id_text, size_text, IsId}
 use Rattle.mds_entries.specs.Requests.{has_id}
-use Rattle.mds_entries.specs.declared.head.Share.{Share as Lent}
+use Rattle.mds_entries.specs.declared.head.OperatorShare.{OperatorShare as Lent}
 use Rattle.mds_entries.specs.declared.head.TheConstants.{LAYOUT}
 use Rattle.mds_entries.specs.declared.fitting.Unfit.{Unfit}
 use Rattle.mds_entries.specs.declared.fitting.Unfit.TheVariants.{Missing, LowLimit}
 
 -- an operator's share: its identifier, with how many vehicles it may hold, or has held
-pub record Share : Type 0 where
+pub record OperatorShare : Type 0 where
   pub id : List ℕ
   pub vehicles : ℕ
 
-abbrev pub share_of : Lent → Share
+abbrev pub share_of : Lent → OperatorShare
 share_of share = record { id = share.id; vehicles = share.vehicles }
 
 -- the shares of a configuration: each operator's limit
-abbrev pub limit_of : Operator → Share
+abbrev pub limit_of : Operator → OperatorShare
 limit_of operator = record { id = operator.id; vehicles = operator.limit }
 
-abbrev pub shares_of : Configuration → List Share
+abbrev pub shares_of : Configuration → List OperatorShare
 shares_of configuration = map limit_of configuration.operators
 
-abbrev pub IsShare : Share → Type 0
+abbrev pub IsShare : OperatorShare → Type 0
 IsShare share = IsId share.id × (share.vehicles < 2 ^ 32)
 
-abbrev pub AreShares : List Share → Type 0
+abbrev pub AreShares : List OperatorShare → Type 0
 AreShares shares = AllByRecursion IsShare shares
 
-abbrev pub share_text : Share → List ℕ
+abbrev pub share_text : OperatorShare → List ℕ
 share_text share = id_text share.id ++ size_text share.vehicles
 
-abbrev pub shares_text : List Share → List ℕ
+abbrev pub shares_text : List OperatorShare → List ℕ
 shares_text [] = []
 shares_text (share ∷ shares) = share_text share ++ shares_text shares
 
 abbrev pub head_word : List ℕ
 head_word = codes "ruffletuff"
 
-abbrev pub head_text : List Share → List ℕ
+abbrev pub head_text : List OperatorShare → List ℕ
 head_text shares = head_word ++ (LAYOUT ∷ shares_text shares)
 
 -- why a share doesn't fit a configuration: its operator is missing, or may hold fewer vehicles
-abbrev pub unfit_at : Share → Option Operator → Option Unfit
+abbrev pub unfit_at : OperatorShare → Option Operator → Option Unfit
 unfit_at share None = Some (Missing share.id)
 unfit_at share (Some operator) = if nat_le share.vehicles operator.limit then None else Some (LowLimit share.id)
 
-abbrev pub unfit_by : Configuration → Share → Option Unfit
+abbrev pub unfit_by : Configuration → OperatorShare → Option Unfit
 unfit_by configuration share = unfit_at share (find (has_id share.id) configuration.operators)
 
 abbrev pub either : Option Unfit → Option Unfit → Option Unfit
@@ -58,6 +58,6 @@ either (Some one) other = Some one
 
 -- The first reason why a server can't continue with a configuration, where these operators have entries and held so
 -- many vehicles. Access tokens, the zone, further operators and higher limits don't matter.
-abbrev pub unfit : Configuration → List Share → Option Unfit
+abbrev pub unfit : Configuration → List OperatorShare → Option Unfit
 unfit configuration [] = None
 unfit configuration (share ∷ shares) = either (unfit_by configuration share) (unfit configuration shares)

@@ -6,14 +6,14 @@ use Rattle.mds_request.specs.Request.{Request}
 use Rattle.mds_request.specs.declared.config.Actor.{Actor}
 use Rattle.mds_request.specs.declared.config.Actor.TheVariants.{Author, Operator as OperatorAt, Nobody}
 use Rattle.mds_entries.specs.Entries.{Entry}
-use Rattle.mds_entries.specs.declared.entry.Asker.{Asker}
-use Rattle.mds_entries.specs.declared.entry.Asker.TheVariants.{Author as TheAuthor, Operator as OperatorBy}
+use Rattle.mds_entries.specs.declared.entry.EntryClient.{EntryClient}
+use Rattle.mds_entries.specs.declared.entry.EntryClient.TheVariants.{Author as TheAuthor, Operator as OperatorBy}
 
 abbrev pub has_id : List ℕ → Operator → Bool
 has_id id operator = bytes_eq operator.id id
 
 -- the client of an entry in a configuration
-abbrev pub actor_by : Configuration → Asker → Actor
+abbrev pub actor_by : Configuration → EntryClient → Actor
 actor_by configuration TheAuthor = Author
 actor_by configuration (OperatorBy id) = operator_at (position (has_id id) configuration.operators)
 
@@ -29,12 +29,12 @@ with_token e token = record { at = e.at; token = token; verb = e.verb; target = 
 abbrev pub request_by : Configuration → Entry → Option Request
 request_by configuration e = option_map (with_token e) (token_of configuration (actor_by configuration e.asker))
 
-abbrev pub asker_at : Configuration → Actor → Option Asker
+abbrev pub asker_at : Configuration → Actor → Option EntryClient
 asker_at configuration Author = Some TheAuthor
 asker_at configuration (OperatorAt place) = option_map (λ o. OperatorBy o.id) (slice_get configuration.operators place)
 asker_at configuration Nobody = None
 
-abbrev pub asked_by : Request → Asker → Entry
+abbrev pub asked_by : Request → EntryClient → Entry
 asked_by r asker = record { asker = asker; at = r.at; verb = r.verb; target = r.target; body = r.body }
 
 -- the entry of a request, where its access token is a client's

@@ -3,12 +3,12 @@ ghost use Rattle.std.specs.Prelude.{◌≡◌, ◌≢◌, ◌↔◌, ◌≤◌, 
 ghost use Rattle.std.specs.Int.{w64, w32, from_be_bytes, to_be_bytes};
 ghost use Rattle.mds_text.specs.Fields.{last_moment};
 ghost use Rattle.mds_entries.specs.Entries.{Entry as Accepted, IsEntry, IsId, IsAsker, IsShort, entry_of, entry_text, fields_text, moment_text, size_text, id_text, asker_text, verb_code};
-ghost use Rattle.mds_entries.specs.declared.entry.Asker.{Asker as ByWhom};
+ghost use Rattle.mds_entries.specs.declared.entry.EntryClient.{EntryClient as ByWhom};
 ghost use Rattle.mds_entries.specs.declared.entry.TheConstants.{ENTRY, MOST_TARGET};
 ghost use Rattle.mds_request.specs.declared.request.Verb.{Verb as Method};
 
-use crate::entry::{Asker, ENTRY, Entry, MOST_TARGET, is_short};
-use crate::pieces::{BY_AUTHOR, BY_OPERATOR};
+use crate::entry::{EntryClient, ENTRY, JournalEntry, MOST_TARGET, is_short};
+use crate::encoding::{BY_AUTHOR, BY_OPERATOR};
 use mds_request::Verb;
 use mds_text::{Id, Moment};
 use std::alloc::{AllocError, Global};
@@ -29,21 +29,21 @@ pub enum EntryFault {
 
 /// Why bytes can't be decoded.
 #[derive(Clone, Copy, Debug, PartialEq, Eq)]
-pub(crate) enum Flaw {
+pub(crate) enum DecodeFault {
     /// They aren't an encoding of what was expected.
     Malformed,
     /// Out of memory.
     NoMemory,
 }
 
-impl From<AllocError> for Flaw {
+impl From<AllocError> for DecodeFault {
     ghost use Rattle.std.specs.Prelude.{◌≡◌};
-    ghost use Rattle.mds_entries.specs.declared.reading.Flaw.TheVariants.{NoMemory};
+    ghost use Rattle.mds_entries.specs.declared.decoding.DecodeFault.TheVariants.{NoMemory};
 
     ghost from_gives = { λ _ flaw. flaw ≡ NoMemory };
 
-    fn from(_: AllocError) -> Flaw {
-        Flaw::NoMemory
+    fn from(_: AllocError) -> DecodeFault {
+        DecodeFault::NoMemory
     }
 }
 
@@ -108,32 +108,32 @@ fn verb_in(bytes: &[u8]) -> Option<(Verb, &[u8])>
 
 /// The identifier that is spelled so, in the hyphenated form with lowercase letters.
 #[tactic(auto, unfolding(crate::specs::Entries::id_text))]
-fn id_of(alloc: Global, text: &[u8]) -> Result<Id, Flaw>
+fn id_of(alloc: Global, text: &[u8]) -> Result<Id, DecodeFault>
     ensures read { IfOk result (λ id. (text.now ≡ id_text id) × IsId id) }
     ensures malformed { IfErr result (λ flaw. flaw ≡ Flaw.Malformed → (id : List ℕ) → IsId id → text.now ≡ id_text id → ⊥) }
 {
     let Ok(spelled) = str::from_utf8(text) else {
-        return Err(Flaw::Malformed);
+        return Err(DecodeFault::Malformed);
     };
     let Some(id) = Id::read(spelled) else {
-        return Err(Flaw::Malformed);
+        return Err(DecodeFault::Malformed);
     };
     let printed = id.print(alloc)?;
     if printed.as_bytes() == text {
         Ok(id)
     } else {
-        Err(Flaw::Malformed)
+        Err(DecodeFault::Malformed)
     }
 }
 
 /// Decodes the identifier at the start, and returns the bytes after it.
-pub(crate) fn id_in(alloc: Global, bytes: &[u8]) -> Result<(Id, &[u8]), Flaw>
+pub(crate) fn id_in(alloc: Global, bytes: &[u8]) -> Result<(Id, &[u8]), DecodeFault>
     ensures read { IfOk result (λ r. (bytes.now ≡ id_text r.0 ++ r.1.now) × IsId r.0) }
     ensures malformed { IfErr result (λ flaw. flaw ≡ Flaw.Malformed
         → (id rest : List ℕ) → IsId id → bytes.now ≡ id_text id ++ rest → ⊥) }
 {
     if bytes.len() < ID_SIZE {
-        return Err(Flaw::Malformed);
+        return Err(DecodeFault::Malformed);
     }
     let (text, rest) = bytes.split_at(ID_SIZE);
     match id_of(alloc, text) {
@@ -143,18 +143,18 @@ pub(crate) fn id_in(alloc: Global, bytes: &[u8]) -> Result<(Id, &[u8]), Flaw>
 }
 
 /// Decodes the client at the start, and returns the bytes after it.
-fn asker_in(alloc: Global, bytes: &[u8]) -> Result<(Asker, &[u8]), Flaw>
+fn client_in(alloc: Global, bytes: &[u8]) -> Result<(EntryClient, &[u8]), DecodeFault>
     ensures read { IfOk result (λ r. (bytes.now ≡ asker_text r.0 ++ r.1.now) × IsAsker r.0) }
     ensures malformed { IfErr result (λ flaw. flaw ≡ Flaw.Malformed
         → (asker : ByWhom) (rest : List ℕ) → IsAsker asker → bytes.now ≡ asker_text asker ++ rest → ⊥) }
 {
     match bytes.split_first() {
-        Some((&BY_AUTHOR, rest)) => Ok((Asker::Author, rest)),
+        Some((&BY_AUTHOR, rest)) => Ok((EntryClient::Author, rest)),
         Some((&BY_OPERATOR, rest)) => match id_in(alloc, rest) {
-            Ok((id, rest)) => Ok((Asker::Operator(id), rest)),
+            Ok((id, rest)) => Ok((EntryClient::Operator(id), rest)),
             Err(flaw) => Err(flaw),
         },
-        _ => Err(Flaw::Malformed),
+        _ => Err(DecodeFault::Malformed),
     }
 }
 
@@ -188,26 +188,26 @@ fn target_in(bytes: &[u8]) -> Option<(&[u8], &[u8])>
 }
 
 /// Decodes the fields after the version.
-fn entry_in(alloc: Global, bytes: &[u8]) -> Result<Entry<'_>, Flaw>
+fn entry_in(alloc: Global, bytes: &[u8]) -> Result<JournalEntry<'_>, DecodeFault>
     ensures read { IfOk result (λ entry. (bytes.now ≡ fields_text (entry_of entry)) × IsEntry (entry_of entry)) }
     ensures malformed { IfErr result (λ flaw. flaw ≡ Flaw.Malformed
         → (entry : Accepted) → IsEntry entry → bytes.now ≡ fields_text entry → ⊥) }
 {
     let (at, behind) = match moment_in(bytes) {
         Some(found) => found,
-        None => return Err(Flaw::Malformed),
+        None => return Err(DecodeFault::Malformed),
     };
     let Some((verb, fields)) = verb_in(behind) else {
-        return Err(Flaw::Malformed);
+        return Err(DecodeFault::Malformed);
     };
-    let (asker, rest) = match asker_in(alloc, fields) {
+    let (asker, rest) = match client_in(alloc, fields) {
         Ok(found) => found,
         Err(flaw) => return Err(flaw),
     };
     let Some((target, body)) = target_in(rest) else {
-        return Err(Flaw::Malformed);
+        return Err(DecodeFault::Malformed);
     };
-    let entry = Entry {
+    let entry = JournalEntry {
         asker,
         at,
         verb,
@@ -217,7 +217,7 @@ fn entry_in(alloc: Global, bytes: &[u8]) -> Result<Entry<'_>, Flaw>
     if is_short(&entry) {
         Ok(entry)
     } else {
-        Err(Flaw::Malformed)
+        Err(DecodeFault::Malformed)
     }
 }
 
@@ -227,7 +227,7 @@ fn entry_in(alloc: Global, bytes: &[u8]) -> Result<Entry<'_>, Flaw>
 ///
 /// `Version` where the payload begins with another version, `Malformed` where it isn't an entry, `NoMemory` where out
 /// of memory.
-pub fn read_entry(alloc: Global, text: &[u8]) -> Result<Entry<'_>, EntryFault>
+pub fn read_entry(alloc: Global, text: &[u8]) -> Result<JournalEntry<'_>, EntryFault>
     ensures read { IfOk result (λ entry. (text.now ≡ entry_text (entry_of entry)) × IsEntry (entry_of entry)) }
     ensures version { (version : ℕ) → IsErrOf result (EntryFault.Version version)
         ↔ ((version ≢ ENTRY) × ((rest : List ℕ) × (text.now ≡ version ∷ rest))) }
@@ -239,8 +239,8 @@ pub fn read_entry(alloc: Global, text: &[u8]) -> Result<Entry<'_>, EntryFault>
         None => Err(EntryFault::Malformed),
         Some((&ENTRY, fields)) => match entry_in(alloc, fields) {
             Ok(entry) => Ok(entry),
-            Err(Flaw::Malformed) => Err(EntryFault::Malformed),
-            Err(Flaw::NoMemory) => Err(EntryFault::NoMemory),
+            Err(DecodeFault::Malformed) => Err(EntryFault::Malformed),
+            Err(DecodeFault::NoMemory) => Err(EntryFault::NoMemory),
         },
         Some((version, _)) => Err(EntryFault::Version(*version)),
     }

@@ -2,7 +2,7 @@
 ghost use Rattle.std.specs.Prelude.{◌≡◌, ◌++◌, OnOk};
 ghost use Rattle.mds_entries.specs.Entries.{moment_text, size_text, id_text, asker_text, verb_code};
 
-use crate::entry::Asker;
+use crate::entry::EntryClient;
 use mds_request::Verb;
 use mds_text::{Id, Moment};
 use std::alloc::{AllocError, Global};
@@ -51,15 +51,15 @@ pub(crate) fn push_id(alloc: Global, text: &mut Vec<u8>, id: Id) -> Result<(), A
 }
 
 /// Appends the client.
-pub(crate) fn push_asker(alloc: Global, text: &mut Vec<u8>, asker: Asker) -> Result<(), AllocError>
+pub(crate) fn push_client(alloc: Global, text: &mut Vec<u8>, asker: EntryClient) -> Result<(), AllocError>
     ensures { OnOk result (text.new.items ≡ text.old.items ++ asker_text asker) }
 {
     match asker {
-        Asker::Author => {
+        EntryClient::Author => {
             text.push(BY_AUTHOR)?;
             Ok(())
         }
-        Asker::Operator(id) => {
+        EntryClient::Operator(id) => {
             text.push(BY_OPERATOR)?;
             push_id(alloc, text, id)
         }

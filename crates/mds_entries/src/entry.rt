@@ -2,7 +2,7 @@
 ghost use Rattle.std.specs.Prelude.{◌≡◌, ◌↔◌, ◌≤◌, length, true, IfOk, IsErrOf, IsTrue};
 ghost use Rattle.mds_entries.specs.Entries.{IsShort, entry_of, entry_text};
 
-use crate::pieces::{push_asker, push_moment, push_size, verb_code};
+use crate::encoding::{push_client, push_moment, push_size, verb_code};
 use mds_request::{MOST_BODY, Verb};
 use mds_text::{Id, Moment};
 use std::alloc::{AllocError, Global};
@@ -15,7 +15,7 @@ pub const MOST_TARGET: usize = 65_536;
 
 /// The client. An operator is named by its identifier, so that no payload has an access token.
 #[derive(Clone, Copy, PartialEq, Eq)]
-pub enum Asker {
+pub enum EntryClient {
     /// The author of policies and geographies.
     Author,
     /// The operator of this identifier.
@@ -24,8 +24,8 @@ pub enum Asker {
 
 /// An accepted request, with its client in place of the access token.
 #[derive(Clone, Copy)]
-pub struct Entry<'a> {
-    pub asker: Asker,
+pub struct JournalEntry<'a> {
+    pub asker: EntryClient,
     /// The moment at which it was answered.
     pub at: Moment,
     pub verb: Verb,
@@ -55,14 +55,14 @@ impl From<AllocError> for WriteFault {
 }
 
 /// Whether an entry's target and body are within their limits.
-pub fn is_short(entry: &Entry<'_>) -> bool
+pub fn is_short(entry: &JournalEntry<'_>) -> bool
     ensures { IsTrue result ↔ IsShort (entry_of entry.now) }
 {
     entry.target.len() <= MOST_TARGET && entry.body.len() <= MOST_BODY
 }
 
 /// The payload of an entry whose target and body are within their limits.
-fn text_of(alloc: Global, entry: &Entry<'_>) -> Result<Vec<u8>, AllocError>
+fn text_of(alloc: Global, entry: &JournalEntry<'_>) -> Result<Vec<u8>, AllocError>
     requires { IsShort (entry_of entry.now) }
     ensures { IfOk result (λ text. text.items ≡ entry_text (entry_of entry.now)) }
 {
@@ -70,7 +70,7 @@ fn text_of(alloc: Global, entry: &Entry<'_>) -> Result<Vec<u8>, AllocError>
     text.push(ENTRY)?;
     push_moment(&mut text, entry.at)?;
     text.push(verb_code(entry.verb))?;
-    push_asker(alloc, &mut text, entry.asker)?;
+    push_client(alloc, &mut text, entry.asker)?;
     push_size(&mut text, entry.target.len() as u32)?;
     text.extend_from_slice(entry.target)?;
     text.extend_from_slice(entry.body)?;
@@ -83,7 +83,7 @@ fn text_of(alloc: Global, entry: &Entry<'_>) -> Result<Vec<u8>, AllocError>
 ///
 /// `TooLong` where the target has more than [`MOST_TARGET`] bytes or the body more than `mds_request::MOST_BODY`;
 /// `NoMemory` where out of memory.
-pub fn entry_text(alloc: Global, entry: &Entry<'_>) -> Result<Vec<u8>, WriteFault>
+pub fn entry_text(alloc: Global, entry: &JournalEntry<'_>) -> Result<Vec<u8>, WriteFault>
     ensures text { IfOk result (λ text. text.items ≡ entry_text (entry_of entry.now)) }
     ensures short { IfOk result (λ text. IsShort (entry_of entry.now)) }
     ensures too_long { IsErrOf result WriteFault.TooLong → IsShort (entry_of entry.now) → ⊥ }

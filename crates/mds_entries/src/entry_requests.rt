@@ -5,7 +5,7 @@ ghost use Rattle.mds_request.specs.Request.{request_of};
 ghost use Rattle.mds_entries.specs.Entries.{entry_of};
 ghost use Rattle.mds_entries.specs.Requests.{ReadsTheRequest, has_id, actor_by, token_of, asker_at, entry_by, request_by};
 
-use crate::entry::{Asker, Entry};
+use crate::entry::{EntryClient, JournalEntry};
 use mds_request::{Actor, Config, Operator, Request};
 use mds_text::Id;
 
@@ -26,12 +26,12 @@ fn place_of(operators: &[Operator], id: Id) -> Option<usize>
 }
 
 /// The client of an entry in a configuration; `Nobody` for an operator that isn't there.
-pub fn actor_by(config: &Config, asker: Asker) -> Actor
+pub fn actor_by(config: &Config, asker: EntryClient) -> Actor
     ensures { result ≡ actor_by (configuration config.now) asker }
 {
     match asker {
-        Asker::Author => Actor::Author,
-        Asker::Operator(id) => match place_of(config.operators(), id) {
+        EntryClient::Author => Actor::Author,
+        EntryClient::Operator(id) => match place_of(config.operators(), id) {
             Some(place) => Actor::Operator(place),
             None => Actor::Nobody,
         },
@@ -54,7 +54,7 @@ fn token_of(config: &Config, actor: Actor) -> Option<&[u8]>
 
 /// The request of an entry, with its client's access token in this configuration; `None` where its operator isn't
 /// there.
-pub fn request_by<'a>(config: &'a Config, entry: &Entry<'a>) -> Option<Request<'a>>
+pub fn request_by<'a>(config: &'a Config, entry: &JournalEntry<'a>) -> Option<Request<'a>>
     ensures { option_map request_of result ≡ request_by (configuration config.now) (entry_of entry.now) }
 {
     match token_of(config, actor_by(config, entry.asker)) {
@@ -70,13 +70,13 @@ pub fn request_by<'a>(config: &'a Config, entry: &Entry<'a>) -> Option<Request<'
 }
 
 /// The client, as an entry has it.
-fn asker_at(config: &Config, actor: Actor) -> Option<Asker>
+fn client_at(config: &Config, actor: Actor) -> Option<EntryClient>
     ensures { result ≡ asker_at (configuration config.now) actor }
 {
     match actor {
-        Actor::Author => Some(Asker::Author),
+        Actor::Author => Some(EntryClient::Author),
         Actor::Operator(place) => match config.operators().get(place) {
-            Some(operator) => Some(Asker::Operator(operator.id)),
+            Some(operator) => Some(EntryClient::Operator(operator.id)),
             None => None,
         },
         Actor::Nobody => None,
@@ -84,11 +84,11 @@ fn asker_at(config: &Config, actor: Actor) -> Option<Asker>
 }
 
 /// The entry of a request; `None` where no client has its access token.
-pub fn entry_by<'a>(config: &Config, request: &Request<'a>) -> Option<Entry<'a>>
+pub fn entry_by<'a>(config: &Config, request: &Request<'a>) -> Option<JournalEntry<'a>>
     ensures { option_map entry_of result ≡ entry_by (configuration config.now) (request_of request.now) }
 {
-    match asker_at(config, config.actor(request.token)) {
-        Some(asker) => Some(Entry {
+    match client_at(config, config.actor(request.token)) {
+        Some(asker) => Some(JournalEntry {
             asker,
             at: request.at,
             verb: request.verb,

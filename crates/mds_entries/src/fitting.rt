@@ -5,8 +5,8 @@ ghost use Rattle.mds_request.specs.Configuration.{configuration, operator as nam
 ghost use Rattle.mds_entries.specs.Heads.{share_of, unfit, unfit_at, unfit_by};
 ghost use Rattle.mds_entries.specs.Requests.{has_id};
 
-use crate::asking::is_same;
-use crate::head::Share;
+use crate::entry_requests::is_same;
+use crate::head::OperatorShare;
 use mds_request::{Config, Operator};
 use mds_text::Id;
 
@@ -27,7 +27,7 @@ fn operator_of(operators: &[Operator], id: Id) -> Option<&Operator>
 }
 
 /// Why an operator's share doesn't fit its operator in a configuration; none, where it does.
-fn unfit_at(share: &Share, operator: Option<&Operator>) -> Option<Unfit>
+fn unfit_at(share: &OperatorShare, operator: Option<&Operator>) -> Option<Unfit>
     ensures { result ≡ unfit_at (share_of share.now) (option_map named (option_copied operator.entry)) }
 {
     match operator {
@@ -38,7 +38,7 @@ fn unfit_at(share: &Share, operator: Option<&Operator>) -> Option<Unfit>
 }
 
 /// Why an operator's share doesn't fit a configuration; none, where it does.
-fn unfit_by(config: &Config, share: &Share) -> Option<Unfit>
+fn unfit_by(config: &Config, share: &OperatorShare) -> Option<Unfit>
     ensures { result ≡ unfit_by (configuration config.now) (share_of share.now) }
 {
     unfit_at(share, operator_of(config.operators(), share.id))
@@ -51,7 +51,7 @@ fn unfit_by(config: &Config, share: &Share) -> Option<Unfit>
 /// # Errors
 ///
 /// The first share that doesn't fit the configuration.
-pub fn fits(config: &Config, shares: &[Share]) -> Result<(), Unfit>
+pub fn fits(config: &Config, shares: &[OperatorShare]) -> Result<(), Unfit>
     ensures { result_err result ≡ unfit (configuration config.now) (map share_of shares.now) }
 {
     for share in shares {

@@ -5,8 +5,8 @@ ghost use Rattle.mds_entries.specs.Entries.{id_text, size_text};
 ghost use Rattle.mds_entries.specs.Heads.{Share as Part, IsShare, AreShares, share_of, limit_of, shares_of, share_text, shares_text, head_word, head_text};
 ghost use Rattle.mds_entries.specs.declared.head.TheConstants.{LAYOUT};
 
-use crate::pieces::{push_id, push_size};
-use crate::reading::{Flaw, id_in, size_in};
+use crate::encoding::{push_id, push_size};
+use crate::decoding::{DecodeFault, id_in, size_in};
 use mds_request::{Config, Operator};
 use mds_text::Id;
 use std::alloc::{AllocError, Global};
@@ -19,7 +19,7 @@ const WORD: [u8; 10] = *b"ruffletuff";
 
 /// An operator's share: its identifier, with how many vehicles it may hold, or has held.
 #[derive(Clone, Copy, PartialEq, Eq)]
-pub struct Share {
+pub struct OperatorShare {
     pub id: Id,
     pub vehicles: u32,
 }
@@ -36,17 +36,17 @@ pub enum HeadFault {
 }
 
 /// The share for an operator's limit: how many vehicles it may hold.
-fn limit_of(operator: &Operator) -> Share
+fn limit_of(operator: &Operator) -> OperatorShare
     ensures { share_of result ≡ limit_of (named operator.now) }
 {
-    Share {
+    OperatorShare {
         id: operator.id,
         vehicles: operator.limit as u32,
     }
 }
 
 /// Appends the encoding of a share.
-fn push_share(alloc: Global, text: &mut Vec<u8>, share: Share) -> Result<(), AllocError>
+fn push_share(alloc: Global, text: &mut Vec<u8>, share: OperatorShare) -> Result<(), AllocError>
     ensures { OnOk result (text.new.items ≡ text.old.items ++ share_text (share_of share)) }
 {
     push_id(alloc, text, share.id)?;
@@ -58,7 +58,7 @@ fn push_share(alloc: Global, text: &mut Vec<u8>, share: Share) -> Result<(), All
 /// # Errors
 ///
 /// Out of memory.
-pub fn shares(alloc: Global, config: &Config) -> Result<Vec<Share>, AllocError>
+pub fn shares(alloc: Global, config: &Config) -> Result<Vec<OperatorShare>, AllocError>
     ensures { IfOk result (λ shares. map share_of shares.items ≡ shares_of (configuration config.now)) }
 {
     let operators = config.operators();
@@ -74,7 +74,7 @@ pub fn shares(alloc: Global, config: &Config) -> Result<Vec<Share>, AllocError>
 /// # Errors
 ///
 /// Out of memory.
-pub fn head_text(alloc: Global, shares: &[Share]) -> Result<Vec<u8>, AllocError>
+pub fn head_text(alloc: Global, shares: &[OperatorShare]) -> Result<Vec<u8>, AllocError>
     ensures { IfOk result (λ text. text.items ≡ head_text (map share_of shares.now)) }
 {
     let mut text = Vec::new(alloc);
@@ -87,7 +87,7 @@ pub fn head_text(alloc: Global, shares: &[Share]) -> Result<Vec<u8>, AllocError>
 }
 
 /// Decodes the share at the start, and returns the bytes after it.
-fn share_in(alloc: Global, bytes: &[u8]) -> Result<(Share, &[u8]), Flaw>
+fn share_in(alloc: Global, bytes: &[u8]) -> Result<(OperatorShare, &[u8]), DecodeFault>
     ensures read { IfOk result (λ r. (bytes.now ≡ share_text (share_of r.0) ++ r.1.now) × IsShare (share_of r.0)) }
     ensures malformed { IfErr result (λ flaw. flaw ≡ Flaw.Malformed
         → (share : Part) (rest : List ℕ) → IsShare share → bytes.now ≡ share_text share ++ rest → ⊥) }
@@ -97,13 +97,13 @@ fn share_in(alloc: Global, bytes: &[u8]) -> Result<(Share, &[u8]), Flaw>
         Err(flaw) => return Err(flaw),
     };
     match size_in(behind) {
-        Some((vehicles, rest)) => Ok((Share { id, vehicles }, rest)),
-        None => Err(Flaw::Malformed),
+        Some((vehicles, rest)) => Ok((OperatorShare { id, vehicles }, rest)),
+        None => Err(DecodeFault::Malformed),
     }
 }
 
 /// Decodes shares up to the end of the bytes.
-fn shares_in(alloc: Global, bytes: &[u8]) -> Result<Vec<Share>, Flaw>
+fn shares_in(alloc: Global, bytes: &[u8]) -> Result<Vec<OperatorShare>, DecodeFault>
     ensures read { IfOk result (λ shares. (bytes.now ≡ shares_text (map share_of shares.items)) × AreShares (map share_of shares.items)) }
     ensures malformed { IfErr result (λ flaw. flaw ≡ Flaw.Malformed
         → (shares : List Part) → AreShares shares → bytes.now ≡ shares_text shares → ⊥) }
@@ -116,7 +116,7 @@ fn shares_in(alloc: Global, bytes: &[u8]) -> Result<Vec<Share>, Flaw>
             Err(flaw) => return Err(flaw),
         };
         let Ok(()) = shares.push(share) else {
-            return Err(Flaw::NoMemory);
+            return Err(DecodeFault::NoMemory);
         };
         rest = behind;
     }
@@ -129,7 +129,7 @@ fn shares_in(alloc: Global, bytes: &[u8]) -> Result<Vec<Share>, Flaw>
 ///
 /// `Version` where the head has another version, `Malformed` where the payload isn't a head, `NoMemory` where out of
 /// memory.
-pub fn read_head(alloc: Global, text: &[u8]) -> Result<Vec<Share>, HeadFault>
+pub fn read_head(alloc: Global, text: &[u8]) -> Result<Vec<OperatorShare>, HeadFault>
     ensures read { IfOk result (λ shares. (text.now ≡ head_text (map share_of shares.items)) × AreShares (map share_of shares.items)) }
     ensures version { (version : ℕ) → IsErrOf result (HeadFault.Version version)
         ↔ ((version ≢ LAYOUT) × ((rest : List ℕ) × (text.now ≡ head_word ++ (version ∷ rest)))) }
@@ -147,8 +147,8 @@ pub fn read_head(alloc: Global, text: &[u8]) -> Result<Vec<Share>, HeadFault>
         None => Err(HeadFault::Malformed),
         Some((&LAYOUT, bytes)) => match shares_in(alloc, bytes) {
             Ok(shares) => Ok(shares),
-            Err(Flaw::Malformed) => Err(HeadFault::Malformed),
-            Err(Flaw::NoMemory) => Err(HeadFault::NoMemory),
+            Err(DecodeFault::Malformed) => Err(HeadFault::Malformed),
+            Err(DecodeFault::NoMemory) => Err(HeadFault::NoMemory),
         },
         Some((version, _)) => Err(HeadFault::Version(*version)),
     }

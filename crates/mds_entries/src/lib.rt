@@ -2,17 +2,17 @@
 //! that says whose journal it is.
 #![tactic(auto)]
 
-mod asking;
+mod entry_requests;
 mod entry;
 mod fitting;
 mod head;
-mod pieces;
-mod reading;
+mod encoding;
+mod decoding;
 #[cfg(test)]
 mod tests;
 
-pub use asking::{actor_by, entry_by, reads_the_request, request_by};
-pub use entry::{Asker, ENTRY, Entry, MOST_TARGET, WriteFault, entry_text, is_short};
+pub use entry_requests::{actor_by, entry_by, reads_the_request, request_by};
+pub use entry::{EntryClient, ENTRY, JournalEntry, MOST_TARGET, WriteFault, entry_text, is_short};
 pub use fitting::{Unfit, fits};
-pub use head::{HeadFault, LAYOUT, Share, head_text, read_head, shares};
-pub use reading::{EntryFault, read_entry};
+pub use head::{HeadFault, LAYOUT, OperatorShare, head_text, read_head, shares};
+pub use decoding::{EntryFault, read_entry};

@@ -1,6 +1,6 @@
 //! Tests of payloads whose bytes are worked out by hand.
 use crate::{
-    Asker, Entry, EntryFault, HeadFault, Share, entry_text, head_text, read_entry, read_head,
+    EntryClient, JournalEntry, EntryFault, HeadFault, OperatorShare, entry_text, head_text, read_entry, read_head,
 };
 use mds_request::Verb;
 use mds_text::{Id, Moment};
@@ -25,8 +25,8 @@ fn has_its_text<'a>(
     body: &'a [u8],
     expected: &'a [u8],
 ) -> Result<(), Fail> {
-    let entry = Entry {
-        asker: Asker::Operator(Id::read(ALFA).ok_or("id")?),
+    let entry = JournalEntry {
+        asker: EntryClient::Operator(Id::read(ALFA).ok_or("id")?),
         at: Moment::new(1000).ok_or("moment")?,
         verb: Verb::Post,
         target,
@@ -71,7 +71,7 @@ fn another_version_is_named(rt: HostRuntime) {
 
 #[test]
 fn a_head_has_its_text(rt: HostRuntime) -> Result<(), Fail> {
-    let share = Share {
+    let share = OperatorShare {
         id: Id::read(ALFA).ok_or("id")?,
         vehicles: 200_000,
     };

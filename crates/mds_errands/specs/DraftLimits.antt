@@ -3,10 +3,10 @@ use Rattle.std.specs.Prelude.{ℕ, List, length, ◌==◌, Bool, true, false, �
 use Rattle.std.specs.List.{list_all, list_any}
 use Rattle.mds_text.specs.declared.draft_kind.DraftKind.{DraftKind}
 use Rattle.mds_text.specs.declared.draft_kind.DraftKind.TheVariants.{Policy, Geography}
-use Rattle.mds_import.specs.declared.drafting.Draft.{Draft}
-use Rattle.mds_errands.specs.declared.intake.Unkept.{Unkept}
-use Rattle.mds_errands.specs.declared.intake.Unkept.TheVariants.{Long, Twice, Many}
-use Rattle.mds_errands.specs.declared.intake.TheConstants.{MOST_BODY, MOST_DRAFTS}
+use Rattle.mds_import.specs.declared.drafting.ImportDraft.{ImportDraft}
+use Rattle.mds_errands.specs.declared.draft_limits.SkipReason.{SkipReason}
+use Rattle.mds_errands.specs.declared.draft_limits.SkipReason.TheVariants.{Long, Twice, Many}
+use Rattle.mds_errands.specs.declared.draft_limits.TheConstants.{MOST_BODY, MOST_DRAFTS}
 
 abbrev pub is_same_kind : DraftKind → DraftKind → Bool
 is_same_kind Policy Policy = true
@@ -14,12 +14,12 @@ is_same_kind Geography Geography = true
 is_same_kind kind other = false
 
 -- two drafts are of one kind and identifier
-abbrev pub is_same : Draft → Draft → Bool
+abbrev pub is_same : ImportDraft → ImportDraft → Bool
 is_same draft other = is_same_kind draft.kind other.kind && bytes_eq draft.id other.id
 
 -- why a draft isn't sent after others: its body is longer than the server reads, another of these files' drafts has its
 -- kind and identifier, or there are as many as a city may have of both kinds
-abbrev pub why_unkept : List Draft → Draft → Option Unkept
+abbrev pub why_unkept : List ImportDraft → ImportDraft → Option SkipReason
 why_unkept drafts draft =
     if nat_lt MOST_BODY (length draft.body.items) then Some Long
     else (if list_any (is_same draft) drafts then Some Twice

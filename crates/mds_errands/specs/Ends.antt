@@ -1,16 +1,16 @@
 -- How a job ends, and with which exit status (PROTOCOL, ruffletuff).
 use Rattle.std.specs.Prelude.{ℕ, ◌==◌, if◌then◌else◌}
-use Rattle.mds_errands.specs.declared.end.End.{End}
-use Rattle.mds_errands.specs.declared.end.End.TheVariants.{Done, SomeRefused, NoServer, BadReply, NotPrinted, BadPlace, NoToken, NoMemory, NotWritten, Barred}
-use Rattle.mds_errands.specs.declared.end.Tally.{Tally}
-use Rattle.mds_client.specs.declared.fault.ReplyFault.{ReplyFault}
-use Rattle.mds_client.specs.declared.fault.ReplyFault.TheVariants as Reply
+use Rattle.mds_errands.specs.declared.end.TransferEnd.{TransferEnd}
+use Rattle.mds_errands.specs.declared.end.TransferEnd.TheVariants.{Done, SomeRefused, NoServer, BadReply, NotPrinted, BadPlace, NoToken, NoMemory, NotWritten, Barred}
+use Rattle.mds_errands.specs.declared.end.TransferTally.{TransferTally}
+use Rattle.mds_client.specs.declared.fault.ResponseFault.{ResponseFault}
+use Rattle.mds_client.specs.declared.fault.ResponseFault.TheVariants as Reply
 
 -- all is done where nothing is refused
-abbrev pub end_of : Tally → End
+abbrev pub end_of : TransferTally → TransferEnd
 end_of tally = if tally.refused == 0 then Done else SomeRefused
 
-abbrev pub exit_status : End → ℕ
+abbrev pub exit_status : TransferEnd → ℕ
 exit_status Done = 0
 exit_status NoServer = 1
 exit_status (BadReply fault) = 1
@@ -23,7 +23,7 @@ exit_status SomeRefused = 9
 exit_status Barred = 10
 
 -- how a job ends without a response
-abbrev pub end_of_fault : ReplyFault → End
+abbrev pub end_of_fault : ResponseFault → TransferEnd
 end_of_fault Reply.NoMemory = NoMemory
 end_of_fault Reply.NoConnection = NoServer
 end_of_fault fault = BadReply fault

@@ -1,5 +1,5 @@
 pub mod Ends
-pub mod Intake
+pub mod DraftLimits
 pub mod Escapes
 pub mod Meanings
 pub mod Openings

@@ -1,12 +1,12 @@
 //! Batches of reports, each sent in one request, and the responses to them.
 
-use crate::end::{End, Tally};
-use crate::escape::escaped;
+use crate::end::{TransferEnd, TransferTally};
+use crate::escape::escape_bytes;
 use crate::meaning::{Meaning, meaning_of};
 use crate::sending::note_reply;
-use crate::told::spot_at;
-use mds_client::Reply;
-use mds_import::{Origin, named};
+use crate::messages::location_at;
+use mds_client::HttpResponse;
+use mds_import::{Origin, member_of};
 use mds_reading::read_tree;
 use mds_text::{TextFault, Tree, print_tree};
 use std::alloc::{AllocGlobal, Global};
@@ -19,16 +19,16 @@ const MOST_BYTES: usize = 1_000_000;
 
 /// Reports that are sent in one request, a line each.
 #[derive(Drop)]
-pub(crate) struct Batch {
+pub(crate) struct ReportBatch {
     body: Vec<u8>,
     /// Where each report comes from.
     origins: Vec<Origin>,
 }
 
-impl Batch {
+impl ReportBatch {
     /// A batch without a report.
-    fn new(alloc: Global) -> Batch {
-        Batch {
+    fn new(alloc: Global) -> ReportBatch {
+        ReportBatch {
             body: Vec::new(alloc),
             origins: Vec::new(alloc),
         }
@@ -49,12 +49,12 @@ impl Batch {
     /// # Errors
     ///
     /// `NoMemory`.
-    fn add(&mut self, origin: Origin, report: &[u8]) -> Result<(), End> {
+    fn add(&mut self, origin: Origin, report: &[u8]) -> Result<(), TransferEnd> {
         self.body.extend_from_slice(report)?;
         self.body.extend_from_slice(b"\n")?;
         match self.origins.push(origin) {
             Ok(()) => Ok(()),
-            Err(_) => Err(End::NoMemory),
+            Err(_) => Err(TransferEnd::NoMemory),
         }
     }
 }
@@ -66,15 +66,15 @@ impl Batch {
 /// `NoMemory`.
 fn put_behind(
     alloc: Global,
-    batches: &mut Vec<Batch>,
+    batches: &mut Vec<ReportBatch>,
     origin: Origin,
     report: &[u8],
-) -> Result<(), End> {
-    let mut batch = Batch::new(alloc);
+) -> Result<(), TransferEnd> {
+    let mut batch = ReportBatch::new(alloc);
     batch.add(origin, report)?;
     match batches.push(batch) {
         Ok(()) => Ok(()),
-        Err(_) => Err(End::NoMemory),
+        Err(_) => Err(TransferEnd::NoMemory),
     }
 }
 
@@ -85,10 +85,10 @@ fn put_behind(
 /// `NoMemory`.
 pub(crate) fn put_in(
     alloc: Global,
-    batches: &mut Vec<Batch>,
+    batches: &mut Vec<ReportBatch>,
     origin: Origin,
     report: &[u8],
-) -> Result<(), End> {
+) -> Result<(), TransferEnd> {
     let is_full = match batches.last() {
         Some(last) => !last.has_room(report.len()),
         None => true,
@@ -129,14 +129,14 @@ fn behind_line(bytes: &[u8]) -> &[u8] {
 /// `NotPrinted`, `NoMemory`.
 pub(crate) fn print_batch<R: Print + AllocGlobal>(
     rt: &R,
-    batch: &Batch,
-    tally: &mut Tally,
-) -> Result<(), End> {
+    batch: &ReportBatch,
+    tally: &mut TransferTally,
+) -> Result<(), TransferEnd> {
     let mut rest: &[u8] = &batch.body;
     for _ in &batch.origins {
-        let line = escaped(rt.alloc(), line_in(rest))?;
+        let line = escape_bytes(rt.alloc(), line_in(rest))?;
         if println!(rt; "POST /fleet/events {}", line.as_str()).is_err() {
-            return Err(End::NotPrinted);
+            return Err(TransferEnd::NotPrinted);
         }
         tally.count_sent();
         rest = behind_line(rest);
@@ -149,27 +149,27 @@ pub(crate) fn print_batch<R: Print + AllocGlobal>(
 /// # Errors
 ///
 /// `NoMemory`, and `NoServer` where the line doesn't say so.
-fn reply_in(alloc: Global, line: &[u8]) -> Result<Reply, End> {
+fn reply_in(alloc: Global, line: &[u8]) -> Result<HttpResponse, TransferEnd> {
     let tree = match read_tree(alloc, line) {
         Ok(tree) => tree,
-        Err(TextFault::NoMemory) => return Err(End::NoMemory),
-        Err(_) => return Err(End::NoServer),
+        Err(TextFault::NoMemory) => return Err(TransferEnd::NoMemory),
+        Err(_) => return Err(TransferEnd::NoServer),
     };
-    let Some(body) = named(&tree, "body") else {
-        return Err(End::NoServer);
+    let Some(body) = member_of(&tree, "body") else {
+        return Err(TransferEnd::NoServer);
     };
     match status_in(&tree) {
-        Some(status) => Ok(Reply {
+        Some(status) => Ok(HttpResponse {
             status,
             body: print_tree(alloc, body)?,
         }),
-        None => Err(End::NoServer),
+        None => Err(TransferEnd::NoServer),
     }
 }
 
 /// The status in a line of a response.
 fn status_in(line: &Tree) -> Option<u16> {
-    match named(line, "status") {
+    match member_of(line, "status") {
         Some(Tree::Int(status)) => u16::try_from(*status).ok(),
         _ => None,
     }
@@ -183,14 +183,14 @@ fn status_in(line: &Tree) -> Option<u16> {
 fn note_lines<R: Eprint + AllocGlobal>(
     rt: &R,
     files: &[String],
-    batch: &Batch,
+    batch: &ReportBatch,
     lines: &[u8],
-    tally: &mut Tally,
-) -> Result<(), End> {
+    tally: &mut TransferTally,
+) -> Result<(), TransferEnd> {
     let mut rest: &[u8] = lines;
     for origin in &batch.origins {
         let reply = reply_in(rt.alloc(), line_in(rest))?;
-        note_reply(rt, spot_at(files, *origin), &reply, tally)?;
+        note_reply(rt, location_at(files, *origin), &reply, tally)?;
         rest = behind_line(rest);
     }
     Ok(())
@@ -205,15 +205,15 @@ fn note_lines<R: Eprint + AllocGlobal>(
 pub(crate) fn note_batch<R: Eprint + AllocGlobal>(
     rt: &R,
     files: &[String],
-    batch: &Batch,
-    reply: &Reply,
-    tally: &mut Tally,
-) -> Result<(), End> {
+    batch: &ReportBatch,
+    reply: &HttpResponse,
+    tally: &mut TransferTally,
+) -> Result<(), TransferEnd> {
     if meaning_of(reply.status) == Meaning::Taken {
         return note_lines(rt, files, batch, &reply.body, tally);
     }
     for origin in &batch.origins {
-        note_reply(rt, spot_at(files, *origin), reply, tally)?;
+        note_reply(rt, location_at(files, *origin), reply, tally)?;
     }
     Ok(())
 }

@@ -21,7 +21,7 @@ pub struct Dialer<'a, R> {
 
 /// A connection with a deadline for reading, which each write sets anew.
 #[derive(Drop)]
-pub struct Timed<'a, R: Net> {
+pub struct TimedStream<'a, R: Net> {
     rt: &'a R,
     stream: R::Stream,
     /// The deadline, by the monotonic clock: after it no read begins.
@@ -43,7 +43,7 @@ fn deadline<R: Clock>(rt: &R) -> io::Result<Duration> {
     }
 }
 
-impl<R: Net + Clock> Read for Timed<'_, R> {
+impl<R: Net + Clock> Read for TimedStream<'_, R> {
     fn read(&mut self, buf: &mut [u8]) -> io::Result<usize> {
         if self.rt.monotonic()? > self.until {
             return Err(ErrorKind::TimedOut.into());
@@ -52,7 +52,7 @@ impl<R: Net + Clock> Read for Timed<'_, R> {
     }
 }
 
-impl<R: Net + Clock> Write for Timed<'_, R> {
+impl<R: Net + Clock> Write for TimedStream<'_, R> {
     fn write(&mut self, buf: &[u8]) -> io::Result<usize> {
         self.until = deadline(self.rt)?;
         self.stream.write(buf)
@@ -64,15 +64,15 @@ impl<R: Net + Clock> Write for Timed<'_, R> {
 }
 
 impl<'a, R: Net + Clock> Dial for Dialer<'a, R> {
-    type Stream = Timed<'a, R>;
+    type Stream = TimedStream<'a, R>;
 
-    fn dial(&self) -> io::Result<Timed<'a, R>> {
+    fn dial(&self) -> io::Result<TimedStream<'a, R>> {
         let stream = TcpStream::connect(self.rt, self.address)?;
         let limit = Some(Duration::from_secs(ANSWER_SECONDS));
         stream.set_read_timeout(limit)?;
         stream.set_write_timeout(limit)?;
         let until = deadline(self.rt)?;
-        Ok(Timed {
+        Ok(TimedStream {
             rt: self.rt,
             stream,
             until,

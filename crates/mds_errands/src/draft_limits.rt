@@ -1,9 +1,9 @@
 //! Limits on the drafts that are sent, and on what may stand in a request.
 ghost use Rattle.std.specs.Prelude.{◌≡◌};
 ghost use Rattle.std.specs.List.{list_all, list_any};
-ghost use Rattle.mds_errands.specs.Intake.{is_same_kind, is_same, why_unkept, is_visible_byte, is_visible};
+ghost use Rattle.mds_errands.specs.DraftLimits.{is_same_kind, is_same, why_unkept, is_visible_byte, is_visible};
 
-use mds_import::Draft;
+use mds_import::ImportDraft;
 use mds_text::DraftKind;
 
 /// The most bytes of a document: a server reads no longer body.
@@ -14,7 +14,7 @@ pub(crate) const MOST_DRAFTS: usize = 1_024;
 
 /// Why a draft isn't sent.
 #[derive(Clone, Copy, Debug, PartialEq, Eq)]
-pub(crate) enum Unkept {
+pub(crate) enum SkipReason {
     /// It has more than 1,048,576 bytes.
     Long,
     /// Another of its kind and identifier comes before it.
@@ -36,41 +36,41 @@ fn is_same_kind(kind: DraftKind, other: DraftKind) -> bool
 }
 
 /// Whether two drafts are of one kind and identifier.
-fn is_same(draft: &Draft, other: &Draft) -> bool
+fn is_same(draft: &ImportDraft, other: &ImportDraft) -> bool
     ensures { result ≡ is_same draft.now other.now }
 {
     is_same_kind(draft.kind, other.kind) && draft.id == other.id
 }
 
 /// Whether a draft of this one's kind and identifier is among these.
-fn is_there(drafts: &[Draft], draft: &Draft) -> bool
+fn is_there(drafts: &[ImportDraft], draft: &ImportDraft) -> bool
     ensures { result ≡ list_any (is_same draft.now) drafts.now }
 {
     drafts.iter().any(|other| is_same(draft, other))
 }
 
 /// Why a draft isn't sent after these; `None` where it is.
-pub(crate) fn why_unkept(drafts: &[Draft], draft: &Draft) -> Option<Unkept>
+pub(crate) fn skip_reason(drafts: &[ImportDraft], draft: &ImportDraft) -> Option<SkipReason>
     ensures { result ≡ why_unkept drafts.now draft.now }
 {
     if MOST_BODY < draft.body.len() {
-        Some(Unkept::Long)
+        Some(SkipReason::Long)
     } else if is_there(drafts, draft) {
-        Some(Unkept::Twice)
+        Some(SkipReason::Twice)
     } else if MOST_DRAFTS <= drafts.len() {
-        Some(Unkept::Many)
+        Some(SkipReason::Many)
     } else {
         None
     }
 }
 
-impl Unkept {
+impl SkipReason {
     /// The reason in words.
     pub(crate) fn words(self) -> &'static str {
         match self {
-            Unkept::Long => "it has more than 1048576 bytes",
-            Unkept::Twice => "one of its kind and identifier stands before it",
-            Unkept::Many => "1024 documents stand before it",
+            SkipReason::Long => "it has more than 1048576 bytes",
+            SkipReason::Twice => "one of its kind and identifier stands before it",
+            SkipReason::Many => "1024 documents stand before it",
         }
     }
 }

@@ -3,12 +3,12 @@ ghost use Rattle.std.specs.Prelude.{◌≡◌, ◌+◌, ◌-◌, ◌^◌, min};
 ghost use Rattle.mds_errands.specs.Ends.{end_of, exit_status};
 
 use crate::token::TokenFault;
-use mds_client::ReplyFault;
+use mds_client::ResponseFault;
 use std::alloc::AllocError;
 
 /// How a job, an import or an export, ends.
 #[derive(Clone, Copy, Debug, PartialEq, Eq)]
-pub enum End {
+pub enum TransferEnd {
     /// All of it is done.
     Done,
     /// Something is refused, and each refusal was reported; all else is done.
@@ -16,7 +16,7 @@ pub enum End {
     /// No server answers, or its response is none that can be used.
     NoServer,
     /// A response of the server isn't complete, or can't be seen to be.
-    BadReply(ReplyFault),
+    BadReply(ResponseFault),
     /// Standard output can't be written.
     NotPrinted,
     /// The address or the access token may not stand in a request.
@@ -33,17 +33,17 @@ pub enum End {
 
 /// How many documents or vehicles were sent, or would be in a dry run, and how many were refused.
 #[derive(Clone, Copy, Debug, PartialEq, Eq)]
-pub struct Tally {
+pub struct TransferTally {
     pub sent: u64,
     pub refused: u64,
 }
 
-impl Tally {
+impl TransferTally {
     /// Nothing is counted yet.
-    pub fn new() -> Tally
+    pub fn new() -> TransferTally
         ensures { result ≡ record { sent = 0; refused = 0 } }
     {
-        Tally {
+        TransferTally {
             sent: 0,
             refused: 0,
         }
@@ -64,72 +64,72 @@ impl Tally {
     }
 
     /// How a job ends that wasn't cut short.
-    pub fn end(&self) -> End
+    pub fn end(&self) -> TransferEnd
         ensures { result ≡ end_of self.now }
     {
         if self.refused == 0 {
-            End::Done
+            TransferEnd::Done
         } else {
-            End::SomeRefused
+            TransferEnd::SomeRefused
         }
     }
 }
 
-impl End {
+impl TransferEnd {
     /// The program's exit status.
     pub fn status(self) -> u8
         ensures { result ≡ exit_status self }
     {
         match self {
-            End::Done => 0,
-            End::NoServer | End::BadReply(_) | End::NotPrinted => 1,
-            End::BadPlace | End::NoToken(_) => 2,
-            End::NoMemory => 3,
-            End::NotWritten => 4,
-            End::SomeRefused => 9,
-            End::Barred => 10,
+            TransferEnd::Done => 0,
+            TransferEnd::NoServer | TransferEnd::BadReply(_) | TransferEnd::NotPrinted => 1,
+            TransferEnd::BadPlace | TransferEnd::NoToken(_) => 2,
+            TransferEnd::NoMemory => 3,
+            TransferEnd::NotWritten => 4,
+            TransferEnd::SomeRefused => 9,
+            TransferEnd::Barred => 10,
         }
     }
 
     /// The message on standard error; empty where all is done.
     pub fn message(self) -> &'static str {
         match self {
-            End::Done => "",
-            End::NoServer => "no server answers",
-            End::BadReply(fault) => fault.words(),
-            End::NotPrinted => "standard output can't be written",
-            End::BadPlace => "the address or the access token is none",
-            End::NoToken(fault) => fault.words(),
-            End::NoMemory => "memory ran out",
-            End::NotWritten => "the folder can't be used",
-            End::SomeRefused => "something was refused",
-            End::Barred => "the server takes nothing by this access token",
+            TransferEnd::Done => "",
+            TransferEnd::NoServer => "no server answers",
+            TransferEnd::BadReply(fault) => fault.words(),
+            TransferEnd::NotPrinted => "standard output can't be written",
+            TransferEnd::BadPlace => "the address or the access token is none",
+            TransferEnd::NoToken(fault) => fault.words(),
+            TransferEnd::NoMemory => "memory ran out",
+            TransferEnd::NotWritten => "the folder can't be used",
+            TransferEnd::SomeRefused => "something was refused",
+            TransferEnd::Barred => "the server takes nothing by this access token",
         }
     }
 }
 
-impl From<AllocError> for End {
+impl From<AllocError> for TransferEnd {
     ghost use Rattle.std.specs.Prelude.{◌≡◌};
-    ghost use Rattle.mds_errands.specs.declared.end.End.TheVariants.{NoMemory};
+    ghost use Rattle.mds_errands.specs.declared.end.TransferEnd.TheVariants.{NoMemory};
 
     ghost from_gives = { λ _ e. e ≡ NoMemory };
 
-    fn from(_: AllocError) -> End {
-        End::NoMemory
+    fn from(_: AllocError) -> TransferEnd {
+        TransferEnd::NoMemory
     }
 }
 
-impl From<ReplyFault> for End {
+impl From<ResponseFault> for TransferEnd {
     ghost use Rattle.std.specs.Prelude.{◌≡◌};
     ghost use Rattle.mds_errands.specs.Ends.{end_of_fault};
 
     ghost from_gives = { λ fault e. e ≡ end_of_fault fault };
 
-    fn from(fault: ReplyFault) -> End {
+    fn from(fault: ResponseFault) -> TransferEnd {
         match fault {
-            ReplyFault::NoMemory => End::NoMemory,
-            ReplyFault::NoConnection => End::NoServer,
-            fault => End::BadReply(fault),
+            ResponseFault::NoMemory => TransferEnd::NoMemory,
+            ResponseFault::NoConnection => TransferEnd::NoServer,
+            fault => TransferEnd::BadReply(fault),
         }
     }
 }

@@ -38,7 +38,7 @@ fn push_escaped(text: &mut String, byte: u8) -> Result<(), AllocError>
 
 /// Bytes escaped for a terminal: printable ASCII as it is, each other byte, and the backslash, as `\x` and two
 /// hexadecimal digits. So nothing of a file or a server moves a cursor, changes a colour or begins a line.
-pub fn escaped(alloc: Global, bytes: &[u8]) -> Result<String, AllocError>
+pub fn escape_bytes(alloc: Global, bytes: &[u8]) -> Result<String, AllocError>
     ensures { IfOk result (λ text. string_bytes text ≡ escaped bytes.now) }
 {
     let mut text = String::new(alloc);

@@ -1,13 +1,13 @@
 //! Writes what is published at a server as files.
 
-use crate::end::End;
-use crate::host::ErrandHost;
+use crate::end::TransferEnd;
+use crate::host::TransferHost;
 use crate::meaning::{Meaning, meaning_of};
-use crate::sending::{answered, client_of, tell_refusal};
-use crate::told::Spot;
-use mds_client::{Call, Reply, Server};
+use crate::sending::{response_or_end, client_of, report_refusal};
+use crate::messages::DocumentLocation;
+use mds_client::{ClientRequest, HttpResponse, RemoteServer};
 use mds_feeds::{features_file, geographies_file, policies_file};
-use mds_import::list_named;
+use mds_import::list_member;
 use mds_reading::read_tree;
 use mds_text::{TextFault, Tree};
 use std::alloc::{AllocGlobal, Global};
@@ -21,11 +21,11 @@ use std::time::Clock;
 /// # Errors
 ///
 /// `NoServer` where it can't be read, `NoMemory`.
-fn tree_in(alloc: Global, reply: &Reply) -> Result<Tree, End> {
+fn tree_in(alloc: Global, reply: &HttpResponse) -> Result<Tree, TransferEnd> {
     match read_tree(alloc, &reply.body) {
         Ok(tree) => Ok(tree),
-        Err(TextFault::NoMemory) => Err(End::NoMemory),
-        Err(_) => Err(End::NoServer),
+        Err(TextFault::NoMemory) => Err(TransferEnd::NoMemory),
+        Err(_) => Err(TransferEnd::NoServer),
     }
 }
 
@@ -34,15 +34,15 @@ fn tree_in(alloc: Global, reply: &Reply) -> Result<Tree, End> {
 /// # Errors
 ///
 /// `NoMemory`.
-fn ended<R: Eprint + AllocGlobal>(rt: &R, target: &str, reply: &Reply) -> Result<End, End> {
-    let spot = Spot {
+fn end_of_refusal<R: Eprint + AllocGlobal>(rt: &R, target: &str, reply: &HttpResponse) -> Result<TransferEnd, TransferEnd> {
+    let spot = DocumentLocation {
         file: target,
         document: None,
     };
-    tell_refusal(rt, spot, reply)?;
+    report_refusal(rt, spot, reply)?;
     match meaning_of(reply.status) {
-        Meaning::Barred => Ok(End::Barred),
-        _ => Ok(End::NoServer),
+        Meaning::Barred => Ok(TransferEnd::Barred),
+        _ => Ok(TransferEnd::NoServer),
     }
 }
 
@@ -51,16 +51,16 @@ fn ended<R: Eprint + AllocGlobal>(rt: &R, target: &str, reply: &Reply) -> Result
 /// # Errors
 ///
 /// `BadPlace`, `NoServer` where the response is of no use, `BadReply`, `Barred`, `NoMemory`.
-fn asked<R: ErrandHost>(rt: &R, server: &Server<'_>, target: &str) -> Result<Tree, End> {
+fn fetch_tree<R: TransferHost>(rt: &R, server: &RemoteServer<'_>, target: &str) -> Result<Tree, TransferEnd> {
     let mut client = client_of(rt, server)?;
-    let call = Call {
+    let call = ClientRequest {
         method: "GET",
         target,
         body: b"",
     };
-    let reply = answered(client.ask(rt.alloc(), &call))?;
+    let reply = response_or_end(client.ask(rt.alloc(), &call))?;
     if meaning_of(reply.status) != Meaning::Taken {
-        return Err(ended(rt, target, &reply)?);
+        return Err(end_of_refusal(rt, target, &reply)?);
     }
     tree_in(rt.alloc(), &reply)
 }
@@ -75,11 +75,11 @@ fn write<R: Files<File = File> + AllocGlobal>(
     folder: &str,
     name: &str,
     text: &[u8],
-) -> Result<(), End> {
+) -> Result<(), TransferEnd> {
     let path = format!(in rt.alloc(); "{folder}/{name}")?;
     match fs::write(rt, path.as_str(), text) {
         Ok(()) => Ok(()),
-        Err(_) => Err(End::NotWritten),
+        Err(_) => Err(TransferEnd::NotWritten),
     }
 }
 
@@ -93,9 +93,9 @@ fn write_all<R: Files<File = File> + AllocGlobal>(
     folder: &str,
     policies: &[Tree],
     geographies: &[Tree],
-) -> Result<(), End> {
+) -> Result<(), TransferEnd> {
     if fs::create_dir_all(rt, folder).is_err() {
-        return Err(End::NotWritten);
+        return Err(TransferEnd::NotWritten);
     }
     let file = policies_file(rt.alloc(), policies)?;
     write(rt, folder, "policies.json", &file)?;
@@ -110,14 +110,14 @@ fn write_all<R: Files<File = File> + AllocGlobal>(
 /// # Errors
 ///
 /// `BadPlace`, `NoServer`, `BadReply`, `Barred`, `NotWritten`, `NotPrinted`, `NoMemory`.
-fn exported<R: ErrandHost>(rt: &R, folder: &str, server: &Server<'_>) -> Result<(), End> {
-    let told_policies = asked(rt, server, "/policies")?;
-    let told_geographies = asked(rt, server, "/geographies")?;
-    let Some(policies) = list_named(&told_policies, "policies") else {
-        return Err(End::NoServer);
+fn fetch_and_write<R: TransferHost>(rt: &R, folder: &str, server: &RemoteServer<'_>) -> Result<(), TransferEnd> {
+    let told_policies = fetch_tree(rt, server, "/policies")?;
+    let told_geographies = fetch_tree(rt, server, "/geographies")?;
+    let Some(policies) = list_member(&told_policies, "policies") else {
+        return Err(TransferEnd::NoServer);
     };
-    let Some(geographies) = list_named(&told_geographies, "geographies") else {
-        return Err(End::NoServer);
+    let Some(geographies) = list_member(&told_geographies, "geographies") else {
+        return Err(TransferEnd::NoServer);
     };
     write_all(rt, folder, policies, geographies)?;
     print_counts(rt, policies.len(), geographies.len())
@@ -128,19 +128,19 @@ fn exported<R: ErrandHost>(rt: &R, folder: &str, server: &Server<'_>) -> Result<
 /// # Errors
 ///
 /// `NotPrinted`.
-fn print_counts<R: Print>(rt: &R, policies: usize, geographies: usize) -> Result<(), End> {
+fn print_counts<R: Print>(rt: &R, policies: usize, geographies: usize) -> Result<(), TransferEnd> {
     match println!(rt; "{policies} policies, {geographies} geographies") {
         Ok(()) => Ok(()),
-        Err(_) => Err(End::NotPrinted),
+        Err(_) => Err(TransferEnd::NotPrinted),
     }
 }
 
 /// Writes what is published at a server into a folder, which is made where it isn't there: its policies as a file of
 /// MDS 2.0 (`policies.json`), its geographies as one (`geographies.json`) and as GeoJSON (`geographies.geojson`).
 /// Prints how many of each on standard output.
-pub fn export_published<R: ErrandHost>(rt: &R, folder: &str, server: &Server<'_>) -> End {
-    match exported(rt, folder, server) {
-        Ok(()) => End::Done,
+pub fn export_published<R: TransferHost>(rt: &R, folder: &str, server: &RemoteServer<'_>) -> TransferEnd {
+    match fetch_and_write(rt, folder, server) {
+        Ok(()) => TransferEnd::Done,
         Err(end) => end,
     }
 }

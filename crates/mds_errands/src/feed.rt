@@ -1,8 +1,8 @@
 //! The lists of a feed's files, and the entries for a vehicle in them.
 
-use crate::end::End;
-use crate::sources::Source;
-use mds_import::{id_named, list_named, named, text_named};
+use crate::end::TransferEnd;
+use crate::sources::ParsedFile;
+use mds_import::{id_member, list_member, member_of, text_member};
 use mds_text::{Id, Tree};
 use std::alloc::Global;
 use std::collections::BTreeMap;
@@ -12,15 +12,15 @@ const MOST_TYPES: usize = 1_024;
 
 /// A file that was read.
 #[derive(Drop)]
-pub(crate) struct Sheet {
+pub(crate) struct FeedFile {
     /// Its index among the files.
     pub file: usize,
-    pub source: Source,
+    pub source: ParsedFile,
 }
 
 /// The position of an entry in the files.
 #[derive(Clone, Copy)]
-pub(crate) struct Entry {
+pub(crate) struct EntryPosition {
     /// The index of its file among those that were read.
     sheet: usize,
     /// Its index in its list.
@@ -29,7 +29,7 @@ pub(crate) struct Entry {
 
 /// The value of a file's member `data`, or the file itself.
 fn value_of(file: &Tree) -> &Tree {
-    match named(file, "data") {
+    match member_of(file, "data") {
         Some(value) => value,
         None => file,
     }
@@ -37,7 +37,7 @@ fn value_of(file: &Tree) -> &Tree {
 
 /// The entries of a list; none where the file hasn't the list.
 fn entries<'t>(file: &'t Tree, name: &str) -> &'t [Tree] {
-    match list_named(value_of(file), name) {
+    match list_member(value_of(file), name) {
         Some(list) => list,
         None => &[],
     }
@@ -45,7 +45,7 @@ fn entries<'t>(file: &'t Tree, name: &str) -> &'t [Tree] {
 
 /// Whether a file has a list of this name.
 fn has(file: &Tree, name: &str) -> bool {
-    list_named(value_of(file), name).is_some()
+    list_member(value_of(file), name).is_some()
 }
 
 /// Whether a file has one of the lists of a feed.
@@ -70,20 +70,20 @@ fn types_in(file: &Tree) -> &[Tree] {
 
 /// Whether an entry of the list of vehicles is one of GBFS.
 pub(crate) fn is_gbfs(vehicle: &Tree) -> bool {
-    named(vehicle, "device_id").is_none()
+    member_of(vehicle, "device_id").is_none()
 }
 
 /// An index of the entries of MDS vehicles, and of vehicle types.
 #[derive(Drop)]
-pub(crate) struct Known {
-    vehicles: BTreeMap<Id, Entry>,
-    types: Vec<Entry>,
+pub(crate) struct FeedIndex {
+    vehicles: BTreeMap<Id, EntryPosition>,
+    types: Vec<EntryPosition>,
 }
 
-impl Known {
+impl FeedIndex {
     /// An empty index.
-    pub(crate) fn new(alloc: Global) -> Known {
-        Known {
+    pub(crate) fn new(alloc: Global) -> FeedIndex {
+        FeedIndex {
             vehicles: BTreeMap::new(alloc),
             types: Vec::new(alloc),
         }
@@ -94,10 +94,10 @@ impl Known {
     /// # Errors
     ///
     /// `NoMemory`.
-    fn add_vehicle(&mut self, device: Id, entry: Entry) -> Result<(), End> {
+    fn add_vehicle(&mut self, device: Id, entry: EntryPosition) -> Result<(), TransferEnd> {
         match self.vehicles.insert(device, entry) {
             Ok(_) => Ok(()),
-            Err(_) => Err(End::NoMemory),
+            Err(_) => Err(TransferEnd::NoMemory),
         }
     }
 
@@ -106,13 +106,13 @@ impl Known {
     /// # Errors
     ///
     /// `NoMemory`.
-    fn add_type(&mut self, entry: Entry) -> Result<(), End> {
+    fn add_type(&mut self, entry: EntryPosition) -> Result<(), TransferEnd> {
         if self.types.len() >= MOST_TYPES {
             return Ok(());
         }
         match self.types.push(entry) {
             Ok(()) => Ok(()),
-            Err(_) => Err(End::NoMemory),
+            Err(_) => Err(TransferEnd::NoMemory),
         }
     }
 
@@ -121,21 +121,21 @@ impl Known {
     /// # Errors
     ///
     /// `NoMemory`.
-    pub(crate) fn take_in(&mut self, sheet: usize, file: &Tree) -> Result<(), End> {
+    pub(crate) fn add_file(&mut self, sheet: usize, file: &Tree) -> Result<(), TransferEnd> {
         for (place, vehicle) in vehicles_in(file).iter().enumerate() {
-            if let Some(device) = id_named(vehicle, "device_id") {
-                self.add_vehicle(device, Entry { sheet, place })?;
+            if let Some(device) = id_member(vehicle, "device_id") {
+                self.add_vehicle(device, EntryPosition { sheet, place })?;
             }
         }
         for (place, _) in types_in(file).iter().enumerate() {
-            self.add_type(Entry { sheet, place })?;
+            self.add_type(EntryPosition { sheet, place })?;
         }
         Ok(())
     }
 
     /// The position of a vehicle of MDS, by its status.
-    fn vehicle(&self, status: &Tree) -> Option<Entry> {
-        let device = id_named(status, "device_id")?;
+    fn vehicle(&self, status: &Tree) -> Option<EntryPosition> {
+        let device = id_member(status, "device_id")?;
         match self.vehicles.get(&device) {
             Some(entry) => Some(*entry),
             None => None,
@@ -145,8 +145,8 @@ impl Known {
 
 /// The entry of a status's vehicle.
 pub(crate) fn vehicle_of<'s>(
-    sheets: &'s [Sheet],
-    known: &Known,
+    sheets: &'s [FeedFile],
+    known: &FeedIndex,
     status: &Tree,
 ) -> Option<&'s Tree> {
     let entry = known.vehicle(status)?;
@@ -155,7 +155,7 @@ pub(crate) fn vehicle_of<'s>(
 }
 
 /// The entry of a vehicle type at this position.
-fn type_at(sheets: &[Sheet], entry: Entry) -> Option<&Tree> {
+fn type_at(sheets: &[FeedFile], entry: EntryPosition) -> Option<&Tree> {
     let sheet = sheets.get(entry.sheet)?;
     types_in(&sheet.source.tree).get(entry.place)
 }
@@ -163,7 +163,7 @@ fn type_at(sheets: &[Sheet], entry: Entry) -> Option<&Tree> {
 /// Whether an entry is that of the vehicle type of this identifier.
 fn is_type(entry: Option<&Tree>, name: &str) -> bool {
     match entry {
-        Some(entry) => match text_named(entry, "vehicle_type_id") {
+        Some(entry) => match text_member(entry, "vehicle_type_id") {
             Some(own) => own == name,
             None => false,
         },
@@ -172,8 +172,8 @@ fn is_type(entry: Option<&Tree>, name: &str) -> bool {
 }
 
 /// The entry of a vehicle's type.
-pub(crate) fn type_of<'s>(sheets: &'s [Sheet], known: &Known, vehicle: &Tree) -> Option<&'s Tree> {
-    let name = text_named(vehicle, "vehicle_type_id")?;
+pub(crate) fn type_of<'s>(sheets: &'s [FeedFile], known: &FeedIndex, vehicle: &Tree) -> Option<&'s Tree> {
+    let name = text_member(vehicle, "vehicle_type_id")?;
     for entry in &known.types {
         if is_type(type_at(sheets, *entry), name) {
             return type_at(sheets, *entry);

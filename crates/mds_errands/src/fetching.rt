@@ -1,9 +1,9 @@
 //! Files that are read from another server.
 
-use crate::dialing::{Dialer, Timed};
-use crate::end::End;
-use crate::intake::is_visible;
-use mds_client::{Dial, Heading, ReplyFault, body_of, heading_of};
+use crate::dialing::{Dialer, TimedStream};
+use crate::end::TransferEnd;
+use crate::draft_limits::is_visible;
+use mds_client::{Dial, HeadProgress, ResponseFault, body_of, parse_head};
 use std::alloc::{AllocError, AllocGlobal, Global};
 use std::io::{self, ErrorKind, Read, Write};
 use std::net::Net;
@@ -70,7 +70,7 @@ pub(crate) fn link_of(alloc: Global, word: &str) -> Result<Option<Link>, AllocEr
 /// # Errors
 ///
 /// The connection's; out of memory.
-fn exchanged<S: Read + Write + Drop>(
+fn send_and_read<S: Read + Write + Drop>(
     alloc: Global,
     stream: S,
     request: &[u8],
@@ -89,11 +89,11 @@ fn exchanged<S: Read + Write + Drop>(
 /// # Errors
 ///
 /// `NoMemory`.
-fn body_in(alloc: Global, bytes: &[u8]) -> Result<Result<Vec<u8>, &'static str>, End> {
-    let head = match heading_of(bytes) {
-        Heading::Whole(head) => head,
-        Heading::Partial | Heading::Broken => {
-            return Ok(Err(ReplyFault::InvalidHead.words()));
+fn body_in(alloc: Global, bytes: &[u8]) -> Result<Result<Vec<u8>, &'static str>, TransferEnd> {
+    let head = match parse_head(bytes) {
+        HeadProgress::Whole(head) => head,
+        HeadProgress::Partial | HeadProgress::Broken => {
+            return Ok(Err(ResponseFault::InvalidHead.words()));
         }
     };
     if head.status != 200 {
@@ -101,7 +101,7 @@ fn body_in(alloc: Global, bytes: &[u8]) -> Result<Result<Vec<u8>, &'static str>,
     }
     match body_of(alloc, &head, bytes.get(head.len..).unwrap_or_default()) {
         Ok(body) => Ok(Ok(body)),
-        Err(ReplyFault::NoMemory) => Err(End::NoMemory),
+        Err(ResponseFault::NoMemory) => Err(TransferEnd::NoMemory),
         Err(fault) => Ok(Err(fault.words())),
     }
 }
@@ -124,7 +124,7 @@ fn request_for(alloc: Global, link: &Link) -> Result<String, AllocError> {
 /// # Errors
 ///
 /// Nothing listens there.
-fn dialed<'a, R: Net + Clock>(rt: &'a R, address: &'a str) -> io::Result<Timed<'a, R>> {
+fn open_stream<'a, R: Net + Clock>(rt: &'a R, address: &'a str) -> io::Result<TimedStream<'a, R>> {
     let dialer = Dialer { rt, address };
     dialer.dial()
 }
@@ -141,8 +141,8 @@ fn answer_of<R: Net + Clock + AllocGlobal>(
     request: &str,
     most: u64,
 ) -> io::Result<Vec<u8>> {
-    let stream = dialed(rt, address)?;
-    exchanged(rt.alloc(), stream, request.as_bytes(), most)
+    let stream = open_stream(rt, address)?;
+    send_and_read(rt.alloc(), stream, request.as_bytes(), most)
 }
 
 /// Asks for a file once, and gives its bytes, or in words why they can't be had.
@@ -150,10 +150,10 @@ fn answer_of<R: Net + Clock + AllocGlobal>(
 /// # Errors
 ///
 /// `NoMemory`.
-pub(crate) fn fetched<R: Net + Clock + AllocGlobal>(
+pub(crate) fn fetch_file<R: Net + Clock + AllocGlobal>(
     rt: &R,
     link: &Link,
-) -> Result<Result<Vec<u8>, &'static str>, End> {
+) -> Result<Result<Vec<u8>, &'static str>, TransferEnd> {
     let request = request_for(rt.alloc(), link)?;
     match answer_of(rt, link.host.as_str(), request.as_str(), MOST_BYTES + 1) {
         Ok(bytes) => {
@@ -163,7 +163,7 @@ pub(crate) fn fetched<R: Net + Clock + AllocGlobal>(
             body_in(rt.alloc(), &bytes)
         }
         Err(error) => match error.kind() {
-            ErrorKind::OutOfMemory => Err(End::NoMemory),
+            ErrorKind::OutOfMemory => Err(TransferEnd::NoMemory),
             _ => Ok(Err("the server doesn't answer")),
         },
     }

@@ -7,6 +7,6 @@ use std::net::Net;
 use std::time::Clock;
 
 /// The runtime of an import or an export: sockets, the clock, files, memory, standard output and standard error.
-pub trait ErrandHost: Net + Clock + Files<File = File> + Print + Eprint + AllocGlobal {}
+pub trait TransferHost: Net + Clock + Files<File = File> + Print + Eprint + AllocGlobal {}
 
-impl<R: Net + Clock + Files<File = File> + Print + Eprint + AllocGlobal> ErrandHost for R {}
+impl<R: Net + Clock + Files<File = File> + Print + Eprint + AllocGlobal> TransferHost for R {}

@@ -1,7 +1,7 @@
 //! Messages on standard error about a document or a file.
 
-use crate::end::End;
-use crate::escape::escaped;
+use crate::end::TransferEnd;
+use crate::escape::escape_bytes;
 use mds_import::Origin;
 use mds_reading::read_tree;
 use mds_text::{TextFault, Tree};
@@ -13,19 +13,19 @@ const MOST_SHOWN: usize = 200;
 
 /// A document, or a file as a whole.
 #[derive(Clone, Copy)]
-pub struct Spot<'a> {
+pub struct DocumentLocation<'a> {
     pub file: &'a str,
     /// Its index in its file, from 0; `None` for the file as a whole.
     pub document: Option<usize>,
 }
 
 /// A document of these files.
-pub(crate) fn spot_at(files: &[String], origin: Origin) -> Spot<'_> {
+pub(crate) fn location_at(files: &[String], origin: Origin) -> DocumentLocation<'_> {
     let file = match files.get(origin.file) {
         Some(file) => file.as_str(),
         None => "",
     };
-    Spot {
+    DocumentLocation {
         file,
         document: Some(origin.document),
     }
@@ -36,8 +36,8 @@ pub(crate) fn spot_at(files: &[String], origin: Origin) -> Spot<'_> {
 /// # Errors
 ///
 /// `NoMemory`. That standard error can't be written isn't reported.
-pub fn tell<R: Eprint + AllocGlobal>(rt: &R, spot: Spot<'_>, words: &str) -> Result<(), End> {
-    let file = escaped(rt.alloc(), spot.file.as_bytes())?;
+pub fn print_message<R: Eprint + AllocGlobal>(rt: &R, spot: DocumentLocation<'_>, words: &str) -> Result<(), TransferEnd> {
+    let file = escape_bytes(rt.alloc(), spot.file.as_bytes())?;
     let _ = match spot.document {
         Some(document) => {
             let number = document.saturating_add(1);
@@ -49,13 +49,13 @@ pub fn tell<R: Eprint + AllocGlobal>(rt: &R, spot: Spot<'_>, words: &str) -> Res
 }
 
 /// The code of a refusal, escaped.
-fn code_in(alloc: Global, tree: &Tree) -> Result<Option<String>, End> {
+fn code_in(alloc: Global, tree: &Tree) -> Result<Option<String>, TransferEnd> {
     let Tree::Object(members) = tree else {
         return Ok(None);
     };
     for member in members {
         if let (true, Tree::Text(code)) = (member.name.as_str() == "error", &member.value) {
-            return Ok(Some(escaped(alloc, code.as_bytes())?));
+            return Ok(Some(escape_bytes(alloc, code.as_bytes())?));
         }
     }
     Ok(None)
@@ -66,14 +66,14 @@ fn code_in(alloc: Global, tree: &Tree) -> Result<Option<String>, End> {
 /// # Errors
 ///
 /// `NoMemory`.
-pub fn word_of(alloc: Global, body: &[u8]) -> Result<String, End> {
+pub fn refusal_text(alloc: Global, body: &[u8]) -> Result<String, TransferEnd> {
     let code = match read_tree(alloc, body) {
         Ok(tree) => code_in(alloc, &tree)?,
-        Err(TextFault::NoMemory) => return Err(End::NoMemory),
+        Err(TextFault::NoMemory) => return Err(TransferEnd::NoMemory),
         Err(_) => None,
     };
     match code {
         Some(code) => Ok(code),
-        None => Ok(escaped(alloc, body.get(..MOST_SHOWN).unwrap_or(body))?),
+        None => Ok(escape_bytes(alloc, body.get(..MOST_SHOWN).unwrap_or(body))?),
     }
 }

@@ -12,7 +12,7 @@ const STANDARD_INPUT: &str = "/dev/stdin";
 
 /// Why a file isn't opened.
 #[derive(Clone, Copy, Debug, PartialEq, Eq)]
-pub enum OpenFault {
+pub enum FileOpenFault {
     /// It is a FIFO, a socket, a device or a folder: to open it, or to read it, might never end.
     NotRegular,
     /// It isn't there, or may not be read.
@@ -38,23 +38,23 @@ fn is_opened(path: &str, is_regular: bool) -> bool
 /// # Errors
 ///
 /// As `OpenFault` says.
-pub(crate) fn open_source<R: Files<File = File>>(rt: &R, path: &str) -> Result<File, OpenFault> {
+pub(crate) fn open_source<R: Files<File = File>>(rt: &R, path: &str) -> Result<File, FileOpenFault> {
     match fs::metadata(rt, path) {
-        Ok(metadata) if !is_opened(path, metadata.is_file()) => Err(OpenFault::NotRegular),
+        Ok(metadata) if !is_opened(path, metadata.is_file()) => Err(FileOpenFault::NotRegular),
         Ok(_) => match File::open(rt, path) {
             Ok(file) => Ok(file),
-            Err(_) => Err(OpenFault::Unreadable),
+            Err(_) => Err(FileOpenFault::Unreadable),
         },
-        Err(_) => Err(OpenFault::Unreadable),
+        Err(_) => Err(FileOpenFault::Unreadable),
     }
 }
 
-impl OpenFault {
+impl FileOpenFault {
     /// The fault in words.
     pub(crate) fn words(self) -> &'static str {
         match self {
-            OpenFault::NotRegular => "it isn't a regular file",
-            OpenFault::Unreadable => "it can't be read",
+            FileOpenFault::NotRegular => "it isn't a regular file",
+            FileOpenFault::Unreadable => "it can't be read",
         }
     }
 }

@@ -1,17 +1,17 @@
 //! Imports documents of policies and geographies as drafts.
 
-use crate::end::{End, Tally};
-use crate::escape::escaped;
-use crate::host::ErrandHost;
-use crate::intake::why_unkept;
+use crate::end::{TransferEnd, TransferTally};
+use crate::escape::escape_bytes;
+use crate::host::TransferHost;
+use crate::draft_limits::skip_reason;
 use crate::sending::send_drafts;
-use crate::sources::{Source, read_source};
-use crate::told::{Spot, tell};
-use mds_client::Server;
+use crate::sources::{ParsedFile, read_and_parse};
+use crate::messages::{DocumentLocation, print_message};
+use mds_client::RemoteServer;
 use mds_command::Import;
 use mds_import::{
-    Draft, Origin, Prepared, Refused, Why, decimal_at, documents, ordered, prepare,
-    prepare_feature, target_of, unjudged,
+    ImportDraft, Origin, PreparedDocument, RefusedDocument, RefusalReason, decimal_at, documents, order_drafts, prepare,
+    prepare_feature, target_of, unjudged_rule_ids,
 };
 use mds_text::{DraftKind, Tree};
 use std::alloc::{AllocError, AllocGlobal, Global};
@@ -22,14 +22,14 @@ use std::time::Clock;
 
 /// The drafts of the files read so far, and how many documents or files were refused.
 #[derive(Drop)]
-struct Gathered {
-    drafts: Vec<Draft>,
-    tally: Tally,
+struct PolicyImport {
+    drafts: Vec<ImportDraft>,
+    tally: TransferTally,
 }
 
 /// A file whose documents are imported.
 #[derive(Clone, Copy)]
-struct Sheet<'a> {
+struct DocumentFile<'a> {
     path: &'a str,
     /// Its index among the files.
     place: usize,
@@ -37,9 +37,9 @@ struct Sheet<'a> {
     decimals: bool,
 }
 
-impl<'a> Sheet<'a> {
-    fn spot(self, document: usize) -> Spot<'a> {
-        Spot {
+impl<'a> DocumentFile<'a> {
+    fn location(self, document: usize) -> DocumentLocation<'a> {
+        DocumentLocation {
             file: self.path,
             document: Some(document),
         }
@@ -54,11 +54,11 @@ impl<'a> Sheet<'a> {
 }
 
 /// Why a document is refused, in words.
-fn refusal(alloc: Global, refused: &Refused<'_>) -> Result<String, AllocError> {
-    let member = escaped(alloc, refused.member.as_bytes())?;
+fn refusal(alloc: Global, refused: &RefusedDocument<'_>) -> Result<String, AllocError> {
+    let member = escape_bytes(alloc, refused.member.as_bytes())?;
     let why = match refused.why {
-        Why::BadField => "it is missing, or isn't as it has to be",
-        Why::Decimal => "a bound of a rule that is judged has to be a whole number",
+        RefusalReason::BadField => "it is missing, or isn't as it has to be",
+        RefusalReason::Decimal => "a bound of a rule that is judged has to be a whole number",
     };
     format!(in alloc; "{}: {why}", member.as_str())
 }
@@ -68,28 +68,28 @@ fn refusal(alloc: Global, refused: &Refused<'_>) -> Result<String, AllocError> {
 /// # Errors
 ///
 /// `NoMemory`.
-fn tell_kept<R: Eprint + AllocGlobal>(
+fn report_without_effect<R: Eprint + AllocGlobal>(
     rt: &R,
-    sheet: Sheet<'_>,
+    sheet: DocumentFile<'_>,
     document: usize,
     value: &Tree,
-) -> Result<(), End> {
+) -> Result<(), TransferEnd> {
     let alloc = rt.alloc();
-    for id in unjudged(alloc, value)? {
-        let id = escaped(alloc, id.as_bytes())?;
+    for id in unjudged_rule_ids(alloc, value)? {
+        let id = escape_bytes(alloc, id.as_bytes())?;
         let words = format!(in alloc; "rule {}: it is kept and not judged", id.as_str())?;
-        tell(rt, sheet.spot(document), words.as_str())?;
+        print_message(rt, sheet.location(document), words.as_str())?;
     }
     if !sheet.decimals {
         return Ok(());
     }
     if let Some(member) = decimal_at("document", value) {
-        let member = escaped(alloc, member.as_bytes())?;
+        let member = escape_bytes(alloc, member.as_bytes())?;
         let words = format!(in alloc;
             "{}: a number that isn't whole is kept as a text",
             member.as_str()
         )?;
-        tell(rt, sheet.spot(document), words.as_str())?;
+        print_message(rt, sheet.location(document), words.as_str())?;
     }
     Ok(())
 }
@@ -101,24 +101,24 @@ fn tell_kept<R: Eprint + AllocGlobal>(
 /// `NoMemory`.
 fn take_in<R: Eprint + AllocGlobal>(
     rt: &R,
-    gathered: &mut Gathered,
-    sheet: Sheet<'_>,
+    gathered: &mut PolicyImport,
+    sheet: DocumentFile<'_>,
     document: usize,
-    prepared: Prepared<'_>,
-) -> Result<(), End> {
+    prepared: PreparedDocument<'_>,
+) -> Result<(), TransferEnd> {
     match prepared {
-        Prepared::Draft(draft) => match why_unkept(&gathered.drafts, &draft) {
+        PreparedDocument::Draft(draft) => match skip_reason(&gathered.drafts, &draft) {
             None => {
                 return match gathered.drafts.push(draft) {
                     Ok(()) => Ok(()),
-                    Err(_) => Err(End::NoMemory),
+                    Err(_) => Err(TransferEnd::NoMemory),
                 };
             }
-            Some(unkept) => tell(rt, sheet.spot(document), unkept.words())?,
+            Some(unkept) => print_message(rt, sheet.location(document), unkept.words())?,
         },
-        Prepared::Refused(refused) => {
+        PreparedDocument::Refused(refused) => {
             let words = refusal(rt.alloc(), &refused)?;
-            tell(rt, sheet.spot(document), words.as_str())?;
+            print_message(rt, sheet.location(document), words.as_str())?;
         }
     }
     gathered.tally.count_refused();
@@ -132,10 +132,10 @@ fn take_in<R: Eprint + AllocGlobal>(
 /// `NoMemory`.
 fn gather_features<R: Eprint + AllocGlobal>(
     rt: &R,
-    gathered: &mut Gathered,
-    sheet: Sheet<'_>,
+    gathered: &mut PolicyImport,
+    sheet: DocumentFile<'_>,
     features: &[Tree],
-) -> Result<(), End> {
+) -> Result<(), TransferEnd> {
     for (document, feature) in features.iter().enumerate() {
         let prepared = prepare_feature(rt.alloc(), sheet.origin(document), feature)?;
         take_in(rt, gathered, sheet, document, prepared)?;
@@ -150,16 +150,16 @@ fn gather_features<R: Eprint + AllocGlobal>(
 /// `NoMemory`.
 fn gather_list<R: Eprint + AllocGlobal>(
     rt: &R,
-    gathered: &mut Gathered,
-    sheet: Sheet<'_>,
+    gathered: &mut PolicyImport,
+    sheet: DocumentFile<'_>,
     before: usize,
     list: &[Tree],
-) -> Result<(), End> {
+) -> Result<(), TransferEnd> {
     for (place, value) in list.iter().enumerate() {
         let document = before.saturating_add(place);
         let prepared = prepare(rt.alloc(), sheet.origin(document), sheet.decimals, value)?;
         if is_policy(&prepared) {
-            tell_kept(rt, sheet, document, value)?;
+            report_without_effect(rt, sheet, document, value)?;
         }
         take_in(rt, gathered, sheet, document, prepared)?;
     }
@@ -167,10 +167,10 @@ fn gather_list<R: Eprint + AllocGlobal>(
 }
 
 /// Whether a document becomes the draft of a policy.
-fn is_policy(prepared: &Prepared<'_>) -> bool {
+fn is_policy(prepared: &PreparedDocument<'_>) -> bool {
     match prepared {
-        Prepared::Draft(draft) => matches!(draft.kind, DraftKind::Policy),
-        Prepared::Refused(_) => false,
+        PreparedDocument::Draft(draft) => matches!(draft.kind, DraftKind::Policy),
+        PreparedDocument::Refused(_) => false,
     }
 }
 
@@ -181,10 +181,10 @@ fn is_policy(prepared: &Prepared<'_>) -> bool {
 /// `NoMemory`.
 fn gather<R: Eprint + AllocGlobal>(
     rt: &R,
-    gathered: &mut Gathered,
-    sheet: Sheet<'_>,
-    source: &Source,
-) -> Result<(), End> {
+    gathered: &mut PolicyImport,
+    sheet: DocumentFile<'_>,
+    source: &ParsedFile,
+) -> Result<(), TransferEnd> {
     let lists = documents(&source.tree);
     gather_features(rt, gathered, sheet, lists.features)?;
     gather_list(rt, gathered, sheet, 0, lists.first)?;
@@ -196,16 +196,16 @@ fn gather<R: Eprint + AllocGlobal>(
 /// # Errors
 ///
 /// `NoMemory`.
-fn gather_all<R: ErrandHost>(rt: &R, files: &[String]) -> Result<Gathered, End> {
-    let mut gathered = Gathered {
+fn gather_all<R: TransferHost>(rt: &R, files: &[String]) -> Result<PolicyImport, TransferEnd> {
+    let mut gathered = PolicyImport {
         drafts: Vec::new(rt.alloc()),
-        tally: Tally::new(),
+        tally: TransferTally::new(),
     };
     for (place, path) in files.iter().enumerate() {
         let path = path.as_str();
-        match read_source(rt, path)? {
+        match read_and_parse(rt, path)? {
             Some(source) => {
-                let sheet = Sheet {
+                let sheet = DocumentFile {
                     path,
                     place,
                     decimals: source.decimals,
@@ -225,13 +225,13 @@ fn gather_all<R: ErrandHost>(rt: &R, files: &[String]) -> Result<Gathered, End> 
 /// `NotPrinted`, `NoMemory`.
 fn print_drafts<R: Print + AllocGlobal>(
     rt: &R,
-    drafts: &[Draft],
-    tally: &mut Tally,
-) -> Result<(), End> {
+    drafts: &[ImportDraft],
+    tally: &mut TransferTally,
+) -> Result<(), TransferEnd> {
     for draft in drafts {
         let target = target_of(rt.alloc(), draft)?;
         if println!(rt; "PUT {}", target.as_str()).is_err() {
-            return Err(End::NotPrinted);
+            return Err(TransferEnd::NotPrinted);
         }
         tally.count_sent();
     }
@@ -239,15 +239,15 @@ fn print_drafts<R: Print + AllocGlobal>(
 }
 
 /// Prints how many documents were sent and how many refused, and gives the end of the job.
-fn printed<R: Print>(rt: &R, import: &Import<'_>, tally: &Tally) -> End {
-    let Tally { sent, refused } = *tally;
+fn print_summary<R: Print>(rt: &R, import: &Import<'_>, tally: &TransferTally) -> TransferEnd {
+    let TransferTally { sent, refused } = *tally;
     let said = match import.destination {
         Some(_) => println!(rt; "{sent} documents sent, {refused} refused"),
         None => println!(rt; "{sent} documents would be sent, {refused} refused"),
     };
     match said {
         Ok(()) => tally.end(),
-        Err(_) => End::NotPrinted,
+        Err(_) => TransferEnd::NotPrinted,
     }
 }
 
@@ -255,24 +255,24 @@ fn printed<R: Print>(rt: &R, import: &Import<'_>, tally: &Tally) -> End {
 /// supersedes; without a server it prints what would be sent. Reports on standard error what isn't sent and why, and
 /// what of a policy is stored and has no effect; prints on standard output, at the end, how many were sent and how many
 /// refused.
-pub fn import_policies<R: ErrandHost>(
+pub fn import_policies<R: TransferHost>(
     rt: &R,
     import: &Import<'_>,
-    server: Option<Server<'_>>,
-) -> End {
-    let Gathered { drafts, mut tally } = match gather_all(rt, import.files) {
+    server: Option<RemoteServer<'_>>,
+) -> TransferEnd {
+    let PolicyImport { drafts, mut tally } = match gather_all(rt, import.files) {
         Ok(gathered) => gathered,
         Err(end) => return end,
     };
-    let drafts = match ordered(rt.alloc(), drafts) {
+    let drafts = match order_drafts(rt.alloc(), drafts) {
         Ok(drafts) => drafts,
-        Err(_) => return End::NoMemory,
+        Err(_) => return TransferEnd::NoMemory,
     };
     let done = match server {
         Some(server) => send_drafts(rt, &server, import.files, &drafts, &mut tally),
         None => print_drafts(rt, &drafts, &mut tally),
     };
-    let end = printed(rt, import, &tally);
+    let end = print_summary(rt, import, &tally);
     match done {
         Ok(()) => end,
         Err(end) => end,

@@ -1,13 +1,13 @@
 //! Sends drafts to a server, and reports its responses.
 
 use crate::dialing::Dialer;
-use crate::end::{End, Tally};
-use crate::host::ErrandHost;
-use crate::intake::is_visible;
+use crate::end::{TransferEnd, TransferTally};
+use crate::host::TransferHost;
+use crate::draft_limits::is_visible;
 use crate::meaning::{Meaning, meaning_of};
-use crate::told::{Spot, spot_at, tell, word_of};
-use mds_client::{Call, Client, Reply, ReplyFault, Server};
-use mds_import::{Draft, target_of};
+use crate::messages::{DocumentLocation, location_at, print_message, refusal_text};
+use mds_client::{ClientRequest, Client, HttpResponse, ResponseFault, RemoteServer};
+use mds_import::{ImportDraft, target_of};
 use std::alloc::AllocGlobal;
 use std::io::Eprint;
 use std::net::Net;
@@ -23,10 +23,10 @@ const STEP: usize = 64;
 /// `BadPlace` where the address or the access token may not stand in a request.
 pub(crate) fn client_of<'a, R: Net + Clock>(
     rt: &'a R,
-    server: &Server<'a>,
-) -> Result<Client<'a, Dialer<'a, R>>, End> {
+    server: &RemoteServer<'a>,
+) -> Result<Client<'a, Dialer<'a, R>>, TransferEnd> {
     if !is_visible(server.host) || !is_visible(server.token) {
-        return Err(End::BadPlace);
+        return Err(TransferEnd::BadPlace);
     }
     let dialer = Dialer {
         rt,
@@ -40,10 +40,10 @@ pub(crate) fn client_of<'a, R: Net + Clock>(
 /// # Errors
 ///
 /// `NoServer`, `BadReply`, `NoMemory`.
-pub(crate) fn answered(asked: Result<Reply, ReplyFault>) -> Result<Reply, End> {
+pub(crate) fn response_or_end(asked: Result<HttpResponse, ResponseFault>) -> Result<HttpResponse, TransferEnd> {
     match asked {
         Ok(reply) => Ok(reply),
-        Err(fault) => Err(End::from(fault)),
+        Err(fault) => Err(TransferEnd::from(fault)),
     }
 }
 
@@ -52,15 +52,15 @@ pub(crate) fn answered(asked: Result<Reply, ReplyFault>) -> Result<Reply, End> {
 /// # Errors
 ///
 /// `NoMemory`.
-pub(crate) fn tell_refusal<R: Eprint + AllocGlobal>(
+pub(crate) fn report_refusal<R: Eprint + AllocGlobal>(
     rt: &R,
-    spot: Spot<'_>,
-    reply: &Reply,
-) -> Result<(), End> {
-    let word = word_of(rt.alloc(), &reply.body)?;
+    spot: DocumentLocation<'_>,
+    reply: &HttpResponse,
+) -> Result<(), TransferEnd> {
+    let word = refusal_text(rt.alloc(), &reply.body)?;
     let status = reply.status;
     let words = format!(in rt.alloc(); "{status} {}", word.as_str())?;
-    tell(rt, spot, words.as_str())
+    print_message(rt, spot, words.as_str())
 }
 
 /// Counts what a response says of what was sent, and reports a refusal.
@@ -70,19 +70,19 @@ pub(crate) fn tell_refusal<R: Eprint + AllocGlobal>(
 /// `Barred` and `NoServer` where nothing else would be accepted either, `NoMemory`.
 pub(crate) fn note_reply<R: Eprint + AllocGlobal>(
     rt: &R,
-    spot: Spot<'_>,
-    reply: &Reply,
-    tally: &mut Tally,
-) -> Result<(), End> {
+    spot: DocumentLocation<'_>,
+    reply: &HttpResponse,
+    tally: &mut TransferTally,
+) -> Result<(), TransferEnd> {
     let meaning = meaning_of(reply.status);
     if meaning != Meaning::Taken {
-        tell_refusal(rt, spot, reply)?;
+        report_refusal(rt, spot, reply)?;
     }
     match meaning {
         Meaning::Taken => tally.count_sent(),
         Meaning::Refused => tally.count_refused(),
-        Meaning::Barred => return Err(End::Barred),
-        Meaning::Unavailable => return Err(End::NoServer),
+        Meaning::Barred => return Err(TransferEnd::Barred),
+        Meaning::Unavailable => return Err(TransferEnd::NoServer),
     }
     Ok(())
 }
@@ -92,13 +92,13 @@ pub(crate) fn note_reply<R: Eprint + AllocGlobal>(
 /// # Errors
 ///
 /// `BadPlace`, `NoServer`, `BadReply`, `Barred` and `NoMemory`: the drafts behind aren't sent then.
-pub(crate) fn send_drafts<R: ErrandHost>(
+pub(crate) fn send_drafts<R: TransferHost>(
     rt: &R,
-    server: &Server<'_>,
+    server: &RemoteServer<'_>,
     files: &[String],
-    drafts: &[Draft],
-    tally: &mut Tally,
-) -> Result<(), End> {
+    drafts: &[ImportDraft],
+    tally: &mut TransferTally,
+) -> Result<(), TransferEnd> {
     let mut client = client_of(rt, server)?;
     let all = drafts.len();
     for (place, draft) in drafts.iter().enumerate() {
@@ -106,13 +106,13 @@ pub(crate) fn send_drafts<R: ErrandHost>(
             let _ = eprintln!(rt; "ruffletuff: {place} of {all} documents are through");
         }
         let target = target_of(rt.alloc(), draft)?;
-        let call = Call {
+        let call = ClientRequest {
             method: "PUT",
             target: target.as_str(),
             body: &draft.body,
         };
-        let reply = answered(client.ask(rt.alloc(), &call))?;
-        note_reply(rt, spot_at(files, draft.origin), &reply, tally)?;
+        let reply = response_or_end(client.ask(rt.alloc(), &call))?;
+        note_reply(rt, location_at(files, draft.origin), &reply, tally)?;
     }
     Ok(())
 }

@@ -1,11 +1,11 @@
 //! The files of an import.
 
-use crate::end::End;
-use crate::fetching::{MOST_BYTES, TOO_LONG, fetched, link_of};
-use crate::host::ErrandHost;
-use crate::opening::{OpenFault, open_source};
-use crate::told::{Spot, tell};
-use mds_reading::read_counted;
+use crate::end::TransferEnd;
+use crate::fetching::{MOST_BYTES, TOO_LONG, fetch_file, link_of};
+use crate::host::TransferHost;
+use crate::opening::{FileOpenFault, open_source};
+use crate::messages::{DocumentLocation, print_message};
+use mds_reading::read_and_count;
 use mds_text::{TextFault, Tree};
 use std::alloc::{AllocGlobal, Global};
 use std::fs::{File, Files};
@@ -15,7 +15,7 @@ use std::time::Clock;
 
 /// What a file holds.
 #[derive(Drop)]
-pub struct Source {
+pub struct ParsedFile {
     pub tree: Tree,
     /// Whether it has numbers that aren't plain.
     pub decimals: bool,
@@ -26,13 +26,13 @@ pub struct Source {
 /// # Errors
 ///
 /// `NoMemory`.
-fn bytes_in<S: Read + Drop>(alloc: Global, file: S) -> Result<Result<Vec<u8>, &'static str>, End> {
+fn bytes_in<S: Read + Drop>(alloc: Global, file: S) -> Result<Result<Vec<u8>, &'static str>, TransferEnd> {
     let mut bytes = Vec::new(alloc);
     let mut front = file.take(MOST_BYTES + 1);
     if let Err(error) = front.read_to_end(&mut bytes) {
         return match error.kind() {
-            ErrorKind::OutOfMemory => Err(End::NoMemory),
-            _ => Ok(Err(OpenFault::Unreadable.words())),
+            ErrorKind::OutOfMemory => Err(TransferEnd::NoMemory),
+            _ => Ok(Err(FileOpenFault::Unreadable.words())),
         };
     }
     if bytes.len() as u64 > MOST_BYTES {
@@ -46,13 +46,13 @@ fn bytes_in<S: Read + Drop>(alloc: Global, file: S) -> Result<Result<Vec<u8>, &'
 /// # Errors
 ///
 /// `NoMemory`.
-fn source_in(alloc: Global, bytes: &[u8]) -> Result<Result<Source, &'static str>, End> {
-    match read_counted(alloc, bytes) {
-        Ok((tree, quoted)) => Ok(Ok(Source {
+fn parse_file(alloc: Global, bytes: &[u8]) -> Result<Result<ParsedFile, &'static str>, TransferEnd> {
+    match read_and_count(alloc, bytes) {
+        Ok((tree, quoted)) => Ok(Ok(ParsedFile {
             tree,
             decimals: quoted > 0,
         })),
-        Err(TextFault::NoMemory) => Err(End::NoMemory),
+        Err(TextFault::NoMemory) => Err(TransferEnd::NoMemory),
         Err(_) => Ok(Err("it isn't JSON in UTF-8 of at most 127 levels")),
     }
 }
@@ -62,10 +62,10 @@ fn source_in(alloc: Global, bytes: &[u8]) -> Result<Result<Source, &'static str>
 /// # Errors
 ///
 /// `NoMemory`.
-fn bytes_of<R: ErrandHost>(rt: &R, path: &str) -> Result<Result<Vec<u8>, &'static str>, End> {
+fn bytes_of<R: TransferHost>(rt: &R, path: &str) -> Result<Result<Vec<u8>, &'static str>, TransferEnd> {
     let alloc = rt.alloc();
     match link_of(alloc, path)? {
-        Some(link) => fetched(rt, &link),
+        Some(link) => fetch_file(rt, &link),
         None => match open_source(rt, path) {
             Ok(file) => bytes_in(alloc, file),
             Err(fault) => Ok(Err(fault.words())),
@@ -79,19 +79,19 @@ fn bytes_of<R: ErrandHost>(rt: &R, path: &str) -> Result<Result<Vec<u8>, &'stati
 /// # Errors
 ///
 /// `NoMemory`.
-pub fn read_source<R: ErrandHost>(rt: &R, path: &str) -> Result<Option<Source>, End> {
+pub fn read_and_parse<R: TransferHost>(rt: &R, path: &str) -> Result<Option<ParsedFile>, TransferEnd> {
     let source = match bytes_of(rt, path)? {
-        Ok(bytes) => source_in(rt.alloc(), &bytes)?,
+        Ok(bytes) => parse_file(rt.alloc(), &bytes)?,
         Err(words) => Err(words),
     };
     match source {
         Ok(source) => Ok(Some(source)),
         Err(words) => {
-            let spot = Spot {
+            let spot = DocumentLocation {
                 file: path,
                 document: None,
             };
-            tell(rt, spot, words)?;
+            print_message(rt, spot, words)?;
             Ok(None)
         }
     }

@@ -1,16 +1,16 @@
 //! Imports vehicles of feeds as reports and removals.
 
-use crate::batch::{Batch, note_batch, print_batch, put_in};
-use crate::end::{End, Tally};
-use crate::feed::{Known, Sheet, is_feed, is_gbfs, statuses_in, type_of, vehicle_of, vehicles_in};
-use crate::host::ErrandHost;
-use crate::sending::{answered, client_of, note_reply};
-use crate::sources::read_source;
-use crate::told::{Spot, spot_at, tell, word_of};
-use mds_client::{Call, Reply, Server};
+use crate::batch::{ReportBatch, note_batch, print_batch, put_in};
+use crate::end::{TransferEnd, TransferTally};
+use crate::feed::{FeedIndex, FeedFile, is_feed, is_gbfs, statuses_in, type_of, vehicle_of, vehicles_in};
+use crate::host::TransferHost;
+use crate::sending::{response_or_end, client_of, note_reply};
+use crate::sources::read_and_parse;
+use crate::messages::{DocumentLocation, location_at, print_message, refusal_text};
+use mds_client::{ClientRequest, HttpResponse, RemoteServer};
 use mds_command::Import;
-use mds_feeds::{Meant, gbfs_meant, instant_of, mds_meant};
-use mds_import::{Origin, named};
+use mds_feeds::{VehicleOutcome, gbfs_outcome, instant_of, mds_outcome};
+use mds_import::{Origin, member_of};
 use mds_text::{Id, Tree};
 use std::alloc::{AllocError, AllocGlobal, Global};
 use std::fs::{File, Files};
@@ -27,10 +27,10 @@ struct Removal {
 
 /// The reports and removals of the files' vehicles, and how many vehicles or files were refused.
 #[derive(Drop)]
-struct Gathered {
-    batches: Vec<Batch>,
+struct StatusImport {
+    batches: Vec<ReportBatch>,
     removals: Vec<Removal>,
-    tally: Tally,
+    tally: TransferTally,
 }
 
 /// Adds what a vehicle becomes, or reports why nothing is sent.
@@ -41,22 +41,22 @@ struct Gathered {
 fn take_in<R: Eprint + AllocGlobal>(
     rt: &R,
     files: &[String],
-    gathered: &mut Gathered,
+    gathered: &mut StatusImport,
     origin: Origin,
-    meant: Meant,
-) -> Result<(), End> {
+    meant: VehicleOutcome,
+) -> Result<(), TransferEnd> {
     match meant {
-        Meant::Present(body) => put_in(rt.alloc(), &mut gathered.batches, origin, &body),
-        Meant::Gone(device) => match gathered.removals.push(Removal { origin, device }) {
+        VehicleOutcome::Present(body) => put_in(rt.alloc(), &mut gathered.batches, origin, &body),
+        VehicleOutcome::Gone(device) => match gathered.removals.push(Removal { origin, device }) {
             Ok(()) => Ok(()),
-            Err(_) => Err(End::NoMemory),
+            Err(_) => Err(TransferEnd::NoMemory),
         },
-        Meant::Faulty(member) => {
+        VehicleOutcome::Faulty(member) => {
             gathered.tally.count_refused();
             let words = format!(in rt.alloc();
                 "{member}: it is missing, or isn't as it has to be"
             )?;
-            tell(rt, spot_at(files, origin), words.as_str())
+            print_message(rt, location_at(files, origin), words.as_str())
         }
     }
 }
@@ -66,23 +66,23 @@ fn take_in<R: Eprint + AllocGlobal>(
 /// # Errors
 ///
 /// Memory ran out.
-fn status_meant(
+fn status_outcome(
     alloc: Global,
-    sheets: &[Sheet],
-    known: &Known,
+    sheets: &[FeedFile],
+    known: &FeedIndex,
     status: &Tree,
-) -> Result<Meant, AllocError> {
+) -> Result<VehicleOutcome, AllocError> {
     match vehicle_of(sheets, known, status) {
-        Some(vehicle) => mds_meant(alloc, status, vehicle),
-        None => mds_meant(alloc, status, status),
+        Some(vehicle) => mds_outcome(alloc, status, vehicle),
+        None => mds_outcome(alloc, status, status),
     }
 }
 
 /// When a vehicle of GBFS was last seen: as its entry says, or else as its file does.
-fn seen_at(file: &Tree, vehicle: &Tree) -> Option<i64> {
-    match named(vehicle, "last_reported") {
+fn last_report_moment(file: &Tree, vehicle: &Tree) -> Option<i64> {
+    match member_of(vehicle, "last_reported") {
         Some(seen) => instant_of(seen),
-        None => instant_of(named(file, "last_updated")?),
+        None => instant_of(member_of(file, "last_updated")?),
     }
 }
 
@@ -94,13 +94,13 @@ fn seen_at(file: &Tree, vehicle: &Tree) -> Option<i64> {
 fn gather_statuses<R: Eprint + AllocGlobal>(
     rt: &R,
     files: &[String],
-    sheets: &[Sheet],
-    known: &Known,
-    sheet: &Sheet,
-    gathered: &mut Gathered,
-) -> Result<(), End> {
+    sheets: &[FeedFile],
+    known: &FeedIndex,
+    sheet: &FeedFile,
+    gathered: &mut StatusImport,
+) -> Result<(), TransferEnd> {
     for (document, status) in statuses_in(&sheet.source.tree).iter().enumerate() {
-        let meant = status_meant(rt.alloc(), sheets, known, status)?;
+        let meant = status_outcome(rt.alloc(), sheets, known, status)?;
         let file = sheet.file;
         take_in(rt, files, gathered, Origin { file, document }, meant)?;
     }
@@ -115,17 +115,17 @@ fn gather_statuses<R: Eprint + AllocGlobal>(
 fn gather_vehicles<R: Eprint + AllocGlobal>(
     rt: &R,
     files: &[String],
-    sheets: &[Sheet],
-    known: &Known,
-    sheet: &Sheet,
-    gathered: &mut Gathered,
-) -> Result<(), End> {
+    sheets: &[FeedFile],
+    known: &FeedIndex,
+    sheet: &FeedFile,
+    gathered: &mut StatusImport,
+) -> Result<(), TransferEnd> {
     let tree = &sheet.source.tree;
     for (document, vehicle) in vehicles_in(tree).iter().enumerate() {
         if is_gbfs(vehicle) {
-            let moment = seen_at(tree, vehicle);
+            let moment = last_report_moment(tree, vehicle);
             let kind = type_of(sheets, known, vehicle);
-            let meant = gbfs_meant(rt.alloc(), vehicle, kind, moment)?;
+            let meant = gbfs_outcome(rt.alloc(), vehicle, kind, moment)?;
             let file = sheet.file;
             take_in(rt, files, gathered, Origin { file, document }, meant)?;
         }
@@ -138,12 +138,12 @@ fn gather_vehicles<R: Eprint + AllocGlobal>(
 /// # Errors
 ///
 /// `NoMemory`.
-fn tell_none<R: Eprint + AllocGlobal>(rt: &R, path: &str) -> Result<(), End> {
-    let spot = Spot {
+fn report_no_feed<R: Eprint + AllocGlobal>(rt: &R, path: &str) -> Result<(), TransferEnd> {
+    let spot = DocumentLocation {
         file: path,
         document: None,
     };
-    tell(rt, spot, "it has no list of vehicles or of their types")
+    print_message(rt, spot, "it has no list of vehicles or of their types")
 }
 
 /// Reads a file; `None` where it can't be read or has no list of a feed, which is reported.
@@ -151,14 +151,14 @@ fn tell_none<R: Eprint + AllocGlobal>(rt: &R, path: &str) -> Result<(), End> {
 /// # Errors
 ///
 /// `NoMemory`.
-fn sheet_in<R: ErrandHost>(rt: &R, file: usize, path: &str) -> Result<Option<Sheet>, End> {
-    let Some(source) = read_source(rt, path)? else {
+fn read_feed_file<R: TransferHost>(rt: &R, file: usize, path: &str) -> Result<Option<FeedFile>, TransferEnd> {
+    let Some(source) = read_and_parse(rt, path)? else {
         return Ok(None);
     };
     if is_feed(&source.tree) {
-        return Ok(Some(Sheet { file, source }));
+        return Ok(Some(FeedFile { file, source }));
     }
-    tell_none(rt, path)?;
+    report_no_feed(rt, path)?;
     Ok(None)
 }
 
@@ -167,13 +167,13 @@ fn sheet_in<R: ErrandHost>(rt: &R, file: usize, path: &str) -> Result<Option<She
 /// # Errors
 ///
 /// `NoMemory`.
-fn read_all<R: ErrandHost>(rt: &R, files: &[String], tally: &mut Tally) -> Result<Vec<Sheet>, End> {
+fn read_all<R: TransferHost>(rt: &R, files: &[String], tally: &mut TransferTally) -> Result<Vec<FeedFile>, TransferEnd> {
     let mut sheets = Vec::new(rt.alloc());
     for (file, path) in files.iter().enumerate() {
-        match sheet_in(rt, file, path.as_str())? {
+        match read_feed_file(rt, file, path.as_str())? {
             Some(sheet) => {
                 if sheets.push(sheet).is_err() {
-                    return Err(End::NoMemory);
+                    return Err(TransferEnd::NoMemory);
                 }
             }
             None => tally.count_refused(),
@@ -187,10 +187,10 @@ fn read_all<R: ErrandHost>(rt: &R, files: &[String], tally: &mut Tally) -> Resul
 /// # Errors
 ///
 /// `NoMemory`.
-fn known_in(alloc: Global, sheets: &[Sheet]) -> Result<Known, End> {
-    let mut known = Known::new(alloc);
+fn index_entries(alloc: Global, sheets: &[FeedFile]) -> Result<FeedIndex, TransferEnd> {
+    let mut known = FeedIndex::new(alloc);
     for (place, sheet) in sheets.iter().enumerate() {
-        known.take_in(place, &sheet.source.tree)?;
+        known.add_file(place, &sheet.source.tree)?;
     }
     Ok(known)
 }
@@ -200,14 +200,14 @@ fn known_in(alloc: Global, sheets: &[Sheet]) -> Result<Known, End> {
 /// # Errors
 ///
 /// `NoMemory`.
-fn gather_all<R: ErrandHost>(rt: &R, files: &[String]) -> Result<Gathered, End> {
-    let mut gathered = Gathered {
+fn gather_all<R: TransferHost>(rt: &R, files: &[String]) -> Result<StatusImport, TransferEnd> {
+    let mut gathered = StatusImport {
         batches: Vec::new(rt.alloc()),
         removals: Vec::new(rt.alloc()),
-        tally: Tally::new(),
+        tally: TransferTally::new(),
     };
     let sheets = read_all(rt, files, &mut gathered.tally)?;
-    let known = known_in(rt.alloc(), &sheets)?;
+    let known = index_entries(rt.alloc(), &sheets)?;
     for sheet in &sheets {
         gather_statuses(rt, files, &sheets, &known, sheet, &mut gathered)?;
         gather_vehicles(rt, files, &sheets, &known, sheet, &mut gathered)?;
@@ -230,11 +230,11 @@ fn removal_target(alloc: Global, device: Id) -> Result<String, AllocError> {
 /// # Errors
 ///
 /// `NoMemory`.
-fn is_absent(alloc: Global, reply: &Reply) -> Result<bool, End> {
+fn is_absent(alloc: Global, reply: &HttpResponse) -> Result<bool, TransferEnd> {
     if reply.status != 404 {
         return Ok(false);
     }
-    let word = word_of(alloc, &reply.body)?;
+    let word = refusal_text(alloc, &reply.body)?;
     Ok(word.as_str() == "not_found")
 }
 
@@ -245,10 +245,10 @@ fn is_absent(alloc: Global, reply: &Reply) -> Result<bool, End> {
 /// `NoServer`, `Barred`, `NoMemory`.
 fn note_removal<R: Eprint + AllocGlobal>(
     rt: &R,
-    spot: Spot<'_>,
-    reply: &Reply,
-    tally: &mut Tally,
-) -> Result<(), End> {
+    spot: DocumentLocation<'_>,
+    reply: &HttpResponse,
+    tally: &mut TransferTally,
+) -> Result<(), TransferEnd> {
     if is_absent(rt.alloc(), reply)? {
         tally.count_sent();
         return Ok(());
@@ -261,35 +261,35 @@ fn note_removal<R: Eprint + AllocGlobal>(
 /// # Errors
 ///
 /// `BadPlace`, `NoServer`, `BadReply`, `Barred`, `NoMemory`: the requests behind aren't sent then.
-fn send_all<R: ErrandHost>(
+fn send_all<R: TransferHost>(
     rt: &R,
-    server: &Server<'_>,
+    server: &RemoteServer<'_>,
     files: &[String],
-    gathered: &Gathered,
-    tally: &mut Tally,
-) -> Result<(), End> {
+    gathered: &StatusImport,
+    tally: &mut TransferTally,
+) -> Result<(), TransferEnd> {
     let mut client = client_of(rt, server)?;
     for removal in &gathered.removals {
         let target = removal_target(rt.alloc(), removal.device)?;
-        let call = Call {
+        let call = ClientRequest {
             method: "DELETE",
             target: target.as_str(),
             body: b"",
         };
-        let reply = answered(client.ask(rt.alloc(), &call))?;
-        note_removal(rt, spot_at(files, removal.origin), &reply, tally)?;
+        let reply = response_or_end(client.ask(rt.alloc(), &call))?;
+        note_removal(rt, location_at(files, removal.origin), &reply, tally)?;
     }
     let all = gathered.batches.len();
     for (place, batch) in gathered.batches.iter().enumerate() {
         if place > 0 {
             let _ = eprintln!(rt; "ruffletuff: {place} of {all} requests with reports are through");
         }
-        let call = Call {
+        let call = ClientRequest {
             method: "POST",
             target: "/app/fleet/events",
             body: batch.body(),
         };
-        let reply = answered(client.ask(rt.alloc(), &call))?;
+        let reply = response_or_end(client.ask(rt.alloc(), &call))?;
         note_batch(rt, files, batch, &reply, tally)?;
     }
     Ok(())
@@ -302,13 +302,13 @@ fn send_all<R: ErrandHost>(
 /// `NotPrinted`, `NoMemory`.
 fn print_all<R: Print + AllocGlobal>(
     rt: &R,
-    gathered: &Gathered,
-    tally: &mut Tally,
-) -> Result<(), End> {
+    gathered: &StatusImport,
+    tally: &mut TransferTally,
+) -> Result<(), TransferEnd> {
     for removal in &gathered.removals {
         let target = removal_target(rt.alloc(), removal.device)?;
         if println!(rt; "DELETE {}", target.as_str()).is_err() {
-            return Err(End::NotPrinted);
+            return Err(TransferEnd::NotPrinted);
         }
         tally.count_sent();
     }
@@ -319,26 +319,26 @@ fn print_all<R: Print + AllocGlobal>(
 }
 
 /// Prints how many reports and removals were sent and how many refused, and gives the end of the job.
-fn printed<R: Print>(rt: &R, import: &Import<'_>, tally: &Tally) -> End {
-    let Tally { sent, refused } = *tally;
+fn print_summary<R: Print>(rt: &R, import: &Import<'_>, tally: &TransferTally) -> TransferEnd {
+    let TransferTally { sent, refused } = *tally;
     let said = match import.destination {
         Some(_) => println!(rt; "{sent} reports sent, {refused} refused"),
         None => println!(rt; "{sent} reports would be sent, {refused} refused"),
     };
     match said {
         Ok(()) => tally.end(),
-        Err(_) => End::NotPrinted,
+        Err(_) => TransferEnd::NotPrinted,
     }
 }
 
 /// Sends what the vehicles of files do to a server as reports, many in one request, and removes those that aren't on
 /// the street; without a server it prints what would be sent. Reports on standard error which vehicle isn't sent or is
 /// refused, and why; prints on standard output, at the end, how many were sent and how many refused.
-pub fn import_status<R: ErrandHost>(
+pub fn import_status<R: TransferHost>(
     rt: &R,
     import: &Import<'_>,
-    server: Option<Server<'_>>,
-) -> End {
+    server: Option<RemoteServer<'_>>,
+) -> TransferEnd {
     let gathered = match gather_all(rt, import.files) {
         Ok(gathered) => gathered,
         Err(end) => return end,
@@ -348,7 +348,7 @@ pub fn import_status<R: ErrandHost>(
         Some(server) => send_all(rt, &server, import.files, &gathered, &mut tally),
         None => print_all(rt, &gathered, &mut tally),
     };
-    let end = printed(rt, import, &tally);
+    let end = print_summary(rt, import, &tally);
     match done {
         Ok(()) => end,
         Err(end) => end,

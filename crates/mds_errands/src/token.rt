@@ -2,9 +2,9 @@
 ghost use Rattle.std.specs.Prelude.{◌≡◌, MatchResult, Ok, Err};
 ghost use Rattle.mds_errands.specs.Tokens.{without_line_end, token_in};
 
-use crate::end::End;
-use crate::opening::{OpenFault, open_source};
-use mds_client::Server;
+use crate::end::TransferEnd;
+use crate::opening::{FileOpenFault, open_source};
+use mds_client::RemoteServer;
 use mds_command::{Destination, TokenSource};
 use std::alloc::{AllocGlobal, Global};
 use std::fs::{File, Files};
@@ -80,14 +80,14 @@ fn token_in(bytes: &[u8]) -> Result<&[u8], TokenFault>
 /// # Errors
 ///
 /// `NoToken` where they can't be read, `NoMemory`.
-fn front_of<S: Read + Drop>(alloc: Global, file: S) -> Result<Vec<u8>, End> {
+fn first_bytes<S: Read + Drop>(alloc: Global, file: S) -> Result<Vec<u8>, TransferEnd> {
     let mut bytes = Vec::new(alloc);
     let mut front = file.take(MOST_READ);
     match front.read_to_end(&mut bytes) {
         Ok(_) => Ok(bytes),
         Err(error) => Err(match error.kind() {
-            ErrorKind::OutOfMemory => End::NoMemory,
-            _ => End::NoToken(TokenFault::Unreadable),
+            ErrorKind::OutOfMemory => TransferEnd::NoMemory,
+            _ => TransferEnd::NoToken(TokenFault::Unreadable),
         }),
     }
 }
@@ -97,19 +97,19 @@ fn front_of<S: Read + Drop>(alloc: Global, file: S) -> Result<Vec<u8>, End> {
 /// # Errors
 ///
 /// `NoToken`, `BadPlace` where it isn't UTF-8, `NoMemory`.
-fn read_token<R: Files<File = File> + AllocGlobal>(rt: &R, path: &str) -> Result<String, End> {
+fn read_token<R: Files<File = File> + AllocGlobal>(rt: &R, path: &str) -> Result<String, TransferEnd> {
     let file = match open_source(rt, path) {
         Ok(file) => file,
-        Err(OpenFault::NotRegular) => return Err(End::NoToken(TokenFault::NotRegular)),
-        Err(OpenFault::Unreadable) => return Err(End::NoToken(TokenFault::Unreadable)),
+        Err(FileOpenFault::NotRegular) => return Err(TransferEnd::NoToken(TokenFault::NotRegular)),
+        Err(FileOpenFault::Unreadable) => return Err(TransferEnd::NoToken(TokenFault::Unreadable)),
     };
-    let bytes = front_of(rt.alloc(), file)?;
+    let bytes = first_bytes(rt.alloc(), file)?;
     match token_in(&bytes) {
         Ok(token) => match from_utf8(token) {
             Ok(token) => Ok(String::from_str(rt.alloc(), token)?),
-            Err(_) => Err(End::BadPlace),
+            Err(_) => Err(TransferEnd::BadPlace),
         },
-        Err(fault) => Err(End::NoToken(fault)),
+        Err(fault) => Err(TransferEnd::NoToken(fault)),
     }
 }
 
@@ -121,7 +121,7 @@ fn read_token<R: Files<File = File> + AllocGlobal>(rt: &R, path: &str) -> Result
 fn token_from<R: Files<File = File> + AllocGlobal>(
     rt: &R,
     source: TokenSource<'_>,
-) -> Result<String, End> {
+) -> Result<String, TransferEnd> {
     match source {
         TokenSource::Argument(token) => Ok(String::from_str(rt.alloc(), token)?),
         TokenSource::File(path) => read_token(rt, path),
@@ -136,7 +136,7 @@ fn token_from<R: Files<File = File> + AllocGlobal>(
 pub(crate) fn token_for<R: Files<File = File> + AllocGlobal>(
     rt: &R,
     destination: Option<Destination<'_>>,
-) -> Result<String, End> {
+) -> Result<String, TransferEnd> {
     match destination {
         Some(destination) => token_from(rt, destination.token),
         None => Ok(String::new(rt.alloc())),
@@ -144,8 +144,8 @@ pub(crate) fn token_for<R: Files<File = File> + AllocGlobal>(
 }
 
 /// The server of a destination, with this access token.
-pub(crate) fn server_of<'a>(destination: Destination<'a>, token: &'a str) -> Server<'a> {
-    Server {
+pub(crate) fn server_of<'a>(destination: Destination<'a>, token: &'a str) -> RemoteServer<'a> {
+    RemoteServer {
         host: destination.address,
         token,
     }
@@ -155,7 +155,7 @@ pub(crate) fn server_of<'a>(destination: Destination<'a>, token: &'a str) -> Ser
 pub(crate) fn server_for<'a>(
     destination: Option<Destination<'a>>,
     token: &'a str,
-) -> Option<Server<'a>> {
+) -> Option<RemoteServer<'a>> {
     match destination {
         Some(destination) => Some(server_of(destination, token)),
         None => None,

@@ -1,12 +1,12 @@
 //! Runs a job: an import or an export.
 
-use crate::end::End;
+use crate::end::TransferEnd;
 use crate::export::export_published;
-use crate::host::ErrandHost;
+use crate::host::TransferHost;
 use crate::policies::import_policies;
 use crate::status::import_status;
 use crate::token::{server_for, server_of, token_for};
-use mds_command::{Destination, Errand, TokenSource};
+use mds_command::{Destination, Transfer, TokenSource};
 use std::alloc::AllocGlobal;
 use std::fs::{File, Files};
 use std::io::{Eprint, Print};
@@ -14,33 +14,33 @@ use std::net::Net;
 use std::time::Clock;
 
 /// The server of a job, and where its access token comes from; `None` where nothing is sent.
-fn destination_of<'a>(errand: &Errand<'a>) -> Option<Destination<'a>> {
+fn destination_of<'a>(errand: &Transfer<'a>) -> Option<Destination<'a>> {
     match errand {
-        Errand::Policies(import) => import.destination,
-        Errand::Status(import) => import.destination,
-        Errand::Published(export) => Some(export.source),
+        Transfer::Policies(import) => import.destination,
+        Transfer::Status(import) => import.destination,
+        Transfer::Published(export) => Some(export.source),
     }
 }
 
 /// The address of a job's server, or the path of its access token's file where the end is about
 /// that.
-fn address_of<'a>(errand: &Errand<'a>, end: End) -> Option<&'a str> {
+fn address_of<'a>(errand: &Transfer<'a>, end: TransferEnd) -> Option<&'a str> {
     match (destination_of(errand)?, end) {
         (
             Destination {
                 token: TokenSource::File(path),
                 ..
             },
-            End::NoToken(_),
+            TransferEnd::NoToken(_),
         ) => Some(path),
         (Destination { address, .. }, _) => Some(address),
     }
 }
 
 /// The folder, file or address that the end of a job is about.
-fn place_in<'a>(errand: &Errand<'a>, end: End) -> Option<&'a str> {
+fn place_in<'a>(errand: &Transfer<'a>, end: TransferEnd) -> Option<&'a str> {
     match errand {
-        Errand::Published(export) if end == End::NotWritten => Some(export.folder),
+        Transfer::Published(export) if end == TransferEnd::NotWritten => Some(export.folder),
         _ => address_of(errand, end),
     }
 }
@@ -50,28 +50,28 @@ fn place_in<'a>(errand: &Errand<'a>, end: End) -> Option<&'a str> {
 /// # Errors
 ///
 /// `NoToken`, `BadPlace`, `NoMemory`, where the access token can't be had.
-fn run_by_token<R: ErrandHost>(rt: &R, errand: &Errand<'_>) -> Result<End, End> {
+fn run_with_token<R: TransferHost>(rt: &R, errand: &Transfer<'_>) -> Result<TransferEnd, TransferEnd> {
     let token = token_for(rt, destination_of(errand))?;
     let token = token.as_str();
     Ok(match errand {
-        Errand::Policies(import) => {
+        Transfer::Policies(import) => {
             import_policies(rt, import, server_for(import.destination, token))
         }
-        Errand::Status(import) => import_status(rt, import, server_for(import.destination, token)),
-        Errand::Published(export) => {
+        Transfer::Status(import) => import_status(rt, import, server_for(import.destination, token)),
+        Transfer::Published(export) => {
             export_published(rt, export.folder, &server_of(export.source, token))
         }
     })
 }
 
 /// Runs a job, says on standard error how it ended, and gives the exit status.
-pub fn run_errand<R: ErrandHost>(rt: &R, errand: &Errand<'_>) -> u8 {
-    let end = match run_by_token(rt, errand) {
+pub fn run_transfer<R: TransferHost>(rt: &R, errand: &Transfer<'_>) -> u8 {
+    let end = match run_with_token(rt, errand) {
         Ok(end) => end,
         Err(end) => end,
     };
     let message = end.message();
-    if end != End::Done {
+    if end != TransferEnd::Done {
         let _ = match place_in(errand, end) {
             Some(place) => eprintln!(rt; "ruffletuff: {message}: {place}"),
             None => eprintln!(rt; "ruffletuff: {message}"),

@@ -1,4 +1,4 @@
-pub mod Drafted
+pub mod DraftCounts
 pub mod Rows
 pub mod Years
 pub mod Session

@@ -12,7 +12,7 @@ use Rattle.mds_request.specs.declared.call.Call.TheVariants.{Author, Operator}
 use Rattle.mds_request.specs.declared.call.OperatorCall.TheVariants.{Report}
 use Rattle.mds_request.specs.declared.request.Verb.TheVariants.{Put, Post}
 use Rattle.mds_machine.specs.Step.{answered}
-use Rattle.mds_examples.proofs.Drafted.{no_square, geography_count, no_cap, policy_count, the_cap}
+use Rattle.mds_examples.proofs.DraftCounts.{no_square, geography_count, no_cap, policy_count, the_cap}
 use Rattle.mds_examples.proofs.Rows.{none_first, none_count, one_second, one_count, two_third, two_count}
 use Rattle.mds_examples.specs.Geographies.{square_document}
 use Rattle.mds_examples.specs.Ids.{square_id, cap_id}

@@ -12,7 +12,7 @@ ghost use Rattle.mds_examples.specs.Vehicles.{report_of, first_device, second_de
 
 /// A report of a device that isn't held is new where there is room. The same report again changes
 /// nothing; a later one, and one of the same time that differs, is a change.
-pub fn accepted()
+pub fn acceptance()
     ensures new { outcome empty 2 (first_report 2000) 2000 ≡ Ok New }
     ensures same { outcome one_row 2 (first_report 2000) 2500 ≡ Ok Same }
     ensures same_leaves_rows { rows_after one_row (first_report 2000) (outcome one_row 2 (first_report 2000) 2500) ≡ one_row }
@@ -23,7 +23,7 @@ pub fn accepted()
 {}
 
 /// A report from the future is refused as such, also where it is stale or there is no room for it.
-pub fn refused()
+pub fn refusals()
     ensures future { outcome one_row 2 (first_report 3000) 2999 ≡ Err Future }
     ensures future_and_stale { outcome one_row 2 (first_report 1000) 999 ≡ Err Future }
     ensures future_and_full { outcome two_rows 2 (third_report 3000) 2999 ≡ Err Future }

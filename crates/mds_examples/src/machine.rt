@@ -47,7 +47,7 @@ pub fn withdrawal()
 
 /// A published document is served to operators with the moment of its publication, a draft to the author without one,
 /// and an operator's vehicles to that operator.
-pub fn served()
+pub fn served_documents()
     ensures policy { (answered after_publication (get (codes "alfa") (codes "/policies/" ++ id_text (codes "201")))).0 ≡ success (codes "{\"policy\":" ++ cap_served (codes "\"published_date\":1000,") ++ codes ",\"revision\":1}") }
     ensures geographies { (answered after_publication (get (codes "alfa") (codes "/geographies"))).0 ≡ success (codes "{\"geographies\":[" ++ served_text (codes "square") (codes "[[[0,0],[10,0],[10,10],[0,10],[0,0]]]") (codes ",\"published_date\":1000") ++ codes "],\"revision\":1}") }
     ensures nothing_before { (answered after_cap (get (codes "alfa") (codes "/policies"))).0 ≡ success (codes "{\"policies\":[],\"revision\":0}") }
@@ -57,7 +57,7 @@ pub fn served()
 {}
 
 /// A refused request changes nothing.
-pub fn refused()
+pub fn refusals()
     ensures token { answered start (get (codes "nobody") (codes "/nowhere")) ≡ (error 401 (codes "token"), start) }
     ensures text { answered start (request 2000 (codes "alfa") Post (codes "/fleet/events") (codes "{\"device_id\":\"0")) ≡ (error 400 (codes "bad_json"), start) }
     ensures other_path { answered start put_elsewhere ≡ (error 400 (codes "id_mismatch"), start) }

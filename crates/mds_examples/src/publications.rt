@@ -22,7 +22,7 @@ pub fn alone_in_force()
 
 /// A policy that names operators is shown to these and to the author, and to no other operator; one that names none
 /// is shown to all.
-pub fn shown()
+pub fn visibility()
     ensures to_another { ids_of (policies_for (alone (record cap { providers = second_operator ∷ [] })) (Some first_operator)) ≡ [] }
     ensures to_the_named { ids_of (policies_for (alone (record cap { providers = second_operator ∷ [] })) (Some second_operator)) ≡ cap_id ∷ [] }
     ensures to_the_author { ids_of (policies_for (alone (record cap { providers = second_operator ∷ [] })) None) ≡ cap_id ∷ [] }
@@ -31,7 +31,7 @@ pub fn shown()
 
 /// A successor supersedes a policy from its own publication and start on. At a moment before that the predecessor is
 /// in force.
-pub fn superseded()
+pub fn succession()
     ensures before_start { ids_in_force (then_next (next_policy 86401000 None [])) first_operator 86400999 ≡ cap_id ∷ [] }
     ensures from_start { ids_in_force (then_next (next_policy 86401000 None [])) first_operator 86401000 ≡ next_id ∷ [] }
     ensures before_publication { ids_in_force (then_next (next_policy 1500 None [])) first_operator 1999 ≡ cap_id ∷ [] }
@@ -39,7 +39,7 @@ pub fn superseded()
 {}
 
 /// A successor supersedes a policy also after its own end, and where it is meant for another operator.
-pub fn superseded_by_one_not_in_force()
+pub fn succession_by_one_not_in_force()
     ensures ended { ids_in_force (then_next (next_policy 3000 (Some 4000) [])) first_operator 4000 ≡ [] }
     ensures for_another { ids_in_force (then_next (next_policy 3000 None (second_operator ∷ []))) first_operator 3000 ≡ [] }
     ensures for_this { ids_in_force (then_next (next_policy 3000 None (second_operator ∷ []))) second_operator 3000 ≡ next_id ∷ [] }
@@ -47,7 +47,7 @@ pub fn superseded_by_one_not_in_force()
 
 /// A policy is out of force from the earliest moment on at which a publication withdraws it. It stays published, and
 /// goes on superseding others.
-pub fn withdrawn()
+pub fn withdrawals()
     ensures before { ids_in_force then_withdrawn first_operator 2999 ≡ cap_id ∷ [] }
     ensures from_then_on { ids_in_force then_withdrawn first_operator 3000 ≡ [] }
     ensures before_an_earlier { ids_in_force (then_withdrawn ++ withdrawal 2500 cap_id ∷ []) first_operator 2499 ≡ cap_id ∷ [] }

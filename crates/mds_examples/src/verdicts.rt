@@ -38,7 +38,7 @@ pub fn other_type()
 {}
 
 /// A rule that is closed is inactive, whatever its minimum; the rule after it catches its vehicles.
-pub fn closed()
+pub fn closed_rules()
     ensures minimum { verdicts (with_rules (on_sundays (rule first_rule_id Count square_id (at_least 1)) ∷ [])) areas [] (at 4 0 0 2) 2000 ≡ verdict first_rule_id Inactive 0 ∷ [] }
     ensures behind { verdicts (with_rules (on_sundays (rule first_rule_id Count square_id (at_least 1)) ∷ citywide ∷ [])) areas (first_vehicle ∷ []) (at 4 0 0 2) 2000 ≡ verdict first_rule_id Inactive 0 ∷ verdict second_rule_id Ok 1 ∷ [] }
 {}

@@ -1,5 +1,5 @@
 //! A city of two operators, where a policy is published, kept, violated and withdrawn.
-use crate::Exchange;
+use crate::FixtureExchange;
 
 /// Two operators, alfa and bravo, each with two vehicles at most; the author is city.
 pub const CONFIGURATION: &[u8] =
@@ -19,7 +19,7 @@ pub const CAP: &str = concat!(
 );
 
 /// No policy is published.
-pub const NO_POLICIES: Exchange = Exchange {
+pub const NO_POLICIES: FixtureExchange = FixtureExchange {
     at: 900,
     token: "city",
     method: "GET",
@@ -30,7 +30,7 @@ pub const NO_POLICIES: Exchange = Exchange {
 };
 
 /// No geography is published either, for an operator.
-pub const NO_GEOGRAPHIES: Exchange = Exchange {
+pub const NO_GEOGRAPHIES: FixtureExchange = FixtureExchange {
     at: 900,
     token: "alfa",
     method: "GET",
@@ -41,7 +41,7 @@ pub const NO_GEOGRAPHIES: Exchange = Exchange {
 };
 
 /// Alfa asks for compliance before anything is published.
-pub const NOTHING_FOR_ALFA: Exchange = Exchange {
+pub const NOTHING_FOR_ALFA: FixtureExchange = FixtureExchange {
     at: 2000,
     token: "alfa",
     method: "GET",
@@ -52,7 +52,7 @@ pub const NOTHING_FOR_ALFA: Exchange = Exchange {
 };
 
 /// Bravo asks for compliance before anything is published.
-pub const NOTHING_FOR_BRAVO: Exchange = Exchange {
+pub const NOTHING_FOR_BRAVO: FixtureExchange = FixtureExchange {
     at: 2000,
     token: "bravo",
     method: "GET",
@@ -63,7 +63,7 @@ pub const NOTHING_FOR_BRAVO: Exchange = Exchange {
 };
 
 /// The square is put as a draft.
-pub const PUT_SQUARE: Exchange = Exchange {
+pub const PUT_SQUARE: FixtureExchange = FixtureExchange {
     at: 1000,
     token: "city",
     method: "PUT",
@@ -74,7 +74,7 @@ pub const PUT_SQUARE: Exchange = Exchange {
 };
 
 /// The cap is put as a draft.
-pub const PUT_CAP: Exchange = Exchange {
+pub const PUT_CAP: FixtureExchange = FixtureExchange {
     at: 1000,
     token: "city",
     method: "PUT",
@@ -85,7 +85,7 @@ pub const PUT_CAP: Exchange = Exchange {
 };
 
 /// Both drafts are published.
-pub const PUBLISH: Exchange = Exchange {
+pub const PUBLISH: FixtureExchange = FixtureExchange {
     at: 1000,
     token: "city",
     method: "POST",
@@ -96,7 +96,7 @@ pub const PUBLISH: Exchange = Exchange {
 };
 
 /// The published square is listed.
-pub const GEOGRAPHIES: Exchange = Exchange {
+pub const GEOGRAPHIES: FixtureExchange = FixtureExchange {
     at: 1000,
     token: "alfa",
     method: "GET",
@@ -111,7 +111,7 @@ pub const GEOGRAPHIES: Exchange = Exchange {
 };
 
 /// The published cap is shown.
-pub const POLICY: Exchange = Exchange {
+pub const POLICY: FixtureExchange = FixtureExchange {
     at: 1000,
     token: "alfa",
     method: "GET",
@@ -126,7 +126,7 @@ pub const POLICY: Exchange = Exchange {
 };
 
 /// The cap isn't in force before its start.
-pub const TOO_EARLY: Exchange = Exchange {
+pub const TOO_EARLY: FixtureExchange = FixtureExchange {
     at: 999,
     token: "alfa",
     method: "GET",
@@ -137,7 +137,7 @@ pub const TOO_EARLY: Exchange = Exchange {
 };
 
 /// No vehicle of alfa is counted.
-pub const NONE_FOR_ALFA: Exchange = Exchange {
+pub const NONE_FOR_ALFA: FixtureExchange = FixtureExchange {
     at: 2000,
     token: "alfa",
     method: "GET",
@@ -151,7 +151,7 @@ pub const NONE_FOR_ALFA: Exchange = Exchange {
 };
 
 /// No vehicle of bravo is counted.
-pub const NONE_FOR_BRAVO: Exchange = Exchange {
+pub const NONE_FOR_BRAVO: FixtureExchange = FixtureExchange {
     at: 2000,
     token: "bravo",
     method: "GET",
@@ -165,7 +165,7 @@ pub const NONE_FOR_BRAVO: Exchange = Exchange {
 };
 
 /// Bravo asks for compliance long afterwards, and has no vehicle.
-pub const FAR: Exchange = Exchange {
+pub const FAR: FixtureExchange = FixtureExchange {
     at: 4000000000000,
     token: "bravo",
     method: "GET",
@@ -179,7 +179,7 @@ pub const FAR: Exchange = Exchange {
 };
 
 /// Alfa's first vehicle is in the square.
-pub const REPORT_FIRST: Exchange = Exchange {
+pub const REPORT_FIRST: FixtureExchange = FixtureExchange {
     at: 2000,
     token: "alfa",
     method: "POST",
@@ -193,7 +193,7 @@ pub const REPORT_FIRST: Exchange = Exchange {
 };
 
 /// One vehicle is within the cap.
-pub const WITHIN: Exchange = Exchange {
+pub const WITHIN: FixtureExchange = FixtureExchange {
     at: 2000,
     token: "alfa",
     method: "GET",
@@ -207,7 +207,7 @@ pub const WITHIN: Exchange = Exchange {
 };
 
 /// Alfa's second vehicle is in the square.
-pub const REPORT_SECOND: Exchange = Exchange {
+pub const REPORT_SECOND: FixtureExchange = FixtureExchange {
     at: 2001,
     token: "alfa",
     method: "POST",
@@ -221,7 +221,7 @@ pub const REPORT_SECOND: Exchange = Exchange {
 };
 
 /// Two vehicles are over the cap, and are listed.
-pub const EXCEEDED: Exchange = Exchange {
+pub const EXCEEDED: FixtureExchange = FixtureExchange {
     at: 2001,
     token: "alfa",
     method: "GET",
@@ -236,7 +236,7 @@ pub const EXCEEDED: Exchange = Exchange {
 };
 
 /// Both of alfa's vehicles are listed.
-pub const VEHICLES: Exchange = Exchange {
+pub const VEHICLES: FixtureExchange = FixtureExchange {
     at: 2001,
     token: "alfa",
     method: "GET",
@@ -253,7 +253,7 @@ pub const VEHICLES: Exchange = Exchange {
 };
 
 /// The cap is withdrawn.
-pub const WITHDRAW: Exchange = Exchange {
+pub const WITHDRAW: FixtureExchange = FixtureExchange {
     at: 3000,
     token: "city",
     method: "POST",
@@ -264,7 +264,7 @@ pub const WITHDRAW: Exchange = Exchange {
 };
 
 /// The cap is in force until its withdrawal.
-pub const BEFORE_THE_WITHDRAWAL: Exchange = Exchange {
+pub const BEFORE_THE_WITHDRAWAL: FixtureExchange = FixtureExchange {
     at: 2999,
     token: "alfa",
     method: "GET",
@@ -279,7 +279,7 @@ pub const BEFORE_THE_WITHDRAWAL: Exchange = Exchange {
 };
 
 /// The cap isn't in force from its withdrawal on.
-pub const AFTER_THE_WITHDRAWAL: Exchange = Exchange {
+pub const AFTER_THE_WITHDRAWAL: FixtureExchange = FixtureExchange {
     at: 3000,
     token: "alfa",
     method: "GET",
@@ -290,16 +290,16 @@ pub const AFTER_THE_WITHDRAWAL: Exchange = Exchange {
 };
 
 /// Both drafts are put.
-pub const DRAFTS: &[Exchange] = &[PUT_SQUARE, PUT_CAP];
+pub const DRAFTS: &[FixtureExchange] = &[PUT_SQUARE, PUT_CAP];
 
 /// Both drafts are put and published.
-pub const SET_UP: &[Exchange] = &[PUT_SQUARE, PUT_CAP, PUBLISH];
+pub const SET_UP: &[FixtureExchange] = &[PUT_SQUARE, PUT_CAP, PUBLISH];
 
 /// After `SET_UP`, alfa's requests: its first vehicle is within the cap, its second exceeds it.
-pub const CROSSED: &[Exchange] = &[REPORT_FIRST, WITHIN, REPORT_SECOND, EXCEEDED];
+pub const WITHIN_THEN_EXCEEDED: &[FixtureExchange] = &[REPORT_FIRST, WITHIN, REPORT_SECOND, EXCEEDED];
 
 /// A whole history, from nothing published to the withdrawal.
-pub const HISTORY: &[Exchange] = &[
+pub const HISTORY: &[FixtureExchange] = &[
     NO_POLICIES,
     NO_GEOGRAPHIES,
     PUT_SQUARE,

@@ -5,7 +5,7 @@
 mod city;
 
 pub use city::{
-    AFTER_THE_WITHDRAWAL, BEFORE_THE_WITHDRAWAL, CAP, CONFIGURATION, CROSSED, DRAFTS, EXCEEDED,
+    AFTER_THE_WITHDRAWAL, BEFORE_THE_WITHDRAWAL, CAP, CONFIGURATION, WITHIN_THEN_EXCEEDED, DRAFTS, EXCEEDED,
     FAR, GEOGRAPHIES, HISTORY, NO_GEOGRAPHIES, NO_POLICIES, NONE_FOR_ALFA, NONE_FOR_BRAVO,
     NOTHING_FOR_ALFA, NOTHING_FOR_BRAVO, POLICY, PUBLISH, PUT_CAP, PUT_SQUARE, REPORT_FIRST,
     REPORT_SECOND, SET_UP, SQUARE, TOO_EARLY, VEHICLES, WITHDRAW, WITHIN,
@@ -13,7 +13,7 @@ pub use city::{
 
 /// A request at a moment, and its reply.
 #[derive(Clone, Copy)]
-pub struct Exchange {
+pub struct FixtureExchange {
     /// The moment of the request, in milliseconds since the Unix epoch.
     pub at: i64,
     /// The access token of the request.

@@ -9,17 +9,17 @@ use mds_text::{Member, Tree, is_quoted, print_tree, text_tree};
 use std::alloc::{AllocError, Global};
 
 /// The text of a JSON string.
-pub(crate) fn quoted(alloc: Global, text: &str) -> Result<Vec<u8>, AllocError>
+pub(crate) fn json_string(alloc: Global, text: &str) -> Result<Vec<u8>, AllocError>
     ensures { IfOk result (λ v. v.items ≡ quoted text.now) }
 {
     print_tree(alloc, &text_tree(alloc, text)?)
 }
 
 /// Appends the text of a JSON string.
-fn push_quoted(out: &mut Vec<u8>, text: &str) -> Result<(), AllocError>
+fn push_json_string(out: &mut Vec<u8>, text: &str) -> Result<(), AllocError>
     ensures { OnOk result (out.new.items ≡ out.old.items ++ quoted text.now) }
 {
-    let text = quoted(*out.allocator(), text)?;
+    let text = json_string(*out.allocator(), text)?;
     out.extend_from_slice(&text)
 }
 
@@ -30,12 +30,12 @@ fn push_text(out: &mut Vec<u8>, text: &str) -> Result<(), AllocError>
     if is_quoted(text.as_bytes()) {
         out.extend_from_slice(text.as_bytes())
     } else {
-        push_quoted(out, text)
+        push_json_string(out, text)
     }
 }
 
 /// Appends a value as it is printed, such numbers as strings.
-pub(crate) fn push_printed(out: &mut Vec<u8>, value: &Tree) -> Result<(), AllocError>
+pub(crate) fn push_tree(out: &mut Vec<u8>, value: &Tree) -> Result<(), AllocError>
     ensures { OnOk result (out.new.items ≡ out.old.items ++ printed (view value.now)) }
 {
     let text = print_tree(*out.allocator(), value)?;
@@ -51,7 +51,7 @@ fn push_bare(out: &mut Vec<u8>, value: &Tree) -> Result<(), AllocError>
         Tree::Text(text) => push_text(out, text.as_str()),
         Tree::List(items) => push_bare_list(out, items),
         Tree::Object(members) => push_bare_object(out, members),
-        Tree::Null | Tree::Bool(_) | Tree::Int(_) | Tree::Degrees(_) => push_printed(out, value),
+        Tree::Null | Tree::Bool(_) | Tree::Int(_) | Tree::Degrees(_) => push_tree(out, value),
     }
 }
 
@@ -82,7 +82,7 @@ fn push_bare_object(out: &mut Vec<u8>, members: &[Member]) -> Result<(), AllocEr
         if later {
             out.push(b',')?;
         }
-        push_quoted(out, member.name.as_str())?;
+        push_json_string(out, member.name.as_str())?;
         out.push(b':')?;
         push_bare(out, &member.value)?;
         later = true;
@@ -105,7 +105,7 @@ fn push_or_null(out: &mut Vec<u8>, value: Option<&Tree>) -> Result<(), AllocErro
     ensures { OnOk result (out.new.items ≡ out.old.items ++ or_null printed (option_map (λ t. view t.now) value.entry)) }
 {
     match value {
-        Some(value) => push_printed(out, value),
+        Some(value) => push_tree(out, value),
         None => out.extend_from_slice(b"null"),
     }
 }

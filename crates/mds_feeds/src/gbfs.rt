@@ -3,10 +3,10 @@ ghost use Rattle.std.specs.Prelude.{◌≡◌, IfOk, option_map};
 ghost use Rattle.mds_text.specs.View.{view};
 ghost use Rattle.mds_feeds.specs.Reports.{millis_in, millis_at, instant_of, is_true, gbfs_state, one_text, gbfs_make, gbfs_deed, gbfs_with, gbfs_meant, make_view, deed_view, meant_view};
 
-use crate::bare::quoted;
-use crate::report::{Deed, Known, Make, Meant, place_at, told};
+use crate::bare::json_string;
+use crate::report::{StateMembers, VehicleMembers, TypeMembers, VehicleOutcome, position_in, report_or_fault};
 use jiff::Timestamp;
-use mds_import::{id_of_name, named, text_named};
+use mds_import::{id_of_name, member_of, text_member};
 use mds_text::{Tree, print_tree};
 use std::alloc::{AllocError, Global};
 
@@ -60,9 +60,9 @@ fn is_true(value: Option<&Tree>) -> bool
 fn gbfs_state(vehicle: &Tree) -> &'static str
     ensures { result.now ≡ gbfs_state (view vehicle.now) }
 {
-    if is_true(named(vehicle, "is_disabled")) {
+    if is_true(member_of(vehicle, "is_disabled")) {
         "non_operational"
-    } else if is_true(named(vehicle, "is_reserved")) {
+    } else if is_true(member_of(vehicle, "is_reserved")) {
         "reserved"
     } else {
         "available"
@@ -85,31 +85,31 @@ fn one_text(alloc: Global, value: Option<&Tree>) -> Result<Vec<u8>, AllocError>
 }
 
 /// A vehicle's type and propulsion, by the entry of its type.
-fn gbfs_make(alloc: Global, kind: Option<&Tree>) -> Result<Option<Make>, AllocError>
+fn gbfs_type_members(alloc: Global, kind: Option<&Tree>) -> Result<Option<TypeMembers>, AllocError>
     ensures { IfOk result (λ m. option_map make_view m ≡ gbfs_make (option_map (λ t. view t.now) kind.entry)) }
 {
     let Some(entry) = kind else {
         return Ok(None);
     };
-    match text_named(entry, "form_factor") {
-        Some(kind) => Ok(Some(Make {
-            kind: quoted(alloc, kind)?,
-            propulsion: one_text(alloc, named(entry, "propulsion_type"))?,
+    match text_member(entry, "form_factor") {
+        Some(kind) => Ok(Some(TypeMembers {
+            kind: json_string(alloc, kind)?,
+            propulsion: one_text(alloc, member_of(entry, "propulsion_type"))?,
         })),
         None => Ok(None),
     }
 }
 
 /// A vehicle's state at this moment.
-fn gbfs_deed(alloc: Global, vehicle: &Tree, moment: Option<i64>) -> Result<Option<Deed>, AllocError>
+fn gbfs_state_members(alloc: Global, vehicle: &Tree, moment: Option<i64>) -> Result<Option<StateMembers>, AllocError>
     ensures { IfOk result (λ d. option_map deed_view d ≡ gbfs_deed (view vehicle.now) moment) }
 {
     let Some(moment) = moment else {
         return Ok(None);
     };
     let digits = moment.to_string(alloc)?;
-    Ok(Some(Deed {
-        state: quoted(alloc, gbfs_state(vehicle))?,
+    Ok(Some(StateMembers {
+        state: json_string(alloc, gbfs_state(vehicle))?,
         events: Vec::from_slice(alloc, b"[]")?,
         moment: Vec::from_slice(alloc, digits.as_bytes())?,
     }))
@@ -118,25 +118,25 @@ fn gbfs_deed(alloc: Global, vehicle: &Tree, moment: Option<i64>) -> Result<Optio
 /// What a vehicle (GBFS 3, vehicle_status.json) becomes at the moment at which it was last reported, with the entry of
 /// its type (vehicle_types.json): a report, or the member for which nothing is sent. Its device is the identifier
 /// derived from its `vehicle_id` alone (RFC 9562, section 5.5).
-pub fn gbfs_meant(
+pub fn gbfs_outcome(
     alloc: Global,
     vehicle: &Tree,
     kind: Option<&Tree>,
     moment: Option<i64>,
-) -> Result<Meant, AllocError>
+) -> Result<VehicleOutcome, AllocError>
     ensures { IfOk result (λ m. meant_view m ≡ gbfs_meant (view vehicle.now) (option_map (λ t. view t.now) kind.entry) moment) }
 {
-    let Some(name) = text_named(vehicle, "vehicle_id") else {
-        return Ok(Meant::Faulty("vehicle_id"));
+    let Some(name) = text_member(vehicle, "vehicle_id") else {
+        return Ok(VehicleOutcome::Faulty("vehicle_id"));
     };
     let Some(device) = id_of_name(name) else {
         unreachable!();
     };
-    let known = Known {
+    let known = VehicleMembers {
         device,
-        place: place_at(alloc, "lat", "lon", vehicle)?,
-        make: gbfs_make(alloc, kind)?,
-        deed: gbfs_deed(alloc, vehicle, moment)?,
+        place: position_in(alloc, "lat", "lon", vehicle)?,
+        make: gbfs_type_members(alloc, kind)?,
+        deed: gbfs_state_members(alloc, vehicle, moment)?,
     };
-    told(alloc, "lat", &known)
+    report_or_fault(alloc, "lat", &known)
 }

@@ -8,10 +8,10 @@ mod mds;
 mod published;
 mod report;
 
-pub use gbfs::{gbfs_meant, instant_of};
-pub use mds::mds_meant;
+pub use gbfs::{gbfs_outcome, instant_of};
+pub use mds::mds_outcome;
 pub use published::{features_file, geographies_file, policies_file};
-pub use report::Meant;
+pub use report::VehicleOutcome;
 
 #[cfg(test)]
 mod tests;

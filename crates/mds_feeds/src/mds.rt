@@ -4,9 +4,9 @@ ghost use Rattle.mds_text.specs.View.{view};
 ghost use Rattle.mds_import.specs.Members.{named};
 ghost use Rattle.mds_feeds.specs.Reports.{is_away, located, mds_place, mds_make, mds_deed, mds_in_state, mds_stated, mds_with, mds_meant, place_view, make_view, deed_view, meant_view};
 
-use crate::bare::quoted;
-use crate::report::{Deed, Known, Make, Meant, Place, list_text, place_at, told};
-use mds_import::{id_named, named, text_named};
+use crate::bare::json_string;
+use crate::report::{StateMembers, VehicleMembers, TypeMembers, VehicleOutcome, PositionMembers, list_text, position_in, report_or_fault};
+use mds_import::{id_member, member_of, text_member};
 use mds_text::{Id, Tree, print_tree};
 use std::alloc::{AllocError, Global};
 
@@ -18,56 +18,56 @@ fn is_away(state: &str) -> bool
 }
 
 /// The position of an event or of telemetry.
-fn located(alloc: Global, value: &Tree) -> Result<Option<Place>, AllocError>
+fn location_of(alloc: Global, value: &Tree) -> Result<Option<PositionMembers>, AllocError>
     ensures { IfOk result (λ p. option_map place_view p ≡ located (view value.now)) }
 {
-    match named(value, "location") {
-        Some(location) => place_at(alloc, "lat", "lng", location),
+    match member_of(value, "location") {
+        Some(location) => position_in(alloc, "lat", "lng", location),
         None => Ok(None),
     }
 }
 
 /// The position of the last telemetry.
-fn last_seen(alloc: Global, status: &Tree) -> Result<Option<Place>, AllocError>
+fn last_position(alloc: Global, status: &Tree) -> Result<Option<PositionMembers>, AllocError>
     ensures { IfOk result (λ p. option_map place_view p ≡ option_and_then located (named (codes "last_telemetry") (view status.now))) }
 {
-    match named(status, "last_telemetry") {
-        Some(telemetry) => located(alloc, telemetry),
+    match member_of(status, "last_telemetry") {
+        Some(telemetry) => location_of(alloc, telemetry),
         None => Ok(None),
     }
 }
 
 /// A vehicle's position: that of its last event, or else that of its last telemetry.
-fn mds_place(alloc: Global, status: &Tree, event: &Tree) -> Result<Option<Place>, AllocError>
+fn mds_position(alloc: Global, status: &Tree, event: &Tree) -> Result<Option<PositionMembers>, AllocError>
     ensures { IfOk result (λ p. option_map place_view p ≡ mds_place (view status.now) (view event.now)) }
 {
-    match located(alloc, event)? {
+    match location_of(alloc, event)? {
         Some(place) => Ok(Some(place)),
-        None => last_seen(alloc, status),
+        None => last_position(alloc, status),
     }
 }
 
 /// A vehicle's type and propulsion, by its entry among the vehicles.
-fn mds_make(alloc: Global, vehicle: &Tree) -> Result<Option<Make>, AllocError>
+fn mds_type_members(alloc: Global, vehicle: &Tree) -> Result<Option<TypeMembers>, AllocError>
     ensures { IfOk result (λ m. option_map make_view m ≡ mds_make (view vehicle.now)) }
 {
-    match text_named(vehicle, "vehicle_type") {
-        Some(kind) => Ok(Some(Make {
-            kind: quoted(alloc, kind)?,
-            propulsion: list_text(alloc, named(vehicle, "propulsion_types"))?,
+    match text_member(vehicle, "vehicle_type") {
+        Some(kind) => Ok(Some(TypeMembers {
+            kind: json_string(alloc, kind)?,
+            propulsion: list_text(alloc, member_of(vehicle, "propulsion_types"))?,
         })),
         None => Ok(None),
     }
 }
 
 /// A vehicle's state, and the types and the moment of its last event.
-fn mds_deed(alloc: Global, state: &str, event: &Tree) -> Result<Option<Deed>, AllocError>
+fn mds_state_members(alloc: Global, state: &str, event: &Tree) -> Result<Option<StateMembers>, AllocError>
     ensures { IfOk result (λ d. option_map deed_view d ≡ mds_deed state.now (view event.now)) }
 {
-    match named(event, "timestamp") {
-        Some(moment) => Ok(Some(Deed {
-            state: quoted(alloc, state)?,
-            events: list_text(alloc, named(event, "event_types"))?,
+    match member_of(event, "timestamp") {
+        Some(moment) => Ok(Some(StateMembers {
+            state: json_string(alloc, state)?,
+            events: list_text(alloc, member_of(event, "event_types"))?,
             moment: print_tree(alloc, moment)?,
         })),
         None => Ok(None),
@@ -76,47 +76,47 @@ fn mds_deed(alloc: Global, state: &str, event: &Tree) -> Result<Option<Deed>, Al
 
 /// A vehicle's status, with its last event and with the vehicle's own entry.
 #[derive(Clone, Copy)]
-struct Seen<'t> {
+struct StatusWithVehicle<'t> {
     status: &'t Tree,
     event: &'t Tree,
     vehicle: &'t Tree,
 }
 
 /// What a vehicle in this state becomes.
-fn in_state(alloc: Global, device: Id, state: &str, seen: &Seen<'_>) -> Result<Meant, AllocError>
+fn outcome_in_state(alloc: Global, device: Id, state: &str, seen: &StatusWithVehicle<'_>) -> Result<VehicleOutcome, AllocError>
     ensures { IfOk result (λ m. meant_view m ≡ mds_in_state device state.now (view seen.now.status.now) (view seen.now.event.now) (view seen.now.vehicle.now)) }
 {
     if is_away(state) {
-        return Ok(Meant::Gone(device));
+        return Ok(VehicleOutcome::Gone(device));
     }
-    let known = Known {
+    let known = VehicleMembers {
         device,
-        place: mds_place(alloc, seen.status, seen.event)?,
-        make: mds_make(alloc, seen.vehicle)?,
-        deed: mds_deed(alloc, state, seen.event)?,
+        place: mds_position(alloc, seen.status, seen.event)?,
+        make: mds_type_members(alloc, seen.vehicle)?,
+        deed: mds_state_members(alloc, state, seen.event)?,
     };
-    told(alloc, "location", &known)
+    report_or_fault(alloc, "location", &known)
 }
 
 /// What a vehicle's status (MDS 2.0, vehicle status) becomes, with the vehicle's own entry, which has its type: a
 /// report by its last event, at the event's position or else that of the last telemetry; or a removal, in the states
 /// `removed`, `missing` and `elsewhere`; or the member for which nothing is sent.
-pub fn mds_meant(alloc: Global, status: &Tree, vehicle: &Tree) -> Result<Meant, AllocError>
+pub fn mds_outcome(alloc: Global, status: &Tree, vehicle: &Tree) -> Result<VehicleOutcome, AllocError>
     ensures { IfOk result (λ m. meant_view m ≡ mds_meant (view status.now) (view vehicle.now)) }
 {
-    let Some(device) = id_named(status, "device_id") else {
-        return Ok(Meant::Faulty("device_id"));
+    let Some(device) = id_member(status, "device_id") else {
+        return Ok(VehicleOutcome::Faulty("device_id"));
     };
-    let Some(event) = named(status, "last_event") else {
-        return Ok(Meant::Faulty("last_event"));
+    let Some(event) = member_of(status, "last_event") else {
+        return Ok(VehicleOutcome::Faulty("last_event"));
     };
-    let Some(state) = text_named(event, "vehicle_state") else {
-        return Ok(Meant::Faulty("vehicle_state"));
+    let Some(state) = text_member(event, "vehicle_state") else {
+        return Ok(VehicleOutcome::Faulty("vehicle_state"));
     };
-    let seen = Seen {
+    let seen = StatusWithVehicle {
         status,
         event,
         vehicle,
     };
-    in_state(alloc, device, state, &seen)
+    outcome_in_state(alloc, device, state, &seen)
 }

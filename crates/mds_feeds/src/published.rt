@@ -5,8 +5,8 @@ ghost use Rattle.mds_text.specs.Printed.{printed};
 ghost use Rattle.mds_import.specs.Members.{list_named, or_none};
 ghost use Rattle.mds_feeds.specs.Published.{geography_text, first_of, shape_of, feature_text, joined, policies_file, geographies_file, features_file};
 
-use crate::bare::{push_bare_member, push_member, push_printed};
-use mds_import::{list_named, named};
+use crate::bare::{push_bare_member, push_member, push_tree};
+use mds_import::{list_member, member_of};
 use mds_text::Tree;
 use std::alloc::{AllocError, Global};
 
@@ -19,23 +19,23 @@ fn geography_text(alloc: Global, geography: &Tree) -> Result<Vec<u8>, AllocError
     push_member(
         &mut text,
         b"{\"description\":",
-        named(geography, "description"),
+        member_of(geography, "description"),
     )?;
     push_member(
         &mut text,
         b",\"geography_id\":",
-        named(geography, "geography_id"),
+        member_of(geography, "geography_id"),
     )?;
     push_bare_member(
         &mut text,
         b",\"geography_json\":",
-        named(geography, "geography_json"),
+        member_of(geography, "geography_json"),
     )?;
-    push_member(&mut text, b",\"name\":", named(geography, "name"))?;
+    push_member(&mut text, b",\"name\":", member_of(geography, "name"))?;
     push_member(
         &mut text,
         b",\"published_date\":",
-        named(geography, "published_date"),
+        member_of(geography, "published_date"),
     )?;
     text.extend_from_slice(b"}")?;
     Ok(text)
@@ -45,7 +45,7 @@ fn geography_text(alloc: Global, geography: &Tree) -> Result<Vec<u8>, AllocError
 fn first_feature(shape: &Tree) -> Option<&Tree>
     ensures { option_map (λ t. view t.now) result ≡ first_of (or_none (list_named (codes "features") (view shape.now))) }
 {
-    match list_named(shape, "features") {
+    match list_member(shape, "features") {
         Some([first, ..]) => Some(first),
         _ => None,
     }
@@ -55,9 +55,9 @@ fn first_feature(shape: &Tree) -> Option<&Tree>
 fn shape_of(geography: &Tree) -> Option<&Tree>
     ensures { option_map (λ t. view t.now) result ≡ shape_of (view geography.now) }
 {
-    match named(geography, "geography_json") {
+    match member_of(geography, "geography_json") {
         Some(shape) => match first_feature(shape) {
-            Some(feature) => named(feature, "geometry"),
+            Some(feature) => member_of(feature, "geometry"),
             None => None,
         },
         None => None,
@@ -71,18 +71,18 @@ fn feature_text(alloc: Global, geography: &Tree) -> Result<Vec<u8>, AllocError>
 {
     let mut text = Vec::new(alloc);
     push_bare_member(&mut text, b"{\"geometry\":", shape_of(geography))?;
-    push_member(&mut text, b",\"id\":", named(geography, "geography_id"))?;
+    push_member(&mut text, b",\"id\":", member_of(geography, "geography_id"))?;
     push_member(
         &mut text,
         b",\"properties\":{\"description\":",
-        named(geography, "description"),
+        member_of(geography, "description"),
     )?;
     push_member(
         &mut text,
         b",\"geography_id\":",
-        named(geography, "geography_id"),
+        member_of(geography, "geography_id"),
     )?;
-    push_member(&mut text, b",\"name\":", named(geography, "name"))?;
+    push_member(&mut text, b",\"name\":", member_of(geography, "name"))?;
     text.extend_from_slice(b"},\"type\":\"Feature\"}")?;
     Ok(text)
 }
@@ -112,7 +112,7 @@ pub fn policies_file(alloc: Global, policies: &[Tree]) -> Result<Vec<u8>, AllocE
         if later {
             out.extend_from_slice(b",")?;
         }
-        push_printed(&mut out, policy)?;
+        push_tree(&mut out, policy)?;
         later = true;
     }
     out.extend_from_slice(b"]}}\n")?;

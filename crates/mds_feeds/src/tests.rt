@@ -1,6 +1,6 @@
 //! Tests of vehicles of feeds, and of files of what is published.
 use crate::{
-    Meant, features_file, gbfs_meant, geographies_file, instant_of, mds_meant, policies_file,
+    VehicleOutcome, features_file, gbfs_outcome, geographies_file, instant_of, mds_outcome, policies_file,
 };
 use mds_reading::read_tree;
 use std::slice::from_ref;
@@ -23,8 +23,8 @@ const TYPE: &[u8] = br#"{"form_factor":"scooter_standing","propulsion_type":"ele
 fn reports_a_status(rt: HostRuntime) -> Result<(), Fail> {
     let alloc = rt.alloc();
     let status = read_tree(alloc, STATUS)?;
-    match mds_meant(alloc, &status, &status)? {
-        Meant::Present(body) => {
+    match mds_outcome(alloc, &status, &status)? {
+        VehicleOutcome::Present(body) => {
             let wanted: &[u8] = b"{\"device_id\":\"c1d2e3f4-0a1b-4c2d-8e3f-405162734401\",\
                 \"event_types\":[\"trip_end\"],\"timestamp\":1790000100000,\"vehicle_state\":\"available\",\
                 \"location\":{\"lat\":45.51,\"lng\":-122.67},\"propulsion_types\":[],\
@@ -41,13 +41,13 @@ fn reports_a_vehicle(rt: HostRuntime) -> Result<(), Fail> {
     let alloc = rt.alloc();
     let vehicle = read_tree(alloc, VEHICLE)?;
     let kind = read_tree(alloc, TYPE)?;
-    let moment = match mds_import::named(&vehicle, "last_reported") {
+    let moment = match mds_import::member_of(&vehicle, "last_reported") {
         Some(seen) => instant_of(seen),
         None => None,
     };
     assert!(rt; moment == Some(1_795_611_540_000));
-    match gbfs_meant(alloc, &vehicle, Some(&kind), moment)? {
-        Meant::Present(body) => {
+    match gbfs_outcome(alloc, &vehicle, Some(&kind), moment)? {
+        VehicleOutcome::Present(body) => {
             let text = str::from_utf8(&body)?;
             assert!(rt; text.contains("\"propulsion_types\":[\"electric\"]"));
         }
@@ -57,14 +57,14 @@ fn reports_a_vehicle(rt: HostRuntime) -> Result<(), Fail> {
 }
 
 /// A geography whose description reads as a number.
-const PLACE: &[u8] =
+const GEOGRAPHY: &[u8] =
     br#"{"description":"1.5","geography_id":"00000001-0000-4000-8000-000000000001","geography_json":
 {"features":[{"geometry":{"coordinates":[5.25,7],"type":"Point"}}]},"name":"Dock","published_date":3}"#;
 
 #[test]
 fn writes_what_is_published(rt: HostRuntime) -> Result<(), Fail> {
     let alloc = rt.alloc();
-    let place = read_tree(alloc, PLACE)?;
+    let place = read_tree(alloc, GEOGRAPHY)?;
     let wanted: &[u8] =
         b"{\"version\":\"2.0.0\",\"data\":{\"geographies\":[{\"description\":\"1.5\",\
         \"geography_id\":\"00000001-0000-4000-8000-000000000001\",\"geography_json\":{\"features\":\

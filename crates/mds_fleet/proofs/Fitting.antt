@@ -15,9 +15,9 @@ use Rattle.std.proofs.lemmas.List.Elements.{All-weaker}
 use Rattle.std.proofs.lemmas.Map.Views.{tells_apart}
 use Rattle.mds_match.specs.Row.{Row, row_of}
 use Rattle.mds_match.specs.declared.vehicle.Vehicle.{Vehicle}
-use Rattle.mds_kept.specs.Kept as kept
-use Rattle.mds_kept.specs.Kept.{AreKept, HasArrived, HasDeparted, IsChanged, IsColumn, IsListed, IsMaskOf, IsSince, Published}
-use Rattle.mds_kept.specs.declared.kept.Kept.{Kept}
+use Rattle.mds_kept.specs.Index as kept
+use Rattle.mds_kept.specs.Index.{AreKept, HasArrived, HasDeparted, IsChanged, IsColumn, IsListed, IsMaskOf, IsSince, Published}
+use Rattle.mds_kept.specs.declared.bitmap_index.BitmapIndex.{BitmapIndex}
 use Rattle.mds_kept.proofs.Keeping.{if_some_as}
 use Rattle.mds_fleet.specs.Books.{device_cmp}
 use Rattle.mds_fleet.specs.Fleet.{Fits, Fleet, Vehicles, rows_of}
@@ -80,7 +80,7 @@ module _ (old new : Vehicles) (old_ordered : IsOrdered device_cmp old) (new_orde
       by None is row = absurd (cc)
       by (Some u) is row = subst (λ r. Is r (get_or words k 0)) (let e : row_of u.value ≡ row_of v.value = cc in e) (are k u less is out)
 
-  pub same_fit : (published : Published) (what : Kept) → kept.Fits published old what → kept.Fits published new what
+  pub same_fit : (published : Published) (what : BitmapIndex) → kept.Fits published old what → kept.Fits published new what
   same_fit published what fits =
       if_some_as what.listed (IsListed published old) (IsListed published new) (λ listed is. record {
         devices = is.devices ∙ same_keys;

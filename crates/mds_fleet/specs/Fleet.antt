@@ -10,16 +10,16 @@ use Rattle.mds_geometry.specs.declared.position.Position.{Position}
 use Rattle.mds_policy.specs.Policy.{Policy}
 use Rattle.mds_match.specs.Row.{Row, row_of}
 use Rattle.mds_match.specs.declared.vehicle.Vehicle.{Vehicle}
-use Rattle.mds_kept.specs.Kept as kept
-use Rattle.mds_kept.specs.Kept.{IsPublished, Published}
-use Rattle.mds_kept.specs.declared.kept.Kept.{Kept}
+use Rattle.mds_kept.specs.Index as kept
+use Rattle.mds_kept.specs.Index.{IsPublished, Published}
+use Rattle.mds_kept.specs.declared.bitmap_index.BitmapIndex.{BitmapIndex}
 use Rattle.mds_fleet.specs.Books.{Rows, device_cmp}
 
 -- an operator's rows, the most that there may be, and the bitmap index
 pub record Fleet : Type 0 where
   pub rows : Rows
   pub limit : ℕ
-  pub kept : Kept
+  pub kept : BitmapIndex
 
 -- vehicles by device id
 abbrev pub Vehicles : Type 0
@@ -76,7 +76,7 @@ coded_row =
     (coded× (coded× coded_word coded_word) (coded× (coded× coded_words coded_words) (coded× (coded× coded_word (coded× coded_ℕ coded_ℕ)) (coded× coded_ℤ coded_ℤ))))
     fields_of row_of_fields (λ _. refl)
 
-abbrev pub coded_fleet : Coded Kept → Coded Fleet
+abbrev pub coded_fleet : Coded BitmapIndex → Coded Fleet
 coded_fleet kept =
-    code_by ((Rows × ℕ) × Kept) (coded× (coded× (finite.code coded_word coded_row) coded_ℕ) kept) (λ a. ((a.rows, a.limit), a.kept))
+    code_by ((Rows × ℕ) × BitmapIndex) (coded× (coded× (finite.code coded_word coded_row) coded_ℕ) kept) (λ a. ((a.rows, a.limit), a.kept))
     (λ p. record { rows = p.0.0; limit = p.0.1; kept = p.1 }) (λ _. refl)

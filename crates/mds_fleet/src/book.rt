@@ -9,17 +9,17 @@ ghost use Rattle.mds_policy.specs.Policy.{policy_document};
 ghost use Rattle.mds_match.specs.Row.{row_of};
 ghost use Rattle.mds_match.specs.declared.vehicle.TheConstants.{MOST_VEHICLES};
 ghost use Rattle.mds_verdict.specs.Verdict.{verdict_document, verdicts};
-ghost use Rattle.mds_kept.specs.Kept.{HasArrived, IsChanged, IsPublished, Published};
+ghost use Rattle.mds_kept.specs.Index.{HasArrived, IsChanged, IsPublished, Published};
 ghost use Rattle.mds_fleet.specs.Books.{device_cmp, Take, outcome_at, report_document, reported, row_after, row_from, run_start};
 ghost use Rattle.mds_fleet.specs.Fleet.{rows_of, IsKept};
 ghost use Rattle.mds_fleet.specs.Reading.{read_report};
 
 use crate::report::Report;
-use crate::shares::Shares;
-use mds_kept::Kept;
+use crate::interner::WordInterner;
+use mds_kept::BitmapIndex;
 use mds_match::{Local, LocalMoment, Places, Vehicle};
 use mds_policy::Policy;
-use mds_reading::KeptScratch;
+use mds_reading::ReusableScratch;
 use mds_text::{Id, Moment, TextFault, Token};
 use mds_verdict::RuleVerdict;
 use std::alloc::{AllocError, AllocFailed, Global};
@@ -63,13 +63,13 @@ pub struct Book {
     vehicles: BTreeMap<Id, Box<Vehicle>>,
     limit: u32,
     alloc: Global,
-    kept: Kept,
-    shares: Shares,
-    reading: KeptScratch,
+    kept: BitmapIndex,
+    shares: WordInterner,
+    reading: ReusableScratch,
 }
 
 impl Model for Book {
-    ghost use Rattle.mds_kept.specs.contracts.kept.Kept.{the_row as kept_row};
+    ghost use Rattle.mds_kept.specs.contracts.bitmap_index.BitmapIndex.{the_row as kept_row};
     ghost use Rattle.mds_fleet.specs.Fleet.{Fleet, coded_fleet, rows_of, IsKept};
 
     ghost Value = { Fleet };
@@ -107,9 +107,9 @@ impl Book {
             vehicles: BTreeMap::new(alloc),
             limit,
             alloc,
-            kept: Kept::new(),
-            shares: Shares::new(alloc),
-            reading: KeptScratch::new(),
+            kept: BitmapIndex::new(),
+            shares: WordInterner::new(alloc),
+            reading: ReusableScratch::new(),
         }
     }
 
@@ -230,12 +230,12 @@ impl Book {
         ensures ascending { IfOk result (λ rows. IsStrictlySortedBy device_cmp (map (λ v. v.now.device) rows.items)) }
         ensures devices { IfOk result (λ rows. map (λ v. v.now.device) rows.items ≡ finite.keys self.now.rows) }
     {
-        lent(self.alloc, &self.vehicles)
+        vehicle_refs(self.alloc, &self.vehicles)
     }
 }
 
 // References to all vehicles, ascending by device id.
-fn lent(alloc: Global, vehicles: &BTreeMap<Id, Box<Vehicle>>) -> Result<Vec<&Vehicle>, AllocError>
+fn vehicle_refs(alloc: Global, vehicles: &BTreeMap<Id, Box<Vehicle>>) -> Result<Vec<&Vehicle>, AllocError>
     ensures whole { IfOk result (λ rows. map (λ v. v.now) rows.items ≡ map (λ b. b.value) (values vehicles.now)) }
     ensures ordered { IsOrdered device_cmp vehicles.now }
 {
@@ -246,7 +246,7 @@ fn lent(alloc: Global, vehicles: &BTreeMap<Id, Box<Vehicle>>) -> Result<Vec<&Veh
 fn take(
     alloc: Global,
     vehicles: &mut BTreeMap<Id, Box<Vehicle>>,
-    shares: &mut Shares,
+    shares: &mut WordInterner,
     limit: u32,
     report: Report,
     moment: Moment,
@@ -273,7 +273,7 @@ fn take(
 }
 
 // Takes a report of a device that has a row.
-fn update(vehicle: &mut Vehicle, shares: &mut Shares, report: Report) -> Result<Taken, BookFault>
+fn update(vehicle: &mut Vehicle, shares: &mut WordInterner, report: Report) -> Result<Taken, BookFault>
     ensures outcome { (held limit : ℕ) → result ≡ outcome_at (Some (row_of vehicle.old)) held limit (report_document report) }
     ensures changed { result ≡ Ok Taken.Changed → row_of vehicle.new ≡ row_after (Some (row_of vehicle.old)) (report_document report) }
     ensures others { result ≢ Ok Taken.Changed → row_of vehicle.new ≡ row_of vehicle.old }
@@ -328,7 +328,7 @@ pub(crate) fn are_tokens(tokens: &[Token], others: &[Token]) -> bool
 }
 
 // The vehicle of a report, with interned words, whose state lasts since this moment.
-fn vehicle_of(shares: &mut Shares, report: Report, since: Moment) -> Vehicle
+fn vehicle_of(shares: &mut WordInterner, report: Report, since: Moment) -> Vehicle
     ensures { row_of result ≡ row_from (report_document report) since }
 {
     let Report {
@@ -340,8 +340,8 @@ fn vehicle_of(shares: &mut Shares, report: Report, since: Moment) -> Vehicle
     } = report;
     Vehicle {
         device,
-        make: shares.share(make),
-        condition: shares.share(condition),
+        make: shares.intern(make),
+        condition: shares.intern(condition),
         timestamp,
         position,
         since,

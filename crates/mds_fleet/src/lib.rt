@@ -6,7 +6,7 @@ mod book;
 pub mod laws;
 mod reading;
 mod report;
-mod shares;
+mod interner;
 
 pub use book::{Absent, Book, BookFault, Taken};
 pub use report::Report;

@@ -30,8 +30,8 @@ pub(crate) fn report_of(alloc: Global, tree: &Node<'_>) -> Result<Report, TextFa
     let position = position_of(location)?;
     Ok(Report {
         device,
-        make: Words::shared(alloc, vehicle_type, propulsion)?,
-        condition: Words::shared(alloc, state, events)?,
+        make: Words::new_shared(alloc, vehicle_type, propulsion)?,
+        condition: Words::new_shared(alloc, state, events)?,
         timestamp,
         position,
     })

@@ -2,7 +2,7 @@
 use crate::reading::report_of;
 use mds_geometry::Position;
 use mds_match::Words;
-use mds_reading::{KeptScratch, Source};
+use mds_reading::{ReusableScratch, NodeBuffer};
 use mds_text::{Id, Moment, TextFault, Token, Tree};
 use std::alloc::Global;
 use std::sync::Arc;
@@ -40,7 +40,7 @@ impl Report {
     pub fn read(alloc: Global, text: &[u8]) -> Result<Report, TextFault>
         ensures { Gives text_cause report_document result (read_report text.now) }
     {
-        let mut source = Source::new(alloc);
+        let mut source = NodeBuffer::new(alloc);
         let tree = source.read(alloc, text)?;
         report_of(alloc, &tree)
     }
@@ -53,16 +53,16 @@ impl Report {
     /// Those of `read`.
     pub fn read_with(
         alloc: Global,
-        kept: &mut KeptScratch,
+        kept: &mut ReusableScratch,
         text: &[u8],
     ) -> Result<Report, TextFault>
         ensures { Gives text_cause report_document result (read_report text.now) }
     {
-        if text.len() > KeptScratch::MOST_BYTES {
+        if text.len() > ReusableScratch::MOST_BYTES {
             return Report::read(alloc, text);
         }
         let mut unusual = Tree::Null;
-        let (tree, _quoted) = kept.read_counted(alloc, &mut unusual, text)?;
+        let (tree, _quoted) = kept.read_and_count(alloc, &mut unusual, text)?;
         report_of(alloc, &tree)
     }
 

@@ -3,15 +3,15 @@ use Rattle.std.specs.Prelude.{ℕ, Bool, true, false, not, List, [], ◌∷◌, 
 use Rattle.std.specs.List.{filter, list_any}
 use Rattle.mds_entries.specs.Entries.{Entry}
 use Rattle.mds_entries.specs.Heads.{Share}
-use Rattle.mds_entries.specs.declared.entry.Asker.{Asker}
-use Rattle.mds_entries.specs.declared.entry.Asker.TheVariants.{Author, Operator}
+use Rattle.mds_entries.specs.declared.entry.EntryClient.{EntryClient}
+use Rattle.mds_entries.specs.declared.entry.EntryClient.TheVariants.{Author, Operator}
 
 -- one of these operators, which are left out
 abbrev pub is_dropped : List (List ℕ) → List ℕ → Bool
 is_dropped dropped id = list_any (bytes_eq id) dropped
 
 -- the client is left out
-abbrev pub asks_dropped : List (List ℕ) → Asker → Bool
+abbrev pub asks_dropped : List (List ℕ) → EntryClient → Bool
 asks_dropped dropped Author = false
 asks_dropped dropped (Operator id) = is_dropped dropped id
 
@@ -28,7 +28,7 @@ abbrev pub needed : List (List ℕ) → List Share → List Share
 needed dropped shares = map present (filter (λ s. not (is_dropped dropped s.id)) shares)
 
 -- an entry of the author, or of the operator that is asked for, or of any where none is
-abbrev pub concerns : Option (List ℕ) → Asker → Bool
+abbrev pub concerns : Option (List ℕ) → EntryClient → Bool
 concerns None asker = true
 concerns (Some operator) Author = true
 concerns (Some operator) (Operator id) = bytes_eq id operator

@@ -2,8 +2,8 @@
 use Rattle.std.specs.Prelude.{ℕ}
 use Rattle.mds_entries.specs.declared.head.HeadFault.{HeadFault}
 use Rattle.mds_entries.specs.declared.head.HeadFault.TheVariants as head
-use Rattle.mds_records.specs.declared.journal.OpenFault.{OpenFault}
-use Rattle.mds_records.specs.declared.journal.OpenFault.TheVariants as opening
+use Rattle.mds_records.specs.declared.journal.JournalOpenFault.{JournalOpenFault}
+use Rattle.mds_records.specs.declared.journal.JournalOpenFault.TheVariants as opening
 use Rattle.mds_folder.specs.declared.fault.Damage.TheVariants.{Lost, Moved, Foreign, Unexplained, TooLong, Version, NoHead}
 use Rattle.mds_folder.specs.declared.fault.FolderFault.{FolderFault}
 use Rattle.mds_folder.specs.declared.fault.FolderFault.TheVariants.{Unusable, Linked, Locked, NoMemory, Damaged, Unfitting}
@@ -25,7 +25,7 @@ fault_of_head head.Malformed = Damaged NoHead
 fault_of_head head.NoMemory = NoMemory
 
 -- the fault of a journal that isn't opened: a damaged one where its contents aren't what was written, whoever opens it
-abbrev pub fault_of_opening : OpenFault → FolderFault
+abbrev pub fault_of_opening : JournalOpenFault → FolderFault
 fault_of_opening (opening.Damaged said) = Damaged (Lost said)
 fault_of_opening (opening.Moved place) = Damaged (Moved place)
 fault_of_opening (opening.Foreign signature) = Damaged (Foreign signature)

@@ -3,7 +3,7 @@
 use crate::fault::FolderFault;
 use crate::files::open_new;
 use crate::folder::sync_names;
-use mds_records::{Aside, MediumFault};
+use mds_records::{TailStore, StorageFault};
 use std::alloc::{AllocError, Global};
 use std::fs::{self, File, Files};
 use std::io::Write;
@@ -30,10 +30,10 @@ fn path_of(alloc: Global, folder: &str, number: u32) -> Result<String, AllocErro
 }
 
 /// The storage fault of a folder's fault.
-fn medium_fault(fault: FolderFault) -> MediumFault {
+fn storage_fault(fault: FolderFault) -> StorageFault {
     match fault {
-        FolderFault::NoMemory => MediumFault::NoMemory,
-        _ => MediumFault::Failed,
+        FolderFault::NoMemory => StorageFault::NoMemory,
+        _ => StorageFault::Failed,
     }
 }
 
@@ -56,20 +56,20 @@ impl<R: Files<File = File> + Drop> CutFiles<R> {
     /// # Errors
     ///
     /// The folder has as many as it may have, none can be made there, or out of memory.
-    fn create(&self) -> Result<(File, String), MediumFault> {
+    fn create(&self) -> Result<(File, String), StorageFault> {
         for number in 0..MOST_FILES {
             let path = path_of(self.alloc, self.folder.as_str(), number)?;
             match open_new(&self.rt, path.as_str()) {
                 Ok(Some(file)) => return Ok((file, path)),
                 Ok(None) => {}
-                Err(fault) => return Err(medium_fault(fault)),
+                Err(fault) => return Err(storage_fault(fault)),
             }
         }
-        Err(MediumFault::Failed)
+        Err(StorageFault::Failed)
     }
 
     /// Writes all bytes to a file, syncs it and its name, and returns whether that succeeded.
-    fn is_written(&self, file: File, bytes: &[u8]) -> bool {
+    fn write_synced(&self, file: File, bytes: &[u8]) -> bool {
         let mut file = file;
         file.write_all(bytes).is_ok()
             && file.sync_all().is_ok()
@@ -77,19 +77,19 @@ impl<R: Files<File = File> + Drop> CutFiles<R> {
     }
 }
 
-impl<R: Files<File = File> + Drop> Aside for CutFiles<R> {
+impl<R: Files<File = File> + Drop> TailStore for CutFiles<R> {
     ghost use Rattle.std.specs.Prelude.{⊤};
 
     // nothing is known in the proofs of the contents of files
     ghost has_kept = { λ _ _ _. ⊤ };
 
-    fn keep(&mut self, _from: u64, bytes: &[u8]) -> Result<(), MediumFault> {
+    fn save(&mut self, _from: u64, bytes: &[u8]) -> Result<(), StorageFault> {
         let (file, path) = self.create()?;
-        if self.is_written(file, bytes) {
+        if self.write_synced(file, bytes) {
             return Ok(());
         }
         // A file that couldn't be written whole takes no disk space.
         let _ = fs::remove_file(&self.rt, path.as_str());
-        Err(MediumFault::Failed)
+        Err(StorageFault::Failed)
     }
 }

@@ -3,7 +3,7 @@ ghost use Rattle.std.specs.Prelude.{◌≡◌, ◌≤◌, ◌++◌, ◌∷◌, [
 ghost use Rattle.mds_entries.specs.Entries.{entry_of};
 ghost use Rattle.mds_folder.specs.Choosing.{is_dropped, asks_dropped, without, concerns, is_later, in_time, told};
 
-use mds_entries::{Asker, Entry};
+use mds_entries::{EntryClient, JournalEntry};
 use mds_text::{Id, Moment};
 use std::alloc::{AllocError, Global};
 
@@ -36,20 +36,20 @@ pub(crate) fn is_dropped(dropped: &[Id], id: Id) -> bool
 }
 
 /// Whether the client is left out.
-fn asks_dropped(dropped: &[Id], asker: Asker) -> bool
+fn is_client_dropped(dropped: &[Id], asker: EntryClient) -> bool
     ensures { result ≡ asks_dropped dropped.now asker }
 {
     match asker {
-        Asker::Author => false,
-        Asker::Operator(id) => is_dropped(dropped, id),
+        EntryClient::Author => false,
+        EntryClient::Operator(id) => is_dropped(dropped, id),
     }
 }
 
 /// A copy of an entry.
-fn again<'a>(entry: &Entry<'a>) -> Entry<'a>
+fn copy_of<'a>(entry: &JournalEntry<'a>) -> JournalEntry<'a>
     ensures { entry_of result ≡ entry_of entry.now }
 {
-    Entry {
+    JournalEntry {
         asker: entry.asker,
         at: entry.at,
         verb: entry.verb,
@@ -59,10 +59,10 @@ fn again<'a>(entry: &Entry<'a>) -> Entry<'a>
 }
 
 /// Appends a copy of an entry.
-fn keep<'a>(kept: &mut Vec<Entry<'a>>, entry: &Entry<'a>) -> Result<(), AllocError>
+fn push_copy<'a>(kept: &mut Vec<JournalEntry<'a>>, entry: &JournalEntry<'a>) -> Result<(), AllocError>
     ensures { OnOk result (map entry_of kept.new.items ≡ map entry_of kept.old.items ++ entry_of entry.now ∷ []) }
 {
-    match kept.push(again(entry)) {
+    match kept.push(copy_of(entry)) {
         Ok(()) => Ok(()),
         Err(_) => Err(AllocError),
     }
@@ -73,28 +73,28 @@ fn keep<'a>(kept: &mut Vec<Entry<'a>>, entry: &Entry<'a>) -> Result<(), AllocErr
 /// # Errors
 ///
 /// Out of memory.
-pub fn without<'a>(
+pub fn without_operators<'a>(
     alloc: Global,
-    entries: &[Entry<'a>],
+    entries: &[JournalEntry<'a>],
     dropped: &[Id],
-) -> Result<Vec<Entry<'a>>, AllocError>
+) -> Result<Vec<JournalEntry<'a>>, AllocError>
     ensures { IfOk result (λ kept. map entry_of kept.items ≡ without dropped.now (map entry_of entries.now)) }
 {
     let mut kept = Vec::new(alloc);
     for entry in entries {
-        if !asks_dropped(dropped, entry.asker) {
-            keep(&mut kept, entry)?;
+        if !is_client_dropped(dropped, entry.asker) {
+            push_copy(&mut kept, entry)?;
         }
     }
     Ok(kept)
 }
 
 /// Whether the client is the author, or the operator that is asked for, or any where none is.
-fn concerns(extract: &Extract, asker: Asker) -> bool
+fn concerns(extract: &Extract, asker: EntryClient) -> bool
     ensures { result ≡ concerns extract.now.operator asker }
 {
     match (extract.operator, asker) {
-        (Some(operator), Asker::Operator(id)) => is_same(id, operator),
+        (Some(operator), EntryClient::Operator(id)) => is_same(id, operator),
         _ => true,
     }
 }
@@ -110,7 +110,7 @@ fn is_later(extract: &Extract, at: Moment) -> bool
 }
 
 /// How many entries stand before the first that is later.
-fn front(entries: &[Entry<'_>], extract: &Extract) -> usize
+fn count_in_time(entries: &[JournalEntry<'_>], extract: &Extract) -> usize
     ensures within { result ≤ length entries.now }
     ensures front { map entry_of (take result entries.now) ≡ in_time extract.now.until (map entry_of entries.now) }
 {
@@ -127,18 +127,18 @@ fn front(entries: &[Entry<'_>], extract: &Extract) -> usize
 /// # Errors
 ///
 /// Out of memory.
-pub fn told<'a>(
+pub fn extract_entries<'a>(
     alloc: Global,
-    entries: &[Entry<'a>],
+    entries: &[JournalEntry<'a>],
     extract: &Extract,
-) -> Result<Vec<Entry<'a>>, AllocError>
+) -> Result<Vec<JournalEntry<'a>>, AllocError>
     ensures { IfOk result (λ kept. map entry_of kept.items ≡ told extract.now.until extract.now.operator (map entry_of entries.now)) }
 {
-    let early = &entries[..front(entries, extract)];
+    let early = &entries[..count_in_time(entries, extract)];
     let mut kept = Vec::new(alloc);
     for entry in early {
         if concerns(extract, entry.asker) {
-            keep(&mut kept, entry)?;
+            push_copy(&mut kept, entry)?;
         }
     }
     Ok(kept)

@@ -3,7 +3,7 @@ ghost use Rattle.std.specs.Prelude.{◌≡◌};
 ghost use Rattle.mds_folder.specs.Exit.{exit_status};
 
 use mds_entries::{EntryFault, HeadFault, Unfit};
-use mds_records::{AppendFault, NotSynced, OpenFault, ReadFault, Signature};
+use mds_records::{AppendFault, SyncFault, JournalOpenFault, ReadFault, Signature};
 use std::alloc::{AllocError, AllocFailed};
 use std::fmt;
 
@@ -77,21 +77,21 @@ impl<T: Drop> From<AllocFailed<T>> for FolderFault {
     }
 }
 
-impl From<OpenFault> for FolderFault {
+impl From<JournalOpenFault> for FolderFault {
     ghost use Rattle.std.specs.Prelude.{◌≡◌};
     ghost use Rattle.mds_folder.specs.Exit.{fault_of_opening};
 
     ghost from_gives = { λ fault e. e ≡ fault_of_opening fault };
 
-    fn from(fault: OpenFault) -> FolderFault {
+    fn from(fault: JournalOpenFault) -> FolderFault {
         match fault {
-            OpenFault::Damaged(synced) => FolderFault::Damaged(Damage::Lost(synced)),
-            OpenFault::Moved(place) => FolderFault::Damaged(Damage::Moved(place)),
-            OpenFault::Foreign(signature) => FolderFault::Damaged(Damage::Foreign(signature)),
-            OpenFault::Torn(whole) => FolderFault::Damaged(Damage::Unexplained(whole)),
-            OpenFault::TooLong => FolderFault::Damaged(Damage::TooLong),
-            OpenFault::NotKept | OpenFault::Failed => FolderFault::Unusable,
-            OpenFault::NoMemory => FolderFault::NoMemory,
+            JournalOpenFault::Damaged(synced) => FolderFault::Damaged(Damage::Lost(synced)),
+            JournalOpenFault::Moved(place) => FolderFault::Damaged(Damage::Moved(place)),
+            JournalOpenFault::Foreign(signature) => FolderFault::Damaged(Damage::Foreign(signature)),
+            JournalOpenFault::Torn(whole) => FolderFault::Damaged(Damage::Unexplained(whole)),
+            JournalOpenFault::TooLong => FolderFault::Damaged(Damage::TooLong),
+            JournalOpenFault::NotKept | JournalOpenFault::Failed => FolderFault::Unusable,
+            JournalOpenFault::NoMemory => FolderFault::NoMemory,
         }
     }
 }
@@ -114,8 +114,8 @@ impl From<AppendFault> for FolderFault {
     }
 }
 
-impl From<NotSynced> for FolderFault {
-    fn from(_: NotSynced) -> FolderFault {
+impl From<SyncFault> for FolderFault {
+    fn from(_: SyncFault) -> FolderFault {
         FolderFault::Unusable
     }
 }
@@ -144,7 +144,7 @@ impl From<Unfit> for FolderFault {
 }
 
 /// The fault where the record with this number can't be read as an entry.
-pub(crate) fn at(number: usize, fault: EntryFault) -> FolderFault {
+pub(crate) fn entry_fault(number: usize, fault: EntryFault) -> FolderFault {
     match fault {
         EntryFault::NoMemory => FolderFault::NoMemory,
         EntryFault::Version(_) | EntryFault::Malformed => {
@@ -154,7 +154,7 @@ pub(crate) fn at(number: usize, fault: EntryFault) -> FolderFault {
 }
 
 /// The words for what stands at the beginning of a file.
-fn found(signature: Signature) -> &'static str {
+fn signature_words(signature: Signature) -> &'static str {
     match signature {
         Signature::Gzip => "data that was compressed with gzip",
         Signature::ByteOrderMark => "a byte order mark",
@@ -181,7 +181,7 @@ impl fmt::Display for Damage {
                 )
             }
             Damage::Foreign(signature) => {
-                let found = found(*signature);
+                let found = signature_words(*signature);
                 write!(f, "it doesn't begin as a journal does, but with {found}")
             }
             Damage::Unexplained(whole) => {

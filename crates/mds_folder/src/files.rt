@@ -22,7 +22,7 @@ pub(crate) struct Identity {
 
 /// What stands at a name.
 #[derive(Clone, Copy, Debug, PartialEq, Eq)]
-pub(crate) enum Entry {
+pub(crate) enum PathEntry {
     /// Nothing.
     Nothing,
     /// A file.
@@ -33,7 +33,7 @@ pub(crate) enum Entry {
 
 /// Whose the name is by which a file was opened.
 #[derive(Clone, Copy, Debug, PartialEq, Eq)]
-pub(crate) enum Owner {
+pub(crate) enum NameOwner {
     /// It is that file's.
     Opened,
     /// It is another file's by now, or nothing's.
@@ -43,14 +43,14 @@ pub(crate) enum Owner {
 }
 
 /// Whose the name is by which a file was opened, by what stands at it now.
-pub(crate) fn owner_of(opened: Identity, entry: Entry) -> Owner
+pub(crate) fn owner_of(opened: Identity, entry: PathEntry) -> NameOwner
     ensures { result ≡ owner_of opened entry }
 {
     match entry {
-        Entry::Nothing => Owner::Another,
-        Entry::File(found) if found == opened => Owner::Opened,
-        Entry::File(_) => Owner::Another,
-        Entry::Other => Owner::NoFile,
+        PathEntry::Nothing => NameOwner::Another,
+        PathEntry::File(found) if found == opened => NameOwner::Opened,
+        PathEntry::File(_) => NameOwner::Another,
+        PathEntry::Other => NameOwner::NoFile,
     }
 }
 
@@ -63,11 +63,11 @@ fn identity_of(metadata: &Metadata) -> Identity {
 }
 
 /// What stands at a path. Its last component isn't followed where it is a link.
-fn entry_at<R: Files<File = File>>(rt: &R, path: &str) -> Result<Entry, FolderFault> {
+fn entry_at<R: Files<File = File>>(rt: &R, path: &str) -> Result<PathEntry, FolderFault> {
     match fs::symlink_metadata(rt, path) {
-        Ok(metadata) if metadata.is_file() => Ok(Entry::File(identity_of(&metadata))),
-        Ok(_) => Ok(Entry::Other),
-        Err(error) if error.kind() == ErrorKind::NotFound => Ok(Entry::Nothing),
+        Ok(metadata) if metadata.is_file() => Ok(PathEntry::File(identity_of(&metadata))),
+        Ok(_) => Ok(PathEntry::Other),
+        Err(error) if error.kind() == ErrorKind::NotFound => Ok(PathEntry::Nothing),
         Err(_) => Err(FolderFault::Unusable),
     }
 }
@@ -82,19 +82,19 @@ fn is_named<R: Files<File = File>>(rt: &R, path: &str, file: &File) -> Result<bo
         return Err(FolderFault::Unusable);
     };
     match owner_of(identity_of(&metadata), entry_at(rt, path)?) {
-        Owner::Opened => Ok(true),
-        Owner::Another => Ok(false),
-        Owner::NoFile => Err(FolderFault::Linked),
+        NameOwner::Opened => Ok(true),
+        NameOwner::Another => Ok(false),
+        NameOwner::NoFile => Err(FolderFault::Linked),
     }
 }
 
 /// Opens the file at a path, which is made where nothing stands there; none, where the path came to name another
 /// meanwhile.
-fn opened_once<R: Files<File = File>>(rt: &R, path: &str) -> Result<Option<File>, FolderFault> {
+fn try_open<R: Files<File = File>>(rt: &R, path: &str) -> Result<Option<File>, FolderFault> {
     let is_new = match entry_at(rt, path)? {
-        Entry::Nothing => true,
-        Entry::File(_) => false,
-        Entry::Other => return Err(FolderFault::Linked),
+        PathEntry::Nothing => true,
+        PathEntry::File(_) => false,
+        PathEntry::Other => return Err(FolderFault::Linked),
     };
     let mut how = File::options();
     how.read(true).write(true).create_new(is_new).mode(MODE);
@@ -114,7 +114,7 @@ fn opened_once<R: Files<File = File>>(rt: &R, path: &str) -> Result<Option<File>
 /// `Linked` where something stands there that is no file, `Unusable` where it can't be made or opened.
 pub(crate) fn open_file<R: Files<File = File>>(rt: &R, path: &str) -> Result<File, FolderFault> {
     for _ in 0..ATTEMPTS {
-        if let Some(file) = opened_once(rt, path)? {
+        if let Some(file) = try_open(rt, path)? {
             return Ok(file);
         }
     }
@@ -142,7 +142,7 @@ pub fn lock_file(file: &File) -> Result<(), FolderFault> {
 /// As `open_file`, and `Locked` where another program has it.
 pub(crate) fn open_locked<R: Files<File = File>>(rt: &R, path: &str) -> Result<File, FolderFault> {
     for _ in 0..ATTEMPTS {
-        let Some(file) = opened_once(rt, path)? else {
+        let Some(file) = try_open(rt, path)? else {
             continue;
         };
         lock_file(&file)?;
@@ -160,7 +160,7 @@ pub(crate) fn open_locked<R: Files<File = File>>(rt: &R, path: &str) -> Result<F
 /// `Linked` where something stands there that is no file, `Unusable` where it can't be opened.
 pub(crate) fn open_to_read<R: Files<File = File>>(rt: &R, path: &str) -> Result<File, FolderFault> {
     for _ in 0..ATTEMPTS {
-        if entry_at(rt, path)? == Entry::Other {
+        if entry_at(rt, path)? == PathEntry::Other {
             return Err(FolderFault::Linked);
         }
         let Ok(file) = File::open(rt, path) else {

@@ -6,9 +6,9 @@ ghost use Rattle.mds_entries.specs.Heads.{Share as Part, AreShares, share_of, sh
 ghost use Rattle.mds_entries.specs.declared.fitting.Unfit.{Unfit as Against};
 ghost use Rattle.mds_folder.specs.Choosing.{needed};
 
-use crate::choosing::is_dropped;
-use crate::fault::{FolderFault, at};
-use mds_entries::{Entry, Share, fits, head_text, read_entry, read_head, shares};
+use crate::extraction::is_dropped;
+use crate::fault::{FolderFault, entry_fault};
+use mds_entries::{JournalEntry, OperatorShare, fits, head_text, read_entry, read_head, shares};
 use mds_records::Log;
 use mds_request::Config;
 use mds_text::Id;
@@ -19,7 +19,7 @@ use std::alloc::{AllocError, Global};
 /// # Errors
 ///
 /// The log couldn't be read, appended to or synced, or out of memory.
-pub fn begun<L: Log>(
+pub fn begin_journal<L: Log>(
     alloc: Global,
     log: &mut L,
     config: &Config,
@@ -49,13 +49,13 @@ fn head_group(alloc: Global, config: &Config) -> Result<Vec<Vec<u8>>, AllocError
 }
 
 /// What a head requires of a configuration: each operator that isn't left out.
-fn needed(alloc: Global, shares: &[Share], dropped: &[Id]) -> Result<Vec<Share>, AllocError>
+fn needed_shares(alloc: Global, shares: &[OperatorShare], dropped: &[Id]) -> Result<Vec<OperatorShare>, AllocError>
     ensures { IfOk result (λ kept. map share_of kept.items ≡ needed dropped.now (map share_of shares.now)) }
 {
     let mut kept = Vec::new(alloc);
     for share in shares {
         if !is_dropped(dropped, share.id) {
-            kept.push(Share {
+            kept.push(OperatorShare {
                 id: share.id,
                 vehicles: 0,
             })?;
@@ -77,7 +77,7 @@ pub fn suits(alloc: Global, config: &Config, head: &[u8], dropped: &[Id]) -> Res
         × (head.now ≡ head_text shares) × (unfit (configuration config.now) (needed dropped.now shares) ≡ Some against) }
 {
     let shares = read_head(alloc, head)?;
-    let needed = needed(alloc, &shares, dropped)?;
+    let needed = needed_shares(alloc, &shares, dropped)?;
     match fits(config, &needed) {
         Ok(()) => Ok(()),
         Err(against) => Err(FolderFault::Unfitting(against)),
@@ -94,7 +94,7 @@ pub fn entries_in(
     alloc: Global,
     first: usize,
     texts: &[Vec<u8>],
-) -> Result<Vec<Entry<'_>>, FolderFault>
+) -> Result<Vec<JournalEntry<'_>>, FolderFault>
     ensures { IfOk result (λ entries. map (λ e. entry_text (entry_of e)) entries.items ≡ map (λ t. t.items) texts.now) }
 {
     let mut entries = Vec::new(alloc);
@@ -105,7 +105,7 @@ pub fn entries_in(
                     return Err(FolderFault::NoMemory);
                 }
             }
-            Err(fault) => return Err(at(first.saturating_add(number), fault)),
+            Err(fault) => return Err(entry_fault(first.saturating_add(number), fault)),
         }
     }
     Ok(entries)

@@ -22,7 +22,7 @@ fn word_of(verb: Verb) -> &'static [u8]
 }
 
 /// A byte of a text that is put on one line: a line break becomes a space.
-fn blank(byte: u8) -> u8
+fn blank_byte(byte: u8) -> u8
     ensures { result ≡ blank byte }
 {
     if byte == b'\n' || byte == b'\r' {
@@ -41,7 +41,7 @@ pub fn push_blanked(line: &mut Vec<u8>, text: &[u8]) -> Result<(), AllocError>
     ensures { OnOk result (line.new.items ≡ line.old.items ++ blanked text.now) }
 {
     for byte in text {
-        line.push(blank(*byte))?;
+        line.push(blank_byte(*byte))?;
     }
     Ok(())
 }

@@ -6,7 +6,7 @@ ghost use Rattle.mds_records.specs.Groups.{listed};
 ghost use Rattle.mds_folder.specs.Damages.{damage_of};
 
 use crate::fault::Damage;
-use mds_records::{Ending, Record, ending_of, is_plain, read};
+use mds_records::{JournalEnding, Record, ending_of, is_plain, read};
 use std::alloc::{AllocError, Global};
 
 /// What a journal's bytes are.
@@ -17,7 +17,7 @@ pub struct Survey {
     /// How many bytes its whole records take.
     pub whole: u64,
     /// How it ends after them.
-    pub ending: Ending,
+    pub ending: JournalEnding,
 }
 
 /// The payloads of the records that are no marks.
@@ -38,7 +38,7 @@ fn plain_texts(alloc: Global, records: &[Record<'_>]) -> Result<Vec<Vec<u8>>, Al
 /// # Errors
 ///
 /// Out of memory.
-pub fn surveyed(alloc: Global, bytes: &[u8]) -> Result<Survey, AllocError>
+pub fn survey_of(alloc: Global, bytes: &[u8]) -> Result<Survey, AllocError>
     ensures { IfOk result (λ survey. (all : List (List ℕ)) × Reads 0 bytes.now all
         × (map (λ v. v.items) survey.texts.items ≡ listed all) × (survey.whole ≡ extent all)
         × (survey.ending ≡ ending_of survey.whole (drop survey.whole bytes.now))) }
@@ -53,14 +53,14 @@ pub fn surveyed(alloc: Global, bytes: &[u8]) -> Result<Survey, AllocError>
 
 /// What is wrong with a journal that ends so after this many whole bytes. Of the endings that are opened, only the one
 /// that no kill of the program leaves is reported.
-pub fn damage_of(whole: u64, ending: Ending) -> Option<Damage>
+pub fn damage_of(whole: u64, ending: JournalEnding) -> Option<Damage>
     ensures { result ≡ damage_of whole ending }
 {
     match ending {
-        Ending::Whole | Ending::Torn => None,
-        Ending::Unexplained => Some(Damage::Unexplained(whole)),
-        Ending::Foreign(signature) => Some(Damage::Foreign(signature)),
-        Ending::Moved(place) => Some(Damage::Moved(place)),
-        Ending::Damaged(said) => Some(Damage::Lost(said)),
+        JournalEnding::Whole | JournalEnding::Torn => None,
+        JournalEnding::Unexplained => Some(Damage::Unexplained(whole)),
+        JournalEnding::Foreign(signature) => Some(Damage::Foreign(signature)),
+        JournalEnding::Moved(place) => Some(Damage::Moved(place)),
+        JournalEnding::Damaged(said) => Some(Damage::Lost(said)),
     }
 }

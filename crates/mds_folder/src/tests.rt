@@ -1,8 +1,8 @@
 //! Tests of the decisions on files and on journals.
 use crate::fault::{Damage, FolderFault};
-use crate::files::{Entry, Identity, Owner, owner_of};
-use crate::survey::{damage_of, surveyed};
-use mds_records::{Ending, OpenFault, Signature};
+use crate::files::{PathEntry, Identity, NameOwner, owner_of};
+use crate::survey::{damage_of, survey_of};
+use mds_records::{JournalEnding, JournalOpenFault, Signature};
 
 const OPENED: Identity = Identity {
     device: 1,
@@ -10,22 +10,22 @@ const OPENED: Identity = Identity {
 };
 
 #[test]
-fn names_are_told(rt: HostRuntime) {
+fn owners_are_decided(rt: HostRuntime) {
     let renamed = Identity {
         device: 1,
         number: 8,
     };
-    assert!(rt; owner_of(OPENED, Entry::File(OPENED)) == Owner::Opened);
-    assert!(rt; owner_of(OPENED, Entry::File(renamed)) == Owner::Another);
-    assert!(rt; owner_of(OPENED, Entry::Nothing) == Owner::Another);
-    assert!(rt; owner_of(OPENED, Entry::Other) == Owner::NoFile);
+    assert!(rt; owner_of(OPENED, PathEntry::File(OPENED)) == NameOwner::Opened);
+    assert!(rt; owner_of(OPENED, PathEntry::File(renamed)) == NameOwner::Another);
+    assert!(rt; owner_of(OPENED, PathEntry::Nothing) == NameOwner::Another);
+    assert!(rt; owner_of(OPENED, PathEntry::Other) == NameOwner::NoFile);
 }
 
 #[test]
-fn damage_is_told(rt: HostRuntime) {
-    assert!(rt; damage_of(59, Ending::Torn).is_none());
-    assert!(rt; damage_of(59, Ending::Unexplained) == Some(Damage::Unexplained(59)));
-    let survey = surveyed(rt.alloc(), b"\x1f\x8b\x08").expect(&rt, "memory");
+fn damage_is_described(rt: HostRuntime) {
+    assert!(rt; damage_of(59, JournalEnding::Torn).is_none());
+    assert!(rt; damage_of(59, JournalEnding::Unexplained) == Some(Damage::Unexplained(59)));
+    let survey = survey_of(rt.alloc(), b"\x1f\x8b\x08").expect(&rt, "memory");
     let damage = damage_of(survey.whole, survey.ending);
     assert!(rt; damage == Some(Damage::Foreign(Signature::Gzip)));
     let words = "it doesn't begin as a journal does, but with data that was compressed with gzip";
@@ -35,7 +35,7 @@ fn damage_is_told(rt: HostRuntime) {
 
 #[test]
 fn refusals_have_statuses(rt: HostRuntime) {
-    assert!(rt; FolderFault::from(OpenFault::Moved(71)).status() == 5);
-    assert!(rt; FolderFault::from(OpenFault::NotKept).status() == 4);
+    assert!(rt; FolderFault::from(JournalOpenFault::Moved(71)).status() == 5);
+    assert!(rt; FolderFault::from(JournalOpenFault::NotKept).status() == 4);
     assert!(rt; FolderFault::Linked.status() == 4);
 }

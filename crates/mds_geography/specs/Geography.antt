@@ -2,7 +2,7 @@
 use Rattle.std.specs.Prelude.{ℕ, List, Option, option_map, string_bytes}
 use Rattle.mds_geometry.specs.declared.position.Position.{Position}
 use Rattle.mds_geography.specs.declared.geography.Geography as program
-use Rattle.mds_geography.specs.declared.geography.Said.{Said}
+use Rattle.mds_geography.specs.declared.geography.ParsedGeography.{ParsedGeography}
 
 -- A geography document: its polygons in document order, each the list of its rings.
 pub record Geography : Type 0 where
@@ -22,7 +22,7 @@ geography_document g =
     }
 
 -- the document that was read, before its area is indexed
-abbrev pub said_document : Said → Geography
+abbrev pub said_document : ParsedGeography → Geography
 said_document s =
     record {
       id = s.id;

@@ -3,11 +3,11 @@ ghost use Rattle.mds_text.specs.Fault.{Gives};
 ghost use Rattle.mds_geography.specs.Fault.{geo_cause};
 
 use crate::fault::GeoFault;
-use crate::served::collection_tree;
+use crate::served_tree::collection_tree;
 use crate::walk::{geojson_of, kind_of};
 use mds_geometry::{Area, Polygon, Position};
 use mds_reading::{
-    Node, Source, document_of, required_id, required_member, required_text, text_at,
+    Node, NodeBuffer, document_of, required_id, required_member, required_text, text_at,
 };
 use mds_text::{Field, Id, Moment, Tree, add_member, id_tree, int_tree, object_tree, text_tree};
 use std::alloc::{AllocError, Global};
@@ -37,12 +37,12 @@ impl Geography {
     pub fn read(alloc: Global, text: &[u8]) -> Result<Geography, GeoFault>
         ensures { Gives geo_cause geography_document result (read_geography text.now) }
     {
-        let Said {
+        let ParsedGeography {
             id,
             name,
             description,
             polygons,
-        } = Said::read(alloc, text)?;
+        } = ParsedGeography::read(alloc, text)?;
         let area = Area::new(alloc, polygons)?;
         Ok(Geography {
             id,
@@ -106,27 +106,27 @@ impl Geography {
 
 /// The content of a geography document. The tree of its text is freed before the area is indexed.
 #[derive(Drop)]
-struct Said {
+struct ParsedGeography {
     id: Id,
     name: String,
     description: Option<String>,
     polygons: Vec<Polygon>,
 }
 
-impl Said {
+impl ParsedGeography {
     ghost use Rattle.mds_reading.specs.Node.{node_view};
     ghost use Rattle.mds_geography.specs.Geography.{said_document};
     ghost use Rattle.mds_geography.specs.Reading.{read_geography, geography_of};
 
-    fn read(alloc: Global, text: &[u8]) -> Result<Said, GeoFault>
+    fn read(alloc: Global, text: &[u8]) -> Result<ParsedGeography, GeoFault>
         ensures { Gives geo_cause said_document result (read_geography text.now) }
     {
-        let mut source = Source::new(alloc);
+        let mut source = NodeBuffer::new(alloc);
         let tree = source.read(alloc, text)?;
-        Said::from_node(alloc, &tree)
+        ParsedGeography::from_node(alloc, &tree)
     }
 
-    fn from_node(alloc: Global, tree: &Node<'_>) -> Result<Said, GeoFault>
+    fn from_node(alloc: Global, tree: &Node<'_>) -> Result<ParsedGeography, GeoFault>
         ensures { Gives geo_cause said_document result (geography_of (node_view tree.now)) }
     {
         let document = document_of(tree)?;
@@ -136,16 +136,16 @@ impl Said {
         let geojson = required_member(document, Field::GeographyJson)?;
         let kind = kind_of(geojson, Field::GeographyJson)?;
         let polygons = geojson_of(alloc, kind, geojson)?;
-        Ok(Said {
+        Ok(ParsedGeography {
             id,
             name: String::from_str(alloc, name)?,
-            description: copied(alloc, description)?,
+            description: copy_text(alloc, description)?,
             polygons,
         })
     }
 }
 
-fn copied(alloc: Global, text: Option<&str>) -> Result<Option<String>, AllocError>
+fn copy_text(alloc: Global, text: Option<&str>) -> Result<Option<String>, AllocError>
     ensures { IfOk result (λ copy. option_map (λ s. string_bytes s) copy ≡ option_map (λ s. s.now) text.entry) }
 {
     match text {

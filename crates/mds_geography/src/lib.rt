@@ -3,7 +3,7 @@
 
 mod fault;
 mod geography;
-mod served;
+mod served_tree;
 mod walk;
 
 pub use fault::GeoFault;

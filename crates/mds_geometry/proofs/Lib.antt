@@ -10,7 +10,7 @@ pub mod Reaching
 pub mod Seen
 pub mod Spans
 pub mod Signs
-pub mod Told
+pub mod Runs
 pub mod Wide
 pub mod Idle
 pub mod Starts

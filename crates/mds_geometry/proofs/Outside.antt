@@ -7,7 +7,7 @@ use Rattle.std.proofs.lemmas.List.Elements.{All-head, All-tail, All-weaker}
 use Rattle.std.proofs.lemmas.List.Sums.{sum_by-cons, sum_by-append}
 use Rattle.std.proofs.lemmas.List.Folds.{list_any-append}
 use Rattle.mds_geometry.specs.declared.position.Position.{Position}
-use Rattle.mds_geometry.specs.declared.bounds.Bounds.{Bounds}
+use Rattle.mds_geometry.specs.declared.bounds.BoundingBox.{BoundingBox}
 use Rattle.mds_geometry.specs.Area.{area_holds}
 use Rattle.mds_geometry.specs.Bounds.{is_within, IsBounded, AreBounded}
 use Rattle.mds_geometry.specs.Inside.{edges_of_ring, edges, is_between, is_on, is_crossed, touches, crossings, is_odd, holds}
@@ -140,11 +140,11 @@ inside_parts : (a b c d x y : ℤ) → ((int_le a x && int_le x b) && (int_le c 
     → (a ≤ℤ x) × (x ≤ℤ b) × (c ≤ℤ y) × (y ≤ℤ d)
 inside_parts a b c d x y h = grind (arith, ints)
 
-parts : (bounds : Bounds) (p : Position) → is_within bounds p ≡ true
+parts : (bounds : BoundingBox) (p : Position) → is_within bounds p ≡ true
     → (bounds.lng.least ≤ℤ p.lng) × (p.lng ≤ℤ bounds.lng.greatest) × (bounds.lat.least ≤ℤ p.lat) × (p.lat ≤ℤ bounds.lat.greatest)
 parts bounds p h = inside_parts bounds.lng.least bounds.lng.greatest bounds.lat.least bounds.lat.greatest p.lng p.lat h
 
-barren_outside : (bounds : Bounds) (at : Position) (ring : List Position) → is_within bounds at ≡ false → IsBounded bounds ring → IsBarren at ring
+barren_outside : (bounds : BoundingBox) (at : Position) (ring : List Position) → is_within bounds at ≡ false → IsBounded bounds ring → IsBarren at ring
 barren_outside bounds at ring outside b =
     elim (outside_cases bounds.lng.least bounds.lng.greatest bounds.lat.least bounds.lat.greatest at.lng at.lat outside) [
       | inl west ↦ barren_west at ring b.linear.closed (All-weaker _ (λ p. at.lng <ℤ p.lng) (λ (p : Position) (h : is_within bounds p ≡ true). omega (arith, ints, (parts bounds p h).0)) ring b.within)
@@ -161,7 +161,7 @@ barren_outside bounds at ring outside b =
       ]
     ]
 
-barren_polygon : (bounds : Bounds) (at : Position) (rings : List (List Position)) → is_within bounds at ≡ false → All (IsBounded bounds) rings
+barren_polygon : (bounds : BoundingBox) (at : Position) (rings : List (List Position)) → is_within bounds at ≡ false → All (IsBounded bounds) rings
     → (touches (edges rings) at ≡ false) × (is_odd (crossings (edges rings) at) ≡ false)
 barren_polygon bounds at [] outside all = (refl, refl)
 barren_polygon bounds at (ring ∷ rings) outside all =
@@ -173,7 +173,7 @@ barren_polygon bounds at (ring ∷ rings) outside all =
           ∙ rw (here.even, rest.1) refl,
     )
 
-pub holds_outside : (bounds : Bounds) (at : Position) (polygons : List (List (List Position))) → is_within bounds at ≡ false → AreBounded bounds polygons
+pub holds_outside : (bounds : BoundingBox) (at : Position) (polygons : List (List (List Position))) → is_within bounds at ≡ false → AreBounded bounds polygons
     → area_holds polygons at ≡ false
 unfolding holds
 holds_outside bounds at [] outside all = refl

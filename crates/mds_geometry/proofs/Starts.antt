@@ -9,13 +9,13 @@ use Rattle.std.proofs.lemmas.List.{take_more}
 use Rattle.std.proofs.lemmas.List.Elements.{filter-append, filter_map-append}
 use Rattle.mds_geometry.specs.declared.position.Position.{Position}
 use Rattle.mds_geometry.specs.declared.scale.Scale.{Scale}
-use Rattle.mds_geometry.specs.declared.start.Start.{Start}
+use Rattle.mds_geometry.specs.declared.start.EdgeStart.{EdgeStart}
 use Rattle.mds_geometry.specs.declared.strip.Edge.{Edge}
 use Rattle.mds_geometry.specs.Inside.{edges_of_ring}
 use Rattle.mds_geometry.specs.Strips.{AreFiled, edge_between, edge_in, edge_of, edges_at, reaches, ring_at}
 
 -- one more start is one more edge, or none
-pub edges_more : (polygons : List (List (List Position))) (starts : List Start) (start : Start)
+pub edges_more : (polygons : List (List (List Position))) (starts : List EdgeStart) (start : EdgeStart)
     → edges_at polygons (starts ++ start ∷ []) ≡ edges_at polygons starts ++ cons_option (edge_in polygons start) []
 edges_more polygons starts start = filter_map-append (edge_in polygons) starts (start ∷ [])
 
@@ -39,16 +39,16 @@ no_edge k (x ∷ ring) (suc i) few = no_edge k ring i (omega arith)
 
 -- the edges of a ring's starts up to an index, with the rest of the ring's edges, are those of the old starts and of
 -- the whole ring
-abbrev pub AreStartedTo : List (List (List Position)) → ℕ → ℕ → List Start → List Start → ℕ → Type 0
+abbrev pub AreStartedTo : List (List (List Position)) → ℕ → ℕ → List EdgeStart → List EdgeStart → ℕ → Type 0
 AreStartedTo polygons k r old all i =
     edges_at polygons all ++ map (edge_of k) (edges_of_ring (drop i (ring_at polygons k r)))
     ≡ edges_at polygons old ++ map (edge_of k) (edges_of_ring (ring_at polygons k r))
 
-pub started_more : (polygons : List (List (List Position))) (k r : ℕ) (old all : List Start) (i p : ℕ) → p ≡ i → i + 1 < length (ring_at polygons k r)
+pub started_more : (polygons : List (List (List Position))) (k r : ℕ) (old all : List EdgeStart) (i p : ℕ) → p ≡ i → i + 1 < length (ring_at polygons k r)
     → AreStartedTo polygons k r old all i → AreStartedTo polygons k r old (all ++ record { polygon = k; ring = r; position = p } ∷ []) (i + 1)
 started_more polygons k r old all i p is within before =
     let ring = ring_at polygons k r in
-    let start : Start = record { polygon = k; ring = r; position = i } in
+    let start : EdgeStart = record { polygon = k; ring = r; position = i } in
     let next : i + 1 ≡ suc i = add-one i in
     let rest = map (edge_of k) (edges_of_ring (drop (suc i) ring)) in
     let edge : edge_in polygons start ≡ edge_between k (slice_get ring i) (slice_get ring (suc i)) = ap (λ n. edge_between k (slice_get ring i) (slice_get ring n)) next in
@@ -58,7 +58,7 @@ started_more polygons k r old all i p is within before =
     ∙ ap (λ es. edges_at polygons all ++ es) (first_edge k ring i within)
     ∙ before)
 
-pub started_all : (polygons : List (List (List Position))) (k r : ℕ) (old all : List Start) (i : ℕ) → length (ring_at polygons k r) ≤ i + 1
+pub started_all : (polygons : List (List (List Position))) (k r : ℕ) (old all : List EdgeStart) (i : ℕ) → length (ring_at polygons k r) ≤ i + 1
     → AreStartedTo polygons k r old all i → edges_at polygons all ≡ edges_at polygons old ++ map (edge_of k) (edges_of_ring (ring_at polygons k r))
 started_all polygons k r old all i few before =
     sym (append-nil (edges_at polygons all)) ∙ ap (λ es. edges_at polygons all ++ es) (sym (no_edge k (ring_at polygons k r) i few)) ∙ before
@@ -69,18 +69,18 @@ filter_one : (p : Edge → Bool) (e : Edge) → filter p (e ∷ []) ≡ cond (p 
 filter_one p e = elim (cases_Bool (p e)) [ inl kept ↦ rw kept refl | inr dropped ↦ rw dropped refl ]
 
 -- a start gives its edge where a strip has it, and none where not
-kept_edge : (polygons : List (List (List Position))) (start : Start) (e : Edge) (b : Bool) → edge_in polygons start ≡ Some e
+kept_edge : (polygons : List (List (List Position))) (start : EdgeStart) (e : Edge) (b : Bool) → edge_in polygons start ≡ Some e
     → edges_at polygons (cond b (start ∷ []) []) ≡ cond b (e ∷ []) []
 kept_edge polygons start e false is = refl
 kept_edge polygons start e true is = ap (λ o. cons_option o []) is
 
 -- the same where there may be no edge
-kept_start : (polygons : List (List (List Position))) (start : Start) (p : Edge → Bool) (edge : Option Edge) → edge ≡ edge_in polygons start
+kept_start : (polygons : List (List (List Position))) (start : EdgeStart) (p : Edge → Bool) (edge : Option Edge) → edge ≡ edge_in polygons start
     → edges_at polygons (cond (option_map_or p edge false) (start ∷ []) []) ≡ filter p (cons_option edge [])
 kept_start polygons start p None is = refl
 kept_start polygons start p (Some e) is = kept_edge polygons start e (p e) (sym is) ∙ sym (filter_one p e)
 
-pub filed_more : (polygons : List (List (List Position))) (scale : Scale) (starts : List Start) (i : ℕ) (start : Start) (edge : Option Edge) (old new : List (List Start))
+pub filed_more : (polygons : List (List (List Position))) (scale : Scale) (starts : List EdgeStart) (i : ℕ) (start : EdgeStart) (edge : Option Edge) (old new : List (List EdgeStart))
     → i < length starts → start ≡ get_or starts i start → edge ≡ edge_in polygons start → length new ≡ length old
     → ((s : ℕ) → s < length old → get_or new s [] ≡ get_or old s [] ++ cond (option_map_or (reaches scale s) edge false) (start ∷ []) [])
     → AreFiled polygons scale (edges_at polygons (take i starts)) old → AreFiled polygons scale (edges_at polygons (take (i + 1) starts)) new
@@ -101,7 +101,7 @@ filed_more polygons scale starts i start edge old new within here is whole put f
     }
 
 -- the same for a vector of which a slice was changed
-pub filed_back : (polygons : List (List (List Position))) (scale : Scale) (starts : List Start) (i : ℕ) (start : Start) (edge : Option Edge) (items old new : List (List Start)) (n : ℕ)
+pub filed_back : (polygons : List (List (List Position))) (scale : Scale) (starts : List EdgeStart) (i : ℕ) (start : EdgeStart) (edge : Option Edge) (items old new : List (List EdgeStart)) (n : ℕ)
     → i < length starts → start ≡ get_or starts i start → edge ≡ edge_in polygons start → old ≡ items → length old ≡ n → length new ≡ length old
     → ((s : ℕ) → s < length old → get_or new s [] ≡ get_or old s [] ++ cond (option_map_or (reaches scale s) edge false) (start ∷ []) [])
     → AreFiled polygons scale (edges_at polygons (take i starts)) items

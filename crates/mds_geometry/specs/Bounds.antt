@@ -5,7 +5,7 @@ use Rattle.std.specs.List.{All}
 use Rattle.mds_geometry.specs.Ring.{IsRing}
 use Rattle.mds_geometry.specs.declared.position.Position.{Position}
 use Rattle.mds_geometry.specs.declared.band.Band.{Band}
-use Rattle.mds_geometry.specs.declared.bounds.Bounds.{Bounds}
+use Rattle.mds_geometry.specs.declared.bounds.BoundingBox.{BoundingBox}
 
 -- a coordinate lies in a band, its ends included
 abbrev pub lies_in : Band → ℤ → Bool
@@ -16,20 +16,20 @@ abbrev pub IsWider : Band → Band → Type 0
 IsWider narrow wide = (x : ℤ) → lies_in narrow x ≡ true → lies_in wide x ≡ true
 
 -- a position lies within bounds, their borders included
-abbrev pub is_within : Bounds → Position → Bool
+abbrev pub is_within : BoundingBox → Position → Bool
 is_within bounds at = lies_in bounds.lng at.lng && lies_in bounds.lat at.lat
 
 -- the wide bounds hold what the narrow ones hold
-abbrev pub AreWider : Bounds → Bounds → Type 0
+abbrev pub AreWider : BoundingBox → BoundingBox → Type 0
 AreWider narrow wide = (at : Position) → is_within narrow at ≡ true → is_within wide at ≡ true
 
 -- a linear ring lies within bounds
-pub record IsBounded (bounds : Bounds) (ring : List Position) : Type 0 where
+pub record IsBounded (bounds : BoundingBox) (ring : List Position) : Type 0 where
   pub linear : IsRing ring
   pub within : All (λ at. is_within bounds at ≡ true) ring
 
 -- all rings of some polygons lie within bounds
-abbrev pub AreBounded : Bounds → List (List (List Position)) → Type 0
+abbrev pub AreBounded : BoundingBox → List (List (List Position)) → Type 0
 AreBounded bounds polygons = All (All (IsBounded bounds)) polygons
 
 -- the latitudes of all these positions lie in a band

@@ -3,12 +3,12 @@ use Rattle.std.specs.Prelude.{ℕ, ◌+◌, ◌-◌, ◌*◌, ◌/◌, ◌^◌, 
 use Rattle.std.specs.Int.{abs_diff}
 use Rattle.std.specs.List.{filter, filter_map, sum_by}
 use Rattle.mds_geometry.specs.Bounds.{AreBounded}
-use Rattle.mds_geometry.specs.declared.bounds.Bounds.{Bounds}
+use Rattle.mds_geometry.specs.declared.bounds.BoundingBox.{BoundingBox}
 use Rattle.mds_geometry.specs.Inside.{edges, is_on, is_crossed}
 use Rattle.mds_geometry.specs.declared.position.Position.{Position}
 use Rattle.mds_geometry.specs.declared.strip.Edge.{Edge}
 use Rattle.mds_geometry.specs.declared.scale.Scale.{Scale}
-use Rattle.mds_geometry.specs.declared.start.Start.{Start}
+use Rattle.mds_geometry.specs.declared.start.EdgeStart.{EdgeStart}
 
 -- an edge of the polygon at this index
 abbrev pub edge_of : ℕ → Position × Position → Edge
@@ -30,15 +30,15 @@ edge_between polygon (Some from) None = None
 edge_between polygon (Some from) (Some to) = Some (edge_of polygon (from, to))
 
 -- the edge that starts at a position of a ring, where another one follows
-abbrev pub edge_at : List Position → Start → Option Edge
+abbrev pub edge_at : List Position → EdgeStart → Option Edge
 edge_at ring start = edge_between start.polygon (slice_get ring start.position) (slice_get ring (start.position + 1))
 
 -- the edge of these polygons that starts there
-abbrev pub edge_in : List (List (List Position)) → Start → Option Edge
+abbrev pub edge_in : List (List (List Position)) → EdgeStart → Option Edge
 edge_in polygons start = edge_at (ring_at polygons start.polygon start.ring) start
 
 -- the edges of these polygons that start there, in this order
-abbrev pub edges_at : List (List (List Position)) → List Start → List Edge
+abbrev pub edges_at : List (List (List Position)) → List EdgeStart → List Edge
 edges_at polygons starts = filter_map (edge_in polygons) starts
 
 -- the row of a latitude, or the column of a longitude: its units of 10^-7 degree from the least coordinate, -180
@@ -72,7 +72,7 @@ any_holds at polygon odd (e ∷ es) =
     else (odd || (is_on e.from e.to at || any_holds at e.polygon (is_crossed e.from e.to at) es))
 
 -- each strip has the starts of those edges that reach it, in their order
-pub record AreFiled (polygons : List (List (List Position))) (scale : Scale) (edges : List Edge) (strips : List (List Start)) : Type 0 where
+pub record AreFiled (polygons : List (List (List Position))) (scale : Scale) (edges : List Edge) (strips : List (List EdgeStart)) : Type 0 where
   pub whole : length strips ≡ scale.last + 1
   pub filed : (s : ℕ) → s < length strips → edges_at polygons (get_or strips s []) ≡ filter (reaches scale s) edges
 
@@ -89,7 +89,7 @@ abbrev pub span : Scale → Edge → ℕ
 span scale e = abs_diff (strip_of scale e.from.lat) (strip_of scale e.to.lat) + 1
 
 -- the polygons lie within the bounds, and the strips have their edges, with at most four entries for an edge on average
-pub record IsIndexed (polygons : List (List (List Position))) (bounds : Bounds) (scale : Scale) (strips : List (List Start)) : Type 0 where
+pub record IsIndexed (polygons : List (List (List Position))) (bounds : BoundingBox) (scale : Scale) (strips : List (List EdgeStart)) : Type 0 where
   pub bounded : AreBounded bounds polygons
   pub filed : AreFiled polygons scale (edges_from 0 polygons) strips
   pub few : sum_by (span scale) (edges_from 0 polygons) ≤ 4 * length (edges_from 0 polygons)

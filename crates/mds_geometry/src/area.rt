@@ -10,7 +10,7 @@ use crate::grid::Grid;
 use crate::polygon::Polygon;
 use crate::position::Position;
 use crate::start::starts_of;
-use crate::striped::Striped;
+use crate::strip_index::StripIndex;
 use std::alloc::{AllocError, Global};
 use std::marker::Model;
 
@@ -28,7 +28,7 @@ pub fn area_holds(polygons: &[Polygon], position: Position) -> bool
 /// rings.
 #[derive(Drop)]
 pub struct Area {
-    striped: Striped,
+    striped: StripIndex,
     grid: Grid,
 }
 
@@ -58,7 +58,7 @@ impl Area {
         let bounds = bounds_of(&polygons);
         let extents = Extents::of(&edges, &bounds);
         let starts = starts_of(alloc, &polygons, edges.len())?;
-        let striped = Striped::new(alloc, polygons, bounds, &edges, &starts, &extents)?;
+        let striped = StripIndex::new(alloc, polygons, bounds, &edges, &starts, &extents)?;
         let grid = Grid::new(alloc, &striped, &edges, &extents)?;
         Ok(Area { striped, grid })
     }

@@ -5,7 +5,7 @@ ghost use Rattle.mds_geometry.specs.Inside.{edges_of_ring, touches, crossings, i
 
 use crate::band::Band;
 use crate::position::Position;
-use crate::sight::sight;
+use crate::ray::ray_test;
 
 /// The most blocks of a ring.
 pub(crate) const BLOCKS: usize = 16;
@@ -65,14 +65,14 @@ pub(crate) fn bands_of(positions: &[Position], size: usize) -> [Band; BLOCKS]
 
 /// Whether the ray from `at` to the east crosses an odd number of the block's edges; `None` where
 /// `at` is on one of them. The block is skipped where its band doesn't hold the latitude.
-fn sight_of_block(block: &[Position], band: &Band, at: &Position) -> Option<bool>
+fn ray_test_of_block(block: &[Position], band: &Band, at: &Position) -> Option<bool>
     requires some { 1 ≤ length block.now }
     requires banded { AreIn band.now block.now }
     ensures border { IsNone result ↔ IsTrue (touches (edges_of_ring block.now) at.now) }
     ensures odd { IfSome result (λ odd. odd ≡ is_odd (crossings (edges_of_ring block.now) at.now)) }
 {
     if band.holds(at.lat) {
-        sight(block, at)
+        ray_test(block, at)
     } else {
         Some(false)
     }
@@ -80,7 +80,7 @@ fn sight_of_block(block: &[Position], band: &Band, at: &Position) -> Option<bool
 
 /// Whether the ray from `at` to the east crosses an odd number of the ring's edges; `None` where
 /// `at` is on one of them. A block is skipped where its band doesn't hold the latitude.
-pub(crate) fn sight_by_blocks(
+pub(crate) fn ray_test_by_blocks(
     positions: &[Position],
     size: usize,
     bands: &[Band],
@@ -96,7 +96,7 @@ pub(crate) fn sight_by_blocks(
         if rest.is_empty() {
             return Some(odd);
         }
-        let Some(crosses) = sight_of_block(first_block(rest, size), band, at) else {
+        let Some(crosses) = ray_test_of_block(first_block(rest, size), band, at) else {
             return None;
         };
         odd ^= crosses;
@@ -105,7 +105,7 @@ pub(crate) fn sight_by_blocks(
     if rest.is_empty() {
         return Some(odd);
     }
-    let Some(crosses) = sight(rest, at) else {
+    let Some(crosses) = ray_test(rest, at) else {
         return None;
     };
     Some(odd ^ crosses)

@@ -10,17 +10,17 @@ use crate::ring::Ring;
 
 /// A bounding box: a band of longitude and one of latitude.
 #[derive(Clone, Copy)]
-pub(crate) struct Bounds {
+pub(crate) struct BoundingBox {
     /// The longitudes.
     pub(crate) lng: Band,
     /// The latitudes.
     pub(crate) lat: Band,
 }
 
-impl Bounds {
+impl BoundingBox {
     /// The empty bounding box.
-    fn none() -> Bounds {
-        Bounds {
+    fn none() -> BoundingBox {
+        BoundingBox {
             lng: Band::none(),
             lat: Band::none(),
         }
@@ -65,10 +65,10 @@ impl Bounds {
 }
 
 /// The narrowest bounds of all positions of the polygons.
-pub(crate) fn bounds_of(polygons: &[Polygon]) -> Bounds
+pub(crate) fn bounds_of(polygons: &[Polygon]) -> BoundingBox
     ensures { AreBounded result polygons.now }
 {
-    let mut bounds = Bounds::none();
+    let mut bounds = BoundingBox::none();
     for polygon in polygons {
         bounds.widen_to_polygon(polygon);
     }

@@ -98,7 +98,7 @@ fn usual_units(text: &[u8]) -> Option<Units7>
     let (whole, fraction) = number.split_last_chunk::<8>()?;
     let decimals = seven_decimals(fraction)?;
     let degrees = few_digits(whole)?;
-    signed(negative, degrees * DEGREE + decimals)
+    with_sign(negative, degrees * DEGREE + decimals)
 }
 
 /// The same for up to nine whole digits and one to seven decimals.
@@ -112,7 +112,7 @@ fn plain_units(text: &[u8]) -> Option<Units7>
     let (negative, number) = sign_of(text);
     let (degrees, fraction) = degrees_of(number)?;
     let decimals = decimals_of(fraction)?;
-    signed(negative, degrees * DEGREE + decimals)
+    with_sign(negative, degrees * DEGREE + decimals)
 }
 
 /// Whether a text begins with a minus, and the text without it.
@@ -121,7 +121,7 @@ fn sign_of(text: &[u8]) -> (bool, &[u8])
     ensures negative { result.0 ≡ begins_with 45 text.now }
     ensures number { result.1.now ≡ behind_minus text.now }
 {
-    match cut(text, b'-') {
+    match strip_byte(text, b'-') {
         Some(number) => (true, number),
         None => (false, text),
     }
@@ -136,11 +136,11 @@ fn degrees_of(number: &[u8]) -> Option<(u64, &[u8])>
     ensures behind { IfSome result (λ r. r.1.now ≡ drop 1 (behind_digits number.now)) }
     ensures small { IfSome result (λ r. r.0 < 10 ^ 9) }
 {
-    let (degrees, count) = front_digits(number)?;
+    let (degrees, count) = leading_digits(number)?;
     if count == 0 || (number[0] == b'0' && count > 1) {
         return None;
     }
-    let fraction = cut(&number[count..], b'.')?;
+    let fraction = strip_byte(&number[count..], b'.')?;
     Some((degrees, fraction))
 }
 
@@ -153,7 +153,7 @@ fn decimals_of(fraction: &[u8]) -> Option<u64>
     ensures value { IfSome result (λ n. n ≡ digits_value 10 (digits fraction.now) * 10 ^ (7 - length (digits fraction.now))) }
     ensures small { IfSome result (λ n. n < 10 ^ 16) }
 {
-    let (decimals, count) = front_digits(fraction)?;
+    let (decimals, count) = leading_digits(fraction)?;
     if count < fraction.len() {
         return None;
     }
@@ -182,7 +182,7 @@ fn place_units(count: usize) -> Option<u64>
 /// The number of the digits that a text begins with, and how many they are; `None` where there are
 /// more than `MOST_DIGITS`.
 #[inline(always)]
-fn front_digits(text: &[u8]) -> Option<(u64, usize)>
+fn leading_digits(text: &[u8]) -> Option<(u64, usize)>
     ensures value { IfSome result (λ r. r.0 ≡ digits_value 10 (digits text.now)) }
     ensures count { IfSome result (λ r. r.1 ≡ prefix_len is_ascii_digit text.now) }
     ensures within { IfSome result (λ r. r.1 ≤ length text.now) }
@@ -301,7 +301,7 @@ fn value_of_eight(word: u64) -> u64
 
 /// What follows this byte, where the text begins with it.
 #[inline(always)]
-fn cut(text: &[u8], byte: u8) -> Option<&[u8]>
+fn strip_byte(text: &[u8], byte: u8) -> Option<&[u8]>
     ensures { option_map (λ rest. rest.now) result ≡ (if begins_with byte text.now then Some (drop 1 text.now) else None) }
 {
     match text.split_first() {
@@ -312,7 +312,7 @@ fn cut(text: &[u8], byte: u8) -> Option<&[u8]>
 
 /// A size with its sign; `None` beyond 180 degrees.
 #[inline(always)]
-fn signed(negative: bool, size: u64) -> Option<Units7>
+fn with_sign(negative: bool, size: u64) -> Option<Units7>
     ensures { IfSome result (λ u. in_range negative size ≡ Ok u) }
 {
     if size > MOST_UNITS {

@@ -5,7 +5,7 @@ ghost use Rattle.mds_geometry.specs.Strips.{AreMeasured};
 ghost use Rattle.mds_geometry.specs.Strips as strips;
 
 use crate::band::Band;
-use crate::bounds::Bounds;
+use crate::bounds::BoundingBox;
 use crate::strip::Edge;
 use crate::strips::row_of;
 use mds_text::Units7;
@@ -38,7 +38,7 @@ pub(crate) struct Extents {
 
 /// The distance between two latitudes or two longitudes, in units of 10^-7 degree.
 #[inline(always)]
-fn apart(from: Units7, to: Units7) -> u64
+fn row_distance(from: Units7, to: Units7) -> u64
     ensures value { result ≡ abs_diff (strips.row_of from) (strips.row_of to) }
     ensures few { result ≤ 4294967295 }
 {
@@ -55,8 +55,8 @@ fn reach_of(edges: &[Edge]) -> (u64, u64)
     let mut rows: u64 = 0;
     let mut columns: u64 = 0;
     for edge in edges {
-        rows += apart(edge.from.lat, edge.to.lat);
-        columns += apart(edge.from.lng, edge.to.lng);
+        rows += row_distance(edge.from.lat, edge.to.lat);
+        columns += row_distance(edge.from.lng, edge.to.lng);
     }
     (rows, columns)
 }
@@ -92,7 +92,7 @@ impl Extent {
     }
 
     /// Whether this many edges extend over at most two heights of a strip each, on average.
-    pub(crate) fn is_spare(&self, shift: u32, edges: usize) -> bool
+    pub(crate) fn is_sparse(&self, shift: u32, edges: usize) -> bool
         requires { shift ≤ 31 }
         ensures known { IsTrue result → self.now.reach < 18446744073709551615 }
         ensures spare { IsTrue result → self.now.reach / 2 ^ shift ≤ 2 * edges }
@@ -103,7 +103,7 @@ impl Extent {
 
 impl Extents {
     /// Measures these edges, which lie within these bounds.
-    pub(crate) fn of(edges: &[Edge], bounds: &Bounds) -> Extents
+    pub(crate) fn of(edges: &[Edge], bounds: &BoundingBox) -> Extents
         ensures { AreMeasured edges.now result.rows.reach }
     {
         let (rows, columns) = reach_of(edges);

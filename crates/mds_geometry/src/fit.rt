@@ -51,7 +51,7 @@ pub(crate) fn scale_of(extents: &Extents, edges: &[Edge]) -> Scale
     for shift in 0..32 {
         let scale = Scale::between(rows.least, rows.greatest, shift);
         if (scale.last as usize) < edges.len() / EDGES_OF_A_STRIP
-            && rows.is_spare(shift, edges.len())
+            && rows.is_sparse(shift, edges.len())
         {
             return scale;
         }

@@ -14,7 +14,7 @@ use crate::marks::{COLUMNS, marks_of};
 use crate::position::Position;
 use crate::scale::Scale;
 use crate::strip::Edge;
-use crate::striped::Striped;
+use crate::strip_index::StripIndex;
 use std::alloc::{AllocError, Global};
 
 /// The columns and rows of a grid, and its cells.
@@ -36,7 +36,7 @@ impl Grid {
     /// Out of memory.
     pub(crate) fn new(
         alloc: Global,
-        striped: &Striped,
+        striped: &StripIndex,
         edges: &[Edge],
         extents: &Extents,
     ) -> Result<Grid, AllocError>
@@ -69,8 +69,8 @@ impl Grid {
 
 /// What a cell that no edge covers says, by a test of its south-western corner; `Mixed` where no
 /// such position is found in the cell.
-fn told_by_corner(
-    striped: &Striped,
+fn cell_by_corner(
+    striped: &StripIndex,
     columns: &Scale,
     rows: &Scale,
     row: usize,
@@ -95,7 +95,7 @@ fn told_by_corner(
 /// that one isn't marked either.
 fn push_row(
     cells: &mut Vec<Cell>,
-    striped: &Striped,
+    striped: &StripIndex,
     columns: &Scale,
     rows: &Scale,
     row: usize,
@@ -113,7 +113,7 @@ fn push_row(
         if *marked {
             told = Cell::Mixed;
         } else if matches!(told, Cell::Mixed) {
-            told = told_by_corner(striped, columns, rows, row, column);
+            told = cell_by_corner(striped, columns, rows, row, column);
         }
         cells.push(told)?;
     }
@@ -127,7 +127,7 @@ fn push_row(
 /// Out of memory.
 fn cells_of(
     alloc: Global,
-    striped: &Striped,
+    striped: &StripIndex,
     columns: &Scale,
     rows: &Scale,
     marks: &[bool],

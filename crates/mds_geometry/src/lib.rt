@@ -20,10 +20,10 @@ mod polygon;
 mod position;
 mod ring;
 mod scale;
-mod sight;
+mod ray;
 mod start;
 mod strip;
-mod striped;
+mod strip_index;
 mod strips;
 
 pub use area::{Area, area_holds};

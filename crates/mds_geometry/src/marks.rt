@@ -11,7 +11,7 @@ use std::alloc::{AllocError, Global};
 pub(crate) const COLUMNS: usize = 128;
 
 /// Two numbers, the lesser one first.
-fn ordered(a: usize, b: usize) -> (usize, usize)
+fn min_max(a: usize, b: usize) -> (usize, usize)
     ensures between { (n : ℕ) → lies_between a b n ≡ (nat_le result.0 n && nat_le n result.1) }
     ensures least { result.0 ≤ result.1 }
     ensures most { (n : ℕ) → a ≤ n → b ≤ n → result.1 ≤ n }
@@ -53,8 +53,8 @@ fn mark_across(marks: &mut [bool], columns: &Scale, rows: &Scale, edge: &Edge)
     ensures { (r c : ℕ) → get_or marks.new (grid.place_of r c) false ≡ false
         → (get_or marks.old (grid.place_of r c) false ≡ false) × (grid.covers columns.now rows.now r c edge.now ≡ false) }
 {
-    let (south, north) = ordered(rows.strip_of(edge.from.lat), rows.strip_of(edge.to.lat));
-    let (west, east) = ordered(
+    let (south, north) = min_max(rows.strip_of(edge.from.lat), rows.strip_of(edge.to.lat));
+    let (west, east) = min_max(
         columns.strip_of(edge.from.lng),
         columns.strip_of(edge.to.lng),
     );

@@ -46,7 +46,7 @@ impl Polygon {
     {
         let mut odd = false;
         for ring in &self.rings {
-            let Some(crosses) = ring.sight(&at) else {
+            let Some(crosses) = ring.ray_test(&at) else {
                 return true;
             };
             odd ^= crosses;

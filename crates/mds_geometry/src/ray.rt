@@ -7,7 +7,7 @@ use crate::position::Position;
 
 /// Whether the ray from `at` to the east crosses an odd number of the ring's edges; `None` where
 /// `at` is on one of them.
-pub(crate) fn sight(ring: &[Position], at: &Position) -> Option<bool>
+pub(crate) fn ray_test(ring: &[Position], at: &Position) -> Option<bool>
     requires { 1 ≤ length ring.now }
     ensures border { IsNone result ↔ IsTrue (touches (edges_of_ring ring.now) at.now) }
     ensures odd { IfSome result (λ odd. odd ≡ is_odd (crossings (edges_of_ring ring.now) at.now)) }

@@ -3,7 +3,7 @@ ghost use Rattle.mds_geometry.specs.Inside.{edges_of_ring, touches, crossings, i
 ghost use Rattle.mds_geometry.specs.Ring.{IsRing, IsClosed};
 
 use crate::band::Band;
-use crate::blocks::{BLOCKS, bands_of, block_size, sight_by_blocks};
+use crate::blocks::{BLOCKS, bands_of, block_size, ray_test_by_blocks};
 use crate::position::Position;
 use std::marker::Model;
 
@@ -76,10 +76,10 @@ impl Ring {
 
     /// Whether the ray from `at` to the east crosses an odd number of the ring's edges; `None` where
     /// `at` is on one of them.
-    pub(crate) fn sight(&self, at: &Position) -> Option<bool>
+    pub(crate) fn ray_test(&self, at: &Position) -> Option<bool>
         ensures border { IsNone result ↔ IsTrue (touches (edges_of_ring self.now) at.now) }
         ensures odd { IfSome result (λ odd. odd ≡ is_odd (crossings (edges_of_ring self.now) at.now)) }
     {
-        sight_by_blocks(&self.positions, self.block, &self.bands, at)
+        ray_test_by_blocks(&self.positions, self.block, &self.bands, at)
     }
 }

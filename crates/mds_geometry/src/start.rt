@@ -11,7 +11,7 @@ use std::alloc::{AllocError, Global};
 
 /// The start of an edge of an area, by indices; the edge ends at the next position of the ring.
 #[derive(Clone, Copy)]
-pub(crate) struct Start {
+pub(crate) struct EdgeStart {
     /// The index of the polygon.
     pub(crate) polygon: u32,
     /// The index of the ring in the polygon.
@@ -20,10 +20,10 @@ pub(crate) struct Start {
     pub(crate) position: u32,
 }
 
-impl Start {
+impl EdgeStart {
     /// The first position of the first ring of the first polygon.
-    pub(crate) fn first() -> Start {
-        Start {
+    pub(crate) fn first() -> EdgeStart {
+        EdgeStart {
             polygon: 0,
             ring: 0,
             position: 0,
@@ -84,7 +84,7 @@ fn positions_in(rings: &[Ring], ring: u32) -> &[Position]
 /// # Errors
 ///
 /// Out of memory, for an index of 2^32 or more.
-fn kept(place: usize) -> Result<u32, AllocError>
+fn index_u32(place: usize) -> Result<u32, AllocError>
     ensures { IfOk result (λ p. p ≡ place) }
 {
     match u32::try_from(place) {
@@ -95,7 +95,7 @@ fn kept(place: usize) -> Result<u32, AllocError>
 
 /// Appends the starts of a ring's edges.
 fn push_ring(
-    all: &mut Vec<Start>,
+    all: &mut Vec<EdgeStart>,
     polygons: &[Polygon],
     polygon: u32,
     ring: u32,
@@ -105,8 +105,8 @@ fn push_ring(
 {
     let positions = positions_at(polygons, polygon, ring);
     for place in 0..positions.len().saturating_sub(1) {
-        let position = kept(place)?;
-        all.push(Start {
+        let position = index_u32(place)?;
+        all.push(EdgeStart {
             polygon,
             ring,
             position,
@@ -117,7 +117,7 @@ fn push_ring(
 
 /// Appends the starts of the edges of the polygon at this index.
 fn push_polygon(
-    all: &mut Vec<Start>,
+    all: &mut Vec<EdgeStart>,
     polygons: &[Polygon],
     place: usize,
     polygon: &Polygon,
@@ -126,9 +126,9 @@ fn push_polygon(
     ensures { OnOk result (edges_at polygons.now all.new.items
         ≡ edges_at polygons.now all.old.items ++ map (edge_of place) (edges polygon.now)) }
 {
-    let number = kept(place)?;
+    let number = index_u32(place)?;
     for ring in 0..polygon.rings().len() {
-        push_ring(all, polygons, number, kept(ring)?)?;
+        push_ring(all, polygons, number, index_u32(ring)?)?;
     }
     Ok(())
 }
@@ -142,7 +142,7 @@ pub(crate) fn starts_of(
     alloc: Global,
     polygons: &[Polygon],
     most: usize,
-) -> Result<Vec<Start>, AllocError>
+) -> Result<Vec<EdgeStart>, AllocError>
     ensures { IfOk result (λ all. edges_at polygons.now all.items ≡ edges_from 0 polygons.now) }
 {
     let mut all = Vec::with_capacity(alloc, most)?;

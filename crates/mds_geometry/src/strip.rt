@@ -5,7 +5,7 @@ ghost use Rattle.mds_geometry.specs.Strips.{any_holds, edges_at, ring_at};
 use crate::edge::{is_crossed, is_on};
 use crate::polygon::Polygon;
 use crate::position::Position;
-use crate::start::{Start, positions_at};
+use crate::start::{EdgeStart, positions_at};
 use std::alloc::{AllocError, Global};
 use std::marker::Model;
 
@@ -24,14 +24,14 @@ pub(crate) struct Edge {
 /// their starts.
 #[derive(Drop)]
 pub(crate) struct Strip {
-    starts: Vec<Start>,
+    starts: Vec<EdgeStart>,
 }
 
 impl Model for Strip {
     ghost use Rattle.std.specs.Prelude.{List};
-    ghost use Rattle.mds_geometry.specs.declared.start.Start.{Start};
+    ghost use Rattle.mds_geometry.specs.declared.start.EdgeStart.{EdgeStart};
 
-    ghost Value = { List Start };
+    ghost Value = { List EdgeStart };
 
     ghost view = { λ s. s.starts.items };
 }
@@ -56,7 +56,7 @@ impl Strip {
     ///
     /// Out of memory.
     #[inline(always)]
-    pub(crate) fn push(&mut self, start: Start) -> Result<(), AllocError>
+    pub(crate) fn push(&mut self, start: EdgeStart) -> Result<(), AllocError>
         ensures { OnOk result (self.new ≡ self.old ++ start ∷ []) }
     {
         self.starts.reserve(1)?;
@@ -76,8 +76,8 @@ impl Strip {
 #[inline(always)]
 fn positions_of<'a>(
     polygons: &'a [Polygon],
-    start: &Start,
-    before: &Start,
+    start: &EdgeStart,
+    before: &EdgeStart,
     positions: &'a [Position],
 ) -> &'a [Position]
     requires { positions.now ≡ ring_at polygons.now before.now.polygon before.now.ring }
@@ -91,10 +91,10 @@ fn positions_of<'a>(
 }
 
 /// Whether one of the polygons of these edges holds a position, by these edges alone.
-fn any_polygon_holds(polygons: &[Polygon], starts: &[Start], at: &Position) -> bool
+fn any_polygon_holds(polygons: &[Polygon], starts: &[EdgeStart], at: &Position) -> bool
     ensures { result ≡ any_holds at.now 0 false (edges_at polygons.now starts.now) }
 {
-    let mut before = Start::first();
+    let mut before = EdgeStart::first();
     let mut positions = positions_at(polygons, before.polygon, before.ring);
     let mut polygon = 0;
     let mut odd = false;

@@ -5,13 +5,13 @@ ghost use Rattle.mds_geometry.specs.Bounds.{AreBounded};
 ghost use Rattle.mds_geometry.specs.Grid.{AreClosed};
 ghost use Rattle.mds_geometry.specs.Strips.{AreMeasured, edges_at, edges_from};
 
-use crate::bounds::Bounds;
+use crate::bounds::BoundingBox;
 use crate::extent::Extents;
 use crate::fit::scale_of;
 use crate::polygon::Polygon;
 use crate::position::Position;
 use crate::scale::Scale;
-use crate::start::Start;
+use crate::start::EdgeStart;
 use crate::strip::{Edge, Strip};
 use crate::strips::strips_of;
 use std::alloc::{AllocError, Global};
@@ -20,14 +20,14 @@ use std::marker::Model;
 /// Several polygons with their bounds, and with their edges by strips of latitude. Contracts see
 /// the list of the polygons, each the list of its rings.
 #[derive(Drop)]
-pub(crate) struct Striped {
+pub(crate) struct StripIndex {
     polygons: Vec<Polygon>,
-    bounds: Bounds,
+    bounds: BoundingBox,
     scale: Scale,
     strips: Vec<Strip>,
 }
 
-impl Model for Striped {
+impl Model for StripIndex {
     ghost use Rattle.std.specs.Prelude.{List};
     ghost use Rattle.mds_geometry.specs.Strips.{IsIndexed};
     ghost use Rattle.mds_geometry.specs.declared.position.Position.{Position};
@@ -39,7 +39,7 @@ impl Model for Striped {
     ghost invariant = { λ a. IsIndexed a.polygons.items a.bounds a.scale a.strips.items };
 }
 
-impl Striped {
+impl StripIndex {
     /// Sorts the edges of these polygons into strips, by their bounds, edges, starts and extents.
     /// An edge has at most four entries in the strips, on average.
     ///
@@ -49,11 +49,11 @@ impl Striped {
     pub(crate) fn new(
         alloc: Global,
         polygons: Vec<Polygon>,
-        bounds: Bounds,
+        bounds: BoundingBox,
         edges: &[Edge],
-        starts: &[Start],
+        starts: &[EdgeStart],
         extents: &Extents,
-    ) -> Result<Striped, AllocError>
+    ) -> Result<StripIndex, AllocError>
         requires bounded { AreBounded bounds polygons.items }
         requires edges { edges.now ≡ edges_from 0 polygons.items }
         requires starts { edges_at polygons.items starts.now ≡ edges_from 0 polygons.items }
@@ -63,7 +63,7 @@ impl Striped {
     {
         let scale = scale_of(extents, edges);
         let strips = strips_of(alloc, &scale, &polygons, edges, starts)?;
-        Ok(Striped {
+        Ok(StripIndex {
             polygons,
             bounds,
             scale,

@@ -5,7 +5,7 @@ ghost use Rattle.mds_geometry.specs.Strips as strips;
 
 use crate::polygon::Polygon;
 use crate::scale::Scale;
-use crate::start::Start;
+use crate::start::EdgeStart;
 use crate::strip::{Edge, Strip};
 use mds_text::Units7;
 use std::alloc::{AllocError, Global};
@@ -51,11 +51,11 @@ impl Scale {
 /// # Errors
 ///
 /// Out of memory.
-fn file_between(
+fn add_between(
     all: &mut [Strip],
     south: usize,
     north: usize,
-    start: Start,
+    start: EdgeStart,
 ) -> Result<(), AllocError>
     requires ordered { south ≤ north }
     requires within { north < length all.old }
@@ -75,7 +75,7 @@ fn file_between(
 ///
 /// Out of memory.
 #[inline(always)]
-fn file_edge(all: &mut [Strip], scale: &Scale, edge: &Edge, start: Start) -> Result<(), AllocError>
+fn add_edge(all: &mut [Strip], scale: &Scale, edge: &Edge, start: EdgeStart) -> Result<(), AllocError>
     requires { length all.old ≡ scale.now.last + 1 }
     ensures { OnOk result ((s : ℕ) → s < length all.old →
         get_or all.new s [] ≡ get_or all.old s [] ++ (if strips.reaches scale.now s edge.now then start ∷ [] else [])) }
@@ -86,7 +86,7 @@ fn file_edge(all: &mut [Strip], scale: &Scale, edge: &Edge, start: Start) -> Res
         let strip = &mut all[from];
         return strip.push(start);
     }
-    file_between(all, from.min(to), from.max(to), start)
+    add_between(all, from.min(to), from.max(to), start)
 }
 
 /// Counts one more edge in each strip from one to another, both included.
@@ -138,18 +138,18 @@ fn empty_strips(alloc: Global, rooms: &[usize]) -> Result<Vec<Strip>, AllocError
 ///
 /// Out of memory.
 #[inline(always)]
-fn file_start(
+fn add_start(
     all: &mut [Strip],
     scale: &Scale,
     edge: Option<Edge>,
-    start: Start,
+    start: EdgeStart,
 ) -> Result<(), AllocError>
     requires { length all.old ≡ scale.now.last + 1 }
     ensures { OnOk result ((s : ℕ) → s < length all.old →
         get_or all.new s [] ≡ get_or all.old s [] ++ (if option_map_or (strips.reaches scale.now s) edge false then start ∷ [] else [])) }
 {
     match edge {
-        Some(edge) => file_edge(all, scale, &edge, start),
+        Some(edge) => add_edge(all, scale, &edge, start),
         None => Ok(()),
     }
 }
@@ -165,7 +165,7 @@ pub(crate) fn strips_of(
     scale: &Scale,
     polygons: &[Polygon],
     edges: &[Edge],
-    starts: &[Start],
+    starts: &[EdgeStart],
 ) -> Result<Vec<Strip>, AllocError>
     requires { strips.edges_at polygons.now starts.now ≡ edges.now }
     ensures { IfOk result (λ all. strips.AreFiled polygons.now scale.now edges.now all.items) }
@@ -174,7 +174,7 @@ pub(crate) fn strips_of(
     let mut all = empty_strips(alloc, &rooms)?;
     for start in starts {
         let edge = start.edge_in(polygons);
-        file_start(&mut all, scale, edge, *start)?;
+        add_start(&mut all, scale, edge, *start)?;
     }
     Ok(all)
 }

@@ -4,15 +4,15 @@ use denote.RattleType.{RattleType}
 use denote.Param.Send.{IsSend, IsSync, sendable}
 use denote.Param.SendFields.{declared_send, declared_sync}
 use Rattle.std.proofs.Crossing.{crosses}
-use Rattle.mds_snapshot.specs.declared.history.Naming.{Ghosts}
+use Rattle.mds_snapshot.specs.declared.history.OpeningName.{Ghosts}
 use Rattle.mds_desk.proofs.Desks.{desk_send, room_send}
 use Rattle.mds_desk.proofs.Routing.{routes_send, routes_sync}
 use Rattle.mds_request.proofs.config.Config.TheSendSync as config
 use Rattle.mds_snapshot.proofs.note.Note.TheSendSync as note
-use Rattle.mds_hall.specs.declared.named.Named.{Ghosts as Names}
-use Rattle.mds_hall.specs.contracts.places.HallDesk as HallDesk
-use Rattle.mds_hall.specs.contracts.places.DeskLock as DeskLock
-use Rattle.mds_hall.specs.contracts.places.HallRoom as HallRoom
+use Rattle.mds_hall.specs.declared.hall_name.HallName.{Ghosts as Names}
+use Rattle.mds_hall.specs.contracts.locks.HallDesk as HallDesk
+use Rattle.mds_hall.specs.contracts.locks.DeskLock as DeskLock
+use Rattle.mds_hall.specs.contracts.locks.HallRoom as HallRoom
 use Rattle.mds_hall.specs.contracts.hall.Hall as Hall
 
 module _ (K : RattleType) (n : Names K.Denot) (g : Ghosts K.Denot) where

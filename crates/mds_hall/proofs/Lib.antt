@@ -1,4 +1,4 @@
-pub mod Askers
+pub mod Clients
 pub mod Halls
 mod Outcomes
 mod Placing

@@ -13,10 +13,10 @@ use Rattle.mds_request.specs.declared.config.Actor.{Actor}
 use Rattle.mds_request.specs.declared.config.Actor.TheVariants.{Author, Operator, Nobody}
 use Rattle.mds_request.specs.declared.request.Verb.{Verb}
 use Rattle.mds_request.proofs.Callers.{call_of-caller, caller}
-use Rattle.mds_hall.specs.Asked.{request_in, target_of, token_of}
-use Rattle.mds_hall.specs.Heard.{request_heard}
+use Rattle.mds_hall.specs.HttpRequest.{request_in, target_of, token_of}
+use Rattle.mds_hall.specs.WholeRequest.{request_heard}
 use Rattle.mds_hall.specs.Resolved.{call_in}
-use Rattle.mds_hall.specs.declared.heard.Heard.{Heard}
+use Rattle.mds_hall.specs.declared.whole_request.WholeRequest.{WholeRequest}
 
 -- the request of a head with a body within its limit calls for what the head calls for
 pub call_with_body : (configuration : Configuration) (parts : Parts) (body : List ℕ) (at : ℕ) → length body ≤ MOST_BODY
@@ -25,7 +25,7 @@ call_with_body configuration parts body at within =
     ap (λ big. cond big (Err TooLarge) (call_in configuration parts)) (le-ltb _ _ within)
 
 -- so does a request whose body has arrived
-pub heard_call : (configuration : Configuration) (heard : Heard) → call_of configuration (request_heard heard) ≡ call_in configuration heard.parts.now
+pub heard_call : (configuration : Configuration) (heard : WholeRequest) → call_of configuration (request_heard heard) ≡ call_in configuration heard.parts.now
 heard_call configuration heard =
     call_with_body configuration heard.parts.now heard.body.now heard.at heard.within
 

@@ -5,7 +5,7 @@ use Rattle.mds_request.specs.Configuration.{Configuration}
 use Rattle.mds_request.specs.Request.{Request}
 use Rattle.mds_request.specs.Reply.{Reply}
 use Rattle.mds_desk.specs.Desk.{DeskState, IsSameDesk}
-use Rattle.mds_hall.specs.Told.{DeskTells, Looks}
+use Rattle.mds_hall.specs.Query.{DeskTells, Looks}
 use Rattle.mds_hall.specs.Turn.{DeskReplies, DeskRuns, IsDeskAt, IsTold, TakesToldRun, TakesToldTurn}
 
 -- a desk that learns a note stays the same desk

@@ -9,7 +9,7 @@ use Rattle.mds_request.specs.declared.code.Code.{Code}
 use Rattle.mds_request.specs.declared.code.Code.TheVariants as code
 use Rattle.mds_request.specs.declared.config.Actor.{Actor}
 use Rattle.mds_request.specs.declared.config.Actor.TheVariants.{Nobody}
-use Rattle.mds_hall.specs.Asked.{token_of}
+use Rattle.mds_hall.specs.HttpRequest.{token_of}
 
 -- First a request without a moment is refused, then one without a body within its limit.
 abbrev pub unheard : Arrived → Option ℕ → Option Code

@@ -1,9 +1,9 @@
-pub mod Asker
-pub mod Asked
+pub mod Client
+pub mod HttpRequest
 pub mod Early
-pub mod Heard
+pub mod WholeRequest
 pub mod Resolved
 pub mod Respond
 pub mod Response
-pub mod Told
+pub mod Query
 pub mod Turn

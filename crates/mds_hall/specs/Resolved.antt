@@ -9,7 +9,7 @@ use Rattle.mds_request.specs.Configuration.{Configuration, actor_of}
 use Rattle.mds_request.specs.Request.{verb_of}
 use Rattle.mds_request.specs.declared.call.Call.{Call}
 use Rattle.mds_request.specs.declared.code.Code.{Code}
-use Rattle.mds_hall.specs.Asked.{target_of, token_of}
+use Rattle.mds_hall.specs.HttpRequest.{target_of, token_of}
 
 -- what a head calls for, or the first refusal, whatever body within its limit follows it
 abbrev pub call_in : Configuration → Parts → Result Call Code

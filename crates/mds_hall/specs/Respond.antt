@@ -10,7 +10,7 @@ use Rattle.mds_request.specs.Request.{Request}
 use Rattle.mds_request.specs.Reply.{Reply, refused}
 use Rattle.mds_request.specs.declared.config.Actor.{Actor}
 use Rattle.mds_request.specs.declared.config.Actor.TheVariants.{Author, Operator, Nobody}
-use Rattle.mds_hall.specs.Asked.{request_in}
+use Rattle.mds_hall.specs.HttpRequest.{request_in}
 use Rattle.mds_hall.specs.Early.{early, unknown}
 use Rattle.mds_hall.specs.Response.{Says}
 use Rattle.mds_hall.specs.Turn.{DeskReplies, RoomReplies, SaysOne}

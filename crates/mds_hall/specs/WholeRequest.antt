@@ -4,12 +4,12 @@ use Rattle.http.specs.declared.request.Parts.{Parts}
 use Rattle.mds_limits.specs.Arrival.{body_in}
 use Rattle.mds_limits.specs.declared.arrival.Arrived.{Arrived}
 use Rattle.mds_request.specs.Request.{Request}
-use Rattle.mds_hall.specs.Asked.{request_in}
+use Rattle.mds_hall.specs.HttpRequest.{request_in}
 use Rattle.mds_hall.specs.Early.{unheard}
-use Rattle.mds_hall.specs.declared.heard.Heard.{Heard}
+use Rattle.mds_hall.specs.declared.whole_request.WholeRequest.{WholeRequest}
 
--- the request that a `Heard` stands for
-abbrev pub request_heard : Heard → Request
+-- the request that a `WholeRequest` stands for
+abbrev pub request_heard : WholeRequest → Request
 request_heard heard = request_in heard.parts.now heard.body.now heard.at
 
 -- nothing of what arrived is refused, and this is its request

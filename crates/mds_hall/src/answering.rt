@@ -2,17 +2,17 @@
 ghost use Rattle.std.specs.Prelude.{◌≡◌, IfOk};
 ghost use Rattle.mds_request.specs.Call.{call_of};
 ghost use Rattle.mds_request.specs.Configuration.{configuration};
-ghost use Rattle.mds_hall.specs.Heard.{request_heard};
+ghost use Rattle.mds_hall.specs.WholeRequest.{request_heard};
 ghost use Rattle.mds_hall.specs.Respond.{IsAnswered, Responds};
 
-use crate::early::hear;
+use crate::early::read_whole;
 use crate::hall::Hall;
-use crate::heard::Heard;
-use crate::named::Named;
+use crate::whole_request::WholeRequest;
+use crate::hall_name::HallName;
 use crate::responding::response;
 use http::request::Parts;
 use mds_catalog::Catalogue;
-use mds_desk::{Answer, Gate, OpenGate};
+use mds_desk::{SharedReply, Gate, OpenGate};
 use mds_limits::Arrived;
 use mds_request::{Call, Code};
 use mds_responses::HttpResult;
@@ -24,7 +24,7 @@ use std::sync::Wait;
 /// What requests are answered with: what waits for locks, the allocator, the hall, and the
 /// evaluator of vehicles.
 #[derive(Drop)]
-pub struct HallContext<'a, K: Named, R, E> {
+pub struct HallContext<'a, K: HallName, R, E> {
     pub rt: &'a R,
     pub alloc: Global,
     pub hall: &'a Hall<K>,
@@ -37,7 +37,7 @@ pub struct HallContext<'a, K: Named, R, E> {
 /// # Errors
 ///
 /// There was no memory for the response. The request may have been carried out.
-pub fn respond<K: Named, R: Wait, E: Evaluator<Catalogue>>(
+pub fn respond<K: HallName, R: Wait, E: Evaluator<Catalogue>>(
     rt: &R,
     alloc: Global,
     parts: &Parts,
@@ -66,7 +66,7 @@ pub fn respond<K: Named, R: Wait, E: Evaluator<Catalogue>>(
 /// # Errors
 ///
 /// There was no memory for the response. The request may have been carried out.
-pub fn respond_with<K: Named, R: Wait, G: Gate, E: Evaluator<Catalogue>>(
+pub fn respond_with<K: HallName, R: Wait, G: Gate, E: Evaluator<Catalogue>>(
     rt: &R,
     alloc: Global,
     parts: &Parts,
@@ -79,9 +79,9 @@ pub fn respond_with<K: Named, R: Wait, G: Gate, E: Evaluator<Catalogue>>(
     requires { E.may_judge }
     ensures { IfOk result (Responds (configuration hall.now.config.value) parts.now arrived at) }
 {
-    let heard = match hear(parts, &arrived, at) {
+    let heard = match read_whole(parts, &arrived, at) {
         Ok(heard) => heard,
-        Err(code) => return response(alloc, Answer::from(code)),
+        Err(code) => return response(alloc, SharedReply::from(code)),
     };
     let context = HallContext {
         rt,
@@ -99,10 +99,10 @@ pub fn respond_with<K: Named, R: Wait, G: Gate, E: Evaluator<Catalogue>>(
 /// # Errors
 ///
 /// There was no memory for the response. The request may have been carried out.
-pub(crate) fn carry_out<K: Named, R: Wait, G: Gate, E: Evaluator<Catalogue>>(
+pub(crate) fn carry_out<K: HallName, R: Wait, G: Gate, E: Evaluator<Catalogue>>(
     context: &HallContext<'_, K, R, E>,
     call: Result<Call, Code>,
-    heard: Heard<'_>,
+    heard: WholeRequest<'_>,
     gate: &mut G,
 ) -> HttpResult
     requires judge { E.may_judge }
@@ -122,6 +122,6 @@ pub(crate) fn carry_out<K: Named, R: Wait, G: Gate, E: Evaluator<Catalogue>>(
             let answer = desk.carry_out(heard, &call, note.as_ref(), gate, context.evaluator);
             response(context.alloc, answer)
         }
-        Err(code) => response(context.alloc, Answer::from(code)),
+        Err(code) => response(context.alloc, SharedReply::from(code)),
     }
 }

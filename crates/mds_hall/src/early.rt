@@ -1,9 +1,9 @@
 //! Refusals before a desk or the author's room is asked.
 ghost use Rattle.std.specs.Prelude.{◌≡◌, IfOk, Some, MatchResult};
 ghost use Rattle.mds_hall.specs.Early.{unheard};
-ghost use Rattle.mds_hall.specs.Heard.{request_heard, IsHeard};
+ghost use Rattle.mds_hall.specs.WholeRequest.{request_heard, IsHeard};
 
-use crate::heard::Heard;
+use crate::whole_request::WholeRequest;
 use http::request::Parts;
 use mds_limits::Arrived;
 use mds_request::{Code, MOST_BODY};
@@ -15,11 +15,11 @@ use mds_text::Moment;
 ///
 /// There is no moment (`Clock`), or there is no body within its limit (`BadBody`, `TooLarge` or
 /// `NoMemory`).
-pub fn hear<'a>(
+pub fn read_whole<'a>(
     parts: &'a Parts,
     arrived: &'a Arrived,
     at: Option<Moment>,
-) -> Result<Heard<'a>, Code>
+) -> Result<WholeRequest<'a>, Code>
     ensures heard { MatchResult result (λ heard. IsHeard parts.now arrived.now at (request_heard heard))
         (λ code. unheard arrived.now at ≡ Some code) }
     ensures head { IfOk result (λ heard. heard.parts.now ≡ parts.now) }
@@ -32,6 +32,6 @@ pub fn hear<'a>(
         Arrived::TooLong => Err(Code::TooLarge),
         Arrived::NoMemory => Err(Code::NoMemory),
         Arrived::Whole(body) if body.len() > MOST_BODY => Err(Code::TooLarge),
-        Arrived::Whole(body) => Ok(Heard::new(parts, body, at)),
+        Arrived::Whole(body) => Ok(WholeRequest::new(parts, body, at)),
     }
 }

@@ -8,19 +8,19 @@ ghost use Rattle.mds_request.specs.declared.call.Call.TheVariants.{Author as ByA
 ghost use Rattle.mds_desk.specs.Desk.{state_of};
 ghost use Rattle.mds_desk.specs.Room.{room_of};
 ghost use Rattle.mds_snapshot.specs.Opening.{book_of};
-ghost use Rattle.mds_hall.specs.Asked.{token_of};
-ghost use Rattle.mds_hall.specs.Asker.{IsWithin};
-ghost use Rattle.mds_hall.specs.Heard.{request_heard};
+ghost use Rattle.mds_hall.specs.HttpRequest.{token_of};
+ghost use Rattle.mds_hall.specs.Client.{IsWithin};
+ghost use Rattle.mds_hall.specs.WholeRequest.{request_heard};
 ghost use Rattle.mds_hall.specs.Resolved.{call_in};
 ghost use Rattle.mds_hall.specs.Turn.{AreDesksOf, RoomReplies};
 
-use crate::asked::{head_request, token};
-use crate::heard::Heard;
-use crate::named::Named;
-use crate::places::{DeskLock, HallDesk, HallRoom};
+use crate::http_request::{head_request, token};
+use crate::whole_request::WholeRequest;
+use crate::hall_name::HallName;
+use crate::locks::{DeskLock, HallDesk, HallRoom};
 use crate::resolved::ResolvedCall;
 use http::request::Parts;
-use mds_desk::{Always, Answer, AuthorRoom, Desk, furnish};
+use mds_desk::{AlwaysPublish, SharedReply, AuthorRoom, Desk, furnish};
 use mds_request::{Actor, AuthorCall, Call, Code, Config, Routes, read_call};
 use mds_snapshot::{Blank, Note, OpenFault};
 use std::alloc::{AllocError, Global};
@@ -32,7 +32,7 @@ use std::sync::{Arc, Mutex, MutexGuard, Wait};
 /// note's while the note is copied; the author's takes the room's, and within it the note's. It has
 /// to be ended by `finish`.
 #[derive(Drop)]
-pub struct Hall<K: Named> {
+pub struct Hall<K: HallName> {
     config: Arc<Config>,
     routes: Arc<Routes>,
     room: Mutex<HallRoom<K>>,
@@ -47,7 +47,7 @@ pub struct Hall<K: Named> {
 /// # Errors
 ///
 /// Out of memory.
-fn locked<K: Named>(alloc: Global, desks: Vec<Desk<K>>) -> Result<Vec<DeskLock<K>>, AllocError>
+fn lock_each<K: HallName>(alloc: Global, desks: Vec<Desk<K>>) -> Result<Vec<DeskLock<K>>, AllocError>
     requires { AreDesksOf K.configuration (map state_of desks.items) }
     ensures { IfOk result (λ locked. map (λ desk. desk.place) locked.items ≡ range_with_len 0 (length K.configuration.operators)) }
 {
@@ -60,7 +60,7 @@ fn locked<K: Named>(alloc: Global, desks: Vec<Desk<K>>) -> Result<Vec<DeskLock<K
 }
 
 /// A copy of the latest note, if there is one.
-fn copied<K: Named>(latest: &Option<Note<K>>) -> Option<Note<K>>
+fn copy_note<K: HallName>(latest: &Option<Note<K>>) -> Option<Note<K>>
     ensures { result ≡ latest.now }
 {
     match latest {
@@ -70,13 +70,13 @@ fn copied<K: Named>(latest: &Option<Note<K>>) -> Option<Note<K>>
 }
 
 /// Sets the latest note.
-fn keep<K: Named>(latest: &mut Option<Note<K>>, note: Note<K>)
+fn set_latest<K: HallName>(latest: &mut Option<Note<K>>, note: Note<K>)
     ensures { latest.new ≡ Some note }
 {
     *latest = Some(note);
 }
 
-impl<K: Named> Hall<K> {
+impl<K: HallName> Hall<K> {
     /// Opens a `Blank` for a configuration.
     ///
     /// # Errors
@@ -111,7 +111,7 @@ impl<K: Named> Hall<K> {
         requires desks { AreDesksOf K.configuration (map state_of desks.items) }
         ensures { IfOk result (λ hall. configuration hall.config.value ≡ K.configuration) }
     {
-        match (room.configuration(), room.routes(), locked(alloc, desks)) {
+        match (room.configuration(), room.routes(), lock_each(alloc, desks)) {
             (Ok(config), Ok(routes), Ok(desks)) => Ok(Hall {
                 config,
                 routes,
@@ -187,7 +187,7 @@ impl<K: Named> Hall<K> {
         requires { place < length (configuration self.now.config.value).operators }
         ensures { IfSome result (λ guard. (mutex_guard_value guard).place ≡ place) }
     {
-        self.desk(place).taken(rt)
+        self.desk(place).lock_checked(rt)
     }
 
     /// From now on this number is that of the vehicles of the operator at this index: it is set at
@@ -205,14 +205,14 @@ impl<K: Named> Hall<K> {
     }
 
     /// Sets the latest note: under the room's lock, so that a later one isn't lost.
-    pub fn keep_note<R: Wait>(&self, rt: &R, note: Note<K>) {
-        keep(&mut *self.latest.lock(rt), note);
+    pub fn set_note<R: Wait>(&self, rt: &R, note: Note<K>) {
+        set_latest(&mut *self.latest.lock(rt), note);
     }
 
     /// The latest note.
     pub fn note<R: Wait>(&self, rt: &R) -> Option<Note<K>> {
         let latest = self.latest.lock(rt);
-        copied(&*latest)
+        copy_note(&*latest)
     }
 
     /// Carries out a call of the author, that of the request, by one turn of the author's room. A
@@ -220,16 +220,16 @@ impl<K: Named> Hall<K> {
     pub(crate) fn answer_author<R: Wait>(
         &self,
         rt: &R,
-        heard: Heard<'_>,
+        heard: WholeRequest<'_>,
         call: &AuthorCall,
-    ) -> Answer
+    ) -> SharedReply
         requires { call_of (configuration self.now.config.value) (request_heard heard) ≡ Ok (ByAuthor call.now) }
         ensures { RoomReplies (configuration self.now.config.value) (request_heard heard.entry) result }
     {
         let mut room = self.room.lock(rt);
-        let (reply, note) = room.carry_out(rt, heard, call, &mut Always);
+        let (reply, note) = room.carry_out(rt, heard, call, &mut AlwaysPublish);
         if let Some(note) = note {
-            keep(&mut *self.latest.lock(rt), note);
+            set_latest(&mut *self.latest.lock(rt), note);
         }
         reply
     }

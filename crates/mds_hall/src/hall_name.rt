@@ -1,18 +1,18 @@
 //! Names the opening and the configuration of a hall, in the proofs.
 
-use mds_snapshot::Naming;
+use mds_snapshot::OpeningName;
 use std::marker::Brand;
 
 /// Names the opening and the configuration of a hall: all that lies behind its locks belongs to
 /// them. A program passes what it opens to a function that is generic over this, and calls it with
 /// `Brand`; the proof of that call picks the `Blank`'s book and the configuration.
-pub trait Named: Naming {
+pub trait HallName: OpeningName {
     ghost use Rattle.mds_request.specs.Configuration.{Configuration};
 
     ghost configuration: { Configuration };
 }
 
-impl Named for Brand {
+impl HallName for Brand {
     ghost use Rattle.std.specs.Prelude.{[], pos};
     ghost use Rattle.mds_match.specs.Zone.{fixed};
 

@@ -3,24 +3,24 @@
 #![tactic(auto)]
 
 mod answering;
-mod asked;
+mod http_request;
 mod early;
 mod hall;
-mod heard;
-mod named;
-mod places;
+mod whole_request;
+mod hall_name;
+mod locks;
 mod resolved;
 mod responding;
 mod turn;
 
 pub use answering::{HallContext, respond, respond_with};
-pub use asked::{target, token};
-pub use early::hear;
+pub use http_request::{target, token};
+pub use early::read_whole;
 pub use hall::Hall;
-pub use heard::Heard;
+pub use whole_request::WholeRequest;
 pub use mds_limits::Arrived;
-pub use named::Named;
-pub use places::{HallDesk, HallRoom};
+pub use hall_name::HallName;
+pub use locks::{HallDesk, HallRoom};
 pub use resolved::ResolvedCall;
 pub use responding::response;
 pub use turn::desk_turn;

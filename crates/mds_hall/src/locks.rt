@@ -9,15 +9,15 @@ ghost use Rattle.mds_request.specs.Reply.{refused};
 ghost use Rattle.mds_request.specs.declared.call.Call.TheVariants.{Author as ByAuthor, Operator as OperatorAt};
 ghost use Rattle.mds_request.specs.declared.code.Code.TheVariants.{NoMemory, NoSnapshot};
 ghost use Rattle.mds_desk.specs.Room.{room_of, TakesRoomTurn};
-ghost use Rattle.mds_hall.specs.Heard.{request_heard};
-ghost use Rattle.mds_hall.specs.Told.{DeskTells, Looks, RoomTells};
+ghost use Rattle.mds_hall.specs.WholeRequest.{request_heard};
+ghost use Rattle.mds_hall.specs.Query.{DeskTells, Looks, RoomTells};
 ghost use Rattle.mds_hall.specs.Turn.{DeskReplies, DeskRuns, IsDeskAt, IsTold, RoomReplies, TakesToldRun, TakesToldTurn};
 
-use crate::heard::Heard;
-use crate::named::Named;
-use crate::turn::{told_call, told_look, told_run, told_turn};
+use crate::whole_request::WholeRequest;
+use crate::hall_name::HallName;
+use crate::turn::{take_call_turn, query_desk, take_run, take_turn};
 use mds_catalog::Catalogue;
-use mds_desk::{Answer, AuthorRoom, AuthorTelling, Desk, Gate, Leave, Telling};
+use mds_desk::{SharedReply, AuthorRoom, RoomQuery, Desk, Gate, PublishGuard, DeskQuery};
 use mds_request::{AuthorCall, Code, OperatorCall, Request};
 use mds_snapshot::Note;
 use mds_verdict::Evaluator;
@@ -33,7 +33,7 @@ const TRIES: usize = 32;
 
 /// The desk of the operator at this index of the configuration that `K` names.
 #[derive(Drop)]
-pub struct HallDesk<K: Named> {
+pub struct HallDesk<K: HallName> {
     place: usize,
     desk: Desk<K>,
     /// The number of vehicles, shared with its reader.
@@ -43,20 +43,20 @@ pub struct HallDesk<K: Named> {
 }
 
 /// Stores the number of vehicles of a desk's operator, where it is wanted.
-fn tell_count<K: Named>(desk: &Desk<K>, vehicles: &Option<Arc<AtomicU64>>) {
+fn store_count<K: HallName>(desk: &Desk<K>, vehicles: &Option<Arc<AtomicU64>>) {
     if let Some(vehicles) = vehicles {
         vehicles.store(desk.vehicles() as u64, Ordering::SeqCst);
     }
 }
 
-impl<K: Named> HallDesk<K> {
+impl<K: HallName> HallDesk<K> {
     /// From now on this number is that of the vehicles: it is set here, and after each turn.
     pub(crate) fn count_at(&mut self, vehicles: Arc<AtomicU64>)
         ensures desk { self.new.desk ≡ self.old.desk }
         ensures place { self.new.place ≡ self.old.place }
     {
         self.vehicles = Some(vehicles);
-        tell_count(&self.desk, &self.vehicles);
+        store_count(&self.desk, &self.vehicles);
     }
 
     /// Answers a query of what is published: the desk learns the note, where there is one, and
@@ -65,33 +65,33 @@ impl<K: Named> HallDesk<K> {
     /// # Errors
     ///
     /// `NoSnapshot` where there is no snapshot, `NoMemory` where memory ran out.
-    pub fn told<T: Telling>(&mut self, note: Option<&Note<K>>, telling: &T) -> Result<T::Told, Code>
+    pub fn query<T: DeskQuery>(&mut self, note: Option<&Note<K>>, telling: &T) -> Result<T::Told, Code>
         ensures looks { Looks (state_of self.old.desk) (option_copied note.entry) (state_of self.new.desk) }
         ensures told { IfOk result (T.tells telling.now (state_of self.new.desk).known) }
         ensures tells { IfOk result (DeskTells K.configuration self.old.place (T.tells telling.now)) }
         ensures refused { IfErr result (λ code. (code ≡ NoMemory) ⊎ (code ≡ NoSnapshot)) }
         ensures place { self.new.place ≡ self.old.place }
     {
-        told_look(&mut self.desk, note, telling)
+        query_desk(&mut self.desk, note, telling)
     }
 
     /// Answers a request: the desk learns the note, where there is one, and takes one turn, whose
     /// reply is returned. The evaluator judges vehicles.
-    pub fn answered<G: Gate, E: Evaluator<Catalogue>>(
+    pub fn answer<G: Gate, E: Evaluator<Catalogue>>(
         &mut self,
-        heard: Heard<'_>,
+        heard: WholeRequest<'_>,
         note: Option<&Note<K>>,
         gate: &mut G,
         evaluator: &E,
-    ) -> Answer
+    ) -> SharedReply
         requires { E.may_judge }
         ensures turn { TakesToldTurn (state_of self.old.desk) (option_copied note.entry) (request_heard heard.entry) result (state_of self.new.desk) }
         ensures replies { DeskReplies K.configuration self.old.place (request_heard heard.entry) result }
         ensures place { self.new.place ≡ self.old.place }
     {
         let request = heard.request();
-        let reply = told_turn(&request, &mut self.desk, note, gate, evaluator);
-        tell_count(&self.desk, &self.vehicles);
+        let reply = take_turn(&request, &mut self.desk, note, gate, evaluator);
+        store_count(&self.desk, &self.vehicles);
         reply
     }
 
@@ -100,12 +100,12 @@ impl<K: Named> HallDesk<K> {
     /// vehicles.
     pub fn carry_out<G: Gate, E: Evaluator<Catalogue>>(
         &mut self,
-        heard: Heard<'_>,
+        heard: WholeRequest<'_>,
         call: &OperatorCall,
         note: Option<&Note<K>>,
         gate: &mut G,
         evaluator: &E,
-    ) -> Answer
+    ) -> SharedReply
         requires judge { E.may_judge }
         requires resolved { call_of K.configuration (request_heard heard) ≡ Ok (OperatorAt self.old.place call.now) }
         ensures turn { TakesToldTurn (state_of self.old.desk) (option_copied note.entry) (request_heard heard.entry) result (state_of self.new.desk) }
@@ -113,8 +113,8 @@ impl<K: Named> HallDesk<K> {
         ensures place { self.new.place ≡ self.old.place }
     {
         let request = heard.request();
-        let reply = told_call(&request, call, &mut self.desk, note, gate, evaluator);
-        tell_count(&self.desk, &self.vehicles);
+        let reply = take_call_turn(&request, call, &mut self.desk, note, gate, evaluator);
+        store_count(&self.desk, &self.vehicles);
         reply
     }
 
@@ -126,13 +126,13 @@ impl<K: Named> HallDesk<K> {
     ///
     /// There was no memory for the list of replies: no request was answered, and no vehicle has
     /// changed.
-    pub fn answered_all<G: Gate, E: Evaluator<Catalogue>>(
+    pub fn answer_all<G: Gate, E: Evaluator<Catalogue>>(
         &mut self,
         requests: &[Request<'_>],
         note: Option<&Note<K>>,
         gate: &mut G,
         evaluator: &E,
-    ) -> Result<Vec<Answer>, AllocError>
+    ) -> Result<Vec<SharedReply>, AllocError>
         requires { E.may_judge }
         ensures run { IfOk result (λ replies. TakesToldRun (state_of self.old.desk) (option_copied note.entry) (map request_of requests.now)
             replies.items (state_of self.new.desk)) }
@@ -140,20 +140,20 @@ impl<K: Named> HallDesk<K> {
         ensures unasked { OnErr result (IsTold (state_of self.old.desk) (option_copied note.entry) (state_of self.new.desk)) }
         ensures place { self.new.place ≡ self.old.place }
     {
-        let replies = told_run(requests, &mut self.desk, note, gate, evaluator);
-        tell_count(&self.desk, &self.vehicles);
+        let replies = take_run(requests, &mut self.desk, note, gate, evaluator);
+        store_count(&self.desk, &self.vehicles);
         replies
     }
 }
 
 /// A desk behind its lock.
 #[derive(Drop)]
-pub(crate) struct DeskLock<K: Named> {
+pub(crate) struct DeskLock<K: HallName> {
     place: usize,
     desk: Mutex<HallDesk<K>>,
 }
 
-impl<K: Named> DeskLock<K> {
+impl<K: HallName> DeskLock<K> {
     /// Puts the desk of the operator at this index behind a lock.
     pub(crate) fn new(place: usize, desk: Desk<K>) -> DeskLock<K>
         requires { IsDeskAt K.configuration place (state_of desk) }
@@ -171,12 +171,12 @@ impl<K: Named> DeskLock<K> {
 
     /// From now on this number is that of the vehicles of the desk's operator.
     pub(crate) fn count_at<R: Wait>(&self, rt: &R, vehicles: Arc<AtomicU64>) {
-        self.locked(rt).count_at(vehicles);
+        self.lock_desk(rt).count_at(vehicles);
     }
 
     /// Takes the lock. Most answers take less time than it takes to put a thread to sleep and to
     /// wake it, so a thread sleeps only where the desk stays locked.
-    fn locked<R: Wait>(&self, rt: &R) -> MutexGuard<'_, HallDesk<K>> {
+    fn lock_desk<R: Wait>(&self, rt: &R) -> MutexGuard<'_, HallDesk<K>> {
         for _ in 0..TRIES {
             if let Some(desk) = self.desk.try_lock() {
                 return desk;
@@ -188,10 +188,10 @@ impl<K: Named> DeskLock<K> {
 
     /// The desk of this lock's index. All that is known of the desk behind the lock is its
     /// configuration, so the index is compared; it is never another.
-    pub(crate) fn taken<R: Wait>(&self, rt: &R) -> Option<MutexGuard<'_, HallDesk<K>>>
+    pub(crate) fn lock_checked<R: Wait>(&self, rt: &R) -> Option<MutexGuard<'_, HallDesk<K>>>
         ensures { IfSome result (λ guard. (mutex_guard_value guard).place ≡ self.now.place) }
     {
-        let desk = self.locked(rt);
+        let desk = self.lock_desk(rt);
         if desk.place == self.place {
             Some(desk)
         } else {
@@ -202,12 +202,12 @@ impl<K: Named> DeskLock<K> {
 
 /// The author's room of the configuration that `K` names.
 #[derive(Drop)]
-pub struct HallRoom<K: Named> {
+pub struct HallRoom<K: HallName> {
     room: ManuallyDrop<AuthorRoom<K>>,
     ghost configured: { (room_of (manually_drop_value room)).configuration ≡ K.configuration },
 }
 
-impl<K: Named> HallRoom<K> {
+impl<K: HallName> HallRoom<K> {
     /// Wraps a room. It has to be ended by `finish`.
     pub(crate) fn new(room: AuthorRoom<K>) -> HallRoom<K>
         requires { (room_of room).configuration ≡ K.configuration }
@@ -220,12 +220,12 @@ impl<K: Named> HallRoom<K> {
     /// Answers a request by one turn of the room. A publication gives a note, for desks to learn,
     /// and `leave` is asked just before the publication is visible: see
     /// `mds_desk::AuthorRoom::answer_with`.
-    pub fn answer_with<R: Wait, L: Leave>(
+    pub fn answer_with<R: Wait, L: PublishGuard>(
         &mut self,
         rt: &R,
-        heard: Heard<'_>,
+        heard: WholeRequest<'_>,
         leave: &mut L,
-    ) -> (Answer, Option<Note<K>>)
+    ) -> (SharedReply, Option<Note<K>>)
         ensures turn { TakesRoomTurn (room_of (manually_drop_value self.old.room)) (request_heard heard.entry)
             result.0 result.1 (room_of (manually_drop_value self.new.room)) }
         ensures replies { RoomReplies K.configuration (request_heard heard.entry) result.0 }
@@ -237,13 +237,13 @@ impl<K: Named> HallRoom<K> {
     }
 
     /// The same for a call of the author, that of the request.
-    pub fn carry_out<R: Wait, L: Leave>(
+    pub fn carry_out<R: Wait, L: PublishGuard>(
         &mut self,
         rt: &R,
-        heard: Heard<'_>,
+        heard: WholeRequest<'_>,
         call: &AuthorCall,
         leave: &mut L,
-    ) -> (Answer, Option<Note<K>>)
+    ) -> (SharedReply, Option<Note<K>>)
         requires { call_of K.configuration (request_heard heard) ≡ Ok (ByAuthor call.now) }
         ensures turn { TakesRoomTurn (room_of (manually_drop_value self.old.room)) (request_heard heard.entry)
             result.0 result.1 (room_of (manually_drop_value self.new.room)) }
@@ -260,12 +260,12 @@ impl<K: Named> HallRoom<K> {
     /// # Errors
     ///
     /// Out of memory.
-    pub fn told<T: AuthorTelling>(&self, telling: &T) -> Result<T::Told, AllocError>
+    pub fn query<T: RoomQuery>(&self, telling: &T) -> Result<T::Told, AllocError>
         ensures told { IfOk result (T.tells telling.now (room_of (manually_drop_value self.now.room)).drafts
             (room_of (manually_drop_value self.now.room)).publications) }
         ensures tells { IfOk result (RoomTells K.configuration (T.tells telling.now)) }
     {
-        self.room.tell(telling)
+        self.room.run_query(telling)
     }
 
     /// Ends the room.

@@ -2,19 +2,19 @@
 ghost use Rattle.std.specs.Prelude.{◌≡◌, IfOk};
 ghost use Rattle.mds_request.specs.Call.{call_of};
 ghost use Rattle.mds_request.specs.Configuration.{actor_of};
-ghost use Rattle.mds_hall.specs.Asked.{token_of};
-ghost use Rattle.mds_hall.specs.Heard.{request_heard};
+ghost use Rattle.mds_hall.specs.HttpRequest.{token_of};
+ghost use Rattle.mds_hall.specs.WholeRequest.{request_heard};
 ghost use Rattle.mds_hall.specs.Resolved.{call_in, cost_in};
 ghost use Rattle.mds_hall.specs.Respond.{Responds};
 
 use crate::answering::{HallContext, carry_out};
-use crate::early::hear;
-use crate::heard::Heard;
-use crate::named::Named;
+use crate::early::read_whole;
+use crate::whole_request::WholeRequest;
+use crate::hall_name::HallName;
 use crate::responding::response;
 use http::request::Parts;
 use mds_catalog::Catalogue;
-use mds_desk::{Answer, OpenGate};
+use mds_desk::{SharedReply, OpenGate};
 use mds_limits::{Arrived, Cost, cost_of};
 use mds_request::{Actor, Call, Code};
 use mds_responses::HttpResult;
@@ -25,7 +25,7 @@ use std::sync::Wait;
 
 /// A head that is resolved, once: which client asks, and for what. `Hall::resolve` alone makes one.
 #[derive(Drop)]
-pub struct ResolvedCall<K: Named> {
+pub struct ResolvedCall<K: HallName> {
     parts: Parts,
     actor: Actor,
     call: Result<Call, Code>,
@@ -34,7 +34,7 @@ pub struct ResolvedCall<K: Named> {
     ghost calls: { call ≡ call_in K.configuration parts },
 }
 
-impl<K: Named> ResolvedCall<K> {
+impl<K: HallName> ResolvedCall<K> {
     /// A head with its client and its call, or its refusal.
     pub(crate) fn new(parts: Parts, actor: Actor, call: Result<Call, Code>) -> ResolvedCall<K>
         requires asks { actor ≡ actor_of K.configuration (token_of parts.headers) }
@@ -79,7 +79,7 @@ impl<K: Named> ResolvedCall<K> {
     /// # Errors
     ///
     /// The first refusal of the table of calls, as `mds_request::read_call` says.
-    pub fn call(&self, heard: &Heard<'_>) -> Result<Call, Code>
+    pub fn call(&self, heard: &WholeRequest<'_>) -> Result<Call, Code>
         requires { heard.now.parts.now ≡ self.now.parts }
         ensures { result ≡ call_of K.configuration (request_heard heard.now) }
     {
@@ -101,9 +101,9 @@ impl<K: Named> ResolvedCall<K> {
         requires { E.may_judge }
         ensures { IfOk result (Responds K.configuration self.now.parts arrived.now at) }
     {
-        let heard = match hear(&self.parts, arrived, at) {
+        let heard = match read_whole(&self.parts, arrived, at) {
             Ok(heard) => heard,
-            Err(code) => return response(context.alloc, Answer::from(code)),
+            Err(code) => return response(context.alloc, SharedReply::from(code)),
         };
         carry_out(context, self.call(&heard), heard, &mut OpenGate)
     }

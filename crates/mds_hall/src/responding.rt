@@ -3,7 +3,7 @@ ghost use Rattle.std.specs.Prelude.{IfOk};
 ghost use Rattle.mds_hall.specs.Response.{Says};
 
 use http::StatusCode;
-use mds_desk::Answer;
+use mds_desk::SharedReply;
 use mds_responses::{HttpResult, json_response};
 use std::alloc::{AllocError, Global};
 
@@ -12,7 +12,7 @@ use std::alloc::{AllocError, Global};
 /// # Errors
 ///
 /// Out of memory.
-pub fn response(alloc: Global, answer: Answer) -> HttpResult
+pub fn response(alloc: Global, answer: SharedReply) -> HttpResult
     ensures { IfOk result (λ response. Says response answer) }
 {
     // Each answer's status has three digits.

@@ -5,24 +5,24 @@ ghost use Rattle.mds_request.specs.Request.{request_of};
 ghost use Rattle.mds_request.specs.declared.call.Call.TheVariants.{Operator as OperatorAt};
 ghost use Rattle.mds_request.specs.declared.code.Code.TheVariants.{NoMemory, NoSnapshot};
 ghost use Rattle.mds_desk.specs.Desk.{state_of, IsSameDesk};
-ghost use Rattle.mds_hall.specs.Asked.{request_in};
-ghost use Rattle.mds_hall.specs.Told.{Looks};
+ghost use Rattle.mds_hall.specs.HttpRequest.{request_in};
+ghost use Rattle.mds_hall.specs.Query.{Looks};
 ghost use Rattle.mds_hall.specs.Turn.{Answers, IsTold, TakesToldRun, TakesToldTurn};
 
-use crate::asked::request;
+use crate::http_request::request;
 use crate::responding::response;
 use http::request::Parts;
 use mds_catalog::Catalogue;
-use mds_desk::{Answer, Desk, Gate, Telling};
+use mds_desk::{SharedReply, Desk, Gate, DeskQuery};
 use mds_request::{Code, OperatorCall, Request};
 use mds_responses::HttpResult;
-use mds_snapshot::{Naming, Note};
+use mds_snapshot::{OpeningName, Note};
 use mds_text::Moment;
 use mds_verdict::Evaluator;
 use std::alloc::{AllocError, Global};
 
 /// A desk learns a note, if there is one.
-fn tell<K: Naming>(desk: &mut Desk<K>, note: Option<&Note<K>>)
+fn learn_note<K: OpeningName>(desk: &mut Desk<K>, note: Option<&Note<K>>)
     ensures { IsTold (state_of desk.old) (option_copied note.entry) (state_of desk.new) }
 {
     if let Some(note) = note {
@@ -36,7 +36,7 @@ fn tell<K: Naming>(desk: &mut Desk<K>, note: Option<&Note<K>>)
 /// # Errors
 ///
 /// `NoSnapshot` where there is no snapshot, `NoMemory` where memory ran out.
-pub(crate) fn told_look<K: Naming, T: Telling>(
+pub(crate) fn query_desk<K: OpeningName, T: DeskQuery>(
     desk: &mut Desk<K>,
     note: Option<&Note<K>>,
     telling: &T,
@@ -46,45 +46,45 @@ pub(crate) fn told_look<K: Naming, T: Telling>(
     ensures refused { IfErr result (λ code. (code ≡ NoMemory) ⊎ (code ≡ NoSnapshot)) }
     ensures same { IsSameDesk (state_of desk.old) (state_of desk.new) }
 {
-    tell(desk, note);
-    let told = desk.tell(telling);
+    learn_note(desk, note);
+    let told = desk.run_query(telling);
     told
 }
 
 /// Takes one turn of a desk, which stays the desk of the same operator: the desk learns the note,
 /// where there is one, and answers the request. The evaluator judges vehicles.
-pub(crate) fn told_turn<K: Naming, G: Gate, E: Evaluator<Catalogue>>(
+pub(crate) fn take_turn<K: OpeningName, G: Gate, E: Evaluator<Catalogue>>(
     request: &Request<'_>,
     desk: &mut Desk<K>,
     note: Option<&Note<K>>,
     gate: &mut G,
     evaluator: &E,
-) -> Answer
+) -> SharedReply
     requires { E.may_judge }
     ensures turn { TakesToldTurn (state_of desk.old) (option_copied note.entry) (request_of request.now) result (state_of desk.new) }
     ensures same { IsSameDesk (state_of desk.old) (state_of desk.new) }
 {
-    tell(desk, note);
+    learn_note(desk, note);
     desk.answer(request, gate, evaluator)
 }
 
 /// Takes one turn of a desk for a call of its operator, that of the request: the desk learns the
 /// note, where there is one, and carries the call out. It stays the desk of the same operator. The
 /// evaluator judges vehicles.
-pub(crate) fn told_call<K: Naming, G: Gate, E: Evaluator<Catalogue>>(
+pub(crate) fn take_call_turn<K: OpeningName, G: Gate, E: Evaluator<Catalogue>>(
     request: &Request<'_>,
     call: &OperatorCall,
     desk: &mut Desk<K>,
     note: Option<&Note<K>>,
     gate: &mut G,
     evaluator: &E,
-) -> Answer
+) -> SharedReply
     requires judge { E.may_judge }
     requires resolved { call_of (state_of desk.old).configuration (request_of request.now) ≡ Ok (OperatorAt (state_of desk.old).place call.now) }
     ensures turn { TakesToldTurn (state_of desk.old) (option_copied note.entry) (request_of request.now) result (state_of desk.new) }
     ensures same { IsSameDesk (state_of desk.old) (state_of desk.new) }
 {
-    tell(desk, note);
+    learn_note(desk, note);
     desk.carry_out(request, call, gate, evaluator)
 }
 
@@ -94,19 +94,19 @@ pub(crate) fn told_call<K: Naming, G: Gate, E: Evaluator<Catalogue>>(
 /// # Errors
 ///
 /// There was no memory for the list of replies: no request was answered.
-pub(crate) fn told_run<K: Naming, G: Gate, E: Evaluator<Catalogue>>(
+pub(crate) fn take_run<K: OpeningName, G: Gate, E: Evaluator<Catalogue>>(
     requests: &[Request<'_>],
     desk: &mut Desk<K>,
     note: Option<&Note<K>>,
     gate: &mut G,
     evaluator: &E,
-) -> Result<Vec<Answer>, AllocError>
+) -> Result<Vec<SharedReply>, AllocError>
     requires { E.may_judge }
     ensures run { IfOk result (λ replies. TakesToldRun (state_of desk.old) (option_copied note.entry) (map request_of requests.now) replies.items (state_of desk.new)) }
     ensures unasked { OnErr result (IsTold (state_of desk.old) (option_copied note.entry) (state_of desk.new)) }
     ensures same { IsSameDesk (state_of desk.old) (state_of desk.new) }
 {
-    tell(desk, note);
+    learn_note(desk, note);
     desk.run(requests, gate, evaluator)
 }
 
@@ -117,7 +117,7 @@ pub(crate) fn told_run<K: Naming, G: Gate, E: Evaluator<Catalogue>>(
 /// # Errors
 ///
 /// There was no memory for the response. The request may have been carried out.
-pub fn desk_turn<K: Naming, G: Gate, E: Evaluator<Catalogue>>(
+pub fn desk_turn<K: OpeningName, G: Gate, E: Evaluator<Catalogue>>(
     alloc: Global,
     parts: &Parts,
     body: &[u8],
@@ -131,6 +131,6 @@ pub fn desk_turn<K: Naming, G: Gate, E: Evaluator<Catalogue>>(
     ensures { Answers (state_of desk.old) (option_copied note.entry) (request_in parts.now body.now at) result (state_of desk.new) }
 {
     let request = request(parts, body, at);
-    let reply = told_turn(&request, desk, note, gate, evaluator);
+    let reply = take_turn(&request, desk, note, gate, evaluator);
     response(alloc, reply)
 }

@@ -3,7 +3,7 @@ ghost use Rattle.std.specs.Prelude.{◌≤◌, length};
 ghost use Rattle.mds_text.specs.Fields.{last_moment};
 ghost use Rattle.mds_request.specs.declared.call.TheConstants.{MOST_BODY};
 
-use crate::asked::request;
+use crate::http_request::request;
 use http::request::Parts;
 use mds_request::Request;
 use mds_text::Moment;
@@ -12,7 +12,7 @@ use mds_text::Moment;
 /// limit, are borrowed. `hear` alone makes one. It can't be copied, and the turn that answers it
 /// consumes it, so that no request takes two turns.
 #[derive(Drop)]
-pub struct Heard<'a> {
+pub struct WholeRequest<'a> {
     parts: &'a Parts,
     body: &'a [u8],
     /// In milliseconds since the Unix epoch.
@@ -21,19 +21,19 @@ pub struct Heard<'a> {
     ghost in_range: { at ≤ last_moment },
 }
 
-impl<'a> Heard<'a> {
+impl<'a> WholeRequest<'a> {
     ghost use Rattle.std.specs.Prelude.{◌≡◌};
     ghost use Rattle.mds_request.specs.Request.{request_of};
-    ghost use Rattle.mds_hall.specs.Asked.{request_in};
-    ghost use Rattle.mds_hall.specs.Heard.{request_heard};
+    ghost use Rattle.mds_hall.specs.HttpRequest.{request_in};
+    ghost use Rattle.mds_hall.specs.WholeRequest.{request_heard};
 
     /// The request of this head and this body, at this moment.
-    pub(crate) fn new(parts: &'a Parts, body: &'a [u8], at: Moment) -> Heard<'a>
+    pub(crate) fn new(parts: &'a Parts, body: &'a [u8], at: Moment) -> WholeRequest<'a>
         requires { length body.now ≤ MOST_BODY }
         ensures request { request_heard result ≡ request_in parts.now body.now at }
         ensures head { result.parts.now ≡ parts.now }
     {
-        Heard {
+        WholeRequest {
             parts,
             body,
             at: at.get() as u64,

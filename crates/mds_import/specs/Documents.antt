@@ -13,12 +13,12 @@ use Rattle.mds_text.specs.declared.draft_kind.DraftKind.{DraftKind}
 use Rattle.mds_text.specs.declared.draft_kind.DraftKind.TheVariants.{Policy, Geography}
 use Rattle.mds_import.specs.Members.{named, as_id, as_list, text_named, id_named, list_named, or_none}
 use Rattle.mds_text.specs.View.{view}
-use Rattle.mds_import.specs.declared.drafting.Lists.{Lists}
+use Rattle.mds_import.specs.declared.drafting.DocumentLists.{DocumentLists}
 use Rattle.mds_import.specs.declared.drafting.Origin.{Origin}
-use Rattle.mds_import.specs.declared.drafting.Why.{Why}
-use Rattle.mds_import.specs.declared.drafting.Why.TheVariants.{BadField, Decimal}
-use Rattle.mds_import.specs.declared.drafting.Prepared.{Prepared}
-use Rattle.mds_import.specs.declared.drafting.Prepared.TheVariants as code
+use Rattle.mds_import.specs.declared.drafting.RefusalReason.{RefusalReason}
+use Rattle.mds_import.specs.declared.drafting.RefusalReason.TheVariants.{BadField, Decimal}
+use Rattle.mds_import.specs.declared.drafting.PreparedDocument.{PreparedDocument}
+use Rattle.mds_import.specs.declared.drafting.PreparedDocument.TheVariants as code
 
 -- the value of the member `data`, or the file itself
 abbrev pub or_else : Option Json → Json → Json
@@ -92,7 +92,7 @@ abbrev mutual
 -- a document as it is sent, or the member at fault and why it isn't sent
 pub data Outcome : Type 0 where
   drafted : (origin : Origin) → (kind : DraftKind) → (id : List ℕ) → (predecessors : List (List ℕ)) → (body : List ℕ) → Outcome
-  refused : (member : List ℕ) → (why : Why) → Outcome
+  refused : (member : List ℕ) → (why : RefusalReason) → Outcome
 
 -- a geography is sent as it stands
 abbrev pub geography_with : Origin → Option (List ℕ) → Json → Outcome
@@ -186,11 +186,11 @@ feature_with origin feature (Some name) (Some shape) =
 abbrev pub feature_prepared : Origin → Json → Outcome
 feature_prepared origin feature = feature_with origin feature (option_and_then (text_named (codes "name")) (properties_of feature)) (named (codes "geometry") feature)
 
-abbrev pub outcome : Prepared → Outcome
+abbrev pub outcome : PreparedDocument → Outcome
 outcome (code.Draft d) = drafted d.origin d.kind d.id d.predecessors.items d.body.items
 outcome (code.Refused r) = refused r.member.now r.why
 
-abbrev pub read_view : Lists → Read
+abbrev pub read_view : DocumentLists → Read
 read_view d = record { features = map view d.features.now; first = map view d.first.now; second = map view d.second.now }
 
 abbrev pub folder_of : DraftKind → List ℕ

@@ -5,7 +5,7 @@ ghost use Rattle.mds_text.specs.View.{view};
 ghost use Rattle.mds_import.specs.Documents.{is_judged, is_fractional, fraction_in, fraction_among, fraction_of, rules_of, unjudged_id, unjudged};
 
 use crate::drafting::or_none;
-use crate::member::{list_named, text_named};
+use crate::member::{list_member, text_member};
 use mds_text::{Tree, is_quoted};
 use std::alloc::{AllocError, Global};
 
@@ -13,7 +13,7 @@ use std::alloc::{AllocError, Global};
 fn is_judged(rule: &Tree) -> bool
     ensures { result ≡ is_judged (view rule.now) }
 {
-    match text_named(rule, "rule_type") {
+    match text_member(rule, "rule_type") {
         Some(kind) => kind == "count" || kind == "time",
         None => false,
     }
@@ -35,9 +35,9 @@ fn fraction_in(rule: &Tree) -> Option<&'static str>
 {
     if !is_judged(rule) {
         None
-    } else if is_fractional(text_named(rule, "minimum")) {
+    } else if is_fractional(text_member(rule, "minimum")) {
         Some("minimum")
-    } else if is_fractional(text_named(rule, "maximum")) {
+    } else if is_fractional(text_member(rule, "maximum")) {
         Some("maximum")
     } else {
         None
@@ -59,7 +59,7 @@ fn fraction_among(rules: &[Tree]) -> Option<&'static str>
 fn rules_of(policy: &Tree) -> &[Tree]
     ensures { map view result.now ≡ rules_of (view policy.now) }
 {
-    or_none(list_named(policy, "rules"))
+    or_none(list_member(policy, "rules"))
 }
 
 /// The first bound, among a policy's evaluated rules, that was written as a number that isn't plain.
@@ -71,13 +71,13 @@ pub(crate) fn fraction_of(policy: &Tree) -> Option<&'static str>
 
 /// The identifier of a rule that isn't evaluated, as it stands, or the empty text where it has none; `None` for one
 /// that is.
-fn unjudged_id(rule: &Tree) -> Option<&str>
+fn unjudged_rule_id(rule: &Tree) -> Option<&str>
     ensures { option_map (λ id. id.now) result ≡ unjudged_id (view rule.now) }
 {
     if is_judged(rule) {
         return None;
     }
-    match text_named(rule, "rule_id") {
+    match text_member(rule, "rule_id") {
         Some(id) => Some(id),
         None => Some(""),
     }
@@ -85,12 +85,12 @@ fn unjudged_id(rule: &Tree) -> Option<&str>
 
 /// The rules of a policy that the server stores and doesn't evaluate, in their order: each by its identifier as it
 /// stands, or by the empty text where it has none.
-pub fn unjudged(alloc: Global, policy: &Tree) -> Result<Vec<&str>, AllocError>
+pub fn unjudged_rule_ids(alloc: Global, policy: &Tree) -> Result<Vec<&str>, AllocError>
     ensures { IfOk result (λ ids. map (λ id. id.now) ids.items ≡ unjudged (view policy.now)) }
 {
     let mut ids = Vec::new(alloc);
     for rule in rules_of(policy) {
-        if let Some(id) = unjudged_id(rule) {
+        if let Some(id) = unjudged_rule_id(rule) {
             ids.push(id)?;
         }
     }

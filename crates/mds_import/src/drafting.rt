@@ -7,7 +7,7 @@ ghost use Rattle.mds_import.specs.Members.{as_id, as_list, or_none, id_named};
 ghost use Rattle.mds_import.specs.Documents.{inner, is_of_type, features, listed, documents, read_with, read_view, fraction_of, decimal_at, decimal_in, decimal_among, prepared, geography_with, policy_with, outcome, target_of, Outcome};
 
 use crate::bounds::fraction_of;
-use crate::member::{as_id, as_list, id_named, list_named, named, text_named};
+use crate::member::{as_id, as_list, id_member, list_member, member_of, text_member};
 use mds_text::{DraftKind, Id, Member, Tree, is_quoted, print_tree};
 use std::alloc::{AllocError, Global};
 use std::slice::from_ref;
@@ -23,7 +23,7 @@ pub struct Origin {
 
 /// A document as a draft that can be sent.
 #[derive(Drop)]
-pub struct Draft {
+pub struct ImportDraft {
     pub origin: Origin,
     pub kind: DraftKind,
     pub id: Id,
@@ -35,7 +35,7 @@ pub struct Draft {
 
 /// Why a document isn't sent.
 #[derive(Clone, Copy, Debug, PartialEq, Eq)]
-pub enum Why {
+pub enum RefusalReason {
     /// The member is missing, or isn't of the kind that it has to be.
     BadField,
     /// The member has a number that a policy may not have.
@@ -44,24 +44,24 @@ pub enum Why {
 
 /// A document that isn't sent, and why.
 #[derive(Clone, Copy)]
-pub struct Refused<'t> {
+pub struct RefusedDocument<'t> {
     /// The innermost member with the fault.
     pub member: &'t str,
-    pub why: Why,
+    pub why: RefusalReason,
 }
 
 /// What a document becomes: a draft, or a refusal.
 #[derive(Drop)]
-pub enum Prepared<'t> {
-    Draft(Draft),
-    Refused(Refused<'t>),
+pub enum PreparedDocument<'t> {
+    Draft(ImportDraft),
+    Refused(RefusedDocument<'t>),
 }
 
 /// The value of a file's member `data`, or the file itself.
 fn inner(file: &Tree) -> &Tree
     ensures { view result.now ≡ inner (view file.now) }
 {
-    match named(file, "data") {
+    match member_of(file, "data") {
         Some(inner) => inner,
         None => file,
     }
@@ -69,7 +69,7 @@ fn inner(file: &Tree) -> &Tree
 
 /// The lists of documents in a file.
 #[derive(Clone, Copy)]
-pub struct Lists<'t> {
+pub struct DocumentLists<'t> {
     /// Features of GeoJSON. Where a file has these, the other lists are empty.
     pub features: &'t [Tree],
     /// Geographies; or the entries of a list without a name, or the one document that the file is.
@@ -92,7 +92,7 @@ pub(crate) fn or_none<'t>(entries: Option<&'t [Tree]>) -> &'t [Tree]
 fn is_of_type(value: &Tree, name: &str) -> bool
     ensures { result ≡ is_of_type name.now (view value.now) }
 {
-    match text_named(value, "type") {
+    match text_member(value, "type") {
         Some(written) => written == name,
         None => false,
     }
@@ -103,7 +103,7 @@ fn features(value: &Tree) -> Option<&[Tree]>
     ensures { option_map (λ ts. map view ts.now) result ≡ features (view value.now) }
 {
     if is_of_type(value, "FeatureCollection") {
-        Some(or_none(list_named(value, "features")))
+        Some(or_none(list_member(value, "features")))
     } else if is_of_type(value, "Feature") {
         Some(from_ref(value))
     } else {
@@ -112,26 +112,26 @@ fn features(value: &Tree) -> Option<&[Tree]>
 }
 
 /// The documents of a value that isn't GeoJSON, geographies first.
-fn listed(value: &Tree) -> Lists<'_>
+fn lists_without_features(value: &Tree) -> DocumentLists<'_>
     ensures { read_view result ≡ read_with None (listed (as_list (view value.now)) (view value.now)) }
 {
     if let Some(entries) = as_list(value) {
-        return Lists {
+        return DocumentLists {
             features: &[],
             first: entries,
             second: &[],
         };
     }
-    let geographies = list_named(value, "geographies");
-    let policies = list_named(value, "policies");
+    let geographies = list_member(value, "geographies");
+    let policies = list_member(value, "policies");
     if geographies.is_some() || policies.is_some() {
-        Lists {
+        DocumentLists {
             features: &[],
             first: or_none(geographies),
             second: or_none(policies),
         }
     } else {
-        Lists {
+        DocumentLists {
             features: &[],
             first: from_ref(value),
             second: &[],
@@ -141,17 +141,17 @@ fn listed(value: &Tree) -> Lists<'_>
 
 /// What is read of a file, or of its member `data` where it has one: the features of GeoJSON; or else the documents of
 /// an object's lists `geographies` and `policies`; or the entries of a list; or the one document that the value is.
-pub fn documents(file: &Tree) -> Lists<'_>
+pub fn documents(file: &Tree) -> DocumentLists<'_>
     ensures { read_view result ≡ documents (view file.now) }
 {
     let value = inner(file);
     match features(value) {
-        Some(features) => Lists {
+        Some(features) => DocumentLists {
             features,
             first: &[],
             second: &[],
         },
-        None => listed(value),
+        None => lists_without_features(value),
     }
 }
 
@@ -208,13 +208,13 @@ fn ids_in(alloc: Global, values: &[Tree]) -> Result<Vec<Id>, AllocError>
 }
 
 /// The draft of a geography, or the refusal of a document without an identifier.
-fn geography<'t>(alloc: Global, origin: Origin, value: &'t Tree) -> Result<Prepared<'t>, AllocError>
+fn geography<'t>(alloc: Global, origin: Origin, value: &'t Tree) -> Result<PreparedDocument<'t>, AllocError>
     ensures { IfOk result (λ p. outcome p ≡ geography_with origin (id_named (codes "geography_id") (view value.now)) (view value.now)) }
 {
-    let Some(id) = id_named(value, "geography_id") else {
-        return Ok(not_sent("geography_id", Why::BadField));
+    let Some(id) = id_member(value, "geography_id") else {
+        return Ok(refuse_document("geography_id", RefusalReason::BadField));
     };
-    Ok(Prepared::Draft(Draft {
+    Ok(PreparedDocument::Draft(ImportDraft {
         origin,
         kind: DraftKind::Geography,
         id,
@@ -224,10 +224,10 @@ fn geography<'t>(alloc: Global, origin: Origin, value: &'t Tree) -> Result<Prepa
 }
 
 /// The refusal of a document for this member.
-pub(crate) fn not_sent(member: &str, why: Why) -> Prepared<'_>
+pub(crate) fn refuse_document(member: &str, why: RefusalReason) -> PreparedDocument<'_>
     ensures { outcome result ≡ Outcome.refused member.now why }
 {
-    Prepared::Refused(Refused { member, why })
+    PreparedDocument::Refused(RefusedDocument { member, why })
 }
 
 /// The draft of a policy, or its refusal. `decimals` says whether its file has numbers that aren't plain.
@@ -236,18 +236,18 @@ fn policy<'t>(
     origin: Origin,
     decimals: bool,
     value: &'t Tree,
-) -> Result<Prepared<'t>, AllocError>
+) -> Result<PreparedDocument<'t>, AllocError>
     ensures { IfOk result (λ p. outcome p ≡ policy_with origin (id_named (codes "policy_id") (view value.now)) (if decimals then fraction_of (view value.now) else None) (view value.now)) }
 {
-    let Some(id) = id_named(value, "policy_id") else {
-        return Ok(not_sent("policy_id", Why::BadField));
+    let Some(id) = id_member(value, "policy_id") else {
+        return Ok(refuse_document("policy_id", RefusalReason::BadField));
     };
     let fraction = if decimals { fraction_of(value) } else { None };
     if let Some(member) = fraction {
-        return Ok(not_sent(member, Why::Decimal));
+        return Ok(refuse_document(member, RefusalReason::Decimal));
     }
-    let predecessors = ids_in(alloc, or_none(list_named(value, "prev_policies")))?;
-    Ok(Prepared::Draft(Draft {
+    let predecessors = ids_in(alloc, or_none(list_member(value, "prev_policies")))?;
+    Ok(PreparedDocument::Draft(ImportDraft {
         origin,
         kind: DraftKind::Policy,
         id,
@@ -264,10 +264,10 @@ pub fn prepare<'t>(
     origin: Origin,
     decimals: bool,
     value: &'t Tree,
-) -> Result<Prepared<'t>, AllocError>
+) -> Result<PreparedDocument<'t>, AllocError>
     ensures { IfOk result (λ p. outcome p ≡ prepared origin decimals (view value.now)) }
 {
-    if named(value, "geography_id").is_some() {
+    if member_of(value, "geography_id").is_some() {
         geography(alloc, origin, value)
     } else {
         policy(alloc, origin, decimals, value)
@@ -275,7 +275,7 @@ pub fn prepare<'t>(
 }
 
 /// The target of the request that stores a draft.
-pub fn target_of(alloc: Global, draft: &Draft) -> Result<String, AllocError>
+pub fn target_of(alloc: Global, draft: &ImportDraft) -> Result<String, AllocError>
     ensures { IfOk result (λ target. string_bytes target ≡ target_of draft.now.kind draft.now.id) }
 {
     let mut target = String::from_str(

@@ -4,8 +4,8 @@ ghost use Rattle.mds_text.specs.View.{view};
 ghost use Rattle.mds_import.specs.Members.{id_named, text_named, named};
 ghost use Rattle.mds_import.specs.Documents.{namespace, id_of_name, id_or, properties_of, feature_id, geography_text, feature_with, feature_prepared, outcome};
 
-use crate::drafting::{Draft, Origin, Prepared, Why, not_sent};
-use crate::member::{id_named, named, text_named};
+use crate::drafting::{ImportDraft, Origin, PreparedDocument, RefusalReason, refuse_document};
+use crate::member::{id_member, member_of, text_member};
 use mds_text::{DraftKind, Id, Tree, print_tree, text_tree};
 use std::alloc::{AllocError, Global};
 use uuid::Uuid;
@@ -33,7 +33,7 @@ fn property_id(properties: Option<&Tree>) -> Option<Id>
     ensures { result ≡ option_and_then (id_named (codes "geography_id")) (option_map (λ t. view t.now) properties.entry) }
 {
     match properties {
-        Some(properties) => id_named(properties, "geography_id"),
+        Some(properties) => id_member(properties, "geography_id"),
         None => None,
     }
 }
@@ -43,7 +43,7 @@ fn property_name<'t>(properties: Option<&'t Tree>) -> Option<&'t str>
     ensures { option_map (λ name. name.now) result ≡ option_and_then (text_named (codes "name")) (option_map (λ t. view t.now) properties.entry) }
 {
     match properties {
-        Some(properties) => text_named(properties, "name"),
+        Some(properties) => text_member(properties, "name"),
         None => None,
     }
 }
@@ -52,10 +52,10 @@ fn property_name<'t>(properties: Option<&'t Tree>) -> Option<&'t str>
 fn feature_id(feature: &Tree, name: &str) -> Option<Id>
     ensures { result ≡ Some (feature_id (view feature.now) name.now) }
 {
-    if let Some(id) = property_id(named(feature, "properties")) {
+    if let Some(id) = property_id(member_of(feature, "properties")) {
         return Some(id);
     }
-    if let Some(id) = id_named(feature, "id") {
+    if let Some(id) = id_member(feature, "id") {
         return Some(id);
     }
     id_of_name(name)
@@ -86,19 +86,19 @@ pub fn prepare_feature<'t>(
     alloc: Global,
     origin: Origin,
     feature: &'t Tree,
-) -> Result<Prepared<'t>, AllocError>
+) -> Result<PreparedDocument<'t>, AllocError>
     ensures { IfOk result (λ p. outcome p ≡ feature_prepared origin (view feature.now)) }
 {
-    let Some(name) = property_name(named(feature, "properties")) else {
-        return Ok(not_sent("name", Why::BadField));
+    let Some(name) = property_name(member_of(feature, "properties")) else {
+        return Ok(refuse_document("name", RefusalReason::BadField));
     };
-    let Some(shape) = named(feature, "geometry") else {
-        return Ok(not_sent("geometry", Why::BadField));
+    let Some(shape) = member_of(feature, "geometry") else {
+        return Ok(refuse_document("geometry", RefusalReason::BadField));
     };
     let Some(id) = feature_id(feature, name) else {
         unreachable!();
     };
-    Ok(Prepared::Draft(Draft {
+    Ok(PreparedDocument::Draft(ImportDraft {
         origin,
         kind: DraftKind::Geography,
         id,

@@ -7,13 +7,13 @@ mod features;
 mod member;
 mod order;
 
-pub use bounds::unjudged;
+pub use bounds::unjudged_rule_ids;
 pub use drafting::{
-    Draft, Lists, Origin, Prepared, Refused, Why, decimal_at, documents, prepare, target_of,
+    ImportDraft, DocumentLists, Origin, PreparedDocument, RefusedDocument, RefusalReason, decimal_at, documents, prepare, target_of,
 };
 pub use features::{id_of_name, prepare_feature};
-pub use member::{id_named, list_named, named, text_named};
-pub use order::ordered;
+pub use member::{id_member, list_member, member_of, text_member};
+pub use order::order_drafts;
 
 #[cfg(test)]
 mod tests;

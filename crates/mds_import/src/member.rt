@@ -20,7 +20,7 @@ fn find_member<'t>(members: &'t [Member], name: &str) -> Option<&'t Tree>
 }
 
 /// The member of this name; `None` where it is absent or null, and where the value is no object.
-pub fn named<'t>(value: &'t Tree, name: &str) -> Option<&'t Tree>
+pub fn member_of<'t>(value: &'t Tree, name: &str) -> Option<&'t Tree>
     ensures { option_map (λ t. view t.now) result ≡ named name.now (view value.now) }
 {
     let Tree::Object(members) = value else {
@@ -63,30 +63,30 @@ pub(crate) fn as_list(value: &Tree) -> Option<&[Tree]>
 }
 
 /// The member of this name, where it is a text.
-pub fn text_named<'t>(value: &'t Tree, name: &str) -> Option<&'t str>
+pub fn text_member<'t>(value: &'t Tree, name: &str) -> Option<&'t str>
     ensures { option_map (λ s. s.now) result ≡ text_named name.now (view value.now) }
 {
-    match named(value, name) {
+    match member_of(value, name) {
         Some(found) => as_text(found),
         None => None,
     }
 }
 
 /// The member of this name, where it is an identifier.
-pub fn id_named(value: &Tree, name: &str) -> Option<Id>
+pub fn id_member(value: &Tree, name: &str) -> Option<Id>
     ensures { result ≡ id_named name.now (view value.now) }
 {
-    match named(value, name) {
+    match member_of(value, name) {
         Some(found) => as_id(found),
         None => None,
     }
 }
 
 /// The entries of the member of this name, where it is a list.
-pub fn list_named<'t>(value: &'t Tree, name: &str) -> Option<&'t [Tree]>
+pub fn list_member<'t>(value: &'t Tree, name: &str) -> Option<&'t [Tree]>
     ensures { option_map (λ ts. map view ts.now) result ≡ list_named name.now (view value.now) }
 {
-    match named(value, name) {
+    match member_of(value, name) {
         Some(found) => as_list(found),
         None => None,
     }

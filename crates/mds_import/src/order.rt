@@ -3,7 +3,7 @@ ghost use Rattle.std.specs.Prelude.{◌≡◌, ◌<◌, not, length, IfOk, IfSom
 ghost use Rattle.std.specs.List.{list_any, remove};
 ghost use Rattle.mds_import.specs.Order.{waits_by, waits_for, waits, next_place, IsInTurn};
 
-use crate::drafting::Draft;
+use crate::drafting::ImportDraft;
 use mds_text::{DraftKind, Id};
 use std::alloc::{AllocError, Global};
 
@@ -15,7 +15,7 @@ fn is_among(id: Id, ids: &[Id]) -> bool
 }
 
 /// Whether a draft waits for another: a policy waits for each geography, and for the policies that it supersedes.
-fn waits_for(draft: &Draft, other: &Draft) -> bool
+fn waits_for(draft: &ImportDraft, other: &ImportDraft) -> bool
     ensures { result ≡ waits_for draft.now other.now }
 {
     match (draft.kind, other.kind) {
@@ -26,14 +26,14 @@ fn waits_for(draft: &Draft, other: &Draft) -> bool
 }
 
 /// Whether a draft waits for one of these.
-fn waits(left: &[Draft], draft: &Draft) -> bool
+fn waits(left: &[ImportDraft], draft: &ImportDraft) -> bool
     ensures { result ≡ waits left.now draft.now }
 {
     left.iter().any(|other| waits_for(draft, other))
 }
 
 /// The index of the first draft that waits for none of these.
-fn first_ready(left: &[Draft]) -> Option<usize>
+fn first_ready(left: &[ImportDraft]) -> Option<usize>
     ensures value { result ≡ position (λ draft. not (waits left.now draft)) left.now }
     ensures within { IfSome result (λ place. place < length left.now) }
 {
@@ -41,7 +41,7 @@ fn first_ready(left: &[Draft]) -> Option<usize>
 }
 
 /// The index of the first draft that waits for none of these, or 0 where each waits.
-fn next_place(left: &[Draft]) -> usize
+fn next_place(left: &[ImportDraft]) -> usize
     requires { 0 < length left.now }
     ensures value { result ≡ next_place left.now }
     ensures within { result < length left.now }
@@ -53,7 +53,7 @@ fn next_place(left: &[Draft]) -> usize
 }
 
 /// Removes the next draft to be sent.
-fn take_next(left: &mut Vec<Draft>) -> Draft
+fn take_next(left: &mut Vec<ImportDraft>) -> ImportDraft
     requires { 0 < length left.old.items }
     ensures taken { slice_get left.old.items (next_place left.old.items) ≡ Some result }
     ensures rest { left.new.items ≡ remove left.old.items (next_place left.old.items) }
@@ -64,7 +64,7 @@ fn take_next(left: &mut Vec<Draft>) -> Draft
 
 /// The drafts in the order in which they are sent: geographies first, and each policy behind those that it supersedes,
 /// unless they supersede one another.
-pub fn ordered(alloc: Global, drafts: Vec<Draft>) -> Result<Vec<Draft>, AllocError>
+pub fn order_drafts(alloc: Global, drafts: Vec<ImportDraft>) -> Result<Vec<ImportDraft>, AllocError>
     ensures { IfOk result (λ v. IsInTurn drafts.items v.items) }
 {
     let mut left = drafts;

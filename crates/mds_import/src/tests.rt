@@ -1,6 +1,6 @@
 //! Tests of a file's documents as they are sent.
-use crate::{Draft, Origin, Prepared, Why, documents, ordered, prepare, target_of};
-use mds_reading::read_counted;
+use crate::{ImportDraft, Origin, PreparedDocument, RefusalReason, documents, order_drafts, prepare, target_of};
+use mds_reading::read_and_count;
 use mds_text::Tree;
 use std::alloc::Global;
 use std::test::Fail;
@@ -12,13 +12,13 @@ const FILE: &[u8] =
 [{"geography_id":"3b0f6c9e-1d7a-4d2b-8f35-7a9d0a4c1101","name":"Downtown"}]}}"#;
 
 /// Appends the drafts of a list.
-fn gather(alloc: Global, drafts: &mut Vec<Draft>, list: &[Tree]) -> Result<(), Fail> {
+fn gather(alloc: Global, drafts: &mut Vec<ImportDraft>, list: &[Tree]) -> Result<(), Fail> {
     let origin = Origin {
         file: 0,
         document: 0,
     };
     for value in list {
-        if let Prepared::Draft(draft) = prepare(alloc, origin, false, value)? {
+        if let PreparedDocument::Draft(draft) = prepare(alloc, origin, false, value)? {
             drafts.push(draft)?;
         }
     }
@@ -28,12 +28,12 @@ fn gather(alloc: Global, drafts: &mut Vec<Draft>, list: &[Tree]) -> Result<(), F
 #[test]
 fn puts_successors_last(rt: HostRuntime) -> Result<(), Fail> {
     let alloc = rt.alloc();
-    let (tree, _) = read_counted(alloc, FILE)?;
+    let (tree, _) = read_and_count(alloc, FILE)?;
     let lists = documents(&tree);
     let mut drafts = Vec::new(alloc);
     gather(alloc, &mut drafts, lists.second)?;
     gather(alloc, &mut drafts, lists.first)?;
-    let drafts = ordered(alloc, drafts)?;
+    let drafts = order_drafts(alloc, drafts)?;
     let mut targets = String::new(alloc);
     for draft in &drafts {
         targets.push_str(target_of(alloc, draft)?.as_str())?;
@@ -54,16 +54,16 @@ fn refuses_a_fraction(rt: HostRuntime) -> Result<(), Fail> {
     let alloc = rt.alloc();
     let text =
         br#"{"policy_id":"5d8e1f70-62c4-4e9b-b0a6-2f1c9e3d2201","rules":[{"rule_type":"count","maximum":7.5}]}"#;
-    let (tree, decimals) = read_counted(alloc, text)?;
+    let (tree, decimals) = read_and_count(alloc, text)?;
     let origin = Origin {
         file: 0,
         document: 0,
     };
     match prepare(alloc, origin, decimals > 0, &tree)? {
-        Prepared::Refused(refused) => {
-            assert!(rt; refused.member == "maximum" && refused.why == Why::Decimal);
+        PreparedDocument::Refused(refused) => {
+            assert!(rt; refused.member == "maximum" && refused.why == RefusalReason::Decimal);
         }
-        Prepared::Draft(_) => assert!(rt; false),
+        PreparedDocument::Draft(_) => assert!(rt; false),
     }
     Ok(())
 }

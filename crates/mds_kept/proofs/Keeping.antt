@@ -15,14 +15,14 @@ use Rattle.mds_match.specs.Row.{Row, row_of}
 use Rattle.mds_match.specs.declared.vehicle.Vehicle.{Vehicle}
 use Rattle.mds_kept.specs.Masked.{IsMasked, masked_matches}
 use Rattle.mds_kept.specs.Masks.{HasBits, IsMask, matches}
-use Rattle.mds_kept.specs.declared.masked.MaskedPolicy.{MaskedPolicy}
+use Rattle.mds_kept.specs.declared.matcher.PolicyMatcher.{PolicyMatcher}
 use Rattle.mds_verdict.proofs.Numbered.{by_places}
 use Rattle.mds_kept.proofs.Counted.{some_in}
 use Rattle.mds_kept.proofs.Walking.{found_at, kept_when_read}
 use Rattle.mds_kept.specs.Columns.{AreOf}
-use Rattle.mds_kept.specs.Kept.{AreKept, AreOwn, AreRead, Fits, Grows, IsChanged, IsColumn, IsListed, IsMaskBy, IsMaskOf, IsPublished, IsSince, Published, Vehicles, device_cmp, rows_in}
-use Rattle.mds_kept.specs.declared.kept.Column.{Column}
-use Rattle.mds_kept.specs.declared.kept.Kept.{Kept}
+use Rattle.mds_kept.specs.Index.{AreKept, AreOwn, AreRead, Fits, Grows, IsChanged, IsColumn, IsListed, IsMaskBy, IsMaskOf, IsPublished, IsSince, Published, Vehicles, device_cmp, rows_in}
+use Rattle.mds_kept.specs.declared.bitmap_index.BitmapColumn.{BitmapColumn}
+use Rattle.mds_kept.specs.declared.bitmap_index.BitmapIndex.{BitmapIndex}
 
 -- cached words of one kind are cached words of another, where the words of each row are
 pub kept_as : (Is As : Row → ℕ → Type 0) (vehicles : Vehicles) (devices : List (List ℕ)) (words : List ℕ) (changed : List (List ℕ)) → ((row : Row) (word : ℕ) → Is row word → As row word)
@@ -45,7 +45,7 @@ module _ (device : List ℕ) (before after : Vehicles) (changes : IsChanged devi
       let apart : here ≡ device → ⊥ = λ e. out' (subst (Contains (drop seen changed ++ device ∷ [])) (sym e) (Contains-push (drop seen changed) device)) in
       kept k v less (sym (changes.1 here apart) ∙ found) (λ e. out' (Contains-append_left (drop seen changed) (device ∷ []) here e))
 
-  pub noted_columns : (published : Published) (columns : List Column) → All (IsColumn published before devices changed) columns → All (IsColumn published after devices (changed ++ device ∷ [])) columns
+  pub noted_columns : (published : Published) (columns : List BitmapColumn) → All (IsColumn published before devices changed) columns → All (IsColumn published after devices (changed ++ device ∷ [])) columns
   noted_columns published columns are = All-weaker (IsColumn published before devices changed) (IsColumn published after devices (changed ++ device ∷ [])) (λ column is. record {
     lasts = is.lasts;
     seen = omega (arith, length_push changed device, is.seen);
@@ -69,7 +69,7 @@ module _ (published : Published) (policy : Policy) (polygons : List ℕ → List
 some_row : Row
 some_row = record { device = []; vehicle_type = []; propulsion = []; state = []; events = []; timestamp = 0; position = record { lng = pos 0; lat = pos 0 }; since = 0 }
 
-module _ (masked : MaskedPolicy) (policy : Policy) (polygons : List ℕ → List (List (List Position))) (is : IsMasked masked policy polygons) where
+module _ (masked : PolicyMatcher) (policy : Policy) (polygons : List ℕ → List (List (List Position))) (is : IsMasked masked policy polygons) where
   pub from_masked : (row : Row) (word : ℕ) → IsMaskBy masked row word → IsMask policy polygons row word
   from_masked row word has = has policy polygons is
 
@@ -108,7 +108,7 @@ module _ (vehicles : Vehicles) (ordered : IsOrdered device_cmp vehicles) (own : 
   }
 
 -- the cached column of the policy that is asked about
-pub asked_column : (published : Published) (policy : Policy) (polygons : List ℕ → List (List (List Position))) → IsPublished published policy polygons → (vehicles : Vehicles) (devices changed : List (List ℕ)) (column : Column) → column.policy ≡ policy.id
+pub asked_column : (published : Published) (policy : Policy) (polygons : List ℕ → List (List (List Position))) → IsPublished published policy polygons → (vehicles : Vehicles) (devices changed : List (List ℕ)) (column : BitmapColumn) → column.policy ≡ policy.id
     → IsColumn published vehicles devices changed column → AreKept (λ row word. IsMask policy polygons row word) vehicles devices column.masks.items (drop column.seen changed)
 asked_column published policy polygons is vehicles devices changed column id_is kept =
     kept_as (IsMaskOf published column.policy) (λ row word. IsMask policy polygons row word) vehicles devices column.masks.items (drop column.seen changed)
@@ -116,7 +116,7 @@ asked_column published policy polygons is vehicles devices changed column id_is 
 
 -- a column of that policy, computed again
 pub fresh_column : (published : Published) (policy : Policy) (polygons : List ℕ → List (List (List Position))) → IsPublished published policy polygons → (vehicles : Vehicles) → IsOrdered device_cmp vehicles → (devices changed : List (List ℕ)) → devices ≡ keys vehicles
-    → (column : Column) → column.policy ≡ policy.id → column.seen ≡ length changed → AreRead (λ row word. IsMask policy polygons row word) (rows_in vehicles) column.masks.items → IsColumn published vehicles devices changed column
+    → (column : BitmapColumn) → column.policy ≡ policy.id → column.seen ≡ length changed → AreRead (λ row word. IsMask policy polygons row word) (rows_in vehicles) column.masks.items → IsColumn published vehicles devices changed column
 fresh_column published policy polygons is vehicles ordered devices changed listed column id_is seen are = record {
   lasts = lasts published policy polygons is column.policy id_is;
   seen = omega (arith, seen);
@@ -134,7 +134,7 @@ if_ok_as (Ok x) P Q weaker holds = weaker x holds
 if_ok_as (Err e) P Q weaker holds = tt
 
 -- the index stays right as more is published
-pub grown : (published more : Published) (vehicles : Vehicles) (kept : Kept) → Grows published more → Fits published vehicles kept → Fits more vehicles kept
+pub grown : (published more : Published) (vehicles : Vehicles) (kept : BitmapIndex) → Grows published more → Fits published vehicles kept → Fits more vehicles kept
 grown published more vehicles kept grows fits =
     if_some_as kept.listed (IsListed published vehicles) (IsListed more vehicles) (λ listed is. record {
       devices = is.devices;

@@ -18,9 +18,9 @@ use Rattle.std.proofs.lemmas.List.Elements.{Contains-push, Contains-append_left}
 use Rattle.std.proofs.lemmas.List.Sorted.{searchable_from_sorted}
 use Rattle.std.proofs.lemmas.Map.Keys.{Less-from_sorted, sorted_tail}
 use Rattle.mds_match.specs.Row.{Row, row_of}
-use Rattle.mds_kept.specs.Kept.{AreEdited, AreKept, HasArrived, HasDeparted, IsColumn, IsListed, IsMaskOf, IsSince, Published, Vehicles, device_cmp, with_place, without_place}
-use Rattle.mds_kept.specs.declared.kept.Column.{Column}
-use Rattle.mds_kept.specs.declared.kept.Listed.{Listed}
+use Rattle.mds_kept.specs.Index.{AreEdited, AreKept, HasArrived, HasDeparted, IsColumn, IsListed, IsMaskOf, IsSince, Published, Vehicles, device_cmp, with_place, without_place}
+use Rattle.mds_kept.specs.declared.bitmap_index.BitmapColumn.{BitmapColumn}
+use Rattle.mds_kept.specs.declared.bitmap_index.IndexedFleet.{IndexedFleet}
 
 -- ---- the index that a search finds in ascending keys
 
@@ -157,14 +157,14 @@ module _ (device : List ℕ) (before after : Vehicles) (gone : get device_cmp af
 -- ---- the columns
 
 -- what is done to each column of a list
-pub edited : (P Q : Column → Type 0) (edit : List ℕ → List ℕ) (columns others : List Column) → AreEdited edit columns others
-    → ((column other : Column) → other.policy ≡ column.policy → other.seen ≡ column.seen → other.masks.items ≡ edit column.masks.items → P column → Q other) → All P columns → All Q others
+pub edited : (P Q : BitmapColumn → Type 0) (edit : List ℕ → List ℕ) (columns others : List BitmapColumn) → AreEdited edit columns others
+    → ((column other : BitmapColumn) → other.policy ≡ column.policy → other.seen ≡ column.seen → other.masks.items ≡ edit column.masks.items → P column → Q other) → All P columns → All Q others
 edited P Q edit columns others are step all k d within =
     let inside : k < length columns = omega (arith, within, are.long) in
     step (get_or columns k d) (get_or others k d) (are.policies k d inside) (are.seen k d inside) (are.masks k d inside) (all k d inside)
 
 -- the device that came is at its index, and logged
-pub listed_more : (device : List ℕ) (before after : Vehicles) → IsOrdered device_cmp before → HasArrived device before after → (published : Published) (listed more : Listed) (place : ℕ) → place ≤ length listed.devices.items
+pub listed_more : (device : List ℕ) (before after : Vehicles) → IsOrdered device_cmp before → HasArrived device before after → (published : Published) (listed more : IndexedFleet) (place : ℕ) → place ≤ length listed.devices.items
     → (IsNonDecreasingBy (λ (y : List ℕ). ordering_index (device_cmp y device)) listed.devices.items → IsPartitionPoint (λ y. device_cmp y device ≡ Less) (λ y. device_cmp y device ≡ Greater) listed.devices.items place)
     → more.devices.items ≡ insert listed.devices.items place device → more.sinces.items ≡ with_place place listed.sinces.items → more.seen ≡ listed.seen → AreEdited (with_place place) listed.columns.items more.columns.items
     → more.changed.items ≡ listed.changed.items ++ device ∷ [] → IsListed published before listed → IsListed published after more
@@ -189,7 +189,7 @@ listed_more device before after ordered arrives published listed more place with
     sorted = subst (IsStrictlySortedBy device_cmp) (sym is.devices) ordered
 
 -- the device that went is at no index
-pub listed_fewer : (device : List ℕ) (before after : Vehicles) → IsOrdered device_cmp before → HasDeparted device before after → (published : Published) (listed fewer : Listed) (place : ℕ) → place < length listed.devices.items
+pub listed_fewer : (device : List ℕ) (before after : Vehicles) → IsOrdered device_cmp before → HasDeparted device before after → (published : Published) (listed fewer : IndexedFleet) (place : ℕ) → place < length listed.devices.items
     → ((d : List ℕ) → device_cmp (get_or listed.devices.items place d) device ≡ Equal)
     → fewer.devices.items ≡ remove listed.devices.items place → fewer.sinces.items ≡ without_place place listed.sinces.items → fewer.seen ≡ listed.seen → AreEdited (without_place place) listed.columns.items fewer.columns.items
     → fewer.changed.items ≡ listed.changed.items → IsListed published before listed → IsListed published after fewer

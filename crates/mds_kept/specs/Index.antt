@@ -15,11 +15,11 @@ use Rattle.mds_match.specs.declared.vehicle.Vehicle.{Vehicle}
 use Rattle.mds_match.specs.Row.{Row, row_of}
 use Rattle.mds_kept.specs.Masked.{IsMasked}
 use Rattle.mds_kept.specs.Masks.{HasBits, IsMask, matches}
-use Rattle.mds_kept.specs.declared.masked.MaskedPolicy.{MaskedPolicy}
-use Rattle.mds_kept.specs.declared.kept.Column.{Column}
-use Rattle.mds_kept.specs.declared.kept.Kept.{Kept}
-use Rattle.mds_kept.specs.declared.kept.Listed.{Listed}
-use Rattle.mds_kept.specs.declared.kept.TheConstants.{MOST_MASKS}
+use Rattle.mds_kept.specs.declared.matcher.PolicyMatcher.{PolicyMatcher}
+use Rattle.mds_kept.specs.declared.bitmap_index.BitmapColumn.{BitmapColumn}
+use Rattle.mds_kept.specs.declared.bitmap_index.BitmapIndex.{BitmapIndex}
+use Rattle.mds_kept.specs.declared.bitmap_index.IndexedFleet.{IndexedFleet}
+use Rattle.mds_kept.specs.declared.bitmap_index.TheConstants.{MOST_BITMAPS}
 
 -- device ids in the order of their bytes
 abbrev pub device_cmp : List ℕ → List ℕ → Ordering
@@ -52,7 +52,7 @@ abbrev pub IsMaskOf : Published → List ℕ → Row → ℕ → Type 0
 IsMaskOf published id row word = HasBits (published.bits id row) word
 
 -- a word is the bitmap of the rules that a row matches, for any policy with these rules
-abbrev pub IsMaskBy : MaskedPolicy → Row → ℕ → Type 0
+abbrev pub IsMaskBy : PolicyMatcher → Row → ℕ → Type 0
 IsMaskBy masked row word =
     (policy : Policy) (polygons : List ℕ → List (List (List Position))) → IsMasked masked policy polygons → IsMask policy polygons row word
 
@@ -69,37 +69,37 @@ AreKept Is vehicles devices words changed =
 
 -- a column is that of a policy that is published for good, and its bitmaps are right but for the changes that it hasn't
 -- taken in
-pub record IsColumn (published : Published) (vehicles : Vehicles) (devices changed : List (List ℕ)) (column : Column) : Type 0 where
+pub record IsColumn (published : Published) (vehicles : Vehicles) (devices changed : List (List ℕ)) (column : BitmapColumn) : Type 0 where
   pub lasts : published.lasting column.policy ≡ true
   pub seen : column.seen ≤ length changed
   pub masks : AreKept (IsMaskOf published column.policy) vehicles devices column.masks.items (drop column.seen changed)
 
 -- the devices are those of the vehicles, and all cached words are right but for the changes that they haven't taken in
-pub record IsListed (published : Published) (vehicles : Vehicles) (listed : Listed) : Type 0 where
+pub record IsListed (published : Published) (vehicles : Vehicles) (listed : IndexedFleet) : Type 0 where
   pub devices : listed.devices.items ≡ keys vehicles
   pub seen : listed.seen ≤ length listed.changed.items
   pub sinces : AreKept IsSince vehicles listed.devices.items listed.sinces.items (drop listed.seen listed.changed.items)
   pub columns : All (IsColumn published vehicles listed.devices.items listed.changed.items) listed.columns.items
 
 -- the same of the devices and of the beginnings of their states alone
-abbrev pub AreRows : Vehicles → Listed → Type 0
+abbrev pub AreRows : Vehicles → IndexedFleet → Type 0
 AreRows vehicles listed =
     (listed.devices.items ≡ keys vehicles) × (listed.seen ≤ length listed.changed.items)
     × AreKept IsSince vehicles listed.devices.items listed.sinces.items (drop listed.seen listed.changed.items)
 
 -- the index, where there is one, is right for these vehicles and for what is published
-abbrev pub Fits : Published → Vehicles → Kept → Type 0
+abbrev pub Fits : Published → Vehicles → BitmapIndex → Type 0
 Fits published vehicles kept = IfSome kept.listed (IsListed published vehicles)
 
 -- a column of this policy is cached
-abbrev pub has_column : List Column → List ℕ → Bool
+abbrev pub has_column : List BitmapColumn → List ℕ → Bool
 has_column columns policy = list_any (λ column. bytes_eq column.policy policy) columns
 
 -- A column of this policy for so many vehicles has room in the index: it is cached already, or with one more column
 -- there are at most 4,194,304 bitmaps.
-abbrev pub HasRoom : Option Listed → List ℕ → ℕ → Type 0
+abbrev pub HasRoom : Option IndexedFleet → List ℕ → ℕ → Type 0
 HasRoom kept policy vehicles =
-    IfSome kept (λ listed. IsTrue (has_column listed.columns.items policy) ⊎ (suc (length listed.columns.items) * vehicles ≤ MOST_MASKS))
+    IfSome kept (λ listed. IsTrue (has_column listed.columns.items policy) ⊎ (suc (length listed.columns.items) * vehicles ≤ MOST_BITMAPS))
 
 -- everything that decides a match of a policy is published for good, and these are its rules
 abbrev pub IsPublished : Published → Policy → (List ℕ → List (List (List Position))) → Type 0
@@ -133,14 +133,14 @@ abbrev pub without_place : ℕ → List ℕ → List ℕ
 without_place place words = remove words place
 
 -- the columns are unchanged but for `edit`, which was done to the bitmaps of each
-pub record AreEdited (edit : List ℕ → List ℕ) (before after : List Column) : Type 0 where
+pub record AreEdited (edit : List ℕ → List ℕ) (before after : List BitmapColumn) : Type 0 where
   pub long : length after ≡ length before
-  pub policies : (k : ℕ) (d : Column) → k < length before → (get_or after k d).policy ≡ (get_or before k d).policy
-  pub seen : (k : ℕ) (d : Column) → k < length before → (get_or after k d).seen ≡ (get_or before k d).seen
-  pub masks : (k : ℕ) (d : Column) → k < length before → (get_or after k d).masks.items ≡ edit (get_or before k d).masks.items
+  pub policies : (k : ℕ) (d : BitmapColumn) → k < length before → (get_or after k d).policy ≡ (get_or before k d).policy
+  pub seen : (k : ℕ) (d : BitmapColumn) → k < length before → (get_or after k d).seen ≡ (get_or before k d).seen
+  pub masks : (k : ℕ) (d : BitmapColumn) → k < length before → (get_or after k d).masks.items ≡ edit (get_or before k d).masks.items
 
 -- the index is right for something that is published, and the policy is part of that
-abbrev pub MayAsk : Kept → Policy → (List ℕ → List (List (List Position))) → Vehicles → Type 0
+abbrev pub MayAsk : BitmapIndex → Policy → (List ℕ → List (List (List Position))) → Vehicles → Type 0
 MayAsk kept policy polygons vehicles = (published : Published) × Fits published vehicles kept × IsPublished published policy polygons
 
 -- more is published: what is published for good stays so, and matches the same rows

@@ -1,4 +1,4 @@
 pub mod Columns
-pub mod Kept
+pub mod Index
 pub mod Masked
 pub mod Masks

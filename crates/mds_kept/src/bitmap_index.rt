@@ -2,13 +2,13 @@ ghost use Rattle.std.specs.Prelude.{◌≡◌, ◌≤◌, ◌∷◌, ◌++◌, [
 ghost use Rattle.std.specs.BTreeMap.{IsOrdered, btree_map_len, keys};
 ghost use Rattle.mds_policy.specs.Policy.{policy_document};
 ghost use Rattle.mds_kept.specs.Masks.{IsMask};
-ghost use Rattle.mds_kept.specs.Kept.{AreKept, AreRead, AreRows, HasRoom, IsChanged, IsColumn, IsListed, IsSince, Published, Vehicles, device_cmp, has_column, rows_in};
+ghost use Rattle.mds_kept.specs.Index.{AreKept, AreRead, AreRows, HasRoom, IsChanged, IsColumn, IsListed, IsSince, Published, Vehicles, device_cmp, has_column, rows_in};
 
 use crate::bits::MOST_RULES;
 use crate::columns::{Columns, verdicts_by};
-use crate::masked::MaskedPolicy;
-use crate::places::{arrived, departed};
-use crate::words::{Mask, Since, fresh};
+use crate::matcher::PolicyMatcher;
+use crate::moves::{with_arrival, with_departure};
+use crate::words::{BitmapWord, SinceWord, refresh_words};
 use mds_match::{LocalMoment, Places, Vehicle};
 use mds_policy::Policy;
 use mds_text::Id;
@@ -17,7 +17,7 @@ use std::alloc::Global;
 use std::collections::BTreeMap;
 
 /// The most bitmaps that are cached for an operator's vehicles, over all policies.
-pub(crate) const MOST_MASKS: usize = 4_194_304;
+pub(crate) const MOST_BITMAPS: usize = 4_194_304;
 
 /// The log holds at least this many changed devices, or an eighth of the fleet where that is more,
 /// before the index is dropped.
@@ -26,7 +26,7 @@ const LEAST_NOTES: usize = 64;
 /// The bitmaps of one policy, by the indices of the devices, as far as they go, and how much of the
 /// log of changed devices they have taken in.
 #[derive(Drop)]
-pub(crate) struct Column {
+pub(crate) struct BitmapColumn {
     pub(crate) policy: Id,
     pub(crate) masks: Vec<u64>,
     pub(crate) seen: usize,
@@ -36,11 +36,11 @@ pub(crate) struct Column {
 /// log these have taken in, the columns of policies, the log of changed devices, and how many
 /// devices came or went since the last question.
 #[derive(Drop)]
-pub(crate) struct Listed {
+pub(crate) struct IndexedFleet {
     pub(crate) devices: Vec<Id>,
     pub(crate) sinces: Vec<u64>,
     pub(crate) seen: usize,
-    pub(crate) columns: Vec<Column>,
+    pub(crate) columns: Vec<BitmapColumn>,
     pub(crate) changed: Vec<Id>,
     pub(crate) moved: usize,
 }
@@ -48,23 +48,23 @@ pub(crate) struct Listed {
 /// The bitmap index of an operator's vehicles, where there is one, and which policies were asked
 /// about since it was last cleared.
 #[derive(Drop)]
-pub struct Kept {
-    pub(crate) listed: Option<Listed>,
+pub struct BitmapIndex {
+    pub(crate) listed: Option<IndexedFleet>,
     pub(crate) asked: Option<Vec<Id>>,
 }
 
-impl Kept {
+impl BitmapIndex {
     ghost use Rattle.std.specs.Prelude.{◌≡◌, ◌^◌, ◌<◌, List, ℕ, All, IfSome, map};
     ghost use Rattle.std.specs.BTreeMap.{IsOrdered, btree_map_len};
     ghost use Rattle.mds_policy.specs.Policy.{policy_document};
     ghost use Rattle.mds_verdict.specs.Verdict.{verdict_document, verdicts};
-    ghost use Rattle.mds_kept.specs.Kept.{AreOwn, Fits, HasArrived, HasDeparted, HasRoom, IsChanged, IsPublished, MayAsk, Published, Vehicles, device_cmp, rows_in};
+    ghost use Rattle.mds_kept.specs.Index.{AreOwn, Fits, HasArrived, HasDeparted, HasRoom, IsChanged, IsPublished, MayAsk, Published, Vehicles, device_cmp, rows_in};
 
     /// An empty index. Allocates nothing.
-    pub fn new() -> Kept
+    pub fn new() -> BitmapIndex
         ensures { (published : Published) (vehicles : Vehicles) → Fits published vehicles result }
     {
-        Kept {
+        BitmapIndex {
             listed: None,
             asked: None,
         }
@@ -77,7 +77,7 @@ impl Kept {
             Fits published before self.old → Fits published after self.new }
     {
         if let Some(listed) = self.listed.take() {
-            self.listed = noted(listed, device);
+            self.listed = with_change(listed, device);
         }
     }
 
@@ -88,7 +88,7 @@ impl Kept {
             Fits published before self.old → Fits published after self.new }
     {
         if let Some(listed) = self.listed.take() {
-            match arrived(listed, device) {
+            match with_arrival(listed, device) {
                 Some(listed) => self.listed = Some(listed),
                 None => self.clear(),
             }
@@ -102,7 +102,7 @@ impl Kept {
             Fits published before self.old → Fits published after self.new }
     {
         if let Some(listed) = self.listed.take() {
-            match departed(listed, device) {
+            match with_departure(listed, device) {
                 Some(listed) => self.listed = Some(listed),
                 None => self.clear(),
             }
@@ -143,24 +143,24 @@ impl Kept {
         ensures kept { (published : Published) → Fits published vehicles.now self.old →
             IsPublished published (policy_document policy.now) (P.polygons places.now) → Fits published vehicles.now self.new }
     {
-        if policy.rules().len() > MOST_RULES || vehicles.len() > MOST_MASKS {
+        if policy.rules().len() > MOST_RULES || vehicles.len() > MOST_BITMAPS {
             return None;
         }
         if !has_room(&self.listed, policy, vehicles) {
             return None;
         }
-        if !was_asked(alloc, &mut self.asked, policy.id()) {
+        if !note_question(alloc, &mut self.asked, policy.id()) {
             return None;
         }
-        let listed = kept_or_new(alloc, self.listed.take(), vehicles)?;
+        let listed = fleet_or_new(alloc, self.listed.take(), vehicles)?;
         let mut listed = with_sinces(alloc, listed, vehicles)?;
-        let column = taken_out(
+        let column = take_column(
             &mut listed.columns,
             alloc,
             policy.id(),
             listed.changed.len(),
         );
-        let column = refreshed(alloc, column, policy, places, &listed, vehicles)?;
+        let column = refresh_column(alloc, column, policy, places, &listed, vehicles)?;
         let columns = Columns {
             devices: &listed.devices,
             sinces: &listed.sinces,
@@ -173,7 +173,7 @@ impl Kept {
 }
 
 /// Whether a column of this policy is cached.
-fn has_column(columns: &[Column], policy: Id) -> bool
+fn has_column(columns: &[BitmapColumn], policy: Id) -> bool
     ensures { result ≡ has_column columns.now policy }
 {
     columns.iter().any(|column| column.policy == policy)
@@ -181,19 +181,19 @@ fn has_column(columns: &[Column], policy: Id) -> bool
 
 /// Whether a column of this policy has room: it is cached already, or with one more column there
 /// are at most 4,194,304 bitmaps.
-fn has_room(kept: &Option<Listed>, policy: &Policy, vehicles: &BTreeMap<Id, Box<Vehicle>>) -> bool
+fn has_room(kept: &Option<IndexedFleet>, policy: &Policy, vehicles: &BTreeMap<Id, Box<Vehicle>>) -> bool
     ensures { result ≡ true → HasRoom kept.now (policy_document policy.now).id (btree_map_len vehicles.now) }
 {
     let Some(listed) = kept else {
         return true;
     };
     let columns = listed.columns.len().saturating_add(1);
-    has_column(&listed.columns, policy.id()) || columns.saturating_mul(vehicles.len()) <= MOST_MASKS
+    has_column(&listed.columns, policy.id()) || columns.saturating_mul(vehicles.len()) <= MOST_BITMAPS
 }
 
 /// Whether a policy was asked about before. It counts as asked about from now on, unless out of
 /// memory.
-fn was_asked(alloc: Global, asked: &mut Option<Vec<Id>>, policy: Id) -> bool {
+fn note_question(alloc: Global, asked: &mut Option<Vec<Id>>, policy: Id) -> bool {
     let mut policies = asked.take().unwrap_or_else(|| Vec::new(alloc));
     let is_there = policies.contains(&policy);
     if !is_there {
@@ -204,13 +204,13 @@ fn was_asked(alloc: Global, asked: &mut Option<Vec<Id>>, policy: Id) -> bool {
 }
 
 /// The index after a device changed; `None` where the change can't be logged.
-fn noted(listed: Listed, device: Id) -> Option<Listed>
+fn with_change(listed: IndexedFleet, device: Id) -> Option<IndexedFleet>
     ensures { IfSome result (λ new. (published : Published) (before after : Vehicles) → IsChanged device before after →
         IsListed published before listed → IsListed published after new) }
 {
     let mut listed = listed;
     let fleet = listed.devices.len();
-    if !logged(&mut listed.changed, fleet, device) {
+    if !log_change(&mut listed.changed, fleet, device) {
         return None;
     }
     Some(listed)
@@ -218,18 +218,18 @@ fn noted(listed: Listed, device: Id) -> Option<Listed>
 
 /// Logs a changed device. `false` where the log of a fleet of this size has no room, or out of
 /// memory.
-pub(crate) fn logged(changed: &mut Vec<Id>, fleet: usize, device: Id) -> bool
+pub(crate) fn log_change(changed: &mut Vec<Id>, fleet: usize, device: Id) -> bool
     ensures { result ≡ true → changed.new.items ≡ changed.old.items ++ device ∷ [] }
 {
     changed.len() < LEAST_NOTES.max(fleet / 8) && changed.push(device).is_ok()
 }
 
 /// The index, or where there is none a new one of the devices alone. `None` where out of memory.
-fn kept_or_new(
+fn fleet_or_new(
     alloc: Global,
-    kept: Option<Listed>,
+    kept: Option<IndexedFleet>,
     vehicles: &BTreeMap<Id, Box<Vehicle>>,
-) -> Option<Listed>
+) -> Option<IndexedFleet>
     requires { IfSome kept (AreRows vehicles.now) }
     ensures rows { IfSome result (AreRows vehicles.now) }
     ensures kept { IfSome result (λ new. (published : Published) → IfSome kept (IsListed published vehicles.now) → IsListed published vehicles.now new) }
@@ -243,9 +243,9 @@ fn kept_or_new(
 /// The index with the beginnings of states up to date. `None` where out of memory.
 fn with_sinces(
     alloc: Global,
-    listed: Listed,
+    listed: IndexedFleet,
     vehicles: &BTreeMap<Id, Box<Vehicle>>,
-) -> Option<Listed>
+) -> Option<IndexedFleet>
     requires ordered { IsOrdered device_cmp vehicles.now }
     requires devices { listed.devices.items ≡ keys vehicles.now }
     requires seen { listed.seen ≤ length listed.changed.items }
@@ -254,7 +254,7 @@ fn with_sinces(
     ensures sinces { IfSome result (λ new. AreRead IsSince (rows_in vehicles.now) new.sinces.items) }
     ensures kept { IfSome result (λ new. (published : Published) → IsListed published vehicles.now listed → IsListed published vehicles.now new) }
 {
-    let Listed {
+    let IndexedFleet {
         devices,
         sinces,
         seen,
@@ -262,9 +262,9 @@ fn with_sinces(
         changed,
         moved: _,
     } = listed;
-    let sinces = fresh(alloc, sinces, &Since, &devices, vehicles, &changed[seen..])?;
+    let sinces = refresh_words(alloc, sinces, &SinceWord, &devices, vehicles, &changed[seen..])?;
     let seen = changed.len();
-    Some(Listed {
+    Some(IndexedFleet {
         devices,
         sinces,
         seen,
@@ -275,14 +275,14 @@ fn with_sinces(
 }
 
 /// An index of the devices alone. `None` where out of memory.
-fn without_columns(alloc: Global, vehicles: &BTreeMap<Id, Box<Vehicle>>) -> Option<Listed>
+fn without_columns(alloc: Global, vehicles: &BTreeMap<Id, Box<Vehicle>>) -> Option<IndexedFleet>
     ensures rows { IfSome result (AreRows vehicles.now) }
     ensures kept { IfSome result (λ new. (published : Published) → IsListed published vehicles.now new) }
 {
     let Ok(devices) = vehicles.keys().copied().collect(alloc) else {
         return None;
     };
-    Some(Listed {
+    Some(IndexedFleet {
         devices,
         sinces: Vec::new(alloc),
         seen: 0,
@@ -293,7 +293,7 @@ fn without_columns(alloc: Global, vehicles: &BTreeMap<Id, Box<Vehicle>>) -> Opti
 }
 
 /// Takes the column of a policy out of the index; a new one without bitmaps where there is none.
-fn taken_out(columns: &mut Vec<Column>, alloc: Global, policy: Id, seen: usize) -> Column
+fn take_column(columns: &mut Vec<BitmapColumn>, alloc: Global, policy: Id, seen: usize) -> BitmapColumn
     ensures policy { result.policy ≡ policy }
     ensures kept { (published : Published) (vehicles : Vehicles) (devices changed : List (List ℕ)) →
         length changed ≡ seen → published.lasting policy ≡ true →
@@ -303,7 +303,7 @@ fn taken_out(columns: &mut Vec<Column>, alloc: Global, policy: Id, seen: usize) 
     if let Some(place) = columns.iter().position(|column| column.policy == policy) {
         return columns.remove(place);
     }
-    Column {
+    BitmapColumn {
         policy,
         masks: Vec::new(alloc),
         seen,
@@ -311,14 +311,14 @@ fn taken_out(columns: &mut Vec<Column>, alloc: Global, policy: Id, seen: usize) 
 }
 
 /// The column of a policy with all its bitmaps, up to date. `None` where out of memory.
-fn refreshed<P: Places>(
+fn refresh_column<P: Places>(
     alloc: Global,
-    column: Column,
+    column: BitmapColumn,
     policy: &Policy,
     places: &P,
-    listed: &Listed,
+    listed: &IndexedFleet,
     vehicles: &BTreeMap<Id, Box<Vehicle>>,
-) -> Option<Column>
+) -> Option<BitmapColumn>
     requires few { length (policy_document policy.now).rules ≤ 64 }
     requires devices { listed.now.devices.items ≡ keys vehicles.now }
     requires seen { column.seen ≤ length listed.now.changed.items }
@@ -329,18 +329,18 @@ fn refreshed<P: Places>(
     ensures masks { IfSome result (λ new. AreRead (λ row word. IsMask (policy_document policy.now) (P.polygons places.now) row word)
         (rows_in vehicles.now) new.masks.items) }
 {
-    let Column {
+    let BitmapColumn {
         policy: id,
         masks,
         seen,
     } = column;
-    let Ok(rules) = MaskedPolicy::new(alloc, policy, places) else {
+    let Ok(rules) = PolicyMatcher::new(alloc, policy, places) else {
         return None;
     };
-    let mask = Mask { rules };
+    let mask = BitmapWord { rules };
     let changed = &listed.changed[seen..];
-    let masks = fresh(alloc, masks, &mask, &listed.devices, vehicles, changed)?;
-    Some(Column {
+    let masks = refresh_words(alloc, masks, &mask, &listed.devices, vehicles, changed)?;
+    Some(BitmapColumn {
         policy: id,
         masks,
         seen: listed.changed.len(),
@@ -348,7 +348,7 @@ fn refreshed<P: Places>(
 }
 
 /// The index with this column added; without it where out of memory.
-fn put_back(listed: Listed, column: Column) -> Listed
+fn put_back(listed: IndexedFleet, column: BitmapColumn) -> IndexedFleet
     ensures { (published : Published) (vehicles : Vehicles) → IsListed published vehicles listed →
         IsColumn published vehicles listed.devices.items listed.changed.items column → IsListed published vehicles result }
 {

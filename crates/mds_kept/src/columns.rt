@@ -10,7 +10,7 @@ ghost use Rattle.mds_kept.specs.Columns.{AreOf, AreOfSome};
 
 use crate::bits::first_of;
 use crate::bounds::{adds_since, status_of};
-use crate::opening::open_mask;
+use crate::open_rules::open_bitmap;
 use mds_match::{Local, open_at};
 use mds_policy::{Kind, Policy, Rule};
 use mds_text::{Id, Moment};
@@ -49,14 +49,14 @@ pub fn verdicts_by(
         map verdict_document found.items ≡ verdicts (policy_document policy.now) polygons rows local moment) }
     ensures fits { IfOk result (λ found. All (λ v. v.measure < 2 ^ 63) found.items) }
 {
-    let mut held = counted(alloc, policy, columns, local, moment)?;
-    show(&mut held);
+    let mut held = count_all(alloc, policy, columns, local, moment)?;
+    trim_verdicts(&mut held);
     Ok(held)
 }
 
 /// Counts the vehicles for each rule, and lists the first `MOST_DEVICES` of them, whether the rule
 /// is violated or not.
-fn counted(
+fn count_all(
     alloc: Global,
     policy: &Policy,
     columns: &Columns<'_>,
@@ -69,8 +69,8 @@ fn counted(
         AreOf (policy_document policy.now) polygons rows columns.now.devices.now columns.now.sinces.now columns.now.masks.now →
         map verdict_document held.items ≡ gathered (policy_document policy.now) polygons rows local moment) }
 {
-    let active = open_mask(policy, local);
-    let mut held = of_none(alloc, policy.rules(), local)?;
+    let active = open_bitmap(policy, local);
+    let mut held = initial_verdicts(alloc, policy.rules(), local)?;
     for place in 0..columns.masks.len() {
         if let Some(number) = first_of(active, columns.masks[place]) {
             let device = columns.devices[place];
@@ -131,18 +131,18 @@ fn count_in(verdict: &mut RuleVerdict, rule: &Rule, device: Id) -> Result<(), Al
 }
 
 /// The verdicts on a policy's rules where there is no vehicle.
-fn of_none(alloc: Global, rules: &[Rule], local: Local) -> Result<Vec<RuleVerdict>, AllocError>
+fn initial_verdicts(alloc: Global, rules: &[Rule], local: Local) -> Result<Vec<RuleVerdict>, AllocError>
     ensures { IfOk result (λ v. map verdict_document v.items ≡ map (λ r. gathered_rule (rule_document r) local []) rules.now) }
 {
     let mut held = Vec::with_capacity(alloc, rules.len())?;
     for rule in rules {
-        held.push(judged(alloc, rule, local))?;
+        held.push(initial_verdict(alloc, rule, local))?;
     }
     Ok(held)
 }
 
 /// The verdict on a rule that counts no vehicle.
-fn judged(alloc: Global, rule: &Rule, local: Local) -> RuleVerdict
+fn initial_verdict(alloc: Global, rule: &Rule, local: Local) -> RuleVerdict
     ensures { verdict_document result ≡ gathered_rule (rule_document rule.now) local [] }
 {
     let status = if rule.kind == Kind::Other {
@@ -161,16 +161,16 @@ fn judged(alloc: Global, rule: &Rule, local: Local) -> RuleVerdict
 }
 
 /// Drops the devices of the rules that aren't violated.
-fn show(held: &mut [RuleVerdict])
+fn trim_verdicts(held: &mut [RuleVerdict])
     ensures { map verdict_document held.new ≡ map shown (map verdict_document held.old) }
 {
     for verdict in held.iter_mut() {
-        show_in(verdict);
+        trim_verdict(verdict);
     }
 }
 
 /// Drops the devices of a rule that isn't violated, and the spare capacity of the list.
-fn show_in(verdict: &mut RuleVerdict)
+fn trim_verdict(verdict: &mut RuleVerdict)
     ensures { verdict_document verdict.new ≡ shown (verdict_document verdict.old) }
 {
     if verdict.status != Status::Violated {

@@ -9,7 +9,7 @@ ghost use Rattle.mds_kept.specs.Masks.{matches};
 ghost use Rattle.mds_kept.specs.Masked.{masked_matches};
 
 use crate::bits::with_bit;
-use crate::meant::{is_evaluated, is_meant};
+use crate::criteria::{is_evaluated, is_meant};
 use mds_geometry::Area;
 use mds_match::{Places, Vehicle};
 use mds_policy::{Policy, Rule};
@@ -18,7 +18,7 @@ use std::alloc::{AllocError, Global};
 
 /// A rule with the areas of its geographies looked up.
 #[derive(Drop)]
-pub(crate) struct MaskedRule<'a> {
+pub(crate) struct RuleMatcher<'a> {
     rule: &'a Rule,
     is_evaluated: bool,
     areas: Vec<&'a Area>,
@@ -28,11 +28,11 @@ pub(crate) struct MaskedRule<'a> {
 /// their geographies looked up: one look-up for each geography serves many vehicles. It does not
 /// depend on the time.
 #[derive(Drop)]
-pub struct MaskedPolicy<'a> {
-    rules: Vec<MaskedRule<'a>>,
+pub struct PolicyMatcher<'a> {
+    rules: Vec<RuleMatcher<'a>>,
 }
 
-impl<'a> MaskedPolicy<'a> {
+impl<'a> PolicyMatcher<'a> {
     ghost use Rattle.std.specs.Prelude.{◌≤◌, ℕ, List, IfOk, length};
     ghost use Rattle.mds_geometry.specs.declared.position.Position.{Position};
     ghost use Rattle.mds_policy.specs.Policy.{policy_document, Policy as Document};
@@ -49,17 +49,17 @@ impl<'a> MaskedPolicy<'a> {
         alloc: Global,
         policy: &'a Policy,
         places: &'a P,
-    ) -> Result<MaskedPolicy<'a>, AllocError>
+    ) -> Result<PolicyMatcher<'a>, AllocError>
         ensures { IfOk result (λ masked. IsMasked masked (policy_document policy.now) (P.polygons places.now)) }
     {
-        let rules = masked_rules(alloc, policy.rules(), places)?;
-        Ok(MaskedPolicy { rules })
+        let rules = rule_matchers(alloc, policy.rules(), places)?;
+        Ok(PolicyMatcher { rules })
     }
 
     /// The bitmap of the rules that a vehicle meets whenever they are open: those that are
     /// evaluated and that match its type, propulsion, state, last events and position (MDS 2.0
     /// Policy, rules). Allocates nothing.
-    pub fn mask(&self, vehicle: &Vehicle) -> u64
+    pub fn bitmap(&self, vehicle: &Vehicle) -> u64
         requires { length self.now.rules.items ≤ 64 }
         ensures { (policy : Document) (polygons : List ℕ → List (List (List Position))) →
             IsMasked self.now policy polygons → IsMask policy polygons (row_of vehicle.now) result }
@@ -72,32 +72,32 @@ impl<'a> MaskedPolicy<'a> {
     }
 }
 
-fn masked_rules<'a, P: Places>(
+fn rule_matchers<'a, P: Places>(
     alloc: Global,
     rules: &'a [Rule],
     places: &'a P,
-) -> Result<Vec<MaskedRule<'a>>, AllocError>
+) -> Result<Vec<RuleMatcher<'a>>, AllocError>
     ensures { IfOk result (λ masked. (row : Row) →
         map (masked_matches row) masked.items ≡ map (λ r. matches (P.polygons places.now) row (rule_document r)) rules.now) }
 {
     let mut masked = Vec::with_capacity(alloc, rules.len())?;
     for rule in rules {
-        masked.push(masked_rule(alloc, rule, places)?)?;
+        masked.push(rule_matcher(alloc, rule, places)?)?;
     }
     Ok(masked)
 }
 
-fn masked_rule<'a, P: Places>(
+fn rule_matcher<'a, P: Places>(
     alloc: Global,
     rule: &'a Rule,
     places: &'a P,
-) -> Result<MaskedRule<'a>, AllocError>
+) -> Result<RuleMatcher<'a>, AllocError>
     ensures { IfOk result (λ masked. (row : Row) →
         masked_matches row masked ≡ matches (P.polygons places.now) row (rule_document rule.now)) }
 {
     let areas = areas_of(alloc, &rule.geographies, places)?;
     let is_evaluated = is_evaluated(rule.kind);
-    Ok(MaskedRule {
+    Ok(RuleMatcher {
         rule,
         is_evaluated,
         areas,
@@ -124,13 +124,13 @@ fn areas_of<'a, P: Places>(
 
 /// Whether a vehicle meets the rule whenever it is open. The position is tested first, since few
 /// positions pass.
-fn matches(rule: &MaskedRule<'_>, vehicle: &Vehicle) -> bool
+fn matches(rule: &RuleMatcher<'_>, vehicle: &Vehicle) -> bool
     ensures { result ≡ masked_matches (row_of vehicle.now) rule.now }
 {
     rule.is_evaluated && in_areas(rule, vehicle) && is_meant(rule.rule, vehicle)
 }
 
-fn in_areas(rule: &MaskedRule<'_>, vehicle: &Vehicle) -> bool
+fn in_areas(rule: &RuleMatcher<'_>, vehicle: &Vehicle) -> bool
     ensures { result ≡ list_any (λ area. area_holds area.now vehicle.now.position) rule.now.areas.items }
 {
     for area in &rule.areas {

@@ -1,9 +1,9 @@
 ghost use Rattle.std.specs.Prelude.{◌≡◌, ◌≤◌, true, length, IfSome};
 ghost use Rattle.std.specs.List.{insert};
 ghost use Rattle.std.specs.BTreeMap.{IsOrdered};
-ghost use Rattle.mds_kept.specs.Kept.{AreEdited, HasArrived, HasDeparted, IsListed, Published, Vehicles, device_cmp, with_place, without_place};
+ghost use Rattle.mds_kept.specs.Index.{AreEdited, HasArrived, HasDeparted, IsListed, Published, Vehicles, device_cmp, with_place, without_place};
 
-use crate::kept::{Column, Listed, MOST_MASKS, logged};
+use crate::bitmap_index::{BitmapColumn, IndexedFleet, MOST_BITMAPS, log_change};
 use mds_text::Id;
 
 /// The most devices that may come or go between two questions, before the index is cleared: each
@@ -14,7 +14,7 @@ const MOST_MOVES: usize = 64;
 /// The index after a device came; `None` where too many came or went, where there is no room for
 /// it, or out of memory. The device is logged as changed, so that its words are computed by the
 /// next question.
-pub(crate) fn arrived(listed: Listed, device: Id) -> Option<Listed>
+pub(crate) fn with_arrival(listed: IndexedFleet, device: Id) -> Option<IndexedFleet>
     ensures { IfSome result (λ new. (published : Published) (before after : Vehicles) → IsOrdered device_cmp before → HasArrived device before after →
         IsListed published before listed → IsListed published after new) }
 {
@@ -25,11 +25,11 @@ pub(crate) fn arrived(listed: Listed, device: Id) -> Option<Listed>
     };
     let masks = listed.columns.len().saturating_mul(fleet.saturating_add(1));
     if listed.moved >= MOST_MOVES
-        || masks > MOST_MASKS
+        || masks > MOST_BITMAPS
         || !put_in(&mut listed.devices, place, device)
         || !put_word(&mut listed.sinces, place)
-        || !put_masks(&mut listed.columns, place)
-        || !logged(&mut listed.changed, fleet, device)
+        || !put_bitmaps(&mut listed.columns, place)
+        || !log_change(&mut listed.changed, fleet, device)
     {
         return None;
     }
@@ -38,7 +38,7 @@ pub(crate) fn arrived(listed: Listed, device: Id) -> Option<Listed>
 }
 
 /// The index after a device went; `None` where too many came or went.
-pub(crate) fn departed(listed: Listed, device: Id) -> Option<Listed>
+pub(crate) fn with_departure(listed: IndexedFleet, device: Id) -> Option<IndexedFleet>
     ensures { IfSome result (λ new. (published : Published) (before after : Vehicles) → IsOrdered device_cmp before → HasDeparted device before after →
         IsListed published before listed → IsListed published after new) }
 {
@@ -51,7 +51,7 @@ pub(crate) fn departed(listed: Listed, device: Id) -> Option<Listed>
     }
     listed.devices.remove(place);
     take_word(&mut listed.sinces, place);
-    take_masks(&mut listed.columns, place);
+    take_bitmaps(&mut listed.columns, place);
     listed.moved += 1;
     Some(listed)
 }
@@ -77,7 +77,7 @@ fn put_word(words: &mut Vec<u64>, place: usize) -> bool
 }
 
 /// Inserts a 0 at an index of each column's bitmaps. `false` where out of memory.
-fn put_masks(columns: &mut [Column], place: usize) -> bool
+fn put_bitmaps(columns: &mut [BitmapColumn], place: usize) -> bool
     ensures { result ≡ true → AreEdited (with_place place) columns.old columns.new }
 {
     for column in columns.iter_mut() {
@@ -98,7 +98,7 @@ fn take_word(words: &mut Vec<u64>, place: usize)
 }
 
 /// Removes the bitmap at an index of each column.
-fn take_masks(columns: &mut [Column], place: usize)
+fn take_bitmaps(columns: &mut [BitmapColumn], place: usize)
     ensures { AreEdited (without_place place) columns.old columns.new }
 {
     for column in columns.iter_mut() {

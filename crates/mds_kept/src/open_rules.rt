@@ -7,7 +7,7 @@ use mds_match::{Local, open_at};
 use mds_policy::Policy;
 
 /// The bitmap of the rules of a policy that are open at a local time.
-pub fn open_mask(policy: &Policy, local: Local) -> u64
+pub fn open_bitmap(policy: &Policy, local: Local) -> u64
     requires { length (policy_document policy.now).rules ≤ 64 }
     ensures { IsOpenMask (policy_document policy.now) local result }
 {

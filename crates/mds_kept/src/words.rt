@@ -1,15 +1,15 @@
 ghost use Rattle.std.specs.Prelude.{◌≡◌, ◌≤◌, IfOk, IfSome, [], true, length};
 ghost use Rattle.std.specs.BTreeMap.{IsOrdered, keys};
-ghost use Rattle.mds_kept.specs.Kept.{AreKept, AreRead, device_cmp, rows_in};
+ghost use Rattle.mds_kept.specs.Index.{AreKept, AreRead, device_cmp, rows_in};
 
-use crate::masked::MaskedPolicy;
+use crate::matcher::PolicyMatcher;
 use mds_match::Vehicle;
 use mds_text::Id;
 use std::alloc::{AllocError, Global};
 use std::collections::BTreeMap;
 
 /// What is cached of each vehicle, as one word.
-pub(crate) trait Word {
+pub(crate) trait VehicleWord {
     ghost use Rattle.std.specs.Prelude.{ℕ};
     ghost use Rattle.mds_match.specs.Row.{Row, row_of};
 
@@ -22,10 +22,10 @@ pub(crate) trait Word {
 }
 
 /// When the run of a vehicle's state began, in milliseconds since the Unix epoch.
-pub(crate) struct Since;
+pub(crate) struct SinceWord;
 
-impl Word for Since {
-    ghost use Rattle.mds_kept.specs.Kept.{IsSince};
+impl VehicleWord for SinceWord {
+    ghost use Rattle.mds_kept.specs.Index.{IsSince};
 
     ghost is = { λ _ row word. IsSince row word };
 
@@ -36,18 +36,18 @@ impl Word for Since {
 
 /// The bitmap of the rules of a policy that a vehicle meets whenever they are open.
 #[derive(Drop)]
-pub(crate) struct Mask<'a> {
-    pub(crate) rules: MaskedPolicy<'a>,
+pub(crate) struct BitmapWord<'a> {
+    pub(crate) rules: PolicyMatcher<'a>,
     ghost few: { length rules.rules.items ≤ 64 },
 }
 
-impl<'a> Word for Mask<'a> {
-    ghost use Rattle.mds_kept.specs.Kept.{IsMaskBy};
+impl<'a> VehicleWord for BitmapWord<'a> {
+    ghost use Rattle.mds_kept.specs.Index.{IsMaskBy};
 
     ghost is = { λ mask row word. IsMaskBy mask.rules row word };
 
     fn of(&self, vehicle: &Vehicle) -> u64 {
-        self.rules.mask(vehicle)
+        self.rules.bitmap(vehicle)
     }
 }
 
@@ -56,7 +56,7 @@ impl<'a> Word for Mask<'a> {
 /// # Errors
 ///
 /// Out of memory.
-fn made<W: Word>(
+fn all_words<W: VehicleWord>(
     alloc: Global,
     word: &W,
     vehicles: &BTreeMap<Id, Box<Vehicle>>,
@@ -72,7 +72,7 @@ fn made<W: Word>(
 
 /// Computes the words of changed devices again, where they are still there. `false` where one of
 /// them isn't listed.
-fn renew<W: Word>(
+fn renew<W: VehicleWord>(
     words: &mut [u64],
     word: &W,
     devices: &[Id],
@@ -102,7 +102,7 @@ fn renew<W: Word>(
 
 /// The words of these vehicles: the cached ones, with those of changed devices computed again, or
 /// all computed again where some are missing. `None` where out of memory.
-pub(crate) fn fresh<W: Word>(
+pub(crate) fn refresh_words<W: VehicleWord>(
     alloc: Global,
     kept: Vec<u64>,
     word: &W,
@@ -115,7 +115,7 @@ pub(crate) fn fresh<W: Word>(
     ensures { IfSome result (λ words. AreRead (W.is word.now) (rows_in vehicles.now) words.items) }
 {
     if kept.len() != vehicles.len() {
-        return made(alloc, word, vehicles).ok();
+        return all_words(alloc, word, vehicles).ok();
     }
     let mut words = kept;
     if !renew(&mut words, word, devices, vehicles, changed) {

@@ -1,11 +1,11 @@
 -- How a request body arrives.
 use Rattle.std.specs.Prelude.{ℕ, ◌+◌, List, [], length, Bool, true, false, nat_le, if◌then◌else◌}
 use Rattle.mds_request.specs.declared.call.TheConstants.{MOST_BODY}
-use Rattle.mds_limits.specs.declared.limits.TheConstants.{MOST_PAST}
+use Rattle.mds_limits.specs.declared.limits.TheConstants.{MOST_DISCARDED}
 use Rattle.mds_limits.specs.declared.arrival.Piece.{Piece}
 use Rattle.mds_limits.specs.declared.arrival.Piece.TheVariants as piece
-use Rattle.mds_limits.specs.declared.arrival.End.{End}
-use Rattle.mds_limits.specs.declared.arrival.End.TheVariants as end
+use Rattle.mds_limits.specs.declared.arrival.BodyEnd.{BodyEnd}
+use Rattle.mds_limits.specs.declared.arrival.BodyEnd.TheVariants as end
 use Rattle.mds_limits.specs.declared.arrival.Arrived.{Arrived}
 use Rattle.mds_limits.specs.declared.arrival.Arrived.TheVariants.{Whole, Broken, TooLong, NoMemory}
 
@@ -13,10 +13,10 @@ use Rattle.mds_limits.specs.declared.arrival.Arrived.TheVariants.{Whole, Broken,
 abbrev pub piece_at : ℕ → ℕ → Piece
 piece_at before length =
     if nat_le (before + length) MOST_BODY then piece.Kept
-    else (if nat_le (before + length) (MOST_BODY + MOST_PAST) then piece.Passed else piece.Refused)
+    else (if nat_le (before + length) (MOST_BODY + MOST_DISCARDED) then piece.Passed else piece.Refused)
 
 -- how a body arrived: these are its bytes, and its reading ended so
-abbrev pub arrived_of : End → List ℕ → Arrived
+abbrev pub arrived_of : BodyEnd → List ℕ → Arrived
 arrived_of end.Over body = if nat_le (length body) MOST_BODY then Whole body else TooLong
 arrived_of end.Refused body = TooLong
 arrived_of end.Broken body = Broken

@@ -1,7 +1,7 @@
 pub mod Actor
 pub mod Arrival
 pub mod Cost
-pub mod Seat
-pub mod Stage
-pub mod Taking
+pub mod Slot
+pub mod HeadPhase
+pub mod SlowClient
 pub mod Waiting

@@ -2,11 +2,11 @@
 -- connection
 -- that wants a slot.
 use Rattle.std.specs.Prelude.{ℕ, ◌-◌, ◌==◌, ◌≤◌, List, drop, Bool, nat_lt, slice_index, EachIndex, count_by, if◌then◌else◌}
-use Rattle.mds_limits.specs.declared.limits.TheConstants.{MOST_CONNECTIONS, MOST_STRANGERS, MOST_OF_ASKER}
+use Rattle.mds_limits.specs.declared.limits.TheConstants.{MOST_CONNECTIONS, MOST_ANONYMOUS, MOST_OF_CLIENT}
 
 -- anonymous comes first
 abbrev pub most_of : ℕ → ℕ
-most_of asker = if asker == 0 then MOST_STRANGERS else MOST_OF_ASKER
+most_of asker = if asker == 0 then MOST_ANONYMOUS else MOST_OF_CLIENT
 
 -- the client has more connections than it may
 abbrev pub is_over : List ℕ → ℕ → Bool

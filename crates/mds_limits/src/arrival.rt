@@ -2,7 +2,7 @@
 ghost use Rattle.std.specs.Prelude.{◌≡◌};
 ghost use Rattle.mds_limits.specs.Arrival.{arrived_of, body_in, closes_after, piece_at};
 
-use crate::limits::MOST_PAST;
+use crate::limits::MOST_DISCARDED;
 use bytes::Bytes;
 use mds_request::MOST_BODY;
 
@@ -19,7 +19,7 @@ pub enum Piece {
 
 /// How the reading of a body ended.
 #[derive(Clone, Copy, Debug, PartialEq, Eq)]
-pub enum End {
+pub enum BodyEnd {
     /// The body ended.
     Over,
     /// It went on after all that is read and discarded.
@@ -53,7 +53,7 @@ impl Piece {
         };
         if total <= MOST_BODY {
             Piece::Kept
-        } else if total <= MOST_BODY + MOST_PAST {
+        } else if total <= MOST_BODY + MOST_DISCARDED {
             Piece::Passed
         } else {
             Piece::Refused
@@ -63,14 +63,14 @@ impl Piece {
 
 impl Arrived {
     /// The body of which these bytes were read, and whose reading ended so.
-    pub fn of(end: End, body: Bytes) -> Arrived
+    pub fn of(end: BodyEnd, body: Bytes) -> Arrived
         ensures { result ≡ arrived_of end body }
     {
         match end {
-            End::Over if body.len() <= MOST_BODY => Arrived::Whole(body),
-            End::Over | End::Refused => Arrived::TooLong,
-            End::Broken => Arrived::Broken,
-            End::NoMemory => Arrived::NoMemory,
+            BodyEnd::Over if body.len() <= MOST_BODY => Arrived::Whole(body),
+            BodyEnd::Over | BodyEnd::Refused => Arrived::TooLong,
+            BodyEnd::Broken => Arrived::Broken,
+            BodyEnd::NoMemory => Arrived::NoMemory,
         }
     }
 

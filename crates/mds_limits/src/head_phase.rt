@@ -1,12 +1,12 @@
 //! By when a head has to come.
 ghost use Rattle.std.specs.Prelude.{◌≡◌, ◌==◌, ◌%◌};
-ghost use Rattle.mds_limits.specs.Stage.{seconds_of, goes_on};
+ghost use Rattle.mds_limits.specs.HeadPhase.{seconds_of, goes_on};
 
 use crate::limits::{HEAD_SECONDS, IDLE_SECONDS};
 
 /// What a connection waits for: its next head, or the rest of one.
 #[derive(Clone, Copy, Debug, PartialEq, Eq)]
-pub struct Stage {
+pub struct HeadPhase {
     /// How many requests it carried, plus how many of them were answered.
     pub pace: u64,
     /// A head has begun.
@@ -21,7 +21,7 @@ pub fn is_answering(pace: u64) -> bool
     pace % 2 == 1
 }
 
-impl Stage {
+impl HeadPhase {
     /// How long it may take.
     pub fn seconds(self) -> u64
         ensures { result ≡ seconds_of self }
@@ -35,7 +35,7 @@ impl Stage {
 
     /// Whether this stage's deadline still runs at the next one: that of a head isn't put off as
     /// more of it comes.
-    pub fn goes_on(self, next: Stage) -> bool
+    pub fn goes_on(self, next: HeadPhase) -> bool
         ensures { result ≡ goes_on self next }
     {
         self.pace == next.pace && (self.is_head || !next.is_head)

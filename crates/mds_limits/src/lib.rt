@@ -7,22 +7,22 @@ mod arrival;
 mod cost;
 mod limits;
 mod moment;
-mod seat;
-mod stage;
-mod taking;
+mod slot;
+mod head_phase;
+mod slow_client;
 mod waiting;
 
 pub use actor::index_of;
-pub use arrival::{Arrived, End, Piece};
+pub use arrival::{Arrived, BodyEnd, Piece};
 pub use cost::{Cost, cost_of};
 pub use limits::{
     ACCEPT_PAUSE_MILLIS, BODY_SECONDS, CROWDED_PAUSE_MILLIS, HEAD_SECONDS, IDLE_SECONDS,
-    LEAST_TAKEN, MOST_CONNECTIONS, MOST_HELD, MOST_HELD_BY_ALL, MOST_OF_ASKER, MOST_PAST,
-    MOST_SHORT, MOST_STRANGERS, MOST_WAITING, PASSING_SECONDS, SLOW_SECONDS, SMALL_BODY,
-    TAKING_SECONDS, limits_of_bodies, limits_of_connections, limits_of_times,
+    LEAST_RATE, MOST_CONNECTIONS, MOST_HELD, MOST_HELD_BY_ALL, MOST_OF_CLIENT, MOST_DISCARDED,
+    MOST_SHORT, MOST_ANONYMOUS, MOST_WAITING, DISCARD_SECONDS, SLOW_SECONDS, SMALL_BODY,
+    STALL_SECONDS, limits_of_bodies, limits_of_connections, limits_of_times,
 };
 pub use moment::moment_of;
-pub use seat::{Decision, seat_for};
-pub use stage::{Stage, is_answering};
-pub use taking::is_untaken;
-pub use waiting::{Load, counted, may_wait};
+pub use slot::{Decision, slot_for};
+pub use head_phase::{HeadPhase, is_answering};
+pub use slow_client::is_too_slow;
+pub use waiting::{Load, load_bytes_of, may_wait};

@@ -7,10 +7,10 @@ ghost use Rattle.mds_request.specs.declared.call.TheConstants.{MOST_BODY};
 pub const MOST_CONNECTIONS: usize = 4_096;
 
 /// The most anonymous connections at once, which carried no known access token yet: half of all.
-pub const MOST_STRANGERS: usize = 2_048;
+pub const MOST_ANONYMOUS: usize = 2_048;
 
 /// The most connections at once of one client.
-pub const MOST_OF_ASKER: usize = 512;
+pub const MOST_OF_CLIENT: usize = 512;
 
 /// How long a head may take to come, from its first byte. A connection whose head is late is
 /// closed.
@@ -20,21 +20,21 @@ pub const HEAD_SECONDS: u64 = 10;
 pub const BODY_SECONDS: u64 = 30;
 
 /// How long a body is read and discarded whose request may not wait. The request is answered then.
-pub const PASSING_SECONDS: u64 = 2;
+pub const DISCARD_SECONDS: u64 = 2;
 
 /// How long a connection may be idle. It is closed then.
 pub const IDLE_SECONDS: u64 = 60;
 
 /// How long a response may wait with nothing of it written to the socket. The connection is closed
 /// then.
-pub const TAKING_SECONDS: u64 = 30;
+pub const STALL_SECONDS: u64 = 30;
 
 /// How long after a response first had to wait for its socket it has to be written at `LEAST_TAKEN`
 /// on average.
 pub const SLOW_SECONDS: u32 = 120;
 
 /// The least rate, in bytes a second, at which a response has to be written.
-pub const LEAST_TAKEN: u64 = 16_384;
+pub const LEAST_RATE: u64 = 16_384;
 
 /// How long no connection is accepted after an accept failed.
 pub const ACCEPT_PAUSE_MILLIS: u64 = 20;
@@ -49,7 +49,7 @@ pub const MOST_SHORT: u32 = 4_096;
 pub const SMALL_BODY: usize = 16_384;
 
 /// The most bytes of a body that is too long that are read and discarded.
-pub const MOST_PAST: usize = 1_048_576;
+pub const MOST_DISCARDED: usize = 1_048_576;
 
 /// The most bytes of one client's bodies that are coming or wait. All anonymous are one client.
 pub const MOST_HELD: usize = 67_108_864;

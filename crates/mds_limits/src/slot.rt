@@ -1,9 +1,9 @@
 //! Who gets a connection slot.
 ghost use Rattle.std.specs.Prelude.{◌≡◌, ◌≤◌, ℕ, IsTrue, IsFalse};
-ghost use Rattle.mds_limits.specs.Seat.{most_of, without_any, is_over, is_full, HasMost};
-ghost use Rattle.mds_limits.specs.declared.seat.Decision.TheVariants.{Take, Close};
+ghost use Rattle.mds_limits.specs.Slot.{most_of, without_any, is_over, is_full, HasMost};
+ghost use Rattle.mds_limits.specs.declared.slot.Decision.TheVariants.{Take, Close};
 
-use crate::limits::{MOST_CONNECTIONS, MOST_OF_ASKER, MOST_STRANGERS};
+use crate::limits::{MOST_CONNECTIONS, MOST_OF_CLIENT, MOST_ANONYMOUS};
 
 /// What to do for a connection that wants a slot.
 #[derive(Clone, Copy, Debug, PartialEq, Eq)]
@@ -19,7 +19,7 @@ pub enum Decision {
 /// have at most half of all slots and any other client at most `MOST_OF_ASKER`: beyond that, one of
 /// its own is closed. One slot is reserved for each client that has none: where all others are
 /// taken, a connection of the client with the most is closed.
-pub fn seat_for(counts: &[usize], all: usize, asker: usize) -> Decision
+pub fn slot_for(counts: &[usize], all: usize, asker: usize) -> Decision
     ensures own { IsTrue (is_over counts.now asker) → result ≡ Close asker }
     ensures most { IsFalse (is_over counts.now asker) → IsTrue (is_full counts.now all)
         → (place : ℕ) × (result ≡ Close place) × HasMost counts.now place }
@@ -39,9 +39,9 @@ fn most_of(asker: usize) -> usize
     ensures { result ≡ most_of asker }
 {
     if asker == 0 {
-        MOST_STRANGERS
+        MOST_ANONYMOUS
     } else {
-        MOST_OF_ASKER
+        MOST_OF_CLIENT
     }
 }
 

@@ -15,7 +15,7 @@ pub struct Load {
 
 /// How many bytes a body of this declared length counts as; the maximum, where none is declared or
 /// a larger one.
-pub fn counted(length: Option<u64>) -> usize
+pub fn load_bytes_of(length: Option<u64>) -> usize
     ensures { result ≡ counted_of length }
 {
     match length {

@@ -5,8 +5,8 @@ use Rattle.std.proofs.lemmas.Bool.{or_parts, and_right}
 use Rattle.mds_lines.specs.Input.{is_feed, lines, feeds}
 use Rattle.mds_lines.specs.LineReading.{IsWithoutFeed}
 use Rattle.mds_lines.specs.declared.gather.TheConstants.{LINE_LIMIT}
-use Rattle.mds_lines.specs.declared.lines.Found.{Found}
-use Rattle.mds_lines.specs.declared.lines.Found.TheVariants.{Line, TooLong, End}
+use Rattle.mds_lines.specs.declared.lines.NextLine.{NextLine}
+use Rattle.mds_lines.specs.declared.lines.NextLine.TheVariants.{Line, TooLong, End}
 
 -- the bytes without a carriage return at their end
 abbrev pub without_return : List ℕ → List ℕ
@@ -15,13 +15,13 @@ without_return (byte ∷ []) = cond (eqb byte 13) [] (byte ∷ [])
 without_return (byte ∷ next ∷ bytes) = byte ∷ without_return (next ∷ bytes)
 
 -- the line that ends at a line feed after the stored bytes, or that it is over the limit
-abbrev pub Closes : List ℕ → Found → List ℕ → Type 0
+abbrev pub Closes : List ℕ → NextLine → List ℕ → Type 0
 Closes old Line new = (new ≡ without_return old) × (length new ≤ LINE_LIMIT)
 Closes old TooLong new = LINE_LIMIT < length (without_return old)
 Closes old End new = ⊥
 
 -- the last line, without a line feed, or that there is none
-abbrev pub ClosesLast : List ℕ → Found → List ℕ → Type 0
+abbrev pub ClosesLast : List ℕ → NextLine → List ℕ → Type 0
 ClosesLast old Line new = (new ≡ old) × (0 < length old) × (length old ≤ LINE_LIMIT)
 ClosesLast old TooLong new = LINE_LIMIT < length old
 ClosesLast old End new = (old ≡ []) × (new ≡ [])

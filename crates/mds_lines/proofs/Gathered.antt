@@ -7,8 +7,8 @@ use Rattle.std.proofs.Math.Seq.{take-append-add}
 use Rattle.std.proofs.lemmas.Bool.{eqb-true, ne_eqb, ltb-true, ltb-false, lt-ltb, cond-true, cond-false}
 use Rattle.std.proofs.lemmas.List.{take-append-drop, take_min, drop_more, length-take-le}
 use Rattle.std.proofs.lemmas.List.Quantifiers.{position-Some}
-use Rattle.mds_lines.specs.declared.lines.Found.{Found}
-use Rattle.mds_lines.specs.declared.lines.Found.TheVariants.{Line, TooLong, End}
+use Rattle.mds_lines.specs.declared.lines.NextLine.{NextLine}
+use Rattle.mds_lines.specs.declared.lines.NextLine.TheVariants.{Line, TooLong, End}
 use Rattle.mds_lines.specs.Input.{is_feed}
 use Rattle.mds_lines.specs.LineReading.{IsWithoutFeed}
 use Rattle.mds_lines.proofs.Framed.{without_return, Closes, ClosesLast}
@@ -78,7 +78,7 @@ closes_at : (old new : List ℕ) (b : Bool) → ltb LINE_LIMIT (length new) ≡ 
 closes_at old new true e h = omega (arith, ltb-true LINE_LIMIT (length new) e, ap length h)
 closes_at old new false e h = (h, ltb-false LINE_LIMIT (length new) e)
 
-pub closes : (old new : List ℕ) (found : Found) → found ≡ cond (ltb LINE_LIMIT (length new)) TooLong Line → new ≡ strip_last 13 old → Closes old found new
+pub closes : (old new : List ℕ) (found : NextLine) → found ≡ cond (ltb LINE_LIMIT (length new)) TooLong Line → new ≡ strip_last 13 old → Closes old found new
 closes old new found e h =
     subst (λ r. Closes old r new) (sym e) (closes_at old new (ltb LINE_LIMIT (length new)) refl (h ∙ strip_is old))
 
@@ -87,7 +87,7 @@ last_at : (byte : ℕ) (old new : List ℕ) (b : Bool) → ltb LINE_LIMIT (lengt
 last_at byte old new true e same = ltb-true LINE_LIMIT (length (byte ∷ old)) e
 last_at byte old new false e same = (same, omega arith, ltb-false LINE_LIMIT (length (byte ∷ old)) e)
 
-pub closes_last : (old new : List ℕ) (found : Found) → found ≡ cond (eqb (length old) 0) End (cond (ltb LINE_LIMIT (length old)) TooLong Line) → new ≡ old → ClosesLast old found new
+pub closes_last : (old new : List ℕ) (found : NextLine) → found ≡ cond (eqb (length old) 0) End (cond (ltb LINE_LIMIT (length old)) TooLong Line) → new ≡ old → ClosesLast old found new
 closes_last [] new found e same = subst (λ r. ClosesLast [] r new) (sym e) (refl, same)
 closes_last (byte ∷ old) new found e same =
     let some : eqb (length (byte ∷ old)) 0 ≡ false = ne_eqb (length (byte ∷ old)) 0 (λ none. omega (arith, none)) in

@@ -11,7 +11,7 @@ use Rattle.mds_request.specs.Request.{Request}
 use Rattle.mds_request.specs.Reply.{Reply, is_line, refused}
 use Rattle.mds_lines.specs.declared.fault.ReplayFault.{ReplayFault}
 use Rattle.mds_lines.specs.declared.fault.ReplayFault.TheVariants.{Read, Write, BadConfig, NoMemory}
-use Rattle.mds_lines.specs.declared.lines.Found.TheVariants.{TooLong}
+use Rattle.mds_lines.specs.declared.lines.NextLine.TheVariants.{TooLong}
 use Rattle.mds_lines.specs.Input.{lines, is_filled, request_on}
 use Rattle.mds_lines.specs.Ends.{Writes}
 use Rattle.mds_lines.specs.LineReading.{BeginsWithLine, Finds}

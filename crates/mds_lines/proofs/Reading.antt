@@ -5,12 +5,12 @@ use Rattle.std.specs.Io.KnownBytes.{Consumes, Keeps, IsAtEnd, prepend_known}
 use Rattle.std.proofs.lemmas.Bool.{or_from, cases_lt}
 use Rattle.std.proofs.lemmas.List.Folds.{list_any-append}
 use Rattle.std.proofs.lemmas.List.{take_all, length-take, length-take-le, length-append, append-nil, take-append-le, take-take, drop-take, drop-drop, drop_at}
-use Rattle.mds_lines.specs.declared.lines.Found.{Found}
-use Rattle.mds_lines.specs.declared.lines.Found.TheVariants.{Line, TooLong, End}
+use Rattle.mds_lines.specs.declared.lines.NextLine.{NextLine}
+use Rattle.mds_lines.specs.declared.lines.NextLine.TheVariants.{Line, TooLong, End}
 use Rattle.mds_lines.specs.Input.{is_feed, lines}
 use Rattle.mds_lines.specs.LineReading.{IsWithoutFeed, BeginsWithLine, Finds, Advances, FailsReading}
 use Rattle.mds_lines.proofs.Framed.{Closes, ClosesLast, without_return, first_line, last_line, length-without_return}
-use Rattle.mds_lines.specs.declared.gather.TheConstants.{KEPT_LIMIT}
+use Rattle.mds_lines.specs.declared.gather.TheConstants.{STORED_LIMIT}
 use Rattle.mds_lines.specs.declared.lines.TheConstants.{INPUT_LIMIT}
 
 -- Bytes without a line feed were consumed, and their prefix is stored.
@@ -18,7 +18,7 @@ pub record Gathered (old now : Option (List ℕ)) (passed_old passed_now : ℕ) 
   pub bytes : List ℕ
   pub consumed : Consumes old now bytes
   pub plain : IsWithoutFeed bytes
-  pub kept_is : kept ≡ take KEPT_LIMIT bytes
+  pub kept_is : kept ≡ take STORED_LIMIT bytes
   pub passed : passed_now ≡ passed_old + length bytes
 
 pub nothing_gathered : (old : Option (List ℕ)) (passed : ℕ) → Gathered old old passed passed []
@@ -60,13 +60,13 @@ consumed_kept (Some xs) (Some ys) None bytes h k = k
 consumed_kept (Some xs) (Some ys) (Some zs) bytes h k = h ∙ ap (λ ws. bytes ++ ws) (sym k)
 
 -- a piece without a line feed is gathered whole
-pub gathered_piece : {old : Option (List ℕ)} {passed_old passed_now : ℕ} {kept : List ℕ} (remaining : Option (List ℕ)) (piece ahead kept' : List ℕ) (passed' : ℕ) → Gathered old (prepend_known piece remaining) passed_old passed_now kept → IsWithoutFeed piece → ahead ≡ [] → kept' ≡ take KEPT_LIMIT (kept ++ piece) → passed' ≡ passed_now + length piece → Gathered old (prepend_known ahead remaining) passed_old passed' kept'
+pub gathered_piece : {old : Option (List ℕ)} {passed_old passed_now : ℕ} {kept : List ℕ} (remaining : Option (List ℕ)) (piece ahead kept' : List ℕ) (passed' : ℕ) → Gathered old (prepend_known piece remaining) passed_old passed_now kept → IsWithoutFeed piece → ahead ≡ [] → kept' ≡ take STORED_LIMIT (kept ++ piece) → passed' ≡ passed_now + length piece → Gathered old (prepend_known ahead remaining) passed_old passed' kept'
 gathered_piece {old} {passed_old} {passed_now} {kept} remaining piece ahead kept' passed' g plain none kept_is passed_is = record {
   bytes = g.bytes ++ piece;
   consumed = subst (λ rest. Consumes old (prepend_known rest remaining) (g.bytes ++ piece)) (sym none)
       (consumed_more old remaining g.bytes piece [] (subst (λ xs. Consumes old (prepend_known xs remaining) g.bytes) (sym (append-nil piece)) g.consumed));
   plain = plain_both g.bytes piece g.plain plain;
-  kept_is = kept_is ∙ (ap (λ xs. take KEPT_LIMIT (xs ++ piece)) g.kept_is ∙ kept_more KEPT_LIMIT g.bytes piece);
+  kept_is = kept_is ∙ (ap (λ xs. take STORED_LIMIT (xs ++ piece)) g.kept_is ∙ kept_more STORED_LIMIT g.bytes piece);
   passed = omega (arith, passed_is, g.passed, length-append g.bytes piece);
 }
 
@@ -100,26 +100,26 @@ begins_at_feed (Some xs) (Some ys) bytes front rest h plain =
     ap lines whole ∙ first_line (bytes ++ front) (rest ++ ys) plain
 
 -- a line that was truncated is over the limit with and without the bytes that were dropped
-found_line : (bytes kept final : List ℕ) (found : Found) (old new : Option (List ℕ)) → kept ≡ take KEPT_LIMIT bytes → Closes kept found final → BeginsWithLine old new (without_return bytes) → Finds found final old new
-found_line bytes kept final Line old new k closed begins = either (cases_lt KEPT_LIMIT (length bytes))
+found_line : (bytes kept final : List ℕ) (found : NextLine) (old new : Option (List ℕ)) → kept ≡ take STORED_LIMIT bytes → Closes kept found final → BeginsWithLine old new (without_return bytes) → Finds found final old new
+found_line bytes kept final Line old new k closed begins = either (cases_lt STORED_LIMIT (length bytes))
     (λ long.
-    let cut : length kept ≡ KEPT_LIMIT = ap length k ∙ length-take-le KEPT_LIMIT bytes (omega arith) in
+    let cut : length kept ≡ STORED_LIMIT = ap length k ∙ length-take-le STORED_LIMIT bytes (omega arith) in
     absurd (omega (arith, cut, (length-without_return kept).1, ap length closed.0, closed.1)))
     (λ short.
-    let same : final ≡ without_return bytes = closed.0 ∙ ap without_return (k ∙ take_all KEPT_LIMIT bytes short) in
+    let same : final ≡ without_return bytes = closed.0 ∙ ap without_return (k ∙ take_all STORED_LIMIT bytes short) in
     (closed.1, subst (BeginsWithLine old new) (sym same) begins))
-found_line bytes kept final TooLong old new k closed begins = either (cases_lt KEPT_LIMIT (length bytes))
+found_line bytes kept final TooLong old new k closed begins = either (cases_lt STORED_LIMIT (length bytes))
     (λ long. (without_return bytes, omega (arith, long, (length-without_return bytes).1), begins))
     (λ short.
-    let same : without_return kept ≡ without_return bytes = ap without_return (k ∙ take_all KEPT_LIMIT bytes short) in
+    let same : without_return kept ≡ without_return bytes = ap without_return (k ∙ take_all STORED_LIMIT bytes short) in
     (without_return bytes, omega (arith, closed, ap length same), begins))
 found_line bytes kept final End old new k closed begins = absurd closed
 
 -- the bytes up to a line feed among the buffered ones are the next line
-pub found_at_feed : {old : Option (List ℕ)} {passed_old passed_now : ℕ} {kept : List ℕ} (remaining : Option (List ℕ)) (ahead front rest kept' final : List ℕ) (found : Found) → Gathered old (prepend_known ahead remaining) passed_old passed_now kept → ahead ≡ front ++ 10 ∷ rest → IsWithoutFeed front → kept' ≡ take KEPT_LIMIT (kept ++ front) → Closes kept' found final → Finds found final old (prepend_known rest remaining)
+pub found_at_feed : {old : Option (List ℕ)} {passed_old passed_now : ℕ} {kept : List ℕ} (remaining : Option (List ℕ)) (ahead front rest kept' final : List ℕ) (found : NextLine) → Gathered old (prepend_known ahead remaining) passed_old passed_now kept → ahead ≡ front ++ 10 ∷ rest → IsWithoutFeed front → kept' ≡ take STORED_LIMIT (kept ++ front) → Closes kept' found final → Finds found final old (prepend_known rest remaining)
 found_at_feed {old} remaining ahead front rest kept' final found g whole plain kept_is closed =
     found_line (g.bytes ++ front) kept' final found old (prepend_known rest remaining)
-    (kept_is ∙ (ap (λ xs. take KEPT_LIMIT (xs ++ front)) g.kept_is ∙ kept_more KEPT_LIMIT g.bytes front))
+    (kept_is ∙ (ap (λ xs. take STORED_LIMIT (xs ++ front)) g.kept_is ∙ kept_more STORED_LIMIT g.bytes front))
     closed
     (begins_at_feed old remaining g.bytes front rest (subst (λ xs. Consumes old (prepend_known xs remaining) g.bytes) whole g.consumed) (plain_both g.bytes front g.plain plain))
 
@@ -135,39 +135,39 @@ ends_before None now h over = tt
 ends_before (Some xs) None h over = absurd h
 ends_before (Some xs) (Some ys) h over = h ∙ over
 
-found_last : (bytes kept : List ℕ) (found : Found) (old now : Option (List ℕ)) → 0 < length bytes → kept ≡ take KEPT_LIMIT bytes → BeginsWithLine old now bytes → (final : List ℕ) → ClosesLast kept found final → Finds found final old now
-found_last bytes kept Line old now some k begins final closed = either (cases_lt KEPT_LIMIT (length bytes))
+found_last : (bytes kept : List ℕ) (found : NextLine) (old now : Option (List ℕ)) → 0 < length bytes → kept ≡ take STORED_LIMIT bytes → BeginsWithLine old now bytes → (final : List ℕ) → ClosesLast kept found final → Finds found final old now
+found_last bytes kept Line old now some k begins final closed = either (cases_lt STORED_LIMIT (length bytes))
     (λ long.
-    let cut : length kept ≡ KEPT_LIMIT = ap length k ∙ length-take-le KEPT_LIMIT bytes (omega arith) in
+    let cut : length kept ≡ STORED_LIMIT = ap length k ∙ length-take-le STORED_LIMIT bytes (omega arith) in
     absurd (omega (arith, cut, closed.2)))
     (λ short.
-    let same : final ≡ bytes = closed.0 ∙ (k ∙ take_all KEPT_LIMIT bytes short) in
+    let same : final ≡ bytes = closed.0 ∙ (k ∙ take_all STORED_LIMIT bytes short) in
     (omega (arith, closed.2, ap length closed.0), subst (BeginsWithLine old now) (sym same) begins))
-found_last bytes kept TooLong old now some k begins final closed = either (cases_lt KEPT_LIMIT (length bytes))
+found_last bytes kept TooLong old now some k begins final closed = either (cases_lt STORED_LIMIT (length bytes))
     (λ long. (bytes, omega (arith, long), begins))
     (λ short.
-    let same : kept ≡ bytes = k ∙ take_all KEPT_LIMIT bytes short in
+    let same : kept ≡ bytes = k ∙ take_all STORED_LIMIT bytes short in
     (bytes, omega (arith, closed, ap length same), begins))
 found_last bytes kept End old now some k begins final closed =
-    absurd (omega (arith, some, ap length closed.0, ap length k, length-take KEPT_LIMIT bytes))
+    absurd (omega (arith, some, ap length closed.0, ap length k, length-take STORED_LIMIT bytes))
 
 -- bytes after the last line feed are the last line, and without such bytes there is none
-found_at_end_of : (bytes kept : List ℕ) (found : Found) (old now : Option (List ℕ)) → Consumes old now bytes → IsAtEnd now → IsWithoutFeed bytes → kept ≡ take KEPT_LIMIT bytes → (final : List ℕ) → ClosesLast kept found final → Finds found final old now
+found_at_end_of : (bytes kept : List ℕ) (found : NextLine) (old now : Option (List ℕ)) → Consumes old now bytes → IsAtEnd now → IsWithoutFeed bytes → kept ≡ take STORED_LIMIT bytes → (final : List ℕ) → ClosesLast kept found final → Finds found final old now
 found_at_end_of [] kept Line old now consumed over plain k final closed = absurd (omega (arith, closed.1, ap length k))
 found_at_end_of [] kept TooLong old now consumed over plain k final closed = absurd (omega (arith, closed, ap length k))
 found_at_end_of [] kept End old now consumed over plain k final closed = (closed.1, ends_before old now consumed over, over)
 found_at_end_of (byte ∷ bytes) kept found old now consumed over plain k final closed =
     found_last (byte ∷ bytes) kept found old now (omega arith) k (begins_at_end byte bytes old now consumed over plain) final closed
 
-pub found_at_end : {old now : Option (List ℕ)} {passed_old passed_now : ℕ} {kept : List ℕ} (final : List ℕ) (found : Found) → Gathered old now passed_old passed_now kept → IsAtEnd now → ClosesLast kept found final → Finds found final old now
+pub found_at_end : {old now : Option (List ℕ)} {passed_old passed_now : ℕ} {kept : List ℕ} (final : List ℕ) (found : NextLine) → Gathered old now passed_old passed_now kept → IsAtEnd now → ClosesLast kept found final → Finds found final old now
 found_at_end {old} {now} {passed_old} {passed_now} {kept} final found g over closed =
     found_at_end_of g.bytes kept found old now g.consumed over g.plain g.kept_is final closed
 
 -- a last line has a byte, which was consumed
-pub nearer_at_end : {old now : Option (List ℕ)} {passed_old passed_now : ℕ} {kept : List ℕ} (final : List ℕ) (found : Found) → Gathered old now passed_old passed_now kept → ClosesLast kept found final → (found ≡ End) ⊎ (passed_old < passed_now)
+pub nearer_at_end : {old now : Option (List ℕ)} {passed_old passed_now : ℕ} {kept : List ℕ} (final : List ℕ) (found : NextLine) → Gathered old now passed_old passed_now kept → ClosesLast kept found final → (found ≡ End) ⊎ (passed_old < passed_now)
 nearer_at_end final End g closed = inl refl
-nearer_at_end final Line g closed = inr (omega (arith, closed.1, ap length g.kept_is, length-take KEPT_LIMIT g.bytes, g.passed))
-nearer_at_end final TooLong g closed = inr (omega (arith, closed, ap length g.kept_is, length-take KEPT_LIMIT g.bytes, g.passed))
+nearer_at_end final Line g closed = inr (omega (arith, closed.1, ap length g.kept_is, length-take STORED_LIMIT g.bytes, g.passed))
+nearer_at_end final TooLong g closed = inr (omega (arith, closed, ap length g.kept_is, length-take STORED_LIMIT g.bytes, g.passed))
 
 over_limit : (old mid : Option (List ℕ)) (bytes : List ℕ) (passed_old passed_mid : ℕ) → Consumes old mid bytes → passed_mid ≡ passed_old + length bytes → IfSome mid (λ xs. INPUT_LIMIT < passed_mid + length xs) → IfSome old (λ xs. INPUT_LIMIT < passed_old + length xs)
 over_limit None mid bytes passed_old passed_mid h e over = tt

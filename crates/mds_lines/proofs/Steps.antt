@@ -2,10 +2,10 @@
 use Rattle.std.proofs.Common.{◌≡◌, ℕ, ◌<◌, ◌⊎◌, ◌+◌, Bool, true, false, take, length, ◌∷◌, ◌++◌, List, [], Option, Some, None, sym, ap, subst, ◌∙◌}
 use Rattle.std.specs.Io.KnownBytes.{Keeps, IsAtEnd, prepend_known}
 use Rattle.mds_lines.specs.declared.lines.LineReader.{LineReader}
-use Rattle.mds_lines.specs.declared.lines.Found.{Found}
-use Rattle.mds_lines.specs.declared.lines.Found.TheVariants.{End}
+use Rattle.mds_lines.specs.declared.lines.NextLine.{NextLine}
+use Rattle.mds_lines.specs.declared.lines.NextLine.TheVariants.{End}
 use Rattle.mds_lines.specs.LineReading.{ahead, held, passed, left, Finds, Advances, IsWithoutFeed}
-use Rattle.mds_lines.specs.declared.gather.TheConstants.{KEPT_LIMIT}
+use Rattle.mds_lines.specs.declared.gather.TheConstants.{STORED_LIMIT}
 use Rattle.mds_lines.proofs.Framed.{Closes, ClosesLast}
 use Rattle.mds_lines.proofs.Reading.{Gathered, gathered_piece, gathered_kept, gathered_advances, feed_advances, found_at_feed, found_at_end, nearer_at_end}
 
@@ -13,9 +13,9 @@ use Rattle.mds_lines.proofs.Reading.{Gathered, gathered_piece, gathered_kept, ga
 -- is room for.
 abbrev pub TakesLine : Bool → LineReader → LineReader → Type 0
 TakesLine true old new =
-    (front : List ℕ) × (ahead old ≡ front ++ 10 ∷ ahead new) × IsWithoutFeed front × (held new ≡ take KEPT_LIMIT (held old ++ front)) × (passed new ≡ passed old + length front + 1)
+    (front : List ℕ) × (ahead old ≡ front ++ 10 ∷ ahead new) × IsWithoutFeed front × (held new ≡ take STORED_LIMIT (held old ++ front)) × (passed new ≡ passed old + length front + 1)
 TakesLine false old new =
-    IsWithoutFeed (ahead old) × (ahead new ≡ []) × (held new ≡ take KEPT_LIMIT (held old ++ ahead old)) × (passed new ≡ passed old + length (ahead old))
+    IsWithoutFeed (ahead old) × (ahead new ≡ []) × (held new ≡ take STORED_LIMIT (held old ++ ahead old)) × (passed new ≡ passed old + length (ahead old))
 
 -- the buffered bytes and the number of bytes before them don't change
 pub record SameAhead (old new : LineReader) : Type 0 where
@@ -43,7 +43,7 @@ module _ (old : Option (List ℕ)) (passed_old : ℕ) where
   pub after_refill : (r r' : LineReader) (remaining remaining' : Option (List ℕ)) → HasGathered r remaining → Keeps (left r remaining) (left r' remaining') → held r' ≡ held r → passed r' ≡ passed r → HasGathered r' remaining'
   after_refill r r' remaining remaining' g k h p = gathered_kept (held r') (passed r') g k h p
 
-  pub line_found : (r r' r'' : LineReader) (remaining : Option (List ℕ)) (found : Found) → HasGathered r remaining → TakesLine true r r' → Closes (held r') found (held r'') → SameAhead r' r'' → Finds found (held r'') old (left r'' remaining)
+  pub line_found : (r r' r'' : LineReader) (remaining : Option (List ℕ)) (found : NextLine) → HasGathered r remaining → TakesLine true r r' → Closes (held r') found (held r'') → SameAhead r' r'' → Finds found (held r'') old (left r'' remaining)
   line_found r r' r'' remaining found g t closed same =
       subst (λ now. Finds found (held r'') old now) (sym (same_left r' r'' remaining same))
       (found_at_feed remaining (ahead r) t.0 (ahead r') (held r') (held r'') found g t.1 t.2 t.3 closed)
@@ -53,7 +53,7 @@ module _ (old : Option (List ℕ)) (passed_old : ℕ) where
       subst (λ now. Advances passed_old old (passed r'') now) (sym (same_left r' r'' remaining same))
       (feed_advances remaining (ahead r) t.0 (ahead r') (passed r'') g t.1 (same.passed_same ∙ t.4))
 
-  pub end_found : (r r' : LineReader) (remaining : Option (List ℕ)) (found : Found) → HasGathered r remaining → ahead r ≡ [] → IsAtEnd remaining → ClosesLast (held r) found (held r') → SameAhead r r' → Finds found (held r') old (left r' remaining)
+  pub end_found : (r r' : LineReader) (remaining : Option (List ℕ)) (found : NextLine) → HasGathered r remaining → ahead r ≡ [] → IsAtEnd remaining → ClosesLast (held r) found (held r') → SameAhead r r' → Finds found (held r') old (left r' remaining)
   end_found r r' remaining found g none over closed same =
       subst (λ now. Finds found (held r') old now) (sym (same_left r r' remaining same))
       (found_at_end (held r') found g (left_over r remaining none over) closed)
@@ -63,6 +63,6 @@ module _ (old : Option (List ℕ)) (passed_old : ℕ) where
       subst (λ now. Advances passed_old old (passed r') now) (sym (same_left r r' remaining same))
       (subst (λ p. Advances passed_old old p (left r remaining)) (sym same.passed_same) (gathered_advances g))
 
-  pub end_nearer : (r r' : LineReader) (remaining : Option (List ℕ)) (found : Found) → HasGathered r remaining → ClosesLast (held r) found (held r') → SameAhead r r' → (found ≡ End) ⊎ (passed_old < passed r')
+  pub end_nearer : (r r' : LineReader) (remaining : Option (List ℕ)) (found : NextLine) → HasGathered r remaining → ClosesLast (held r) found (held r') → SameAhead r r' → (found ≡ End) ⊎ (passed_old < passed r')
   end_nearer r r' remaining found g closed same =
       subst (λ p. (found ≡ End) ⊎ (passed_old < p)) (sym same.passed_same) (nearer_at_end (held r') found g closed)

@@ -2,11 +2,11 @@
 use Rattle.std.specs.Prelude.{◌≡◌, ℕ, ◌+◌, ◌<◌, ◌≤◌, Bool, false, List, [], ◌∷◌, ◌++◌, length, take, Option, Some, None, ◌-◌, ◌⊎◌, true, drop, ⊤, IfSome}
 use Rattle.std.specs.List.{list_any}
 use Rattle.std.specs.Io.KnownBytes.{Consumes, IsAtEnd, prepend_known}
-use Rattle.mds_lines.specs.declared.lines.Found.{Found}
-use Rattle.mds_lines.specs.declared.lines.Found.TheVariants.{Line, TooLong, End}
+use Rattle.mds_lines.specs.declared.lines.NextLine.{NextLine}
+use Rattle.mds_lines.specs.declared.lines.NextLine.TheVariants.{Line, TooLong, End}
 use Rattle.mds_lines.specs.Input.{is_feed, lines}
 use Rattle.mds_lines.specs.declared.lines.LineReader.{LineReader}
-use Rattle.mds_lines.specs.declared.gather.TheConstants.{LINE_LIMIT, KEPT_LIMIT}
+use Rattle.mds_lines.specs.declared.gather.TheConstants.{LINE_LIMIT, STORED_LIMIT}
 use Rattle.mds_lines.specs.declared.lines.TheConstants.{INPUT_LIMIT}
 
 -- no byte is a line feed
@@ -17,8 +17,8 @@ IsWithoutFeed bytes = list_any is_feed bytes ≡ false
 -- bytes they and the line feed are, or none where there is no line feed.
 abbrev pub Gathers : List ℕ → List ℕ → Option ℕ → List ℕ → Type 0
 Gathers old bytes (Some count) new =
-    (front : List ℕ) × (rest : List ℕ) × (bytes ≡ front ++ 10 ∷ rest) × IsWithoutFeed front × (count ≡ length front + 1) × (new ≡ take KEPT_LIMIT (old ++ front))
-Gathers old bytes None new = IsWithoutFeed bytes × (new ≡ take KEPT_LIMIT (old ++ bytes))
+    (front : List ℕ) × (rest : List ℕ) × (bytes ≡ front ++ 10 ∷ rest) × IsWithoutFeed front × (count ≡ length front + 1) × (new ≡ take STORED_LIMIT (old ++ front))
+Gathers old bytes None new = IsWithoutFeed bytes × (new ≡ take STORED_LIMIT (old ++ bytes))
 
 -- the buffered bytes, which were read and belong to no line yet
 abbrev pub ahead : LineReader → List ℕ
@@ -43,7 +43,7 @@ BeginsWithLine (Some bytes) None line = ⊥
 BeginsWithLine (Some bytes) (Some rest) line = lines bytes ≡ line ∷ lines rest
 
 -- The result: the next line, stored in the reader; a line over the limit; or no further line, at the end of the input.
-abbrev pub Finds : Found → List ℕ → Option (List ℕ) → Option (List ℕ) → Type 0
+abbrev pub Finds : NextLine → List ℕ → Option (List ℕ) → Option (List ℕ) → Type 0
 Finds Line kept old new = (length kept ≤ LINE_LIMIT) × BeginsWithLine old new kept
 Finds TooLong kept old new = (line : List ℕ) × (LINE_LIMIT < length line) × BeginsWithLine old new line
 Finds End kept old new = (kept ≡ []) × IsAtEnd old × IsAtEnd new

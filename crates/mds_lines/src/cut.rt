@@ -17,12 +17,12 @@ pub fn cut(line: &[u8]) -> Option<Request<'_>>
     let (token, rest) = split_word(rest);
     let (method, rest) = split_word(rest);
     let (target, body) = split_word(rest);
-    checked(at, token, method, target, body)
+    request_of_words(at, token, method, target, body)
 }
 
 /// The request of these words, unless one of the first four is empty or the first is no moment.
 #[tactic(auto, unfolding(crate::specs::Input::request_from))]
-fn checked<'a>(
+fn request_of_words<'a>(
     at: &[u8],
     token: &'a [u8],
     method: &[u8],

@@ -3,7 +3,7 @@ ghost use Rattle.std.specs.Prelude.{◌≡◌, ◌==◌, ◌+◌, ◌<◌, ◌�
 ghost use Rattle.std.specs.Io.BufRead.{ends_with_byte, strip_last};
 ghost use Rattle.mds_lines.specs.LineReading.{Gathers};
 
-use crate::lines::Found;
+use crate::lines::NextLine;
 use memchr::memchr;
 
 /// The most bytes of a line, without its end.
@@ -11,7 +11,7 @@ pub const LINE_LIMIT: usize = 2_097_152;
 
 /// How many bytes of a line are stored: one that is truncated there is over the limit, even if its
 /// last byte is a carriage return that is dropped.
-pub const KEPT_LIMIT: usize = LINE_LIMIT + 2;
+pub const STORED_LIMIT: usize = LINE_LIMIT + 2;
 
 /// Appends the bytes before the first line feed to the line, as many as there is room for. Returns
 /// how many bytes come before the line feed, plus one for it; `None` without a line feed, where all
@@ -25,25 +25,25 @@ pub fn gather(line: &mut Vec<u8>, bytes: &[u8]) -> Option<usize>
 {
     match position_of(bytes, b'\n') {
         Some(at) => {
-            keep(line, &bytes[..at]);
+            append_within_limit(line, &bytes[..at]);
             Some(at + 1)
         }
         None => {
-            keep(line, bytes);
+            append_within_limit(line, bytes);
             None
         }
     }
 }
 
 /// Appends as many of the bytes as there is room for.
-fn keep(line: &mut Vec<u8>, bytes: &[u8])
+fn append_within_limit(line: &mut Vec<u8>, bytes: &[u8])
     requires short { vec_len line.old ≤ KEPT_LIMIT }
     requires reserved { KEPT_LIMIT ≤ vec_capacity line.old }
     ensures items { line.new.items ≡ take KEPT_LIMIT (line.old.items ++ bytes.now) }
     ensures short { vec_len line.new ≤ KEPT_LIMIT }
     ensures reserved { KEPT_LIMIT ≤ vec_capacity line.new }
 {
-    let room = KEPT_LIMIT - line.len();
+    let room = STORED_LIMIT - line.len();
     let count = bytes.len().min(room);
     append(line, &bytes[..count]);
 }
@@ -58,7 +58,7 @@ fn append(line: &mut Vec<u8>, bytes: &[u8])
 }
 
 /// Ends a line at a line feed: drops a carriage return at its end, and checks its length.
-pub fn close(line: &mut Vec<u8>) -> Found
+pub fn close(line: &mut Vec<u8>) -> NextLine
     requires short { vec_len line.old ≤ KEPT_LIMIT }
     requires reserved { KEPT_LIMIT ≤ vec_capacity line.old }
     ensures line { line.new.items ≡ strip_last 13 line.old.items }
@@ -69,7 +69,7 @@ pub fn close(line: &mut Vec<u8>) -> Found
     if ends_with_return(line) {
         line.pop();
     }
-    found(line)
+    check_length(line)
 }
 
 /// Whether the last byte is a carriage return.
@@ -83,26 +83,26 @@ fn ends_with_return(line: &[u8]) -> bool
 }
 
 /// Ends the last line, which has no line feed.
-pub fn close_last(line: &mut Vec<u8>) -> Found
+pub fn close_last(line: &mut Vec<u8>) -> NextLine
     requires { vec_len line.old ≤ KEPT_LIMIT }
     ensures found { result ≡ (if length line.old.items == 0 then Found.End else (if nat_lt LINE_LIMIT (length line.old.items) then Found.TooLong else Found.Line)) }
     ensures same { line.new ≡ line.old }
 {
     if line.is_empty() {
-        Found::End
+        NextLine::End
     } else {
-        found(line)
+        check_length(line)
     }
 }
 
 /// Whether a line is over the limit.
-fn found(line: &[u8]) -> Found
+fn check_length(line: &[u8]) -> NextLine
     ensures { result ≡ (if nat_lt LINE_LIMIT (length line.now) then Found.TooLong else Found.Line) }
 {
     if line.len() > LINE_LIMIT {
-        Found::TooLong
+        NextLine::TooLong
     } else {
-        Found::Line
+        NextLine::Line
     }
 }
 

@@ -2,7 +2,7 @@
 #![tactic(auto)]
 
 mod cut;
-mod ends;
+mod source_sink;
 mod fault;
 mod gather;
 pub mod laws;
@@ -14,10 +14,10 @@ mod streams;
 mod world;
 mod write;
 
-pub use ends::{Failed, Sink, Source};
+pub use source_sink::{Failed, Sink, Source};
 pub use fault::ReplayFault;
 pub use gather::LINE_LIMIT;
 pub use line_end::without_end;
 pub use lines::INPUT_LIMIT;
 pub use machine::Machine;
-pub use streams::{run, run_told};
+pub use streams::{run, run_with_detail};

@@ -1,10 +1,10 @@
 //! Reads an input line by line, in buffers allocated first.
 ghost use Rattle.std.specs.Prelude.{◌≡◌, ℕ, ◌+◌, ◌-◌, ◌<◌, ◌≤◌, vec_len, vec_capacity};
-ghost use Rattle.mds_lines.specs.declared.gather.TheConstants.{KEPT_LIMIT, LINE_LIMIT};
+ghost use Rattle.mds_lines.specs.declared.gather.TheConstants.{STORED_LIMIT, LINE_LIMIT};
 ghost use Rattle.mds_lines.specs.declared.lines.TheConstants.{INPUT_LIMIT};
 
-use crate::ends::{Failed, Source};
-use crate::gather::{KEPT_LIMIT, close, close_last, gather};
+use crate::source_sink::{Failed, Source};
+use crate::gather::{STORED_LIMIT, close, close_last, gather};
 use std::alloc::{AllocError, Global};
 
 /// The most bytes of a whole input.
@@ -15,7 +15,7 @@ const CHUNK: usize = 65_536;
 
 /// The result of a search for the next line.
 #[derive(Clone, Copy, Debug, PartialEq, Eq)]
-pub enum Found {
+pub enum NextLine {
     /// A line, which is in the reader.
     Line,
     /// A line of more bytes than the limit.
@@ -39,8 +39,8 @@ pub struct LineReader {
     ghost roomy: { 0 < vec_len chunk },
     ghost counted: { end - start ≤ total },
     ghost limited: { total ≤ INPUT_LIMIT },
-    ghost short: { vec_len line ≤ KEPT_LIMIT },
-    ghost reserved: { KEPT_LIMIT ≤ vec_capacity line },
+    ghost short: { vec_len line ≤ STORED_LIMIT },
+    ghost reserved: { STORED_LIMIT ≤ vec_capacity line },
 }
 
 impl LineReader {
@@ -59,7 +59,7 @@ impl LineReader {
             start: 0,
             end: 0,
             total: 0,
-            line: Vec::with_capacity(alloc, KEPT_LIMIT)?,
+            line: Vec::with_capacity(alloc, STORED_LIMIT)?,
         })
     }
 
@@ -71,7 +71,7 @@ impl LineReader {
     }
 
     /// Finds the next line. The error is a failed read or an input over its limit.
-    pub fn next<S: Source>(&mut self, source: &mut S) -> Result<Found, Failed>
+    pub fn next<S: Source>(&mut self, source: &mut S) -> Result<NextLine, Failed>
         requires countable { S.failures source.old < 2 ^ 64 - 1 }
         ensures found { IfOk result (λ found. Finds found (held self.new) (left self.old (S.remaining source.old)) (left self.new (S.remaining source.new))) }
         ensures advances { OnOk result (Advances (passed self.old) (left self.old (S.remaining source.old)) (passed self.new) (left self.new (S.remaining source.new))) }
@@ -102,7 +102,7 @@ impl LineReader {
     }
 
     /// Ends the line at a line feed.
-    fn end_line(&mut self) -> Found
+    fn end_line(&mut self) -> NextLine
         ensures line { held self.new ≡ strip_last 13 (held self.old) }
         ensures found { result ≡ (if nat_lt LINE_LIMIT (length (held self.new)) then Found.TooLong else Found.Line) }
         ensures ahead { ahead self.new ≡ ahead self.old }
@@ -112,7 +112,7 @@ impl LineReader {
     }
 
     /// Ends the last line, which has no line feed.
-    fn end_input(&mut self) -> Found
+    fn end_input(&mut self) -> NextLine
         ensures held { held self.new ≡ held self.old }
         ensures found { result ≡ (if length (held self.old) == 0 then Found.End else (if nat_lt LINE_LIMIT (length (held self.old)) then Found.TooLong else Found.Line)) }
         ensures ahead { ahead self.new ≡ ahead self.old }
@@ -126,9 +126,9 @@ impl LineReader {
     fn take_line(&mut self) -> bool
         ensures takes { MatchBool result
             ((front : List ℕ) × (ahead self.old ≡ front ++ 10 ∷ ahead self.new) × IsWithoutFeed front
-            × (held self.new ≡ take KEPT_LIMIT (held self.old ++ front)) × (passed self.new ≡ passed self.old + length front + 1))
+            × (held self.new ≡ take STORED_LIMIT (held self.old ++ front)) × (passed self.new ≡ passed self.old + length front + 1))
             (IsWithoutFeed (ahead self.old) × (ahead self.new ≡ [])
-            × (held self.new ≡ take KEPT_LIMIT (held self.old ++ ahead self.old)) × (passed self.new ≡ passed self.old + length (ahead self.old))) }
+            × (held self.new ≡ take STORED_LIMIT (held self.old ++ ahead self.old)) × (passed self.new ≡ passed self.old + length (ahead self.old))) }
         ensures total { self.new.total ≡ self.old.total }
     {
         let window = &self.chunk[self.start..self.end];

@@ -14,9 +14,9 @@ ghost use Rattle.mds_lines.specs.Input.{configuration_of};
 ghost use Rattle.mds_lines.specs.declared.lines.TheConstants.{INPUT_LIMIT};
 
 use crate::cut::cut;
-use crate::ends::{Sink, Source};
+use crate::source_sink::{Sink, Source};
 use crate::fault::ReplayFault;
-use crate::lines::{Found, LineReader};
+use crate::lines::{NextLine, LineReader};
 use crate::machine::Machine;
 use crate::write::write_answer;
 use mds_diagnosis::Detail;
@@ -93,17 +93,17 @@ fn begin<M: Machine, S: Source>(
 {
     match reader.next(source) {
         Err(_) => Err(ReplayFault::Read),
-        Ok(Found::TooLong) => {
+        Ok(NextLine::TooLong) => {
             *detail = Detail::TooLong;
             Err(ReplayFault::BadConfig)
         }
-        Ok(Found::End) => configured(alloc, reader.line(), detail),
-        Ok(Found::Line) => configured(alloc, reader.line(), detail),
+        Ok(NextLine::End) => machine_for(alloc, reader.line(), detail),
+        Ok(NextLine::Line) => machine_for(alloc, reader.line(), detail),
     }
 }
 
 /// The machine of the configuration that this text is.
-fn configured<M: Machine>(alloc: Global, text: &[u8], detail: &mut Detail) -> Result<M, ReplayFault>
+fn machine_for<M: Machine>(alloc: Global, text: &[u8], detail: &mut Detail) -> Result<M, ReplayFault>
     ensures begins { IfOk result (λ machine. length text.now ≤ LINE_LIMIT → Configures M.begins text.now machine) }
     ensures bad_config { IsErrOf result ReplayFault.BadConfig → is_ok (read_configuration text.now) ≡ false }
     ensures told { IsErrOf result ReplayFault.BadConfig → IsFound detail.new text.now }
@@ -172,9 +172,9 @@ fn turn<M: Machine, S: Source, W: Sink>(
 {
     match reader.next(source) {
         Err(_) => Err(ReplayFault::Read),
-        Ok(Found::End) => Ok(false),
-        Ok(Found::TooLong) => answer(sink, Some(refusal())),
-        Ok(Found::Line) => answer(sink, reply_to(machine, reader.line())),
+        Ok(NextLine::End) => Ok(false),
+        Ok(NextLine::TooLong) => answer(sink, Some(refusal())),
+        Ok(NextLine::Line) => answer(sink, reply_to(machine, reader.line())),
     }
 }
 

@@ -3,7 +3,7 @@ ghost use Rattle.std.specs.Prelude.{◌≡◌, ◌≤◌, length, IfOk, IfSome, 
 ghost use Rattle.mds_lines.specs.Answering.{Answered, IsTold, IsUnconfigured};
 ghost use Rattle.mds_lines.specs.declared.lines.TheConstants.{INPUT_LIMIT};
 
-use crate::ends::{FromReader, ToWriter};
+use crate::source_sink::{FromReader, ToWriter};
 use crate::fault::ReplayFault;
 use crate::machine::Machine;
 use crate::replay::replay;
@@ -22,11 +22,11 @@ pub fn run<M: Machine, R: Read + Drop, W: Write + Drop>(
     ensures limited { OnOk result (IfSome (R.remaining reader) (λ input. length input ≤ INPUT_LIMIT)) }
     ensures bad_config { IsErrOf result ReplayFault.BadConfig → IfSome (R.remaining reader) IsUnconfigured }
 {
-    run_told::<M, R, W>(alloc, reader, writer, &mut Detail::Untold)
+    run_with_detail::<M, R, W>(alloc, reader, writer, &mut Detail::Untold)
 }
 
 /// Replays as `run` does, and after the fault `BadConfig` leaves in `detail` what is wrong with the configuration.
-pub fn run_told<M: Machine, R: Read + Drop, W: Write + Drop>(
+pub fn run_with_detail<M: Machine, R: Read + Drop, W: Write + Drop>(
     alloc: Global,
     reader: R,
     writer: W,

@@ -4,7 +4,7 @@ ghost use Rattle.mds_request.specs.Reply.{is_line};
 ghost use Rattle.mds_lines.specs.Ends.{Writes};
 ghost use Rattle.mds_lines.specs.Answering.{answer_line, status_text};
 
-use crate::ends::{Failed, Sink};
+use crate::source_sink::{Failed, Sink};
 use mds_request::Reply;
 
 /// Writes a reply as `STATUS BODY` and a line feed. The error is a failed write; then a prefix of

@@ -13,7 +13,7 @@ pub fn is_determined()
 {}
 
 /// A reply other than a success doesn't change the state.
-pub fn refused_leaves()
+pub fn refusal_keeps_state()
     ensures { RefusedLeaves }
 {}
 

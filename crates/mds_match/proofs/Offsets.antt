@@ -9,7 +9,7 @@ use Rattle.jiff_tz.specs.declared.posix.TimeZone.{TimeZone}
 use Rattle.jiff_tz.specs.declared.timezone.TimeZone.{TimeZone as AnyZone}
 use Rattle.jiff_tz.specs.declared.timezone.TimeZone.TheVariants as zone
 use Rattle.jiff_tz.specs.Year.{year_of_nanos}
-use Rattle.mds_match.specs.Kept.{IsRule, rule_kind}
+use Rattle.mds_match.specs.ValidZone.{IsRule, rule_kind}
 use Rattle.mds_match.specs.Zone.{summer, rule_offset, instant_of, offset_in}
 
 -- daylight saving time of a year is `jiff`'s

@@ -1,5 +1,5 @@
 pub mod Examples
-pub mod Kept
+pub mod ValidZone
 pub mod Matching
 pub mod Resolved
 pub mod Row

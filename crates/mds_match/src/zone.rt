@@ -32,7 +32,7 @@ pub enum ZoneFault {
 
 /// The form of a zone: an offset in seconds, positive east of Greenwich, or a POSIX rule.
 #[derive(Drop)]
-enum Kind {
+enum ZoneForm {
     Fixed(i64),
     Rule(TimeZone<'static>),
 }
@@ -41,7 +41,7 @@ enum Kind {
 /// offset, or what the rule says.
 #[derive(Drop)]
 pub struct Zone {
-    kind: Kind,
+    kind: ZoneForm,
 }
 
 impl Model for Zone {
@@ -49,7 +49,7 @@ impl Model for Zone {
 
     ghost Value = { ZoneKind };
 
-    ghost use Rattle.mds_match.specs.Kept.{zone_kind, IsKept};
+    ghost use Rattle.mds_match.specs.ValidZone.{zone_kind, IsKept};
 
     ghost view = { λ z. zone_kind z.kind };
 
@@ -72,16 +72,16 @@ impl Zone {
         ensures memory { IfErr result (λ fault. fault ≡ ZoneFault.BadZone) }
     {
         if text == "Z" {
-            let kind = Kind::Fixed(0);
+            let kind = ZoneForm::Fixed(0);
             return Ok(Zone { kind });
         }
         if let Some(offset) = offset_of(text.as_bytes()) {
-            let kind = Kind::Fixed(offset);
+            let kind = ZoneForm::Fixed(offset);
             return Ok(Zone { kind });
         }
         match TimeZone::posix(text) {
             Ok(rule) => {
-                let kind = Kind::Rule(rule);
+                let kind = ZoneForm::Rule(rule);
                 Ok(Zone { kind })
             }
             Err(_) => Err(ZoneFault::BadZone),
@@ -106,8 +106,8 @@ impl Zone {
         ensures bounds { IsOffsetSeconds result }
     {
         match &self.kind {
-            Kind::Fixed(offset) => *offset,
-            Kind::Rule(rule) => rule_offset(rule, at),
+            ZoneForm::Fixed(offset) => *offset,
+            ZoneForm::Rule(rule) => rule_offset(rule, at),
         }
     }
 }
@@ -146,12 +146,12 @@ fn offset_of(text: &[u8]) -> Option<i64>
     };
     let hours = two_digits(*hour, *hours, MOST_HOURS)?;
     let minutes = two_digits(*minute, *minutes, MOST_MINUTES)?;
-    signed(*sign, u32::from(hours) * 3600 + u32::from(minutes) * 60)
+    offset_with_sign(*sign, u32::from(hours) * 3600 + u32::from(minutes) * 60)
 }
 
 /// An offset of this size, east of Greenwich for `+`, west of it for `-`; `None` for any other
 /// sign.
-fn signed(sign: u8, size: u32) -> Option<i64>
+fn offset_with_sign(sign: u8, size: u32) -> Option<i64>
     ensures value { result ≡ with_sign sign size }
     ensures size { IfSome result (λ offset. unsigned_abs offset ≡ size) }
 {

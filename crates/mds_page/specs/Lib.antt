@@ -1,4 +1,4 @@
 pub mod File
 pub mod Response
 pub mod Tag
-pub mod Told
+pub mod FileReply

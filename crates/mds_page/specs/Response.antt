@@ -8,17 +8,17 @@ use Rattle.http_body_util.specs.declared.full.Full.{Full}
 use Rattle.mds_page.specs.File.{text_of, type_of}
 use Rattle.mds_page.specs.Tag.{tag_of}
 use Rattle.mds_page.specs.declared.file.File.{File}
-use Rattle.mds_page.specs.declared.told.Told.{Told}
-use Rattle.mds_page.specs.declared.told.Told.TheVariants.{Whole, Unchanged, WrongMethod}
+use Rattle.mds_page.specs.declared.file_reply.FileReply.{FileReply}
+use Rattle.mds_page.specs.declared.file_reply.FileReply.TheVariants.{Whole, Unchanged, WrongMethod}
 
 -- RFC 9110, sections 15.3.1, 15.4.5 and 15.5.6
-abbrev pub status_of : Told → ℕ
+abbrev pub status_of : FileReply → ℕ
 status_of Whole = 200
 status_of Unchanged = 304
 status_of WrongMethod = 405
 
 -- the body; a file that the client has isn't sent
-abbrev pub content_of : Told → File → List ℕ
+abbrev pub content_of : FileReply → File → List ℕ
 content_of Whole file = text_of file
 content_of Unchanged file = []
 content_of WrongMethod file = codes "{\"error\":\"method\"}"
@@ -36,7 +36,7 @@ abbrev pub version_of : List ℕ → List (List ℕ × List ℕ)
 version_of tag = (codes "etag", tag) ∷ (codes "cache-control", codes "no-cache") ∷ []
 
 -- the header fields and their values
-abbrev pub fields_of : Told → File → List (List ℕ × List ℕ)
+abbrev pub fields_of : FileReply → File → List (List ℕ × List ℕ)
 fields_of Whole file =
     (codes "etag", tag_of (text_of file))
     ∷ (codes "cache-control", codes "no-cache")
@@ -53,7 +53,7 @@ abbrev pub field : List ℕ × List ℕ → Entry FieldValue
 field f = (f.0, plain_value f.1 ∷ [])
 
 -- the response is this one of a file
-pub record Says (told : Told) (file : File) (response : Response (Full (List ℕ))) : Type 0 where
+pub record Says (told : FileReply) (file : File) (response : Response (Full (List ℕ))) : Type 0 where
   pub status : (head_of response).status ≡ status_of told
   pub body : (body_of response).buf ≡ (if length (content_of told file) == 0 then None else Some (content_of told file))
   pub headers : (head_of response).headers ≡ map field (fields_of told file)

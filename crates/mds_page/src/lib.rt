@@ -2,14 +2,14 @@
 #![tactic(auto)]
 
 mod file;
-mod leaf;
+mod tagged_file;
 mod page;
 mod response;
 mod tag;
 #[cfg(test)]
 mod tests;
 mod texts;
-mod told;
+mod file_reply;
 
 pub use file::{FILES, File};
 pub use page::Page;

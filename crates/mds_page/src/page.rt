@@ -3,12 +3,12 @@ ghost use Rattle.std.specs.Prelude.{◌≡◌, map, IfOk};
 ghost use Rattle.mds_page.specs.File.{files, text_of};
 ghost use Rattle.mds_page.specs.Response.{Says};
 ghost use Rattle.mds_page.specs.Tag.{tag_of};
-ghost use Rattle.mds_page.specs.Told.{told_of};
+ghost use Rattle.mds_page.specs.FileReply.{told_of};
 
 use crate::file::{FILES, File};
-use crate::leaf::Leaf;
+use crate::tagged_file::TaggedFile;
 use crate::response::response_of;
-use crate::told::told_of;
+use crate::file_reply::file_reply_of;
 use http::HeaderMap;
 use mds_responses::HttpResult;
 use std::alloc::{AllocError, Global};
@@ -16,7 +16,7 @@ use std::alloc::{AllocError, Global};
 /// The page's files, each with its tag.
 #[derive(Drop)]
 pub struct Page {
-    leaves: Vec<Leaf>,
+    leaves: Vec<TaggedFile>,
     ghost whole: { map (λ leaf. leaf.file) leaves.items ≡ files },
 }
 
@@ -29,12 +29,12 @@ impl Page {
     /// Out of memory.
     pub fn new(alloc: Global) -> Result<Page, AllocError> {
         Ok(Page {
-            leaves: leaves(alloc, &FILES)?,
+            leaves: tag_files(alloc, &FILES)?,
         })
     }
 
     /// A file with its tag.
-    fn leaf(&self, file: File) -> &Leaf
+    fn tagged_file(&self, file: File) -> &TaggedFile
         ensures { result.now.file ≡ file }
     {
         let index = file.index();
@@ -56,19 +56,19 @@ impl Page {
     ) -> HttpResult
         ensures { IfOk result (Says (told_of method.now headers.now (tag_of (text_of file))) file) }
     {
-        let leaf = self.leaf(file);
-        let told = told_of(method, headers, leaf.tag.as_slice());
+        let leaf = self.tagged_file(file);
+        let told = file_reply_of(method, headers, leaf.tag.as_slice());
         response_of(alloc, told, leaf)
     }
 }
 
 /// Files with their tags, in their order.
-fn leaves(alloc: Global, files: &[File]) -> Result<Vec<Leaf>, AllocError>
+fn tag_files(alloc: Global, files: &[File]) -> Result<Vec<TaggedFile>, AllocError>
     ensures { IfOk result (λ leaves. map (λ leaf. leaf.file) leaves.items ≡ files.now) }
 {
     let mut leaves = Vec::new(alloc);
     for file in files {
-        leaves.push(Leaf::new(alloc, *file)?)?;
+        leaves.push(TaggedFile::new(alloc, *file)?)?;
     }
     Ok(leaves)
 }

@@ -3,10 +3,10 @@ ghost use Rattle.std.specs.Prelude.{◌≡◌, IfOk, OnOk, ◌++◌, [], map};
 ghost use Rattle.http_header.specs.FieldValue.{plain_value};
 ghost use Rattle.mds_page.specs.Response.{Says, field, fields_of, version_of};
 ghost use Rattle.mds_page.specs.declared.file.File.{File};
-ghost use Rattle.mds_page.specs.declared.told.Told.TheVariants.{Whole, Unchanged, WrongMethod};
+ghost use Rattle.mds_page.specs.declared.file_reply.FileReply.TheVariants.{Whole, Unchanged, WrongMethod};
 
-use crate::leaf::Leaf;
-use crate::told::Told;
+use crate::tagged_file::TaggedFile;
+use crate::file_reply::FileReply;
 use bytes::Bytes;
 use http::header::{
     ALLOW, CACHE_CONTROL, CONTENT_SECURITY_POLICY, CONTENT_TYPE, ETAG, REFERRER_POLICY,
@@ -36,7 +36,7 @@ fn put_version(alloc: Global, headers: &mut HeaderMap, tag: &[u8]) -> Result<(),
 }
 
 /// Sets a file's media type, and what a browser may do with it.
-fn put_type(headers: &mut HeaderMap, leaf: &Leaf) -> Result<(), AllocError>
+fn put_type(headers: &mut HeaderMap, leaf: &TaggedFile) -> Result<(), AllocError>
     requires { headers.old ≡ map field (version_of leaf.now.tag.items) }
     ensures { OnOk result (headers.new ≡ map field (fields_of Whole leaf.now.file)) }
 {
@@ -60,7 +60,7 @@ fn put_type(headers: &mut HeaderMap, leaf: &Leaf) -> Result<(), AllocError>
 }
 
 /// The file (200).
-fn whole(alloc: Global, leaf: &Leaf) -> HttpResult
+fn whole(alloc: Global, leaf: &TaggedFile) -> HttpResult
     ensures { IfOk result (Says Whole leaf.now.file) }
 {
     let text = Bytes::from_static(leaf.file.text().as_bytes());
@@ -71,7 +71,7 @@ fn whole(alloc: Global, leaf: &Leaf) -> HttpResult
 }
 
 /// The client has the file as it is (304).
-fn unchanged(alloc: Global, leaf: &Leaf) -> HttpResult
+fn not_modified(alloc: Global, leaf: &TaggedFile) -> HttpResult
     ensures { IfOk result (Says Unchanged leaf.now.file) }
 {
     let mut response = Response::new(alloc, Full::new(Bytes::from_static(b"")));
@@ -94,12 +94,12 @@ fn wrong_method(alloc: Global) -> HttpResult
 /// # Errors
 ///
 /// Out of memory.
-pub(crate) fn response_of(alloc: Global, told: Told, leaf: &Leaf) -> HttpResult
+pub(crate) fn response_of(alloc: Global, told: FileReply, leaf: &TaggedFile) -> HttpResult
     ensures { IfOk result (Says told leaf.now.file) }
 {
     match told {
-        Told::Whole => whole(alloc, leaf),
-        Told::Unchanged => unchanged(alloc, leaf),
-        Told::WrongMethod => wrong_method(alloc),
+        FileReply::Whole => whole(alloc, leaf),
+        FileReply::Unchanged => not_modified(alloc, leaf),
+        FileReply::WrongMethod => wrong_method(alloc),
     }
 }

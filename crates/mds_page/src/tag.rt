@@ -26,7 +26,7 @@ pub(crate) fn tag_of(alloc: Global, bytes: &[u8]) -> Result<Vec<u8>, AllocError>
 }
 
 /// Without the white space around it.
-fn trimmed(bytes: &[u8]) -> &[u8]
+fn trim_space(bytes: &[u8]) -> &[u8]
     ensures { result.now ≡ trimmed bytes.now }
 {
     bytes.trim_ascii()
@@ -46,7 +46,7 @@ fn opaque(tag: &[u8]) -> &[u8]
 fn is_member(member: &[u8], tag: &[u8]) -> bool
     ensures { result ≡ is_member tag.now member.now }
 {
-    opaque(trimmed(member)) == tag
+    opaque(trim_space(member)) == tag
 }
 
 /// Whether a member of a list, between commas, is the tag.
@@ -61,7 +61,7 @@ fn is_listed(list: &[u8], tag: &[u8]) -> bool
 pub(crate) fn is_named(line: &[u8], tag: &[u8]) -> bool
     ensures { result ≡ is_named tag.now line.now }
 {
-    trimmed(line) == b"*".as_slice() || is_listed(line, tag)
+    trim_space(line) == b"*".as_slice() || is_listed(line, tag)
 }
 
 /// Whether a head's `if-none-match` field names the tag.

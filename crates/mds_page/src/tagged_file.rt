@@ -9,22 +9,22 @@ use std::alloc::{AllocError, Global};
 
 /// A file with its entity tag.
 #[derive(Drop)]
-pub(crate) struct Leaf {
+pub(crate) struct TaggedFile {
     pub(crate) file: File,
     pub(crate) tag: Vec<u8>,
     ghost tagged: { tag.items ≡ tag_of (text_of file) },
 }
 
-impl Leaf {
+impl TaggedFile {
     /// This file with its tag.
     ///
     /// # Errors
     ///
     /// Out of memory.
-    pub(crate) fn new(alloc: Global, file: File) -> Result<Leaf, AllocError>
+    pub(crate) fn new(alloc: Global, file: File) -> Result<TaggedFile, AllocError>
         ensures { IfOk result (λ leaf. leaf.file ≡ file) }
     {
-        Ok(Leaf {
+        Ok(TaggedFile {
             file,
             tag: tag_of(alloc, file.text().as_bytes())?,
         })

@@ -27,7 +27,7 @@ fn a_line_names_a_tag(rt: HostRuntime) {
 }
 
 /// The status of the response for the file at a path, if there is one.
-fn asked(
+fn status_at(
     page: &Page,
     alloc: Global,
     method: &[u8],
@@ -44,13 +44,13 @@ fn the_page_is_read(rt: HostRuntime) {
     let alloc = rt.alloc();
     let page = Page::new(alloc).expect(&rt, "memory");
     let none = HeaderMap::new(alloc);
-    assert!(rt; asked(&page, alloc, b"GET", b"/", &none) == Some(200));
-    assert!(rt; asked(&page, alloc, b"HEAD", b"/page.css", &none) == Some(200));
-    assert!(rt; asked(&page, alloc, b"POST", b"/zone.js", &none) == Some(405));
-    assert!(rt; asked(&page, alloc, b"GET", b"/policies", &none).is_none());
-    assert!(rt; asked(&page, alloc, b"GET", b"/index.html", &none).is_none());
+    assert!(rt; status_at(&page, alloc, b"GET", b"/", &none) == Some(200));
+    assert!(rt; status_at(&page, alloc, b"HEAD", b"/page.css", &none) == Some(200));
+    assert!(rt; status_at(&page, alloc, b"POST", b"/zone.js", &none) == Some(405));
+    assert!(rt; status_at(&page, alloc, b"GET", b"/policies", &none).is_none());
+    assert!(rt; status_at(&page, alloc, b"GET", b"/index.html", &none).is_none());
     let mut any = HeaderMap::new(alloc);
     let star = HeaderValue::from_static("*");
     let _ = any.insert(IF_NONE_MATCH, star).expect(&rt, "memory");
-    assert!(rt; asked(&page, alloc, b"GET", b"/", &any) == Some(304));
+    assert!(rt; status_at(&page, alloc, b"GET", b"/", &any) == Some(304));
 }

@@ -8,11 +8,11 @@ ghost use Rattle.mds_verdict.specs.Gathered.{IsTally};
 ghost use Rattle.mds_verdict.specs.Verdict.{verdict_document, verdicts};
 ghost use Rattle.mds_parallel.specs.Chunks.{AreOfPieces, AreTallies, IsResolved, IsTallyBy};
 
-use crate::table::Table;
+use crate::table::CandidateTable;
 use mds_match::{Local, LocalMoment, Places, ResolvedPolicy, Vehicle};
 use mds_policy::Policy;
 use mds_text::Moment;
-use mds_verdict::{Evaluator, Plain, RuleVerdict, Tally};
+use mds_verdict::{Evaluator, Plain, RuleVerdict, VerdictTally};
 use rayon::prelude::*;
 use std::alloc::{AllocError, Global};
 use std::thread::Threads;
@@ -87,7 +87,7 @@ pub fn by_threads<R: Threads + Sync, P: Places>(
 {
     let resolved = ResolvedPolicy::new(alloc, policy, places, at.local)?;
     let parts = tallies(rt, alloc, &resolved, policy, vehicles, at)?;
-    let tally = joined(alloc, policy, &parts, at.local)?;
+    let tally = join_tallies(alloc, policy, &parts, at.local)?;
     Ok(tally.verdicts())
 }
 
@@ -103,7 +103,7 @@ fn tallies<R: Threads + Sync>(
     policy: &Policy,
     vehicles: &[&Vehicle],
     at: &LocalMoment,
-) -> Result<Vec<Result<Tally, AllocError>>, AllocError>
+) -> Result<Vec<Result<VerdictTally, AllocError>>, AllocError>
     requires resolved { IsResolved resolved.now (policy_document policy.now) at.now.local }
     ensures { IfOk result (λ parts. (pieces : List (List Row)) × (flat_map (λ piece. piece) pieces ≡ map (λ v. row_of v.now) vehicles.now)
         × ((polygons : List ℕ → List (List (List Position))) → Finds resolved.now (policy_document policy.now) polygons at.now.local →
@@ -115,7 +115,7 @@ fn tallies<R: Threads + Sync>(
         .par_chunks(size)
         .with_min_len(1)
         .map(
-            |chunk: &[&Vehicle]| -> Result<Tally, AllocError>
+            |chunk: &[&Vehicle]| -> Result<VerdictTally, AllocError>
                 requires { IsResolved resolved.now (policy_document policy.now) local }
                 ensures { IfOk result (IsTallyBy resolved.entry.now (policy_document policy.entry.now) (map (λ v. row_of v.now) chunk.now) local moment) }
             { tally_of(alloc, resolved, policy, chunk, local, moment) },
@@ -135,12 +135,12 @@ fn tally_of(
     chunk: &[&Vehicle],
     local: Local,
     moment: Moment,
-) -> Result<Tally, AllocError>
+) -> Result<VerdictTally, AllocError>
     requires { IsResolved resolved.now (policy_document policy.now) local }
     ensures { IfOk result (IsTallyBy resolved.now (policy_document policy.now) (map (λ v. row_of v.now) chunk.now) local moment) }
 {
-    let mut table = Table::new(alloc);
-    let mut tally = Tally::new(alloc, policy, local)?;
+    let mut table = CandidateTable::new(alloc);
+    let mut tally = VerdictTally::new(alloc, policy, local)?;
     for vehicle in chunk {
         let number = table.first(resolved, vehicle)?;
         tally.count(policy, number, vehicle, moment)?;
@@ -153,18 +153,18 @@ fn tally_of(
 /// # Errors
 ///
 /// Out of memory, now or at one of the chunks.
-fn joined(
+fn join_tallies(
     alloc: Global,
     policy: &Policy,
-    parts: &[Result<Tally, AllocError>],
+    parts: &[Result<VerdictTally, AllocError>],
     local: Local,
-) -> Result<Tally, AllocError>
+) -> Result<VerdictTally, AllocError>
     requires { AreOfPieces (policy_document policy.now) local parts.now }
     ensures { IfOk result (λ tally. (polygons : List ℕ → List (List (List Position))) (pieces : List (List Row)) (moment : ℕ) →
         AreTallies (policy_document policy.now) polygons pieces local moment parts.now →
         IsTally tally (policy_document policy.now) polygons (flat_map (λ piece. piece) pieces) local moment) }
 {
-    let mut whole = Tally::new(alloc, policy, local)?;
+    let mut whole = VerdictTally::new(alloc, policy, local)?;
     for part in parts {
         match part {
             Ok(tally) => whole.join(policy, tally)?,

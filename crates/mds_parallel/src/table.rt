@@ -13,7 +13,7 @@ const MOST_PAIRS: usize = 64;
 
 /// A vehicle type and a state, with the numbers of the rules that such vehicles can meet.
 #[derive(Drop)]
-pub(crate) struct Pair {
+pub(crate) struct CandidateRules {
     vehicle_type: Token,
     state: Token,
     numbers: Vec<usize>,
@@ -22,22 +22,22 @@ pub(crate) struct Pair {
 /// For each pair of vehicle type and state that was met so far, the rules that such vehicles can meet, so that a
 /// vehicle is tried against these alone.
 #[derive(Drop)]
-pub(crate) struct Table {
+pub(crate) struct CandidateTable {
     alloc: Global,
-    pairs: Vec<Pair>,
+    pairs: Vec<CandidateRules>,
 }
 
-impl Table {
+impl CandidateTable {
     ghost use Rattle.std.specs.Prelude.{◌≡◌, [], IfOk, OnOk};
     ghost use Rattle.mds_match.specs.Resolved.{first_of};
     ghost use Rattle.mds_match.specs.Row.{row_of};
     ghost use Rattle.mds_parallel.specs.Served.{IsTableOf};
 
     /// A table without pairs.
-    pub(crate) fn new(alloc: Global) -> Table
+    pub(crate) fn new(alloc: Global) -> CandidateTable
         ensures { result.pairs.items ≡ [] }
     {
-        Table {
+        CandidateTable {
             alloc,
             pairs: Vec::new(alloc),
         }
@@ -72,11 +72,11 @@ fn new_pair(
     alloc: Global,
     resolved: &ResolvedPolicy<'_>,
     vehicle: &Vehicle,
-) -> Result<Pair, AllocError>
+) -> Result<CandidateRules, AllocError>
     ensures { IfOk result (IsServed resolved.now) }
 {
     let numbers = resolved.candidates(alloc, vehicle.vehicle_type(), vehicle.state())?;
-    Ok(Pair {
+    Ok(CandidateRules {
         vehicle_type: vehicle.vehicle_type(),
         state: vehicle.state(),
         numbers,
@@ -84,7 +84,7 @@ fn new_pair(
 }
 
 /// The table's entry for the type and the state of a vehicle, if there is one.
-fn pair_of<'a>(pairs: &'a [Pair], vehicle: &Vehicle) -> Option<&'a Pair>
+fn pair_of<'a>(pairs: &'a [CandidateRules], vehicle: &Vehicle) -> Option<&'a CandidateRules>
     ensures { IfSome result (λ pair. Contains pairs.now pair.now × ((row_of vehicle.now).vehicle_type ≡ pair.now.vehicle_type) × ((row_of vehicle.now).state ≡ pair.now.state)) }
 {
     for pair in pairs {
@@ -96,7 +96,7 @@ fn pair_of<'a>(pairs: &'a [Pair], vehicle: &Vehicle) -> Option<&'a Pair>
 }
 
 /// Whether a vehicle has this type and this state.
-fn is_of(pair: &Pair, vehicle: &Vehicle) -> bool
+fn is_of(pair: &CandidateRules, vehicle: &Vehicle) -> bool
     ensures { result ≡ (bytes_eq pair.now.vehicle_type (row_of vehicle.now).vehicle_type && bytes_eq pair.now.state (row_of vehicle.now).state) }
 {
     pair.vehicle_type == vehicle.vehicle_type() && pair.state == vehicle.state()

@@ -12,23 +12,23 @@ use std::cmp::Ordering;
 const PUBLISHED_DATE: &str = "published_date";
 
 /// A copy of the document with the moment of its publication.
-pub(crate) fn dated(alloc: Global, document: &Tree, moment: Moment) -> Result<Tree, AllocError>
+pub(crate) fn with_published_date(alloc: Global, document: &Tree, moment: Moment) -> Result<Tree, AllocError>
     ensures { IfOk result (λ t. view t ≡ dated moment (view document.now)) }
 {
     match document {
-        Tree::Object(members) => Ok(Tree::Object(dated_members(alloc, members, moment)?)),
+        Tree::Object(members) => Ok(Tree::Object(members_with_date(alloc, members, moment)?)),
         _ => copy_tree(alloc, document),
     }
 }
 
-fn dated_members(
+fn members_with_date(
     alloc: Global,
     members: &[Member],
     moment: Moment,
 ) -> Result<Vec<Member>, AllocError>
     ensures { IfOk result (λ v. members_of (map member_view v.items) ≡ with_member (codes "published_date") (int (pos moment)) (members_of (map member_view members.now))) }
 {
-    let (before, after) = around(members, PUBLISHED_DATE);
+    let (before, after) = split_around(members, PUBLISHED_DATE);
     let mut dated = copy_members(alloc, before)?;
     add_member(&mut dated, PUBLISHED_DATE, int_tree(moment.get()))?;
     let mut rest = copy_members(alloc, after)?;
@@ -37,7 +37,7 @@ fn dated_members(
 }
 
 /// The members before this name and those after it; one of this name is in neither.
-fn around<'a>(members: &'a [Member], name: &str) -> (&'a [Member], &'a [Member])
+fn split_around<'a>(members: &'a [Member], name: &str) -> (&'a [Member], &'a [Member])
     ensures { (value : Json) → with_member name.now value (members_of (map member_view members.now)) ≡ members_of (map member_view result.0.now ++ (name.now, value) ∷ map member_view result.1.now) }
 {
     for (place, member) in members.iter().enumerate() {

@@ -8,7 +8,7 @@ mod lists;
 mod policy;
 mod reading;
 mod rule;
-mod served;
+mod dated_tree;
 mod states;
 mod window;
 

@@ -1,8 +1,8 @@
 use crate::fault::PolicyFault;
 use crate::reading::policy_of;
 use crate::rule::Rule;
-use crate::served::dated;
-use mds_reading::{KeptScratch, Source, read_tree};
+use crate::dated_tree::with_published_date;
+use mds_reading::{ReusableScratch, NodeBuffer, read_tree};
 use mds_text::{Id, Moment, Tree};
 use std::alloc::{AllocError, Global};
 
@@ -38,8 +38,8 @@ impl Policy {
     pub fn read(alloc: Global, text: &[u8]) -> Result<Policy, PolicyFault>
         ensures { Gives policy_cause policy_document result (read_policy text.now) }
     {
-        let mut source = Source::new(alloc);
-        let (tree, quoted) = source.read_counted(alloc, text)?;
+        let mut source = NodeBuffer::new(alloc);
+        let (tree, quoted) = source.read_and_count(alloc, text)?;
         if quoted > 0 {
             return Err(PolicyFault::Decimal);
         }
@@ -54,16 +54,16 @@ impl Policy {
     #[tactic(auto, unfolding(crate::specs::Reading::read_policy))]
     pub fn read_with(
         alloc: Global,
-        kept: &mut KeptScratch,
+        kept: &mut ReusableScratch,
         text: &[u8],
     ) -> Result<Policy, PolicyFault>
         ensures { Gives policy_cause policy_document result (read_policy text.now) }
     {
-        if text.len() > KeptScratch::MOST_BYTES {
+        if text.len() > ReusableScratch::MOST_BYTES {
             return Policy::read(alloc, text);
         }
         let mut unusual = Tree::Null;
-        let (tree, quoted) = kept.read_counted(alloc, &mut unusual, text)?;
+        let (tree, quoted) = kept.read_and_count(alloc, &mut unusual, text)?;
         if quoted > 0 {
             return Err(PolicyFault::Decimal);
         }
@@ -139,7 +139,7 @@ impl Policy {
     {
         let tree = self.tree(alloc)?;
         match published {
-            Some(moment) => dated(alloc, &tree, moment),
+            Some(moment) => with_published_date(alloc, &tree, moment),
             None => Ok(tree),
         }
     }

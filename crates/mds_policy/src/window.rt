@@ -23,7 +23,7 @@ pub(crate) fn window_of(alloc: Global, rule: &Node<'_>) -> Result<Window, TextFa
     Ok(Window {
         start: start.unwrap_or(0),
         end: end.unwrap_or(LAST_SECOND),
-        days: days_listed(&days),
+        days: day_flags(&days),
     })
 }
 
@@ -120,7 +120,7 @@ fn weekday_of(name: &str) -> Option<u8>
 }
 
 /// Whether each weekday is listed; no day listed means all.
-fn days_listed(days: &[u8]) -> [bool; 7]
+fn day_flags(days: &[u8]) -> [bool; 7]
     ensures { result ≡ days_listed days.now }
 {
     if days.is_empty() {

@@ -12,26 +12,26 @@ use Rattle.mds_desk.specs.Room.{RoomState}
 use Rattle.mds_policy.specs.Policy.{Policy}
 use Rattle.mds_policy.specs.Served as policy
 use Rattle.mds_text.specs.Printed.{printed}
-use Rattle.mds_public.specs.Accepted.{line_takes}
+use Rattle.mds_public.specs.AcceptField.{line_takes}
 use Rattle.mds_public.specs.Answer.{found, reads}
-use Rattle.mds_public.specs.Face.{Face, Notice, face_of, geography_notice, is_public, last, names, policy_notice, public_policies, touched}
-use Rattle.mds_public.specs.Withdrawn.{earlier, ended_at, ends, withdrawn_from}
-use Rattle.mds_public.specs.declared.asked.Asked.{Asked}
+use Rattle.mds_public.specs.Documents.{Face, Notice, face_of, geography_notice, is_public, last, names, policy_notice, public_policies, touched}
+use Rattle.mds_public.specs.Withdrawal.{earlier, ended_at, ends, withdrawn_from}
+use Rattle.mds_public.specs.declared.public_target.PublicTarget.{PublicTarget}
 use Rattle.mds_public.specs.declared.refusal.Refusal.{Refusal}
 use Rattle.mds_public.specs.declared.refusal.Refusal.TheVariants.{Method, NotAcceptable}
 use Rattle.mds_public.specs.Laws.{for_everyone}
 use Rattle.mds_public.specs.Response.{query_of}
-use Rattle.mds_public.specs.Told.{answer_to}
+use Rattle.mds_public.specs.CachedDocuments.{answer_to}
 
 -- these lines of `accept` accept the response
 abbrev takes : List FieldValue → Bool
 takes lines = (length lines == 0) || list_any (λ line. line_takes line.bytes) lines
 
-abbrev told : List Publication → Asked → List ℕ → List ℕ → List FieldValue → Result (List ℕ) Refusal
+abbrev told : List Publication → PublicTarget → List ℕ → List ℕ → List FieldValue → Result (List ℕ) Refusal
 told publications asked method query lines =
     if reads method then (if takes lines then found (face_of publications) asked query else Err NotAcceptable) else Err Method
 
-pub everyone_alike : (one other : RoomState) (asked : Asked) (here there : Parts)
+pub everyone_alike : (one other : RoomState) (asked : PublicTarget) (here there : Parts)
     → one.publications ≡ other.publications → here.method ≡ there.method → here.uri ≡ there.uri
     → get_all here.headers (codes "accept") ≡ get_all there.headers (codes "accept")
     → answer_to one.publications asked here ≡ answer_to other.publications asked there

@@ -7,22 +7,22 @@ use Rattle.http.specs.declared.response.Response.{Response}
 use Rattle.http_body_util.specs.declared.full.Full.{Full}
 use Rattle.mds_public.specs.Answer.{Meets, answer_of}
 use Rattle.mds_public.specs.View.{face}
-use Rattle.mds_public.specs.declared.asked.Asked.{Asked}
-use Rattle.mds_public.specs.declared.face.Face as program
-use Rattle.mds_public.specs.declared.refusal.Denied.{Denied}
-use Rattle.mds_public.specs.declared.refusal.Denied.TheVariants.{Refused}
+use Rattle.mds_public.specs.declared.public_target.PublicTarget.{PublicTarget}
+use Rattle.mds_public.specs.declared.public_documents.PublicDocuments as program
+use Rattle.mds_public.specs.declared.refusal.PublicFault.{PublicFault}
+use Rattle.mds_public.specs.declared.refusal.PublicFault.TheVariants.{Refused}
 use Rattle.mds_public.specs.declared.refusal.Refusal.{Refusal}
 use Rattle.mds_request.specs.Configuration.{Configuration}
 use Rattle.mds_public.specs.Response.{Says, query_of}
-use Rattle.mds_public.specs.Told.{IsFace, IsTold}
+use Rattle.mds_public.specs.CachedDocuments.{IsFace, IsTold}
 
 -- the refusal is the expected one
-pub refused_for : (expected : Result (List ℕ) Refusal) (answer : Result (List ℕ) Denied) (denied : Denied) (refusal : Refusal)
+pub refused_for : (expected : Result (List ℕ) Refusal) (answer : Result (List ℕ) PublicFault) (denied : PublicFault) (refusal : Refusal)
     → answer ≡ Err denied → denied ≡ Refused refusal → Meets expected answer → expected ≡ Err refusal
 refused_for expected answer denied refusal is denied_is meets = subst (Meets expected) (is ∙ ap (λ d. Err d) denied_is) meets
 
 -- the answer of the cached documents is that of the room's publications
-pub says_of_room : (configuration : Configuration) (f : program.Face) (asked : Asked) (parts : Parts) (answer : Result (List ℕ) Refusal)
+pub says_of_room : (configuration : Configuration) (f : program.Face) (asked : PublicTarget) (parts : Parts) (answer : Result (List ℕ) Refusal)
     (response : Result (Response (Full (List ℕ))) AllocError)
     → ∥ IsFace configuration f ∥₁ → answer_of (face f) asked parts.method (query_of parts) parts.headers ≡ answer → IfOk response (Says answer)
     → IfOk response (IsTold configuration asked parts)

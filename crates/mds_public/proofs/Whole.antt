@@ -1,12 +1,12 @@
 -- All documents, in a period without bounds.
 use Rattle.std.proofs.Common.{◌≡◌, ◌==◌, ℕ, Bool, true, List, [], ◌∷◌, length, map, filter, None, refl, ap, arith}
 use Rattle.std.proofs.lemmas.Bool.Decides.{nat_tests}
-use Rattle.mds_public.specs.Face.{Notice}
+use Rattle.mds_public.specs.Documents.{Notice}
 use Rattle.mds_public.specs.Period.{is_in}
 use Rattle.mds_public.specs.View.{notice}
-use Rattle.mds_public.specs.declared.notice.Notice as program
+use Rattle.mds_public.specs.declared.public_document.PublicDocument as program
 
-pub all_in : (ns : List Notice) → filter (is_in (record { from = None; to = None })) ns ≡ ns
+pub all_in : (ns : List PublicDocument) → filter (is_in (record { from = None; to = None })) ns ≡ ns
 all_in [] = refl
 all_in (n ∷ ns) = ap (λ rest. n ∷ rest) (all_in ns)
 

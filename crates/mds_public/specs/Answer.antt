@@ -2,17 +2,17 @@
 use Rattle.std.specs.Prelude.{◌≡◌, ⊤, ℕ, List, [], ◌∷◌, map, filter, find, Bool, true, ◌||◌, bytes_eq, codes, Option, Some, None, Result, Ok, Err, if◌then◌else◌}
 use Rattle.http_header.specs.FieldValue.{FieldValue}
 use Rattle.http_header.specs.HeaderMap.{Entries}
-use Rattle.mds_public.specs.Accepted.{is_accepted}
+use Rattle.mds_public.specs.AcceptField.{is_accepted}
 use Rattle.mds_public.specs.Body.{body_text}
-use Rattle.mds_public.specs.Face.{Face, Notice}
+use Rattle.mds_public.specs.Documents.{Face, Notice}
 use Rattle.mds_public.specs.Period.{is_in, period_in}
-use Rattle.mds_public.specs.declared.asked.Asked.{Asked}
-use Rattle.mds_public.specs.declared.asked.Asked.TheVariants.{Policies, Policy, Geographies, Geography}
+use Rattle.mds_public.specs.declared.public_target.PublicTarget.{PublicTarget}
+use Rattle.mds_public.specs.declared.public_target.PublicTarget.TheVariants.{Policies, Policy, Geographies, Geography}
 use Rattle.mds_public.specs.declared.period.Period.{Period}
 use Rattle.mds_public.specs.declared.refusal.Refusal.{Refusal}
 use Rattle.mds_public.specs.declared.refusal.Refusal.TheVariants.{BadParameter, NotFound, Method, NotAcceptable}
-use Rattle.mds_public.specs.declared.refusal.Denied.{Denied}
-use Rattle.mds_public.specs.declared.refusal.Denied.TheVariants.{NoMemory, Refused}
+use Rattle.mds_public.specs.declared.refusal.PublicFault.{PublicFault}
+use Rattle.mds_public.specs.declared.refusal.PublicFault.TheVariants.{NoMemory, Refused}
 
 -- a method by which something is read (RFC 9110, sections 9.3.1 and 9.3.2)
 abbrev pub reads : List ℕ → Bool
@@ -38,19 +38,19 @@ one_told name None updated = Err NotFound
 one_told name (Some n) updated = Ok (told name (n ∷ []) updated)
 
 -- the body that a request asks for; the query of anything but the list of policies doesn't matter
-abbrev pub found : Face → Asked → List ℕ → Result (List ℕ) Refusal
+abbrev pub found : Face → PublicTarget → List ℕ → Result (List ℕ) Refusal
 found face Policies query = policies_told face (period_in query)
 found face (Policy id) query = one_told (codes "policies") (sought face.policies id) face.updated
 found face Geographies query = Ok (told (codes "geographies") face.geographies face.updated)
 found face (Geography id) query = one_told (codes "geographies") (sought face.geographies id) face.updated
 
 -- the answer to a request with this method, query and fields
-abbrev pub answer_of : Face → Asked → List ℕ → List ℕ → Entries FieldValue → Result (List ℕ) Refusal
+abbrev pub answer_of : Face → PublicTarget → List ℕ → List ℕ → Entries FieldValue → Result (List ℕ) Refusal
 answer_of face asked method query headers =
     if reads method then (if is_accepted headers then found face asked query else Err NotAcceptable) else Err Method
 
 -- the answer is the expected one, where it isn't out of memory
-abbrev pub Meets : Result (List ℕ) Refusal → Result (List ℕ) Denied → Type 0
+abbrev pub Meets : Result (List ℕ) Refusal → Result (List ℕ) PublicFault → Type 0
 Meets expected (Ok body) = expected ≡ Ok body
 Meets expected (Err NoMemory) = ⊤
 Meets expected (Err (Refused refusal)) = expected ≡ Err refusal

@@ -5,13 +5,13 @@ use Rattle.http.specs.declared.response.Response.{Response}
 use Rattle.http_body_util.specs.declared.full.Full.{Full}
 use Rattle.mds_catalog.specs.Publication.{Publication}
 use Rattle.mds_public.specs.Answer.{answer_of}
-use Rattle.mds_public.specs.Face.{face_of}
+use Rattle.mds_public.specs.Documents.{face_of}
 use Rattle.mds_public.specs.View.{face}
-use Rattle.mds_public.specs.declared.asked.Asked.{Asked}
-use Rattle.mds_public.specs.declared.face.Face as program
+use Rattle.mds_public.specs.declared.public_target.PublicTarget.{PublicTarget}
+use Rattle.mds_public.specs.declared.public_documents.PublicDocuments as program
 use Rattle.mds_public.specs.declared.refusal.Refusal.{Refusal}
 use Rattle.mds_request.specs.Configuration.{Configuration}
-use Rattle.mds_hall.specs.Told.{RoomTells}
+use Rattle.mds_hall.specs.Query.{RoomTells}
 use Rattle.mds_public.specs.Response.{Says, query_of}
 
 -- all public documents of publications
@@ -23,9 +23,9 @@ abbrev pub IsFace : Configuration → program.Face → Type 0
 IsFace configuration told = RoomTells configuration (λ drafts publications f. IsFaceOf publications f) told
 
 -- the answer to a request for this
-abbrev pub answer_to : List Publication → Asked → Parts → Result (List ℕ) Refusal
+abbrev pub answer_to : List Publication → PublicTarget → Parts → Result (List ℕ) Refusal
 answer_to publications asked parts = answer_of (face_of publications) asked parts.method (query_of parts) parts.headers
 
 -- the response has the answer, of the publications of the author's room of this configuration
-abbrev pub IsTold : Configuration → Asked → Parts → Response (Full (List ℕ)) → Type 0
+abbrev pub IsTold : Configuration → PublicTarget → Parts → Response (Full (List ℕ)) → Type 0
 IsTold configuration asked parts response = ∥ RoomTells configuration (λ drafts publications told. Says (answer_to publications asked parts) told) response ∥₁

@@ -4,15 +4,15 @@ use Rattle.http_header.specs.HeaderMap.{get_all}
 use Rattle.http.specs.declared.request.Parts.{Parts}
 use Rattle.mds_catalog.specs.Publication.{Publication}
 use Rattle.mds_desk.specs.Room.{RoomState}
-use Rattle.mds_public.specs.Face.{face_of}
-use Rattle.mds_public.specs.declared.asked.Asked.{Asked}
-use Rattle.mds_public.specs.Told.{answer_to}
+use Rattle.mds_public.specs.Documents.{face_of}
+use Rattle.mds_public.specs.declared.public_target.PublicTarget.{PublicTarget}
+use Rattle.mds_public.specs.CachedDocuments.{answer_to}
 
 -- Two author's rooms with the same publications give the same answer to requests with the same method, target and
 -- `accept`: whatever their drafts, their configurations and the other fields are, an access token among them.
 abbrev pub EveryoneIsToldThePublications : Type 0
 EveryoneIsToldThePublications =
-    (one other : RoomState) (asked : Asked) (here there : Parts)
+    (one other : RoomState) (asked : PublicTarget) (here there : Parts)
     → one.publications ≡ other.publications → here.method ≡ there.method → here.uri ≡ there.uri
     → get_all here.headers (codes "accept") ≡ get_all there.headers (codes "accept")
     → answer_to one.publications asked here ≡ answer_to other.publications asked there

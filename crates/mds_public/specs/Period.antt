@@ -6,7 +6,7 @@ use Rattle.std.specs.List.{list_all, slice_split}
 use Rattle.std.specs.Option.{option_map_or}
 use Rattle.std.specs.Str.{is_utf8}
 use Rattle.std.specs.Str.Parse.{digits_value}
-use Rattle.mds_public.specs.Face.{Notice}
+use Rattle.mds_public.specs.Documents.{Notice}
 use Rattle.mds_public.specs.declared.period.Period.{Period}
 
 abbrev pub is_ampersand : ℕ → Bool

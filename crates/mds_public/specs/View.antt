@@ -1,11 +1,11 @@
--- The definition's values of the program's `Notice` and `Face`.
+-- The definition's values of the program's `PublicDocument` and `PublicDocuments`.
 use Rattle.std.specs.Prelude.{map}
-use Rattle.mds_public.specs.Face.{Face, Notice}
-use Rattle.mds_public.specs.declared.notice.Notice as program
-use Rattle.mds_public.specs.declared.face.Face as program'
+use Rattle.mds_public.specs.Documents.{Face, Notice}
+use Rattle.mds_public.specs.declared.public_document.PublicDocument as program
+use Rattle.mds_public.specs.declared.public_documents.PublicDocuments as program'
 
-abbrev pub notice : program.Notice → Notice
+abbrev pub notice : program.Notice → PublicDocument
 notice n = record { id = n.id; start = n.start; end = n.end; text = n.text.items }
 
-abbrev pub face : program'.Face → Face
+abbrev pub face : program'.Face → PublicDocuments
 face f = record { policies = map notice f.policies.items; geographies = map notice f.geographies.items; updated = f.updated }

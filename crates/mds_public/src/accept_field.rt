@@ -2,14 +2,14 @@
 ghost use Rattle.std.specs.Prelude.{◌≡◌, ◌<◌, codes, length, position, IfSome};
 ghost use Rattle.std.specs.List.{list_any};
 ghost use Rattle.http_header.specs.HeaderMap.{get_all};
-ghost use Rattle.mds_public.specs.Accepted.{has_this_version, is_accepted, is_any_version, is_semicolon, is_this_version};
-ghost use Rattle.mds_public.specs.Accepted.{line_takes, takes, trimmed, type_of};
+ghost use Rattle.mds_public.specs.AcceptField.{has_this_version, is_accepted, is_any_version, is_semicolon, is_this_version};
+ghost use Rattle.mds_public.specs.AcceptField.{line_takes, takes, trimmed, type_of};
 
 use http::HeaderMap;
 use http::header::ACCEPT;
 
 /// Without the white space around it.
-fn trimmed(bytes: &[u8]) -> &[u8]
+fn without_space(bytes: &[u8]) -> &[u8]
     ensures { result.now ≡ trimmed bytes.now }
 {
     bytes.trim_ascii()
@@ -40,7 +40,7 @@ fn is_this_version(parameter: &[u8]) -> bool
 }
 
 /// The position of the first `;` of a media range.
-fn mark(range: &[u8]) -> Option<usize>
+fn semicolon_at(range: &[u8]) -> Option<usize>
     ensures value { result ≡ position is_semicolon range.now }
     ensures bound { IfSome result (λ at. at < length range.now) }
 {
@@ -51,9 +51,9 @@ fn mark(range: &[u8]) -> Option<usize>
 fn type_of(range: &[u8]) -> &[u8]
     ensures { result.now ≡ type_of range.now }
 {
-    match mark(range) {
-        Some(at) => trimmed(&range[..at]),
-        None => trimmed(range),
+    match semicolon_at(range) {
+        Some(at) => without_space(&range[..at]),
+        None => without_space(range),
     }
 }
 
@@ -63,7 +63,7 @@ fn has_this_version(range: &[u8]) -> bool
 {
     range
         .split(|byte| *byte == b';')
-        .all(|parameter| is_this_version(trimmed(parameter)))
+        .all(|parameter| is_this_version(without_space(parameter)))
 }
 
 /// Whether a media range accepts the response.

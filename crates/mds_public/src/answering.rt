@@ -4,20 +4,20 @@ ghost use Rattle.mds_public.specs.Answer.{Meets, answer_of, found, one_told, pol
 ghost use Rattle.mds_public.specs.View.{face, notice};
 ghost use Rattle.mds_public.specs.Period.{is_in};
 
-use crate::accepted::is_accepted;
-use crate::asked::Asked;
+use crate::accept_field::is_accepted;
+use crate::public_target::PublicTarget;
 use crate::body::body_of;
-use crate::face::{Face, GEOGRAPHIES, POLICIES};
-use crate::notice::Notice;
+use crate::public_documents::{PublicDocuments, GEOGRAPHIES, POLICIES};
+use crate::public_document::PublicDocument;
 use crate::period::Period;
-use crate::refusal::{Denied, Refusal};
+use crate::refusal::{PublicFault, Refusal};
 use bytes::Bytes;
 use http::HeaderMap;
 use mds_text::Id;
 use std::alloc::{AllocError, Global};
 
 /// Adds the text of a document, where it holds in the period.
-fn add<'a>(texts: &mut Vec<&'a [u8]>, sheet: &'a Notice, period: &Period) -> Result<(), AllocError>
+fn add<'a>(texts: &mut Vec<&'a [u8]>, sheet: &'a PublicDocument, period: &Period) -> Result<(), AllocError>
     ensures { OnOk result (map (λ t. t.now) texts.new.items
         ≡ map (λ t. t.now) texts.old.items ++ map (λ n. n.text) (filter (is_in period.now) (notice sheet.now ∷ []))) }
 {
@@ -34,7 +34,7 @@ fn add<'a>(texts: &mut Vec<&'a [u8]>, sheet: &'a Notice, period: &Period) -> Res
 /// The texts of the documents that hold in a period.
 fn texts_in<'a>(
     alloc: Global,
-    notices: &'a [Notice],
+    notices: &'a [PublicDocument],
     period: &Period,
 ) -> Result<Vec<&'a [u8]>, AllocError>
     ensures { IfOk result (λ v. map (λ t. t.now) v.items ≡ map (λ n. n.text) (filter (is_in period.now) (map notice notices.now))) }
@@ -47,14 +47,14 @@ fn texts_in<'a>(
 }
 
 /// The first of these documents with this identifier.
-fn of_id(notices: &[Notice], id: Id) -> Option<&Notice>
+fn of_id(notices: &[PublicDocument], id: Id) -> Option<&PublicDocument>
     ensures { option_copied result ≡ find (λ n. bytes_eq n.id id) notices.now }
 {
     notices.iter().find(|sheet| sheet.id == id)
 }
 
 /// The first of these documents with this identifier, if there is one.
-fn sought(notices: &[Notice], id: Option<Id>) -> Option<&Notice>
+fn document_with(notices: &[PublicDocument], id: Option<Id>) -> Option<&PublicDocument>
     ensures { option_map (λ n. notice n.now) result ≡ sought (map notice notices.now) id }
 {
     match id {
@@ -64,28 +64,28 @@ fn sought(notices: &[Notice], id: Option<Id>) -> Option<&Notice>
 }
 
 /// A body of one document under its name.
-fn one_told(
+fn document_body(
     alloc: Global,
     name: &str,
-    found: Option<&Notice>,
+    found: Option<&PublicDocument>,
     updated: u64,
-) -> Result<Bytes, Denied>
+) -> Result<Bytes, PublicFault>
     ensures { Meets (one_told name.now (option_map (λ n. notice n.now) found.entry) updated) result }
 {
     let Some(notice) = found else {
-        return Err(Denied::Refused(Refusal::NotFound));
+        return Err(PublicFault::Refused(Refusal::NotFound));
     };
     let body = body_of(alloc, name, &[notice.text.as_slice()], updated)?;
     Ok(body)
 }
 
-impl Face {
+impl PublicDocuments {
     /// The policies that hold in a period.
-    fn policies_told(&self, alloc: Global, period: Option<Period>) -> Result<Bytes, Denied>
+    fn policies_body(&self, alloc: Global, period: Option<Period>) -> Result<Bytes, PublicFault>
         ensures { Meets (policies_told (face self.now) period) result }
     {
         let Some(period) = period else {
-            return Err(Denied::Refused(Refusal::BadParameter));
+            return Err(PublicFault::Refused(Refusal::BadParameter));
         };
         let texts = texts_in(alloc, &self.policies, &period)?;
         let body = body_of(alloc, POLICIES, &texts, self.updated)?;
@@ -93,21 +93,21 @@ impl Face {
     }
 
     /// The body that a request asks for.
-    fn found(&self, alloc: Global, asked: Asked, query: &[u8]) -> Result<Bytes, Denied>
+    fn body_for(&self, alloc: Global, asked: PublicTarget, query: &[u8]) -> Result<Bytes, PublicFault>
         ensures { Meets (found (face self.now) asked query.now) result }
     {
         match asked {
-            Asked::Policies if query.is_empty() => Ok(self.all_policies.clone()?),
-            Asked::Policies => self.policies_told(alloc, Period::read(query)),
-            Asked::Policy(id) => {
-                one_told(alloc, POLICIES, sought(&self.policies, id), self.updated)
+            PublicTarget::Policies if query.is_empty() => Ok(self.all_policies.clone()?),
+            PublicTarget::Policies => self.policies_body(alloc, Period::read(query)),
+            PublicTarget::Policy(id) => {
+                document_body(alloc, POLICIES, document_with(&self.policies, id), self.updated)
             }
-            Asked::Geographies => Ok(self.all_geographies.clone()?),
-            Asked::Geography(id) => {
-                one_told(
+            PublicTarget::Geographies => Ok(self.all_geographies.clone()?),
+            PublicTarget::Geography(id) => {
+                document_body(
                     alloc,
                     GEOGRAPHIES,
-                    sought(&self.geographies, id),
+                    document_with(&self.geographies, id),
                     self.updated,
                 )
             }
@@ -124,17 +124,17 @@ impl Face {
     pub fn answer(
         &self,
         alloc: Global,
-        asked: Asked,
+        asked: PublicTarget,
         method: &[u8],
         query: &[u8],
         headers: &HeaderMap,
-    ) -> Result<Bytes, Denied>
+    ) -> Result<Bytes, PublicFault>
         ensures { Meets (answer_of (face self.now) asked method.now query.now headers.now) result }
     {
         match method {
-            b"GET" | b"HEAD" if is_accepted(headers) => self.found(alloc, asked, query),
-            b"GET" | b"HEAD" => Err(Denied::Refused(Refusal::NotAcceptable)),
-            _ => Err(Denied::Refused(Refusal::Method)),
+            b"GET" | b"HEAD" if is_accepted(headers) => self.body_for(alloc, asked, query),
+            b"GET" | b"HEAD" => Err(PublicFault::Refused(Refusal::NotAcceptable)),
+            _ => Err(PublicFault::Refused(Refusal::Method)),
         }
     }
 }

@@ -36,7 +36,7 @@ fn join(body: &mut Vec<u8>, texts: &[&[u8]]) -> Result<(), AllocError>
 
 /// The bytes of a body up to its documents, with capacity for documents of this length and the
 /// rest.
-fn opened(alloc: Global, name: &str, length: usize) -> Result<Vec<u8>, AllocError>
+fn begin_body(alloc: Global, name: &str, length: usize) -> Result<Vec<u8>, AllocError>
     ensures { IfOk result (λ v. v.items ≡ codes "{\"data\":{\"" ++ name.now ++ codes "\":[") }
 {
     let room = length.saturating_add(name.len()).saturating_add(MARGIN);
@@ -48,7 +48,7 @@ fn opened(alloc: Global, name: &str, length: usize) -> Result<Vec<u8>, AllocErro
 }
 
 /// Adds the bytes that come after the documents.
-fn close(body: &mut Vec<u8>, updated: u64) -> Result<(), AllocError>
+fn end_body(body: &mut Vec<u8>, updated: u64) -> Result<(), AllocError>
     ensures { OnOk result (body.new.items
         ≡ body.old.items ++ codes "]},\"last_updated\":" ++ decimal updated ++ codes ",\"version\":\"2.0.0\"}") }
 {
@@ -63,9 +63,9 @@ fn close(body: &mut Vec<u8>, updated: u64) -> Result<(), AllocError>
 fn body_in(alloc: Global, name: &str, texts: &[&[u8]], updated: u64) -> Result<Vec<u8>, AllocError>
     ensures { IfOk result (λ v. v.items ≡ body_text name.now (map (λ t. t.now) texts.now) updated) }
 {
-    let mut body = opened(alloc, name, length_of(texts))?;
+    let mut body = begin_body(alloc, name, length_of(texts))?;
     join(&mut body, texts)?;
-    close(&mut body, updated)?;
+    end_body(&mut body, updated)?;
     Ok(body)
 }
 

@@ -1,14 +1,14 @@
 //! The public documents at one front of what is published.
 ghost use Rattle.std.specs.Prelude.{◌≡◌, IfOk};
 ghost use Rattle.mds_public.specs.Response.{query_of};
-ghost use Rattle.mds_public.specs.Told.{IsFace, IsTold};
+ghost use Rattle.mds_public.specs.CachedDocuments.{IsFace, IsTold};
 
-use crate::asked::Asked;
-use crate::face::Face;
-use crate::refusal::Denied;
+use crate::public_target::PublicTarget;
+use crate::public_documents::PublicDocuments;
+use crate::refusal::PublicFault;
 use crate::response::response_of;
 use http::request::Parts;
-use mds_hall::Named;
+use mds_hall::HallName;
 use mds_responses::HttpResult;
 use mds_snapshot::Note;
 use std::alloc::{AllocError, Global};
@@ -16,16 +16,16 @@ use std::alloc::{AllocError, Global};
 /// The public documents of the publications of the author's room, and the latest note before they were made. If there
 /// is no later note, they are of what is published now.
 #[derive(Drop)]
-pub struct Shown<K: Named> {
+pub struct CachedDocuments<K: HallName> {
     note: Option<Note<K>>,
-    face: Face,
+    face: PublicDocuments,
     ghost of_room: { ∥ IsFace K.configuration face ∥₁ },
 }
 
 /// A source of the public documents.
-pub trait Shows<K: Named> {
+pub trait DocumentSource<K: HallName> {
     ghost use Rattle.std.specs.Prelude.{IfOk};
-    ghost use Rattle.mds_public.specs.Told.{IsFace};
+    ghost use Rattle.mds_public.specs.CachedDocuments.{IsFace};
 
     /// The latest note; none where nothing was published since the start.
     fn note(&self) -> Option<Note<K>>;
@@ -35,12 +35,12 @@ pub trait Shows<K: Named> {
     /// # Errors
     ///
     /// Out of memory.
-    fn face(&self) -> Result<Face, AllocError>
+    fn documents(&self) -> Result<PublicDocuments, AllocError>
         ensures { IfOk result (IsFace K.configuration) };
 }
 
 /// Whether a note, if there is one, covers all that another one covers.
-fn covers<K: Named>(known: &Option<Note<K>>, latest: &Option<Note<K>>) -> bool {
+fn covers<K: HallName>(known: &Option<Note<K>>, latest: &Option<Note<K>>) -> bool {
     match (known, latest) {
         (_, None) => true,
         (None, Some(_)) => false,
@@ -58,21 +58,21 @@ fn query(parts: &Parts) -> &[u8]
     }
 }
 
-impl<K: Named> Shown<K> {
+impl<K: HallName> CachedDocuments<K> {
     /// The public documents by now.
     ///
     /// # Errors
     ///
     /// Out of memory.
-    pub fn of<A: Shows<K>>(answers: &A) -> Result<Shown<K>, AllocError> {
+    pub fn of<A: DocumentSource<K>>(answers: &A) -> Result<CachedDocuments<K>, AllocError> {
         // The note comes first, so that the documents are of no earlier front.
         let note = answers.note();
-        let face = answers.face()?;
-        Ok(Shown { note, face })
+        let face = answers.documents()?;
+        Ok(CachedDocuments { note, face })
     }
 
     /// Whether nothing was published since they were made.
-    pub fn is_latest<A: Shows<K>>(&self, answers: &A) -> bool {
+    pub fn is_latest<A: DocumentSource<K>>(&self, answers: &A) -> bool {
         covers(&self.note, &answers.note())
     }
 
@@ -81,7 +81,7 @@ impl<K: Named> Shown<K> {
     /// # Errors
     ///
     /// Out of memory.
-    pub fn respond(&self, alloc: Global, asked: Asked, parts: &Parts) -> HttpResult
+    pub fn respond(&self, alloc: Global, asked: PublicTarget, parts: &Parts) -> HttpResult
         ensures { IfOk result (IsTold K.configuration asked parts.now) }
     {
         let method = parts.method.as_str().as_bytes();
@@ -90,8 +90,8 @@ impl<K: Named> Shown<K> {
             .answer(alloc, asked, method, query(parts), &parts.headers);
         match answer {
             Ok(body) => response_of(alloc, Ok(body)),
-            Err(Denied::Refused(refusal)) => response_of(alloc, Err(refusal)),
-            Err(Denied::NoMemory) => Err(AllocError),
+            Err(PublicFault::Refused(refusal)) => response_of(alloc, Err(refusal)),
+            Err(PublicFault::NoMemory) => Err(AllocError),
         }
     }
 }

@@ -1,22 +1,22 @@
 //! Makes the public documents of the publications alone.
-use crate::face::Face;
+use crate::public_documents::PublicDocuments;
 use mds_catalog::Catalogue;
-use mds_desk::Telling;
+use mds_desk::DeskQuery;
 use std::alloc::{AllocError, Global};
 
 /// Makes the public documents. It looks at what is published, and at nothing else: at no drafts, and at no operator's
 /// vehicles.
 #[derive(Clone, Copy)]
-pub struct Everyone;
+pub struct PublicDocumentsQuery;
 
-impl Telling for Everyone {
-    ghost use Rattle.mds_public.specs.Told.{IsFaceOf};
+impl DeskQuery for PublicDocumentsQuery {
+    ghost use Rattle.mds_public.specs.CachedDocuments.{IsFaceOf};
 
-    type Told = Face;
+    type Told = PublicDocuments;
 
     ghost tells = { λ everyone publications told. IsFaceOf publications told };
 
-    fn tell(&self, alloc: Global, catalogue: &Catalogue) -> Result<Face, AllocError> {
-        Face::new(alloc, catalogue)
+    fn run_query(&self, alloc: Global, catalogue: &Catalogue) -> Result<PublicDocuments, AllocError> {
+        PublicDocuments::new(alloc, catalogue)
     }
 }

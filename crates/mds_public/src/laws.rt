@@ -2,11 +2,11 @@
 ghost use Rattle.mds_public.specs.Laws.{EveryoneIsToldThePublications, OneOperatorsPoliciesAreNotTold};
 
 /// The answer to a request depends on the publications and on its method, target and `accept` alone.
-pub fn everyone_is_told_the_publications()
+pub fn answers_are_of_publications()
     ensures { EveryoneIsToldThePublications }
 {}
 
 /// Policies that are meant for some operators change nothing in the public documents.
-pub fn one_operators_policies_are_not_told()
+pub fn operators_policies_are_not_public()
     ensures { OneOperatorsPoliciesAreNotTold }
 {}

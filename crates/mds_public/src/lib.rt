@@ -3,30 +3,30 @@
 //! geographies that these name.
 #![tactic(auto)]
 
-mod accepted;
+mod accept_field;
 mod answering;
-mod asked;
+mod public_target;
 mod body;
-mod configured;
-mod ended;
-mod everyone;
-mod face;
+mod switch;
+mod with_end;
+mod documents_query;
+mod public_documents;
 pub mod laws;
 mod making;
-mod notice;
+mod public_document;
 mod period;
 mod refusal;
 mod response;
-mod shown;
-mod window;
+mod cached_documents;
+mod public_cache;
 
-pub use asked::Asked;
-pub use configured::is_public;
-pub use everyone::Everyone;
-pub use face::Face;
-pub use notice::Notice;
+pub use public_target::PublicTarget;
+pub use switch::is_public;
+pub use documents_query::PublicDocumentsQuery;
+pub use public_documents::PublicDocuments;
+pub use public_document::PublicDocument;
 pub use period::Period;
-pub use refusal::{Denied, Refusal};
+pub use refusal::{PublicFault, Refusal};
 pub use response::response_of;
-pub use shown::{Shown, Shows};
-pub use window::Window;
+pub use cached_documents::{CachedDocuments, DocumentSource};
+pub use public_cache::PublicCache;

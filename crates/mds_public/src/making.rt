@@ -5,13 +5,13 @@ ghost use Rattle.mds_catalog.specs.Catalogue.{lent_policy, lent_geography, publi
 ghost use Rattle.mds_policy.specs.Policy.{rule_document};
 ghost use Rattle.mds_catalog.specs.Publication.{is_among};
 ghost use Rattle.mds_public.specs.Body.{body_text};
-ghost use Rattle.mds_public.specs.Face.{face_of, geography_notice, is_public, last, names, policy_notice};
-ghost use Rattle.mds_public.specs.Face.{public_geographies, public_policies, touched};
+ghost use Rattle.mds_public.specs.Documents.{face_of, geography_notice, is_public, last, names, policy_notice};
+ghost use Rattle.mds_public.specs.Documents.{public_geographies, public_policies, touched};
 ghost use Rattle.mds_public.specs.View.{face, notice};
 
 use crate::body::body_of;
-use crate::face::{Face, GEOGRAPHIES, POLICIES};
-use crate::notice::{Notice, millis, withdrawn};
+use crate::public_documents::{PublicDocuments, GEOGRAPHIES, POLICIES};
+use crate::public_document::{PublicDocument, millis, withdrawal_moment};
 use bytes::Bytes;
 use mds_catalog::{Catalogue, Published};
 use mds_geography::Geography;
@@ -74,59 +74,59 @@ fn named_geographies<'a>(
 }
 
 /// The public document of each policy.
-fn policy_notices(
+fn policy_documents(
     alloc: Global,
     catalogue: &Catalogue,
     policies: &[Published<'_, Policy>],
-) -> Result<Vec<Notice>, AllocError>
+) -> Result<Vec<PublicDocument>, AllocError>
     ensures { IfOk result (λ v. map notice v.items
         ≡ map (policy_notice (publications_of catalogue.now)) (map lent_policy policies.now)) }
 {
     let mut notices = Vec::with_capacity(alloc, policies.len())?;
     for policy in policies {
-        notices.push(Notice::of_policy(alloc, catalogue, policy)?)?;
+        notices.push(PublicDocument::of_policy(alloc, catalogue, policy)?)?;
     }
     Ok(notices)
 }
 
 /// The public document of each geography.
-fn geography_notices(
+fn geography_documents(
     alloc: Global,
     geographies: &[Published<'_, Geography>],
-) -> Result<Vec<Notice>, AllocError>
+) -> Result<Vec<PublicDocument>, AllocError>
     ensures { IfOk result (λ v. map notice v.items ≡ map geography_notice (map lent_geography geographies.now)) }
 {
     let mut notices = Vec::with_capacity(alloc, geographies.len())?;
     for geography in geographies {
-        notices.push(Notice::of_geography(alloc, geography)?)?;
+        notices.push(PublicDocument::of_geography(alloc, geography)?)?;
     }
     Ok(notices)
 }
 
 /// When a policy was published, or withdrawn if that was later.
-fn touched(catalogue: &Catalogue, policy: &Published<'_, Policy>) -> u64
+fn last_change(catalogue: &Catalogue, policy: &Published<'_, Policy>) -> u64
     ensures { result ≡ touched (publications_of catalogue.now) (lent_policy policy.now) }
 {
     let published = millis(policy.moment);
-    match withdrawn(catalogue, policy.document.id()) {
+    match withdrawal_moment(catalogue, policy.document.id()) {
         Some(moment) => published.max(millis(moment)),
         None => published,
     }
 }
 
 /// When one of these policies was published or withdrawn last.
-fn updated(catalogue: &Catalogue, policies: &[Published<'_, Policy>]) -> u64
+fn last_update(catalogue: &Catalogue, policies: &[Published<'_, Policy>]) -> u64
     ensures { result ≡ last 0 (map (touched (publications_of catalogue.now)) (map lent_policy policies.now)) }
 {
     let mut updated = 0;
     for policy in policies {
-        updated = touched(catalogue, policy).max(updated);
+        updated = last_change(catalogue, policy).max(updated);
     }
     updated
 }
 
 /// The text of each document.
-fn texts_of<'a>(alloc: Global, notices: &'a [Notice]) -> Result<Vec<&'a [u8]>, AllocError>
+fn texts_of<'a>(alloc: Global, notices: &'a [PublicDocument]) -> Result<Vec<&'a [u8]>, AllocError>
     ensures { IfOk result (λ v. map (λ t. t.now) v.items ≡ map (λ n. n.text.items) notices.now) }
 {
     let mut texts = Vec::with_capacity(alloc, notices.len())?;
@@ -141,31 +141,31 @@ fn texts_of<'a>(alloc: Global, notices: &'a [Notice]) -> Result<Vec<&'a [u8]>, A
 }
 
 /// A body of all of these documents.
-fn listed(alloc: Global, name: &str, notices: &[Notice], updated: u64) -> Result<Bytes, AllocError>
+fn list_body(alloc: Global, name: &str, notices: &[PublicDocument], updated: u64) -> Result<Bytes, AllocError>
     ensures { IfOk result (λ b. b ≡ body_text name.now (map (λ n. n.text.items) notices.now) updated) }
 {
     let texts = texts_of(alloc, notices)?;
     body_of(alloc, name, &texts, updated)
 }
 
-impl Face {
+impl PublicDocuments {
     /// The public documents of a catalogue's publications. They are made once a publication, since that prints each
     /// document.
     ///
     /// # Errors
     ///
     /// Out of memory.
-    pub fn new(alloc: Global, catalogue: &Catalogue) -> Result<Face, AllocError>
+    pub fn new(alloc: Global, catalogue: &Catalogue) -> Result<PublicDocuments, AllocError>
         ensures { IfOk result (λ f. face f ≡ face_of (publications_of catalogue.now)) }
     {
         let policies = public_policies(alloc, catalogue)?;
         let geographies = named_geographies(alloc, catalogue, &policies)?;
-        let updated = updated(catalogue, &policies);
-        let policies = policy_notices(alloc, catalogue, &policies)?;
-        let geographies = geography_notices(alloc, &geographies)?;
-        let all_policies = listed(alloc, POLICIES, &policies, updated)?;
-        let all_geographies = listed(alloc, GEOGRAPHIES, &geographies, updated)?;
-        Ok(Face {
+        let updated = last_update(catalogue, &policies);
+        let policies = policy_documents(alloc, catalogue, &policies)?;
+        let geographies = geography_documents(alloc, &geographies)?;
+        let all_policies = list_body(alloc, POLICIES, &policies, updated)?;
+        let all_geographies = list_body(alloc, GEOGRAPHIES, &geographies, updated)?;
+        Ok(PublicDocuments {
             policies,
             geographies,
             updated,

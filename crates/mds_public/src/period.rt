@@ -6,7 +6,7 @@ ghost use Rattle.mds_public.specs.View.{notice};
 ghost use Rattle.mds_public.specs.Period.{as_given, begins, is_ampersand, is_in, moment_at, moment_in, number_in};
 ghost use Rattle.mds_public.specs.Period.{period_in, stripped, value_of};
 
-use crate::notice::Notice;
+use crate::public_document::PublicDocument;
 
 /// The moments from which and up to which, in milliseconds since the Unix epoch; one that isn't given is no bound.
 #[derive(Clone, Copy)]
@@ -42,7 +42,7 @@ fn parameter<'a>(name: &[u8], query: &'a [u8]) -> Option<&'a [u8]>
 }
 
 /// The value of a parameter, if it begins with this name.
-fn stripped<'a>(name: &[u8], parameter: &'a [u8]) -> Option<&'a [u8]>
+fn after_name<'a>(name: &[u8], parameter: &'a [u8]) -> Option<&'a [u8]>
     ensures { option_copied result ≡ stripped name.now parameter.now }
 {
     parameter.strip_prefix(name)
@@ -53,7 +53,7 @@ fn value_of<'a>(name: &[u8], query: &'a [u8]) -> Option<&'a [u8]>
     ensures { option_copied result ≡ value_of name.now query.now }
 {
     match parameter(name, query) {
-        Some(parameter) => stripped(name, parameter),
+        Some(parameter) => after_name(name, parameter),
         None => None,
     }
 }
@@ -110,7 +110,7 @@ impl Period {
     }
 
     /// Whether a document hasn't ended by the beginning of the period, and has taken effect by its end.
-    pub fn holds(&self, sheet: &Notice) -> bool
+    pub fn holds(&self, sheet: &PublicDocument) -> bool
         ensures { result ≡ is_in self.now (notice sheet.now) }
     {
         let isnt_over = match (self.from, sheet.end) {

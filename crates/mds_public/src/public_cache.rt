@@ -1,13 +1,13 @@
 //! The cache of the public documents.
 ghost use Rattle.std.specs.Prelude.{◌≡◌, is_some, IfOk};
-ghost use Rattle.mds_public.specs.Configured.{is_public};
-ghost use Rattle.mds_public.specs.Told.{IsTold};
+ghost use Rattle.mds_public.specs.Switch.{is_public};
+ghost use Rattle.mds_public.specs.CachedDocuments.{IsTold};
 
-use crate::asked::Asked;
-use crate::configured::is_public;
-use crate::shown::{Shown, Shows};
+use crate::public_target::PublicTarget;
+use crate::switch::is_public;
+use crate::cached_documents::{CachedDocuments, DocumentSource};
 use http::request::Parts;
-use mds_hall::Named;
+use mds_hall::HallName;
 use mds_responses::HttpResult;
 use std::alloc::{AllocError, Global};
 use std::sync::{Arc, Mutex, Wait};
@@ -16,19 +16,19 @@ use std::sync::{Arc, Mutex, Wait};
 /// the ones before. So the author's room is read once a publication, however many requests there are. The lock of the
 /// cached documents is held while a reference to them is cloned, the lock of the room while documents are made.
 #[derive(Drop)]
-pub struct Window<K: Named> {
-    shown: Mutex<Arc<Shown<K>>>,
+pub struct PublicCache<K: HallName> {
+    shown: Mutex<Arc<CachedDocuments<K>>>,
     making: Mutex<()>,
 }
 
-impl<K: Named> Window<K> {
+impl<K: HallName> PublicCache<K> {
     /// A cache with these documents.
     ///
     /// # Errors
     ///
     /// Out of memory.
-    fn new(alloc: Global, shown: Shown<K>) -> Result<Window<K>, AllocError> {
-        Ok(Window {
+    fn new(alloc: Global, shown: CachedDocuments<K>) -> Result<PublicCache<K>, AllocError> {
+        Ok(PublicCache {
             shown: Mutex::new(Arc::new(alloc, shown)?),
             making: Mutex::new(()),
         })
@@ -39,60 +39,60 @@ impl<K: Named> Window<K> {
     /// # Errors
     ///
     /// Out of memory.
-    pub fn open<A: Shows<K>>(
+    pub fn open<A: DocumentSource<K>>(
         alloc: Global,
         configuration: &[u8],
         answers: &A,
-    ) -> Result<Option<Window<K>>, AllocError>
+    ) -> Result<Option<PublicCache<K>>, AllocError>
         ensures { IfOk result (λ window. is_some window ≡ is_public configuration.now) }
     {
         if !is_public(alloc, configuration)? {
             return Ok(None);
         }
-        let window = Window::new(alloc, Shown::of(answers)?)?;
+        let window = PublicCache::new(alloc, CachedDocuments::of(answers)?)?;
         Ok(Some(window))
     }
 
     /// The cached documents.
-    fn current<R: Wait>(&self, rt: &R) -> Result<Arc<Shown<K>>, AllocError> {
+    fn current<R: Wait>(&self, rt: &R) -> Result<Arc<CachedDocuments<K>>, AllocError> {
         let shown = self.shown.lock(rt);
         Arc::try_clone(&*shown)
     }
 
     /// Caches these documents from now on.
-    fn keep<R: Wait>(&self, rt: &R, share: Arc<Shown<K>>) {
+    fn store_cached<R: Wait>(&self, rt: &R, share: Arc<CachedDocuments<K>>) {
         *self.shown.lock(rt) = share;
     }
 
     /// The documents by now, by the one request that may make them: if another made them a moment ago, those.
-    fn renewed<R: Wait, A: Shows<K>>(
+    fn renew<R: Wait, A: DocumentSource<K>>(
         &self,
         rt: &R,
         alloc: Global,
         answers: &A,
-    ) -> Result<Arc<Shown<K>>, AllocError> {
+    ) -> Result<Arc<CachedDocuments<K>>, AllocError> {
         let current = self.current(rt)?;
         if current.is_latest(answers) {
             return Ok(current);
         }
-        let shown = Arc::new(alloc, Shown::of(answers)?)?;
-        self.keep(rt, Arc::try_clone(&shown)?);
+        let shown = Arc::new(alloc, CachedDocuments::of(answers)?)?;
+        self.store_cached(rt, Arc::try_clone(&shown)?);
         Ok(shown)
     }
 
     /// The documents by now; the ones before, while another request makes them.
-    fn latest<R: Wait, A: Shows<K>>(
+    fn latest<R: Wait, A: DocumentSource<K>>(
         &self,
         rt: &R,
         alloc: Global,
         answers: &A,
-    ) -> Result<Arc<Shown<K>>, AllocError> {
+    ) -> Result<Arc<CachedDocuments<K>>, AllocError> {
         let current = self.current(rt)?;
         if current.is_latest(answers) {
             return Ok(current);
         }
         match self.making.try_lock() {
-            Some(_making) => self.renewed(rt, alloc, answers),
+            Some(_making) => self.renew(rt, alloc, answers),
             None => Ok(current),
         }
     }
@@ -103,12 +103,12 @@ impl<K: Named> Window<K> {
     /// # Errors
     ///
     /// Out of memory.
-    pub fn respond<R: Wait, A: Shows<K>>(
+    pub fn respond<R: Wait, A: DocumentSource<K>>(
         &self,
         rt: &R,
         alloc: Global,
         answers: &A,
-        asked: Asked,
+        asked: PublicTarget,
         parts: &Parts,
     ) -> HttpResult
         ensures { IfOk result (IsTold K.configuration asked parts.now) }

@@ -1,11 +1,11 @@
 //! One public document.
 ghost use Rattle.std.specs.Prelude.{◌≡◌, IfOk};
 ghost use Rattle.mds_catalog.specs.Catalogue.{lent_policy, lent_geography, publications_of};
-ghost use Rattle.mds_public.specs.Face.{geography_notice, policy_notice};
+ghost use Rattle.mds_public.specs.Documents.{geography_notice, policy_notice};
 ghost use Rattle.mds_public.specs.View.{notice};
-ghost use Rattle.mds_public.specs.Withdrawn.{earlier, ends, withdrawn_from};
+ghost use Rattle.mds_public.specs.Withdrawal.{earlier, ends, withdrawn_from};
 
-use crate::ended::told_policy;
+use crate::with_end::public_policy;
 use mds_catalog::{Catalogue, Published};
 use mds_geography::Geography;
 use mds_policy::Policy;
@@ -15,7 +15,7 @@ use std::alloc::{AllocError, Global};
 /// A public document as text, with the moments, in milliseconds since the Unix epoch, from which on and up to which it
 /// holds.
 #[derive(Drop)]
-pub struct Notice {
+pub struct PublicDocument {
     /// Its identifier.
     pub id: Id,
     /// From when on it holds; of a geography, when it was published.
@@ -64,13 +64,13 @@ fn ends(withdrawn: Option<Moment>, end: Option<Moment>) -> Option<Moment>
 }
 
 /// The first moment at which the policy of this identifier is withdrawn.
-pub(crate) fn withdrawn(catalogue: &Catalogue, id: Id) -> Option<Moment>
+pub(crate) fn withdrawal_moment(catalogue: &Catalogue, id: Id) -> Option<Moment>
     ensures { result ≡ withdrawn_from (publications_of catalogue.now) id }
 {
-    catalogue.withdrawn_from(id)
+    catalogue.withdrawal_moment(id)
 }
 
-impl Notice {
+impl PublicDocument {
     /// A published policy, with its end if it is withdrawn.
     ///
     /// # Errors
@@ -80,13 +80,13 @@ impl Notice {
         alloc: Global,
         catalogue: &Catalogue,
         policy: &Published<'_, Policy>,
-    ) -> Result<Notice, AllocError>
+    ) -> Result<PublicDocument, AllocError>
         ensures { IfOk result (λ n. notice n ≡ policy_notice (publications_of catalogue.now) (lent_policy policy.now)) }
     {
         let document = policy.document;
-        let withdrawn = withdrawn(catalogue, document.id());
-        let told = told_policy(alloc, policy, withdrawn)?;
-        Ok(Notice {
+        let withdrawn = withdrawal_moment(catalogue, document.id());
+        let told = public_policy(alloc, policy, withdrawn)?;
+        Ok(PublicDocument {
             id: document.id(),
             start: millis(document.start()),
             end: some_millis(ends(withdrawn, document.end())),
@@ -102,11 +102,11 @@ impl Notice {
     pub fn of_geography(
         alloc: Global,
         geography: &Published<'_, Geography>,
-    ) -> Result<Notice, AllocError>
+    ) -> Result<PublicDocument, AllocError>
         ensures { IfOk result (λ n. notice n ≡ geography_notice (lent_geography geography.now)) }
     {
         let served = geography.document.served(alloc, Some(geography.moment))?;
-        Ok(Notice {
+        Ok(PublicDocument {
             id: geography.document.id(),
             start: millis(geography.moment),
             end: None,

@@ -2,7 +2,7 @@
 ghost use Rattle.std.specs.Prelude.{◌≡◌, codes, map};
 ghost use Rattle.mds_public.specs.Body.{body_text};
 
-use crate::notice::Notice;
+use crate::public_document::PublicDocument;
 use bytes::Bytes;
 
 /// The name of policies in a body.
@@ -13,9 +13,9 @@ pub(crate) const GEOGRAPHIES: &str = "geographies";
 
 /// The public documents of what is published: each document, and both lists as cached bodies.
 #[derive(Drop)]
-pub struct Face {
-    pub(crate) policies: Vec<Notice>,
-    pub(crate) geographies: Vec<Notice>,
+pub struct PublicDocuments {
+    pub(crate) policies: Vec<PublicDocument>,
+    pub(crate) geographies: Vec<PublicDocument>,
     /// When one of them changed last, in milliseconds since the Unix epoch.
     pub(crate) updated: u64,
     pub(crate) all_policies: Bytes,

@@ -1,13 +1,13 @@
 //! What a path of the public documents asks for.
 ghost use Rattle.std.specs.Prelude.{◌≡◌};
 ghost use Rattle.std.specs.Option.{option_or};
-ghost use Rattle.mds_public.specs.Asked.{asked_by, geography_at, identifier, list_at, policy_at};
+ghost use Rattle.mds_public.specs.Target.{asked_by, geography_at, identifier, list_at, policy_at};
 
 use mds_text::Id;
 
 /// What a request asks for: a list, or the document of an identifier, where the path ends with one.
 #[derive(Clone, Copy)]
-pub enum Asked {
+pub enum PublicTarget {
     /// The policies.
     Policies,
     /// One policy.
@@ -35,44 +35,44 @@ fn identifier(text: &[u8]) -> Option<Id>
 }
 
 /// The list that a path asks for.
-fn list_at(path: &[u8]) -> Option<Asked>
+fn list_at(path: &[u8]) -> Option<PublicTarget>
     ensures { result ≡ list_at path.now }
 {
     if path == b"/mds/2.0/policies".as_slice() {
-        Some(Asked::Policies)
+        Some(PublicTarget::Policies)
     } else if path == b"/mds/2.0/geographies".as_slice() {
-        Some(Asked::Geographies)
+        Some(PublicTarget::Geographies)
     } else {
         None
     }
 }
 
 /// The policy that a path asks for.
-fn policy_at(path: &[u8]) -> Option<Asked>
+fn policy_at(path: &[u8]) -> Option<PublicTarget>
     ensures { result ≡ policy_at path.now }
 {
     match path.split_at_checked(POLICY) {
         Some((front, id)) if front == b"/mds/2.0/policies/".as_slice() => {
-            Some(Asked::Policy(identifier(id)))
+            Some(PublicTarget::Policy(identifier(id)))
         }
         _ => None,
     }
 }
 
 /// The geography that a path asks for.
-fn geography_at(path: &[u8]) -> Option<Asked>
+fn geography_at(path: &[u8]) -> Option<PublicTarget>
     ensures { result ≡ geography_at path.now }
 {
     match path.split_at_checked(GEOGRAPHY) {
         Some((front, id)) if front == b"/mds/2.0/geographies/".as_slice() => {
-            Some(Asked::Geography(identifier(id)))
+            Some(PublicTarget::Geography(identifier(id)))
         }
         _ => None,
     }
 }
 
 /// The document that a path asks for.
-fn one_at(path: &[u8]) -> Option<Asked>
+fn one_at(path: &[u8]) -> Option<PublicTarget>
     ensures { result ≡ option_or (policy_at path.now) (geography_at path.now) }
 {
     match policy_at(path) {
@@ -81,9 +81,9 @@ fn one_at(path: &[u8]) -> Option<Asked>
     }
 }
 
-impl Asked {
+impl PublicTarget {
     /// What a path, without its query, asks for; none, where it isn't a path of the public documents.
-    pub fn by(path: &[u8]) -> Option<Asked>
+    pub fn by(path: &[u8]) -> Option<PublicTarget>
         ensures { result ≡ asked_by path.now }
     {
         match list_at(path) {

@@ -19,19 +19,19 @@ pub enum Refusal {
 
 /// Why there is no body.
 #[derive(Clone, Copy, Debug, PartialEq, Eq)]
-pub enum Denied {
+pub enum PublicFault {
     /// Out of memory.
     NoMemory,
     /// The request is refused.
     Refused(Refusal),
 }
 
-impl From<AllocError> for Denied {
-    ghost use Rattle.mds_public.specs.declared.refusal.Denied.TheVariants.{NoMemory};
+impl From<AllocError> for PublicFault {
+    ghost use Rattle.mds_public.specs.declared.refusal.PublicFault.TheVariants.{NoMemory};
 
     ghost from_gives = { λ fault denied. denied ≡ NoMemory };
 
-    fn from(_fault: AllocError) -> Denied {
-        Denied::NoMemory
+    fn from(_fault: AllocError) -> PublicFault {
+        PublicFault::NoMemory
     }
 }

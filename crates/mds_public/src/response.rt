@@ -55,7 +55,7 @@ fn text_of(refusal: Refusal) -> &'static str
 }
 
 /// The response with this body.
-fn found(alloc: Global, body: Bytes) -> HttpResult
+fn body_response(alloc: Global, body: Bytes) -> HttpResult
     ensures { IfOk result (Says (Ok body)) }
 {
     let mut response = Response::new(alloc, Full::new(body));
@@ -64,7 +64,7 @@ fn found(alloc: Global, body: Bytes) -> HttpResult
 }
 
 /// The response with a refusal.
-fn refused(alloc: Global, refusal: Refusal) -> HttpResult
+fn refusal_response(alloc: Global, refusal: Refusal) -> HttpResult
     ensures { IfOk result (Says (Err refusal)) }
 {
     let body = Bytes::from_static(text_of(refusal).as_bytes());
@@ -87,7 +87,7 @@ pub fn response_of(alloc: Global, answer: Result<Bytes, Refusal>) -> HttpResult
     ensures { IfOk result (Says answer) }
 {
     match answer {
-        Ok(body) => found(alloc, body),
-        Err(refusal) => refused(alloc, refusal),
+        Ok(body) => body_response(alloc, body),
+        Err(refusal) => refusal_response(alloc, refusal),
     }
 }

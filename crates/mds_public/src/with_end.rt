@@ -4,9 +4,9 @@ ghost use Rattle.mds_text.specs.Tree.{int};
 ghost use Rattle.mds_text.specs.View.{view, member_view};
 ghost use Rattle.mds_policy.specs.Served.{served};
 ghost use Rattle.mds_catalog.specs.Catalogue.{lent_policy};
-ghost use Rattle.mds_public.specs.Withdrawn.{ended, ended_at, is_not_end};
+ghost use Rattle.mds_public.specs.Withdrawal.{ended, ended_at, is_not_end};
 
-use crate::notice::earlier;
+use crate::public_document::earlier;
 use mds_catalog::Published;
 use mds_policy::Policy;
 use mds_text::{Member, Moment, Tree, add_member, copy_tree, int_tree};
@@ -28,7 +28,7 @@ fn keep(alloc: Global, told: &mut Vec<Member>, member: &Member) -> Result<(), Al
 }
 
 /// The members, with this end.
-fn ended_members(alloc: Global, members: &[Member], end: Moment) -> Result<Vec<Member>, AllocError>
+fn members_with_end(alloc: Global, members: &[Member], end: Moment) -> Result<Vec<Member>, AllocError>
     ensures { IfOk result (λ v. map member_view v.items
         ≡ filter is_not_end (map member_view members.now) ++ (codes "end_date", int (pos end)) ∷ []) }
 {
@@ -41,17 +41,17 @@ fn ended_members(alloc: Global, members: &[Member], end: Moment) -> Result<Vec<M
 }
 
 /// A copy of a document, with this end.
-fn ended(alloc: Global, document: &Tree, end: Moment) -> Result<Tree, AllocError>
+fn with_end(alloc: Global, document: &Tree, end: Moment) -> Result<Tree, AllocError>
     ensures { IfOk result (λ t. view t ≡ ended end (view document.now)) }
 {
     match document {
-        Tree::Object(members) => Ok(Tree::Object(ended_members(alloc, members, end)?)),
+        Tree::Object(members) => Ok(Tree::Object(members_with_end(alloc, members, end)?)),
         _ => copy_tree(alloc, document),
     }
 }
 
 /// The document of a published policy, which may be withdrawn from a moment on.
-pub(crate) fn told_policy(
+pub(crate) fn public_policy(
     alloc: Global,
     policy: &Published<'_, Policy>,
     withdrawn: Option<Moment>,
@@ -61,7 +61,7 @@ pub(crate) fn told_policy(
 {
     let document = policy.document.served(alloc, Some(policy.moment))?;
     match withdrawn {
-        Some(moment) => ended(alloc, &document, earlier(moment, policy.document.end())),
+        Some(moment) => with_end(alloc, &document, earlier(moment, policy.document.end())),
         None => Ok(document),
     }
 }

@@ -13,12 +13,12 @@ ghost use Rattle.mds_reading.specs.Direct.{tree_number, tree_value, tree_items, 
 ghost use Rattle.json.specs.Token as token;
 
 use crate::entries::nodes_of;
-use crate::expected::{next_number, next_string, opens_list, shown};
-use crate::gathered::{Gathered, Scalar};
+use crate::lookahead::{next_number, next_string, opens_list, byte_or_space};
+use crate::first_entries::{FirstEntries, Scalar};
 use crate::members::put_member;
 use crate::node::{Node, NodeMember};
 use crate::point::has_point;
-use crate::stop::Stop;
+use crate::direct_fault::DirectFault;
 use crate::whole::whole_number;
 use json::{Reader, Scratch, Token};
 use mds_text::is_quoted;
@@ -33,18 +33,18 @@ pub(crate) fn read_direct<'a>(
     alloc: Global,
     scratch: &'a mut Scratch<Global>,
     bytes: &'a [u8],
-) -> Result<(Node<'a>, u64), Stop>
+) -> Result<(Node<'a>, u64), DirectFault>
     ensures tree { IfOk result (λ r. read_text bytes.now ≡ Ok (node_view r.0)) }
     ensures quoted { IfOk result (λ r. r.1 ≡ quoted_count bytes.now) }
 {
     let Ok(text) = simdutf8::basic::from_utf8(bytes) else {
-        return Err(Stop::Unusual);
+        return Err(DirectFault::Unusual);
     };
     let mut reader = Reader::new(text, scratch)?;
     let mut quoted = 0;
     let tree = read(alloc, bytes, &mut reader, &mut quoted, MAX_DEPTH)?;
     if reader.next().is_some() {
-        return Err(Stop::Unusual);
+        return Err(DirectFault::Unusual);
     }
     Ok((tree, quoted))
 }
@@ -57,13 +57,13 @@ fn read<'a>(
     reader: &mut Reader<'a>,
     quoted: &mut u64,
     depth: usize,
-) -> Result<Node<'a>, Stop>
+) -> Result<Node<'a>, DirectFault>
     ensures ok { IfOk result (λ n. converted tree_value (value depth reader.old) ≡ Some (node_view n, reader.new)) }
     ensures counted { OnOk result (quoted.new + quoted_in reader.new ≡ quoted.old + quoted_in reader.old) }
     ensures shorter { OnOk result (length reader.new < length reader.old) }
 {
     let Some(token) = reader.next() else {
-        return Err(Stop::Unusual);
+        return Err(DirectFault::Unusual);
     };
     match token {
         Token::String(string) => Ok(Node::Text(string)),
@@ -72,17 +72,17 @@ fn read<'a>(
         Token::Null => Ok(Node::Null),
         Token::BeginArray => {
             if depth == 0 {
-                return Err(Stop::Unusual);
+                return Err(DirectFault::Unusual);
             }
             Ok(read_list(alloc, text, reader, quoted, depth - 1)?)
         }
         Token::BeginObject => {
             if depth == 0 {
-                return Err(Stop::Unusual);
+                return Err(DirectFault::Unusual);
             }
             Ok(Node::Object(read_members(alloc, text, reader, quoted, depth - 1)?))
         }
-        Token::EndArray | Token::EndObject | Token::Key(_) | Token::Bad => Err(Stop::Unusual),
+        Token::EndArray | Token::EndObject | Token::Key(_) | Token::Bad => Err(DirectFault::Unusual),
     }
 }
 
@@ -95,16 +95,16 @@ fn read_list<'a>(
     reader: &mut Reader<'a>,
     quoted: &mut u64,
     depth: usize,
-) -> Result<Node<'a>, Stop>
+) -> Result<Node<'a>, DirectFault>
     ensures ok { IfOk result (λ n. parse_map list (converted tree_items (items (value depth) (length reader.old) reader.old)) ≡ Some (node_view n, reader.new)) }
     ensures counted { OnOk result (quoted.new + quoted_in reader.new ≡ quoted.old + quoted_in reader.old) }
     ensures shorter { OnOk result (length reader.new < length reader.old) }
 {
-    let front = read_front(text, reader, quoted)?;
+    let front = read_prefix(text, reader, quoted)?;
     if reader.take_end_array() {
         return Ok(front.list(alloc)?);
     }
-    if let Gathered::Empty = front {
+    if let FirstEntries::Empty = front {
         return Ok(read_pairs(alloc, text, reader, quoted, depth)?);
     }
     let found = front.entries(alloc)?;
@@ -121,7 +121,7 @@ fn read_pairs<'a>(
     reader: &mut Reader<'a>,
     quoted: &mut u64,
     depth: usize,
-) -> Result<Node<'a>, Stop>
+) -> Result<Node<'a>, DirectFault>
     ensures ok { IfOk result (λ n. parse_map list (converted tree_items (items (value depth) (length reader.old) reader.old)) ≡ Some (node_view n, reader.new)) }
     ensures counted { OnOk result (quoted.new + quoted_in reader.new ≡ quoted.old + quoted_in reader.old) }
     ensures shorter { OnOk result (length reader.new < length reader.old) }
@@ -149,39 +149,39 @@ fn read_entry<'a>(
     reader: &mut Reader<'a>,
     quoted: &mut u64,
     depth: usize,
-) -> Result<Node<'a>, Stop>
+) -> Result<Node<'a>, DirectFault>
     ensures ok { IfOk result (λ n. converted tree_value (value depth reader.old) ≡ Some (node_view n, reader.new)) }
     ensures counted { OnOk result (quoted.new + quoted_in reader.new ≡ quoted.old + quoted_in reader.old) }
     ensures shorter { OnOk result (length reader.new < length reader.old) }
 {
-    if depth == 0 || shown(text, reader.offset()) != b'[' {
+    if depth == 0 || byte_or_space(text, reader.offset()) != b'[' {
         return Ok(read(alloc, text, reader, quoted, depth)?);
     }
     if !opens_list(reader) {
-        return Err(Stop::Unusual);
+        return Err(DirectFault::Unusual);
     }
     Ok(read_list(alloc, text, reader, quoted, depth - 1)?)
 }
 
 /// The numbers and strings that a list begins with, two at most.
 #[inline(always)]
-fn read_front<'a>(
+fn read_prefix<'a>(
     text: &[u8],
     reader: &mut Reader<'a>,
     quoted: &mut u64,
-) -> Result<Gathered<'a>, Stop>
+) -> Result<FirstEntries<'a>, DirectFault>
     ensures ok { IfOk result (λ g. (depth : ℕ) → converted tree_items (items (value depth) (length reader.old) reader.old)
         ≡ parse_map (items_before (gathered g)) (converted tree_items (items (value depth) (length reader.new) reader.new))) }
     ensures counted { OnOk result (quoted.new + quoted_in reader.new ≡ quoted.old + quoted_in reader.old) }
     ensures shorter { OnOk result (length reader.new ≤ length reader.old) }
 {
     let Some(first) = next_scalar(text, reader, quoted)? else {
-        return Ok(Gathered::Empty);
+        return Ok(FirstEntries::Empty);
     };
     let Some(second) = next_scalar(text, reader, quoted)? else {
-        return Ok(Gathered::One(first));
+        return Ok(FirstEntries::One(first));
     };
-    Ok(Gathered::Two(first, second))
+    Ok(FirstEntries::Two(first, second))
 }
 
 /// The next number or string, where the text's next byte begins one.
@@ -190,24 +190,24 @@ fn next_scalar<'a>(
     text: &[u8],
     reader: &mut Reader<'a>,
     quoted: &mut u64,
-) -> Result<Option<Scalar<'a>>, Stop>
+) -> Result<Option<Scalar<'a>>, DirectFault>
     ensures none { IfOk result (λ found. IsNone found → (reader.new ≡ reader.old) × (quoted.new ≡ quoted.old)) }
     ensures going { IfOk result (λ found. IfSome found (λ a. after_end_array reader.old ≡ None)) }
     ensures ok { IfOk result (λ found. IfSome found (λ a. (depth : ℕ) → converted tree_value (value depth reader.old) ≡ Some (scalar_view a, reader.new))) }
     ensures counted { OnOk result (quoted.new + quoted_in reader.new ≡ quoted.old + quoted_in reader.old) }
     ensures one { IfOk result (λ found. IfSome found (λ a. length reader.old ≡ length reader.new + 1)) }
 {
-    match shown(text, reader.offset()) {
+    match byte_or_space(text, reader.offset()) {
         b'-' | b'0'..=b'9' => {
             let number = next_number(reader);
             if number.is_empty() {
-                return Err(Stop::Unusual);
+                return Err(DirectFault::Unusual);
             }
             Ok(Some(read_number(number, quoted)?))
         }
         b'"' => match next_string(reader) {
             Some(string) => Ok(Some(Scalar::Text(string))),
-            None => Err(Stop::Unusual),
+            None => Err(DirectFault::Unusual),
         },
         _ => Ok(None),
     }
@@ -223,7 +223,7 @@ fn read_items<'a>(
     quoted: &mut u64,
     depth: usize,
     mut found: Vec<Node<'a>>,
-) -> Result<Vec<Node<'a>>, Stop>
+) -> Result<Vec<Node<'a>>, DirectFault>
     ensures ok { IfOk result (λ v. (n : ℕ) → length reader.old ≤ n → parse_map (items_before (map node_view found.entry.items)) (converted tree_items (items (value depth) n reader.old)) ≡ Some (items_of (map node_view v.items), reader.new)) }
     ensures counted { OnOk result (quoted.new + quoted_in reader.new ≡ quoted.old + quoted_in reader.old) }
     ensures shorter { OnOk result (length reader.new < length reader.old) }
@@ -243,7 +243,7 @@ fn read_members<'a>(
     reader: &mut Reader<'a>,
     quoted: &mut u64,
     depth: usize,
-) -> Result<Vec<NodeMember<'a>>, Stop>
+) -> Result<Vec<NodeMember<'a>>, DirectFault>
     ensures ok { IfOk result (λ v. converted (λ ms. tree_members ms no_members) (members (value depth) (length reader.old) reader.old)
         ≡ Some (members_of (map node_member_view v.items), reader.new)) }
     ensures counted { OnOk result (quoted.new + quoted_in reader.new ≡ quoted.old + quoted_in reader.old) }
@@ -259,22 +259,22 @@ fn read_members<'a>(
 
 /// A number; one that isn't plain becomes a string, and is counted.
 #[inline(always)]
-fn read_number<'a>(text: &'a str, quoted: &mut u64) -> Result<Scalar<'a>, Stop>
+fn read_number<'a>(text: &'a str, quoted: &mut u64) -> Result<Scalar<'a>, DirectFault>
     requires { IsNumber text.now }
     ensures value { IfOk result (λ a. tree_number text.now ≡ Some (scalar_view a)) }
     ensures counted { OnOk result (quoted.new ≡ quoted.old + quoted_one (token.number text.now)) }
 {
     if has_point(text.as_bytes()) || is_quoted(text.as_bytes()) {
-        *quoted = quoted.checked_add(1).ok_or(Stop::Unusual)?;
+        *quoted = quoted.checked_add(1).ok_or(DirectFault::Unusual)?;
         return Ok(Scalar::Text(text));
     }
     Ok(Scalar::Int(plain_number(text)?))
 }
 
 /// A plain whole number.
-fn plain_number(text: &str) -> Result<i64, Stop>
+fn plain_number(text: &str) -> Result<i64, DirectFault>
     requires { is_quoted text.now ≡ false }
     ensures { IfOk result (λ z. tree_number text.now ≡ Some (int z)) }
 {
-    whole_number(text.as_bytes()).ok_or(Stop::Unusual)
+    whole_number(text.as_bytes()).ok_or(DirectFault::Unusual)
 }

@@ -3,32 +3,32 @@ use std::alloc::{AllocError, AllocFailed};
 
 /// Why a text isn't read straight from its tokens.
 #[derive(Clone, Copy, Drop)]
-pub(crate) enum Stop {
+pub(crate) enum DirectFault {
     /// The text is unusual, or not JSON.
     Unusual,
     /// Out of memory.
     NoMemory,
 }
 
-impl From<AllocError> for Stop {
-    fn from(_refused: AllocError) -> Stop {
-        Stop::NoMemory
+impl From<AllocError> for DirectFault {
+    fn from(_refused: AllocError) -> DirectFault {
+        DirectFault::NoMemory
     }
 }
 
-impl<T: Drop> From<AllocFailed<T>> for Stop {
-    fn from(_refused: AllocFailed<T>) -> Stop {
-        Stop::NoMemory
+impl<T: Drop> From<AllocFailed<T>> for DirectFault {
+    fn from(_refused: AllocFailed<T>) -> DirectFault {
+        DirectFault::NoMemory
     }
 }
 
-impl From<Invalid> for Stop {
+impl From<Invalid> for DirectFault {
     ghost use Rattle.std.specs.Prelude.{◌≡◌};
-    ghost use Rattle.mds_reading.specs.declared.stop.Stop.TheVariants.{Unusual};
+    ghost use Rattle.mds_reading.specs.declared.direct_fault.DirectFault.TheVariants.{Unusual};
 
     ghost from_gives = { λ _ e. e ≡ Unusual };
 
-    fn from(_refused: Invalid) -> Stop {
-        Stop::Unusual
+    fn from(_refused: Invalid) -> DirectFault {
+        DirectFault::Unusual
     }
 }

@@ -30,20 +30,20 @@ impl<'a> Scalar<'a> {
 
 /// The numbers and strings that a list begins with, two at most.
 #[derive(Clone, Copy)]
-pub(crate) enum Gathered<'a> {
+pub(crate) enum FirstEntries<'a> {
     Empty,
     One(Scalar<'a>),
     Two(Scalar<'a>, Scalar<'a>),
 }
 
-impl<'a> Gathered<'a> {
+impl<'a> FirstEntries<'a> {
     /// The list of these entries. A list of two strings allocates nothing.
     #[inline(always)]
     pub(crate) fn list(self, alloc: Global) -> Result<Node<'a>, AllocError>
         ensures { IfOk result (λ node. node_view node ≡ list (items_of (gathered self.entry))) }
     {
         match self {
-            Gathered::Two(Scalar::Text(first), Scalar::Text(second)) => {
+            FirstEntries::Two(Scalar::Text(first), Scalar::Text(second)) => {
                 Ok(Node::Pair(first, second))
             }
             others => Ok(Node::List(others.entries(alloc)?)),
@@ -56,9 +56,9 @@ impl<'a> Gathered<'a> {
         ensures { IfOk result (λ entries. map node_view entries.items ≡ gathered self.entry) }
     {
         match self {
-            Gathered::Empty => Ok(Vec::new(alloc)),
-            Gathered::One(first) => Ok(vec![in alloc; first.node()]?),
-            Gathered::Two(first, second) => Ok(vec![in alloc; first.node(), second.node()]?),
+            FirstEntries::Empty => Ok(Vec::new(alloc)),
+            FirstEntries::One(first) => Ok(vec![in alloc; first.node()]?),
+            FirstEntries::Two(first, second) => Ok(vec![in alloc; first.node(), second.node()]?),
         }
     }
 }

@@ -4,16 +4,16 @@
 
 mod direct;
 mod entries;
-mod expected;
+mod lookahead;
 mod fields;
-mod gathered;
+mod first_entries;
 mod members;
 mod node;
 mod own;
 mod point;
 mod read;
-mod source;
-mod stop;
+mod node_buffer;
+mod direct_fault;
 mod whole;
 
 pub use entries::{Entries, entries_of};
@@ -23,5 +23,5 @@ pub use fields::{
     required_text, required_token, text_at, text_of, token_at, tokens_at, tokens_of,
 };
 pub use node::{Node, NodeMember};
-pub use read::{read_counted, read_tree};
-pub use source::{KeptScratch, Source};
+pub use read::{read_and_count, read_tree};
+pub use node_buffer::{ReusableScratch, NodeBuffer};

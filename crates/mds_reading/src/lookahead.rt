@@ -8,7 +8,7 @@ use json::{Reader, Token};
 /// The byte of the text at this place, or a space beyond its end. It is a guess at the next token,
 /// and no contract says anything of it.
 #[inline(always)]
-pub(crate) fn shown(text: &[u8], place: usize) -> u8 {
+pub(crate) fn byte_or_space(text: &[u8], place: usize) -> u8 {
     if place < text.len() {
         text[place]
     } else {

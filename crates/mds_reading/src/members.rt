@@ -5,7 +5,7 @@ ghost use Rattle.mds_reading.specs.Direct.{put};
 ghost use Rattle.mds_reading.specs.Node.{node_view, node_member_view};
 
 use crate::node::{Node, NodeMember};
-use crate::stop::Stop;
+use crate::direct_fault::DirectFault;
 use std::cmp::Ordering;
 
 /// The most members among which the place of the next one is searched for linearly.
@@ -17,19 +17,19 @@ pub(crate) fn put_member<'a>(
     members: &mut Vec<NodeMember<'a>>,
     name: &'a str,
     value: Node<'a>,
-) -> Result<(), Stop>
+) -> Result<(), DirectFault>
     ensures { OnOk result (members_of (map node_member_view members.new.items)
         ≡ put name.now (node_view value.entry) (members_of (map node_member_view members.old.items))) }
 {
     if members.len() >= MOST_MEMBERS {
-        return Err(Stop::Unusual);
+        return Err(DirectFault::Unusual);
     }
     match place_of(members, name) {
         Some(place) => {
             members.insert(place, NodeMember { name, value })?;
             Ok(())
         }
-        None => Err(Stop::Unusual),
+        None => Err(DirectFault::Unusual),
     }
 }
 

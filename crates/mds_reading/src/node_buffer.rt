@@ -7,7 +7,7 @@ ghost use Rattle.mds_reading.specs.Node.{node_view};
 use crate::direct::read_direct;
 use crate::node::Node;
 use crate::own::lend;
-use crate::stop::Stop;
+use crate::direct_fault::DirectFault;
 use json::Scratch;
 use mds_text::{TextFault, Tree};
 use std::alloc::{AllocError, Global};
@@ -15,15 +15,15 @@ use std::alloc::{AllocError, Global};
 /// What the nodes of a text borrow from besides the text itself: the buffer for strings with
 /// escapes, and the owned tree of an unusual text.
 #[derive(Drop)]
-pub struct Source {
+pub struct NodeBuffer {
     scratch: Scratch<Global>,
     tree: Tree,
 }
 
-impl Source {
+impl NodeBuffer {
     /// A source of no text yet. Allocates nothing.
-    pub fn new(alloc: Global) -> Source {
-        Source {
+    pub fn new(alloc: Global) -> NodeBuffer {
+        NodeBuffer {
             scratch: Scratch::new(alloc),
             tree: Tree::Null,
         }
@@ -38,7 +38,7 @@ impl Source {
     pub fn read<'a>(&'a mut self, alloc: Global, bytes: &'a [u8]) -> Result<Node<'a>, TextFault>
         ensures { Gives text_cause (λ n. node_view n) result (read_text bytes.now) }
     {
-        let (node, _quoted) = self.read_counted(alloc, bytes)?;
+        let (node, _quoted) = self.read_and_count(alloc, bytes)?;
         Ok(node)
     }
 
@@ -47,7 +47,7 @@ impl Source {
     /// # Errors
     ///
     /// Those of `read`.
-    pub fn read_counted<'a>(
+    pub fn read_and_count<'a>(
         &'a mut self,
         alloc: Global,
         bytes: &'a [u8],
@@ -55,7 +55,7 @@ impl Source {
         ensures tree { Gives text_cause (λ r. node_view r.0) result (read_text bytes.now) }
         ensures quoted { IfOk result (λ r. r.1 ≡ quoted_count bytes.now) }
     {
-        let Source { scratch, tree } = self;
+        let NodeBuffer { scratch, tree } = self;
         read_over(alloc, scratch, tree, bytes)
     }
 }
@@ -73,9 +73,9 @@ fn read_over<'a>(
 {
     match read_direct(alloc, { scratch }, bytes) {
         Ok(read) => Ok(read),
-        Err(Stop::NoMemory) => Err(TextFault::NoMemory),
-        Err(Stop::Unusual) => {
-            let (read, quoted) = mds_text::read_counted(alloc, bytes)?;
+        Err(DirectFault::NoMemory) => Err(TextFault::NoMemory),
+        Err(DirectFault::Unusual) => {
+            let (read, quoted) = mds_text::read_and_count(alloc, bytes)?;
             *tree = read;
             Ok((lend(alloc, tree)?, quoted))
         }
@@ -84,18 +84,18 @@ fn read_over<'a>(
 
 /// A scratch buffer for many texts, so that a short text needs no new index of 16 KiB.
 #[derive(Drop)]
-pub struct KeptScratch {
+pub struct ReusableScratch {
     scratch: Option<Box<Scratch<Global>>>,
 }
 
-impl KeptScratch {
+impl ReusableScratch {
     /// The most bytes of a text for which the buffer should be reused: a longer one would leave as
     /// much allocated.
     pub const MOST_BYTES: usize = 4_096;
 
     /// Without a buffer yet. Allocates nothing.
-    pub fn new() -> KeptScratch {
-        KeptScratch { scratch: None }
+    pub fn new() -> ReusableScratch {
+        ReusableScratch { scratch: None }
     }
 
     /// The buffer, allocated by the first call.
@@ -119,7 +119,7 @@ impl KeptScratch {
     /// # Errors
     ///
     /// Those of `Source::read`.
-    pub fn read_counted<'a>(
+    pub fn read_and_count<'a>(
         &'a mut self,
         alloc: Global,
         tree: &'a mut Tree,

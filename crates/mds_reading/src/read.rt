@@ -7,7 +7,7 @@ ghost use Rattle.mds_text.specs.View.{view};
 
 use crate::direct::read_direct;
 use crate::own::own;
-use crate::stop::Stop;
+use crate::direct_fault::DirectFault;
 use json::Scratch;
 use mds_text::{TextFault, Tree};
 use std::alloc::Global;
@@ -18,19 +18,19 @@ use std::alloc::Global;
 pub fn read_tree(alloc: Global, bytes: &[u8]) -> Result<Tree, TextFault>
     ensures { Gives text_cause view result (read_text bytes.now) }
 {
-    let (tree, _quoted) = read_counted(alloc, bytes)?;
+    let (tree, _quoted) = read_and_count(alloc, bytes)?;
     Ok(tree)
 }
 
 /// Reads a text as `read_tree` does, and counts its numbers that aren't plain.
-pub fn read_counted(alloc: Global, bytes: &[u8]) -> Result<(Tree, u64), TextFault>
+pub fn read_and_count(alloc: Global, bytes: &[u8]) -> Result<(Tree, u64), TextFault>
     ensures tree { Gives text_cause (λ r. view r.0) result (read_text bytes.now) }
     ensures quoted { IfOk result (λ r. r.1 ≡ quoted_count bytes.now) }
 {
     let mut scratch = Scratch::new(alloc);
     match read_direct(alloc, &mut scratch, bytes) {
         Ok((node, quoted)) => Ok((own(alloc, &node)?, quoted)),
-        Err(Stop::NoMemory) => Err(TextFault::NoMemory),
-        Err(Stop::Unusual) => mds_text::read_counted(alloc, bytes),
+        Err(DirectFault::NoMemory) => Err(TextFault::NoMemory),
+        Err(DirectFault::Unusual) => mds_text::read_and_count(alloc, bytes),
     }
 }

@@ -13,13 +13,13 @@ pub(crate) fn whole_number(text: &[u8]) -> Option<i64>
     ensures { IfSome result (λ z. whole_number text.now ≡ Some z) }
 {
     match text.split_first() {
-        Some((first, digits)) if *first == b'-' => negative(digits),
+        Some((first, digits)) if *first == b'-' => negative_number(digits),
         _ => Some(size_of(text)? as i64),
     }
 }
 
 /// The negative number of these digits.
-fn negative(digits: &[u8]) -> Option<i64>
+fn negative_number(digits: &[u8]) -> Option<i64>
     ensures { IfSome result (λ z. whole_number (45 ∷ digits.now) ≡ Some z) }
 {
     let size = size_of(digits)?;

@@ -3,9 +3,9 @@ use Rattle.std.proofs.Common.{◌≡◌, ℕ, ◌<◌, ◌≤◌, Bool, true, fa
 use Rattle.std.specs.Prelude.{nat_lt, ◌==◌}
 use Rattle.mds_records.specs.Marks.{furthest_said, first_moved}
 use Rattle.mds_records.specs.Endings.{begins_with, signature_of, beginning, is_torn_record, unexplained, ending_by, ending_of, is_opened}
-use Rattle.mds_records.specs.declared.ending.Ending.{Ending}
+use Rattle.mds_records.specs.declared.ending.JournalEnding.{JournalEnding}
 use Rattle.mds_records.specs.Openings.{refusal_of}
-use Rattle.mds_records.specs.declared.ending.Ending.TheVariants.{Whole, Torn, Unexplained, Foreign, Moved, Damaged}
+use Rattle.mds_records.specs.declared.ending.JournalEnding.TheVariants.{Whole, Torn, Unexplained, Foreign, Moved, Damaged}
 
 -- after whole records the marks decide
 pub told_by_marks : (whole : ℕ) (behind : List ℕ) → 0 < whole → 0 < length behind → ending_of whole behind ≡ ending_by whole behind (furthest_said behind) (first_moved whole behind)
@@ -28,11 +28,11 @@ moved_by whole said place behind = unopened (nat_lt whole said) said place
 pub unexplained_opened : (whole : ℕ) (behind : List ℕ) → length beginning < whole → is_opened (unexplained whole behind) ≡ true
 unexplained_opened whole behind lt = let beyond : nat_lt (length beginning) whole ≡ true = grind (arith, lt) in rw beyond refl
 
-torn_or : (b : Bool) (e : Ending) → is_opened e ≡ true → is_opened (cond b Torn e) ≡ true
+torn_or : (b : Bool) (e : JournalEnding) → is_opened e ≡ true → is_opened (cond b Torn e) ≡ true
 torn_or true e o = refl
 torn_or false e o = o
 
-not_beyond : (b : Bool) (said : ℕ) (e : Ending) → b ≡ false → is_opened e ≡ true → is_opened (cond b (Damaged said) e) ≡ true
+not_beyond : (b : Bool) (said : ℕ) (e : JournalEnding) → b ≡ false → is_opened e ≡ true → is_opened (cond b (Damaged said) e) ≡ true
 not_beyond true said e f o = absurd cc
 not_beyond false said e f o = o
 
@@ -45,7 +45,7 @@ opened_by whole behind (Some said) lt most =
     let within : nat_lt whole said ≡ false = grind (arith, le) in
     not_beyond (nat_lt whole said) said (unexplained whole behind) within (unexplained_opened whole behind lt)
 
-foreign_unless : (b : Bool) (e : Ending) → is_opened e ≡ false → is_opened (cond b Torn e) ≡ true → b ≡ true
+foreign_unless : (b : Bool) (e : JournalEnding) → is_opened e ≡ false → is_opened (cond b Torn e) ≡ true → b ≡ true
 foreign_unless true e f o = refl
 foreign_unless false e f o = absurd cc
 
@@ -54,7 +54,7 @@ pub begun : (byte : ℕ) (bytes : List ℕ) → is_opened (ending_of 0 (byte ∷
 begun byte bytes o = foreign_unless (begins_with beginning (byte ∷ bytes)) (Foreign (signature_of (byte ∷ bytes))) refl o
 
 -- what isn't refused is opened
-pub opened_unless : (e : Ending) → refusal_of e ≡ None → is_opened e ≡ true
+pub opened_unless : (e : JournalEnding) → refusal_of e ≡ None → is_opened e ≡ true
 opened_unless Whole n = refl
 opened_unless Torn n = refl
 opened_unless Unexplained n = refl

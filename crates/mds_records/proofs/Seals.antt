@@ -5,13 +5,13 @@ use Rattle.std.proofs.lemmas.List.Elements.{filter-append}
 use Rattle.mds_records.specs.Sum.{sums_over}
 use Rattle.mds_records.specs.Records.{extent}
 use Rattle.mds_records.specs.Groups.{is_plain, listed}
-use Rattle.mds_records.specs.Seals.{IsSealed}
-use Rattle.mds_records.specs.declared.seal.Seal.{Seal}
+use Rattle.mds_records.specs.LogEnds.{IsSealed}
+use Rattle.mds_records.specs.declared.log_end.LogEnd.{LogEnd}
 use Rattle.mds_records.proofs.Written.{extent_joined}
 use Rattle.mds_records.proofs.Joined.{sums_joined}
 
 -- what is read after a log end ends with the next log end
-pub sealed_behind : (from to : Seal) (list texts : List (List ℕ)) → IsSealed from list → to.sum ≡ sums_over from.sum texts
+pub sealed_behind : (from to : LogEnd) (list texts : List (List ℕ)) → IsSealed from list → to.sum ≡ sums_over from.sum texts
     → to.position ≡ from.position + extent texts → to.count ≡ from.count + length (listed texts) → IsSealed to (list ++ listed texts)
 sealed_behind from to list texts s summed ends counted =
     record {

@@ -6,9 +6,9 @@ use Rattle.mds_records.specs.Marks.{furthest_said, first_moved}
 use Rattle.mds_records.specs.declared.record.TheConstants.{HEAD, MOST_TEXT}
 use Rattle.mds_records.specs.declared.signature.Signature.{Signature}
 use Rattle.mds_records.specs.declared.signature.Signature.TheVariants.{Gzip, ByteOrderMark, Zeros, Records, Text, Unknown}
-use Rattle.mds_records.specs.declared.ending.Ending.{Ending}
-use Rattle.mds_records.specs.declared.ending.Ending.TheVariants.{Whole, Torn, Unexplained, Foreign, Moved, Damaged}
-use Rattle.mds_records.specs.declared.ending.Cut.{Cut}
+use Rattle.mds_records.specs.declared.ending.JournalEnding.{JournalEnding}
+use Rattle.mds_records.specs.declared.ending.JournalEnding.TheVariants.{Whole, Torn, Unexplained, Foreign, Moved, Damaged}
+use Rattle.mds_records.specs.declared.ending.CutTail.{CutTail}
 
 -- the bytes begin with these
 abbrev pub begins_with : List ℕ → List ℕ → Bool
@@ -57,22 +57,22 @@ is_torn_record bytes =
 
 -- after more than the record of the first mark, bytes that nothing explains are `Unexplained`; else the file isn't
 -- known to be a journal
-abbrev pub unexplained : ℕ → List ℕ → Ending
+abbrev pub unexplained : ℕ → List ℕ → JournalEnding
 unexplained whole behind = if nat_lt (length beginning) whole then Unexplained else Foreign (signature_of behind)
 
 -- the ending by the marks: the furthest synced position that they give, and the first that was moved
-abbrev pub ending_by : ℕ → List ℕ → Option ℕ → Option ℕ → Ending
+abbrev pub ending_by : ℕ → List ℕ → Option ℕ → Option ℕ → JournalEnding
 ending_by whole behind None moved = if is_torn_record behind then Torn else unexplained whole behind
 ending_by whole behind (Some said) None = if nat_lt whole said then Damaged said else unexplained whole behind
 ending_by whole behind (Some said) (Some place) = if nat_lt whole said then Damaged said else Moved place
 
 -- how a file of these bytes ends, which has no whole record: it is a journal only where they are a prefix of a
 -- journal's beginning
-abbrev pub without_records : List ℕ → Ending
+abbrev pub without_records : List ℕ → JournalEnding
 without_records bytes = if begins_with beginning bytes then Torn else Foreign (signature_of bytes)
 
 -- how a file ends whose whole records end at this position, with these bytes after them
-abbrev pub ending_of : ℕ → List ℕ → Ending
+abbrev pub ending_of : ℕ → List ℕ → JournalEnding
 ending_of whole [] = Whole
 ending_of whole (byte ∷ bytes) =
     if whole == 0 then without_records (byte ∷ bytes)
@@ -80,7 +80,7 @@ ending_of whole (byte ∷ bytes) =
 
 -- The file is a journal and no synced data is known to be lost: so it is opened, and the bytes after the whole records
 -- are cut.
-abbrev pub is_opened : Ending → Bool
+abbrev pub is_opened : JournalEnding → Bool
 is_opened Whole = true
 is_opened Torn = true
 is_opened Unexplained = true
@@ -90,6 +90,6 @@ is_opened (Damaged said) = false
 
 -- what is reported of the bytes from this position on: nothing, where there are none; else that they were cut, and are
 -- saved
-abbrev pub IsCut : (ℕ → List ℕ → Type 0) → Option Cut → ℕ → List ℕ → Type 0
+abbrev pub IsCut : (ℕ → List ℕ → Type 0) → Option CutTail → ℕ → List ℕ → Type 0
 IsCut has_kept None from behind = behind ≡ []
 IsCut has_kept (Some cut) from behind = (cut.from ≡ from) × (cut.count ≡ length behind) × has_kept from behind

@@ -5,7 +5,7 @@ use Rattle.mds_records.specs.Sum.{sum_over, sums_over}
 use Rattle.mds_records.specs.Records.{Fits, Reads, written, extent, first_at}
 use Rattle.mds_records.specs.Marks.{mark_of, claim_at}
 use Rattle.mds_records.specs.Endings.{beginning, ending_of, is_opened}
-use Rattle.mds_records.specs.declared.ending.Ending.TheVariants.{Damaged}
+use Rattle.mds_records.specs.declared.ending.JournalEnding.TheVariants.{Damaged}
 
 -- the list begins with these
 abbrev pub IsFrontOf : List (List ℕ) → List (List ℕ) → Type 0

@@ -4,5 +4,5 @@ pub mod Marks
 pub mod Endings
 pub mod Groups
 pub mod Laws
-pub mod Seals
+pub mod LogEnds
 pub mod Openings

@@ -4,11 +4,11 @@ use Rattle.std.specs.Prelude.{◌≡◌, ℕ, List, length}
 use Rattle.mds_records.specs.Sum.{sums_over}
 use Rattle.mds_records.specs.Records.{extent}
 use Rattle.mds_records.specs.Groups.{listed}
-use Rattle.mds_records.specs.declared.seal.Seal.{Seal}
+use Rattle.mds_records.specs.declared.log_end.LogEnd.{LogEnd}
 
 -- The records of some payloads that are listed so end at the log end's position with its checksum, and the list has as
 -- many payloads as the log end says.
-pub record IsSealed (seal : Seal) (list : List (List ℕ)) : Type 0 where
+pub record IsSealed (seal : LogEnd) (list : List (List ℕ)) : Type 0 where
   pub texts : List (List ℕ)
   pub are_listed : listed texts ≡ list
   pub summed : seal.sum ≡ sums_over 0 texts

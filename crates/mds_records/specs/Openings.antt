@@ -1,12 +1,12 @@
 -- Why a journal isn't opened, by how its file ends.
 use Rattle.std.specs.Prelude.{Option, Some, None}
-use Rattle.mds_records.specs.declared.ending.Ending.{Ending}
-use Rattle.mds_records.specs.declared.ending.Ending.TheVariants.{Whole, Torn, Unexplained, Foreign, Moved, Damaged}
-use Rattle.mds_records.specs.declared.journal.OpenFault.{OpenFault}
-use Rattle.mds_records.specs.declared.journal.OpenFault.TheVariants as fault
+use Rattle.mds_records.specs.declared.ending.JournalEnding.{JournalEnding}
+use Rattle.mds_records.specs.declared.ending.JournalEnding.TheVariants.{Whole, Torn, Unexplained, Foreign, Moved, Damaged}
+use Rattle.mds_records.specs.declared.journal.JournalOpenFault.{JournalOpenFault}
+use Rattle.mds_records.specs.declared.journal.JournalOpenFault.TheVariants as fault
 
 -- none, where it is opened
-abbrev pub refusal_of : Ending → Option OpenFault
+abbrev pub refusal_of : JournalEnding → Option JournalOpenFault
 refusal_of Whole = None
 refusal_of Torn = None
 refusal_of Unexplained = None

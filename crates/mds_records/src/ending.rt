@@ -2,7 +2,7 @@
 ghost use Rattle.std.specs.Prelude.{◌≡◌, ◌+◌, ◌^◌, ◌<◌, ◌≤◌, length};
 ghost use Rattle.mds_records.specs.Endings.{is_torn_record, is_short_of, unexplained, without_records, ending_of, is_opened};
 
-use crate::marks::{first_moved, furthest_said};
+use crate::marks::{first_moved_mark, furthest_synced_end};
 use crate::record::{HEAD, MOST_TEXT};
 use crate::signature::{Signature, signature_of};
 
@@ -14,7 +14,7 @@ const BEGINNING: [u8; 44] = [
 
 /// How a file ends, after its whole records.
 #[derive(Clone, Copy, Debug, PartialEq, Eq)]
-pub enum Ending {
+pub enum JournalEnding {
     /// Nothing stands after them.
     Whole,
     /// The beginning of one record whose end is missing: what a crash leaves of a group that was being written.
@@ -33,21 +33,21 @@ pub enum Ending {
 
 /// The bytes that were cut off a file.
 #[derive(Clone, Copy, Debug, PartialEq, Eq)]
-pub struct Cut {
+pub struct CutTail {
     /// The position of the first byte that was cut.
     pub from: u64,
     /// How many bytes were cut.
     pub count: u64,
 }
 
-impl Ending {
+impl JournalEnding {
     /// Whether a journal that ends so is opened: the file is a journal, and no synced data is known to be lost.
     pub fn is_opened(self) -> bool
         ensures { result ≡ is_opened self }
     {
         match self {
-            Ending::Whole | Ending::Torn | Ending::Unexplained => true,
-            Ending::Foreign(_) | Ending::Moved(_) | Ending::Damaged(_) => false,
+            JournalEnding::Whole | JournalEnding::Torn | JournalEnding::Unexplained => true,
+            JournalEnding::Foreign(_) | JournalEnding::Moved(_) | JournalEnding::Damaged(_) => false,
         }
     }
 }
@@ -74,42 +74,42 @@ fn is_torn_record(bytes: &[u8]) -> bool
 }
 
 /// How a file ends with bytes that nothing explains.
-fn unexplained(whole: u64, behind: &[u8]) -> Ending
+fn unexplained_ending(whole: u64, behind: &[u8]) -> JournalEnding
     ensures { result ≡ unexplained whole behind.now }
 {
     if whole > BEGINNING.len() as u64 {
-        Ending::Unexplained
+        JournalEnding::Unexplained
     } else {
-        Ending::Foreign(signature_of(behind))
+        JournalEnding::Foreign(signature_of(behind))
     }
 }
 
 /// How a file of these bytes ends, which has no whole record.
-fn without_records(bytes: &[u8]) -> Ending
+fn ending_without_records(bytes: &[u8]) -> JournalEnding
     ensures { result ≡ without_records bytes.now }
 {
     if BEGINNING.starts_with(bytes) {
-        Ending::Torn
+        JournalEnding::Torn
     } else {
-        Ending::Foreign(signature_of(bytes))
+        JournalEnding::Foreign(signature_of(bytes))
     }
 }
 
 /// How a file ends whose whole records end at the position `whole`, with these bytes after them.
-pub fn ending_of(whole: u64, behind: &[u8]) -> Ending
+pub fn ending_of(whole: u64, behind: &[u8]) -> JournalEnding
     requires { whole + length behind.now < 2 ^ 64 }
     ensures { result ≡ ending_of whole behind.now }
 {
     if behind.is_empty() {
-        return Ending::Whole;
+        return JournalEnding::Whole;
     }
     if whole == 0 {
-        return without_records(behind);
+        return ending_without_records(behind);
     }
-    match (furthest_said(behind), first_moved(whole, behind)) {
-        (None, _) if is_torn_record(behind) => Ending::Torn,
-        (Some(said), _) if said > whole => Ending::Damaged(said),
-        (Some(_), Some(place)) => Ending::Moved(place),
-        _ => unexplained(whole, behind),
+    match (furthest_synced_end(behind), first_moved_mark(whole, behind)) {
+        (None, _) if is_torn_record(behind) => JournalEnding::Torn,
+        (Some(said), _) if said > whole => JournalEnding::Damaged(said),
+        (Some(_), Some(place)) => JournalEnding::Moved(place),
+        _ => unexplained_ending(whole, behind),
     }
 }

@@ -7,13 +7,13 @@ ghost use Rattle.mds_records.specs.Groups.{MayBeOf, listed};
 ghost use Rattle.mds_records.specs.Openings.{refusal_of};
 ghost use Rattle.mds_records.specs.declared.journal.TheConstants.{MOST_POSITION};
 
-use crate::aside::Aside;
-use crate::ending::{Cut, Ending, ending_of};
+use crate::tail_store::TailStore;
+use crate::ending::{CutTail, JournalEnding, ending_of};
 use crate::group::{are_taken, group_of, is_plain};
-use crate::log::{AppendFault, Log, NotSynced, ReadFault};
-use crate::medium::{Medium, MediumFault};
+use crate::log::{AppendFault, Log, SyncFault, ReadFault};
+use crate::storage::{Storage, StorageFault};
 use crate::reading::{Record, read};
-use crate::seal::{Seal, Sealed};
+use crate::log_end::{LogEnd, HasLogEnd};
 use crate::signature::Signature;
 use std::alloc::{AllocError, Global};
 
@@ -22,7 +22,7 @@ const MOST_POSITION: u64 = 4_611_686_018_427_387_904;
 
 /// Why a journal isn't opened.
 #[derive(Clone, Copy, Debug, PartialEq, Eq)]
-pub enum OpenFault {
+pub enum JournalOpenFault {
     /// A mark after the whole records says that the file was synced up to this position, which is beyond them: synced
     /// data is lost.
     Damaged(u64),
@@ -45,7 +45,7 @@ pub enum OpenFault {
 
 /// A log in one storage: groups of records, each after a mark.
 #[derive(Drop)]
-pub struct Journal<M: Medium> {
+pub struct Journal<M: Storage> {
     alloc: Global,
     medium: M,
     /// Where the records end.
@@ -59,12 +59,12 @@ pub struct Journal<M: Medium> {
     /// Whether an append or a sync failed.
     is_broken: bool,
     /// What was cut when the journal was opened.
-    cut: Option<Cut>,
+    cut: Option<CutTail>,
 }
 
 /// The whole records at the start of a journal's bytes.
 #[derive(Drop)]
-struct Front {
+struct WholePrefix {
     /// Where the whole records end.
     whole: usize,
     /// The checksum there.
@@ -73,26 +73,26 @@ struct Front {
     count: u64,
 }
 
-impl From<AllocError> for OpenFault {
-    fn from(_: AllocError) -> OpenFault {
-        OpenFault::NoMemory
+impl From<AllocError> for JournalOpenFault {
+    fn from(_: AllocError) -> JournalOpenFault {
+        JournalOpenFault::NoMemory
     }
 }
 
-impl From<MediumFault> for OpenFault {
-    fn from(fault: MediumFault) -> OpenFault {
+impl From<StorageFault> for JournalOpenFault {
+    fn from(fault: StorageFault) -> JournalOpenFault {
         match fault {
-            MediumFault::Failed => OpenFault::Failed,
-            MediumFault::NoMemory => OpenFault::NoMemory,
+            StorageFault::Failed => JournalOpenFault::Failed,
+            StorageFault::NoMemory => JournalOpenFault::NoMemory,
         }
     }
 }
 
-impl From<MediumFault> for ReadFault {
-    fn from(fault: MediumFault) -> ReadFault {
+impl From<StorageFault> for ReadFault {
+    fn from(fault: StorageFault) -> ReadFault {
         match fault {
-            MediumFault::Failed => ReadFault::NoAnswer,
-            MediumFault::NoMemory => ReadFault::NoMemory,
+            StorageFault::Failed => ReadFault::NoAnswer,
+            StorageFault::NoMemory => ReadFault::NoMemory,
         }
     }
 }
@@ -124,12 +124,12 @@ fn plain_count(records: &[Record<'_>]) -> usize
 }
 
 /// The whole records at the start of a journal's bytes.
-fn front_of(alloc: Global, bytes: &[u8]) -> Result<Front, AllocError>
+fn whole_prefix_of(alloc: Global, bytes: &[u8]) -> Result<WholePrefix, AllocError>
     ensures { IfOk result (λ front. (texts : List (List ℕ)) × Reads 0 bytes.now texts × (front.whole ≡ extent texts)
         × (front.sum ≡ sums_over 0 texts) × (front.count ≡ length (listed texts)) × (front.whole ≤ length bytes.now)) }
 {
     let found = read(alloc, 0, bytes)?;
-    Ok(Front {
+    Ok(WholePrefix {
         whole: found.whole,
         sum: found.sum,
         count: plain_count(&found.records) as u64,
@@ -137,25 +137,25 @@ fn front_of(alloc: Global, bytes: &[u8]) -> Result<Front, AllocError>
 }
 
 /// Why a journal that ends so isn't opened; none, where it is.
-fn refusal_of(ending: Ending) -> Option<OpenFault>
+fn refusal_of(ending: JournalEnding) -> Option<JournalOpenFault>
     ensures { result ≡ refusal_of ending }
 {
     match ending {
-        Ending::Whole | Ending::Torn | Ending::Unexplained => None,
-        Ending::Foreign(signature) => Some(OpenFault::Foreign(signature)),
-        Ending::Moved(place) => Some(OpenFault::Moved(place)),
-        Ending::Damaged(said) => Some(OpenFault::Damaged(said)),
+        JournalEnding::Whole | JournalEnding::Torn | JournalEnding::Unexplained => None,
+        JournalEnding::Foreign(signature) => Some(JournalOpenFault::Foreign(signature)),
+        JournalEnding::Moved(place) => Some(JournalOpenFault::Moved(place)),
+        JournalEnding::Damaged(said) => Some(JournalOpenFault::Damaged(said)),
     }
 }
 
 /// Saves and then cuts the bytes after the whole records, where the file is a journal and isn't damaged. Returns what
 /// was cut.
-fn cut_tail<M: Medium, A: Aside>(
+fn cut_tail<M: Storage, A: TailStore>(
     medium: &mut M,
     aside: &mut A,
     whole: usize,
     bytes: &[u8],
-) -> Result<Option<Cut>, OpenFault>
+) -> Result<Option<CutTail>, JournalOpenFault>
     requires within { whole ≤ length bytes.now }
     requires short { length bytes.now ≤ MOST_POSITION }
     requires held { M.holds medium.old bytes.now }
@@ -172,32 +172,32 @@ fn cut_tail<M: Medium, A: Aside>(
     if behind.is_empty() {
         return Ok(None);
     }
-    let Ok(()) = aside.keep(whole as u64, behind) else {
-        return Err(OpenFault::NotKept);
+    let Ok(()) = aside.save(whole as u64, behind) else {
+        return Err(JournalOpenFault::NotKept);
     };
     let Ok(()) = medium.cut(whole as u64) else {
-        return Err(OpenFault::Failed);
+        return Err(JournalOpenFault::Failed);
     };
-    Ok(Some(Cut {
+    Ok(Some(CutTail {
         from: whole as u64,
         count: behind.len() as u64,
     }))
 }
 
 /// All bytes of the storage.
-fn bytes_in<M: Medium>(alloc: Global, medium: &mut M) -> Result<Vec<u8>, OpenFault>
+fn bytes_in<M: Storage>(alloc: Global, medium: &mut M) -> Result<Vec<u8>, JournalOpenFault>
     ensures bytes { IfOk result (λ v. M.holds medium.new v.items) }
     ensures before { IfOk result (λ v. M.holds medium.old v.items) }
     ensures short { IfOk result (λ v. length v.items ≤ MOST_POSITION) }
 {
     let bytes = medium.read(alloc)?;
     if bytes.len() as u64 > MOST_POSITION {
-        return Err(OpenFault::TooLong);
+        return Err(JournalOpenFault::TooLong);
     }
     Ok(bytes)
 }
 
-impl<M: Medium> Journal<M> {
+impl<M: Storage> Journal<M> {
     /// Opens a journal: the bytes after its whole records are saved, and then cut. A file that is no journal, or is
     /// damaged, is refused and stays as it is.
     ///
@@ -205,11 +205,11 @@ impl<M: Medium> Journal<M> {
     ///
     /// The file is no journal, damaged or too long, the bytes to be cut couldn't be saved, the storage failed, or out
     /// of memory.
-    pub fn recover<A: Aside>(
+    pub fn recover<A: TailStore>(
         alloc: Global,
         medium: M,
         aside: &mut A,
-    ) -> Result<Journal<M>, OpenFault>
+    ) -> Result<Journal<M>, JournalOpenFault>
         ensures list { IfOk result (λ journal. (bytes : List ℕ) × (texts : List (List ℕ)) × M.holds medium bytes × Reads 0 bytes texts
             × (is_opened (ending_of (extent texts) (drop (extent texts) bytes)) ≡ true)
             × IsCut (A.has_kept aside.new) journal.cut (extent texts) (drop (extent texts) bytes)
@@ -218,7 +218,7 @@ impl<M: Medium> Journal<M> {
     {
         let mut medium = medium;
         let bytes = bytes_in(alloc, &mut medium)?;
-        let front = front_of(alloc, &bytes)?;
+        let front = whole_prefix_of(alloc, &bytes)?;
         let cut = cut_tail(&mut medium, aside, front.whole, &bytes)?;
         medium.sync()?;
         Ok(Journal::of(alloc, medium, &front, cut))
@@ -229,7 +229,7 @@ impl<M: Medium> Journal<M> {
     /// # Errors
     ///
     /// Something stands there (`Torn`), or as [`Journal::recover`].
-    pub fn open(alloc: Global, medium: M) -> Result<Journal<M>, OpenFault>
+    pub fn open(alloc: Global, medium: M) -> Result<Journal<M>, JournalOpenFault>
         ensures list { IfOk result (λ journal. (bytes : List ℕ) × (texts : List (List ℕ)) × M.holds medium bytes × Reads 0 bytes texts
             × (length bytes ≡ extent texts)
             × MayBeOf (M.holds journal.medium) journal.is_broken journal.position journal.sum journal.count (listed texts)) }
@@ -237,19 +237,19 @@ impl<M: Medium> Journal<M> {
     {
         let mut medium = medium;
         let bytes = bytes_in(alloc, &mut medium)?;
-        let front = front_of(alloc, &bytes)?;
+        let front = whole_prefix_of(alloc, &bytes)?;
         if let Some(fault) = refusal_of(ending_of(front.whole as u64, &bytes[front.whole..])) {
             return Err(fault);
         }
         if front.whole < bytes.len() {
-            return Err(OpenFault::Torn(front.whole as u64));
+            return Err(JournalOpenFault::Torn(front.whole as u64));
         }
         medium.sync()?;
         Ok(Journal::of(alloc, medium, &front, None))
     }
 
     /// The journal of these whole records.
-    fn of(alloc: Global, medium: M, front: &Front, cut: Option<Cut>) -> Journal<M>
+    fn of(alloc: Global, medium: M, front: &WholePrefix, cut: Option<CutTail>) -> Journal<M>
         ensures medium { result.medium ≡ medium }
         ensures front { (result.position ≡ front.now.whole) × (result.sum ≡ front.now.sum) × (result.count ≡ front.now.count) }
         ensures cut { result.cut ≡ cut }
@@ -268,23 +268,23 @@ impl<M: Medium> Journal<M> {
     }
 
     /// What was cut when the journal was opened; none, where nothing was.
-    pub fn cut(&self) -> Option<Cut>
+    pub fn cut(&self) -> Option<CutTail>
         ensures { result ≡ self.now.cut }
     {
         self.cut
     }
 }
 
-impl<M: Medium> Journal<M> {
+impl<M: Storage> Journal<M> {
     /// Returns the storage, once the journal isn't used any more.
-    pub fn into_medium(self) -> M
+    pub fn into_storage(self) -> M
         ensures { result ≡ self.medium }
     {
         self.medium
     }
 }
 
-impl<M: Medium> Log for Journal<M> {
+impl<M: Storage> Log for Journal<M> {
     ghost may_be = { λ journal list. MayBeOf (M.holds journal.medium) journal.is_broken journal.position journal.sum journal.count list };
 
     ghost is_synced = { λ journal. M.is_synced journal.medium };
@@ -313,13 +313,13 @@ impl<M: Medium> Log for Journal<M> {
         Ok(self.count)
     }
 
-    fn sync(&mut self) -> Result<u64, NotSynced> {
+    fn sync(&mut self) -> Result<u64, SyncFault> {
         if self.is_broken {
-            return Err(NotSynced);
+            return Err(SyncFault);
         }
         let Ok(()) = self.medium.sync() else {
             self.is_broken = true;
-            return Err(NotSynced);
+            return Err(SyncFault);
         };
         self.synced = self.position;
         Ok(self.count)
@@ -345,9 +345,9 @@ impl<M: Medium> Log for Journal<M> {
     }
 }
 
-impl<M: Medium> Sealed for Journal<M> {
-    fn seal(&self) -> Seal {
-        Seal {
+impl<M: Storage> HasLogEnd for Journal<M> {
+    fn log_end(&self) -> LogEnd {
+        LogEnd {
             position: self.position,
             sum: self.sum,
             count: self.count,

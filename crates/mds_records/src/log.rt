@@ -30,7 +30,7 @@ pub enum ReadFault {
 
 /// It isn't known whether what was appended is synced: the log has to be opened again.
 #[derive(Clone, Copy, Debug, PartialEq, Eq)]
-pub struct NotSynced;
+pub struct SyncFault;
 
 impl From<AllocError> for AppendFault {
     ghost use Rattle.std.specs.Prelude.{◌≡◌};
@@ -76,7 +76,7 @@ pub trait Log: Drop {
         ensures untaken { IsErrOf result AppendFault.Untaken → are_taken (map (λ v. v.items) texts.now) ≡ false };
 
     /// Waits until all that was appended is synced, and returns how many payloads the list has.
-    fn sync(&mut self) -> Result<u64, NotSynced>
+    fn sync(&mut self) -> Result<u64, SyncFault>
         ensures synced { OnOk result (is_synced self.new) }
         ensures count { IfOk result (λ count. (list : List (List ℕ)) → may_be self.old list → count ≡ length list) }
         ensures unchanged { (list : List (List ℕ)) → may_be self.old list → may_be self.new list };

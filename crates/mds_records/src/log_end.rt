@@ -1,6 +1,6 @@
 //! Log ends: where a log's list ends in its file, and the payloads between two such ends.
 ghost use Rattle.std.specs.Prelude.{◌≡◌, ◌++◌, [], ℕ, List, map, IfOk};
-ghost use Rattle.mds_records.specs.Seals.{IsSealed};
+ghost use Rattle.mds_records.specs.LogEnds.{IsSealed};
 
 use crate::journal::plain_texts;
 use crate::log::{Log, ReadFault};
@@ -10,7 +10,7 @@ use std::alloc::Global;
 /// A log end: where a log's list ends in its file. Two lists with the same log end are taken to be one, as with a file:
 /// assuming no checksum collision.
 #[derive(Clone, Copy, Debug, PartialEq, Eq)]
-pub struct Seal {
+pub struct LogEnd {
     /// Where the records end, in bytes.
     pub position: u64,
     /// The checksum there.
@@ -19,12 +19,12 @@ pub struct Seal {
     pub count: u64,
 }
 
-impl Seal {
+impl LogEnd {
     /// The log end of an empty list, in an empty file.
-    pub fn of_nothing() -> Seal
+    pub fn of_empty_log() -> LogEnd
         ensures { IsSealed result [] }
     {
-        Seal {
+        LogEnd {
             position: 0,
             sum: 0,
             count: 0,
@@ -33,12 +33,12 @@ impl Seal {
 }
 
 /// A log that reports its log end.
-pub trait Sealed: Log {
+pub trait HasLogEnd: Log {
     ghost use Rattle.std.specs.Prelude.{ℕ, List};
-    ghost use Rattle.mds_records.specs.Seals.{IsSealed};
+    ghost use Rattle.mds_records.specs.LogEnds.{IsSealed};
 
     /// Where the list ends in its file.
-    fn seal(&self) -> Seal
+    fn log_end(&self) -> LogEnd
         ensures { (list : List (List ℕ)) → Self.may_be self.now list → IsSealed result list };
 }
 
@@ -49,8 +49,8 @@ pub trait Sealed: Log {
 /// `Damaged` where the bytes differ from what the second log end says, `NoMemory`.
 pub fn texts_between(
     alloc: Global,
-    from: Seal,
-    to: Seal,
+    from: LogEnd,
+    to: LogEnd,
     bytes: &[u8],
 ) -> Result<Vec<Vec<u8>>, ReadFault>
     ensures { IfOk result (λ more. (list : List (List ℕ)) → IsSealed from list → IsSealed to (list ++ map (λ v. v.items) more.items)) }

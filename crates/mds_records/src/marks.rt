@@ -102,7 +102,7 @@ fn claim_at(bytes: &[u8]) -> Option<Claim>
 }
 
 /// How far the mark at the start of the bytes says that the file was synced.
-fn said_at(bytes: &[u8]) -> Option<u64>
+fn synced_end_at(bytes: &[u8]) -> Option<u64>
     ensures { result ≡ said_by (claim_at bytes.now) }
 {
     match claim_at(bytes) {
@@ -133,20 +133,20 @@ fn further(said: Option<u64>, other: Option<u64>) -> Option<u64>
 }
 
 /// The furthest synced position that any mark among the bytes gives, wherever it stands; none without a mark.
-pub(crate) fn furthest_said(bytes: &[u8]) -> Option<u64>
+pub(crate) fn furthest_synced_end(bytes: &[u8]) -> Option<u64>
     ensures { result ≡ furthest_said bytes.now }
 {
     let mut most = None;
     let mut rest = bytes;
     while let Some((_, behind)) = rest.split_first() {
-        most = further(most, said_at(rest));
+        most = further(most, synced_end_at(rest));
         rest = behind;
     }
     most
 }
 
 /// The first position among the bytes, which stand at `position`, with a mark that was written for another.
-pub(crate) fn first_moved(position: u64, bytes: &[u8]) -> Option<u64>
+pub(crate) fn first_moved_mark(position: u64, bytes: &[u8]) -> Option<u64>
     requires { position + length bytes.now < 2 ^ 64 }
     ensures { result ≡ first_moved position bytes.now }
 {

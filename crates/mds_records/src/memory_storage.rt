@@ -1,12 +1,12 @@
 //! Storage in memory, for tests.
 ghost use Rattle.std.specs.Prelude.{◌≡◌, true};
 
-use crate::medium::{Medium, MediumFault};
+use crate::storage::{Storage, StorageFault};
 use std::alloc::Global;
 
 /// Bytes in memory. Each call is counted; once `calls_left` is 0, every call fails.
 #[derive(Debug, Drop)]
-pub struct Memory {
+pub struct MemoryStorage {
     /// The bytes.
     pub bytes: Vec<u8>,
     /// How many more calls succeed.
@@ -15,9 +15,9 @@ pub struct Memory {
     pub is_synced: bool,
 }
 
-impl Memory {
+impl MemoryStorage {
     /// Counts a call, and returns whether it succeeds.
-    fn is_answered(&mut self) -> bool
+    fn count_call(&mut self) -> bool
         ensures bytes { self.new.bytes ≡ self.old.bytes }
         ensures synced { self.new.is_synced ≡ self.old.is_synced }
     {
@@ -29,39 +29,39 @@ impl Memory {
     }
 }
 
-impl Medium for Memory {
+impl Storage for MemoryStorage {
     ghost holds = { λ m bytes. m.bytes.items ≡ bytes };
 
     ghost is_synced = { λ m. m.is_synced ≡ true };
 
-    fn read(&mut self, alloc: Global) -> Result<Vec<u8>, MediumFault> {
-        if !self.is_answered() {
-            return Err(MediumFault::Failed);
+    fn read(&mut self, alloc: Global) -> Result<Vec<u8>, StorageFault> {
+        if !self.count_call() {
+            return Err(StorageFault::Failed);
         }
         Ok(Vec::from_slice(alloc, &self.bytes)?)
     }
 
-    fn append(&mut self, bytes: &[u8]) -> Result<(), MediumFault> {
-        if !self.is_answered() {
-            return Err(MediumFault::Failed);
+    fn append(&mut self, bytes: &[u8]) -> Result<(), StorageFault> {
+        if !self.count_call() {
+            return Err(StorageFault::Failed);
         }
         self.is_synced = false;
         self.bytes.extend_from_slice(bytes)?;
         Ok(())
     }
 
-    fn cut(&mut self, len: u64) -> Result<(), MediumFault> {
-        if !self.is_answered() {
-            return Err(MediumFault::Failed);
+    fn cut(&mut self, len: u64) -> Result<(), StorageFault> {
+        if !self.count_call() {
+            return Err(StorageFault::Failed);
         }
         self.is_synced = false;
         self.bytes.truncate(len as usize);
         Ok(())
     }
 
-    fn sync(&mut self) -> Result<(), MediumFault> {
-        if !self.is_answered() {
-            return Err(MediumFault::Failed);
+    fn sync(&mut self) -> Result<(), StorageFault> {
+        if !self.count_call() {
+            return Err(StorageFault::Failed);
         }
         self.is_synced = true;
         Ok(())

@@ -19,7 +19,7 @@ pub struct Record<'a> {
 
 /// What was read from bytes.
 #[derive(Debug, Drop)]
-pub struct Reading<'a> {
+pub struct RecordScan<'a> {
     /// The records at the start, in order.
     pub records: Vec<Record<'a>>,
     /// How many bytes these records take. No whole record stands after them.
@@ -64,7 +64,7 @@ fn first(before: u64, bytes: &[u8]) -> Option<(&[u8], &[u8])>
 /// # Errors
 ///
 /// Out of memory.
-pub fn read(alloc: Global, before: u64, bytes: &[u8]) -> Result<Reading<'_>, AllocError>
+pub fn read(alloc: Global, before: u64, bytes: &[u8]) -> Result<RecordScan<'_>, AllocError>
     ensures texts { IfOk result (λ found. Reads before bytes.now (map (λ x. x.text.now) found.records.items)) }
     ensures offsets { IfOk result (λ found.
         map (λ x. x.offset) found.records.items ≡ offsets_from 0 (map (λ x. x.text.now) found.records.items)) }
@@ -83,7 +83,7 @@ pub fn read(alloc: Global, before: u64, bytes: &[u8]) -> Result<Reading<'_>, All
         sum = sum_over(sum, text);
         rest = behind;
     }
-    Ok(Reading {
+    Ok(RecordScan {
         records,
         whole: bytes.len() - rest.len(),
         sum,

@@ -3,7 +3,7 @@ ghost use Rattle.std.specs.Prelude.{◌≡◌, ◌==◌, ◌≤◌, length, take
 ghost use Rattle.std.specs.List.{list_all};
 ghost use Rattle.mds_records.specs.Endings.{is_written, is_ordered, signature_of};
 
-use crate::marks::furthest_said;
+use crate::marks::furthest_synced_end;
 
 /// How many bytes are looked at to recognize a text.
 const SAMPLE: usize = 16;
@@ -70,7 +70,7 @@ pub(crate) fn signature_of(bytes: &[u8]) -> Signature
         Signature::ByteOrderMark
     } else if are_zeros(bytes) {
         Signature::Zeros
-    } else if furthest_said(bytes).is_some() {
+    } else if furthest_synced_end(bytes).is_some() {
         Signature::Records
     } else if is_text(bytes) {
         Signature::Text

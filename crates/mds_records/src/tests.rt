@@ -1,10 +1,10 @@
 //! Tests. The expected bytes come from another program's SipHash-1-3 with both keys 0.
-use crate::aside::MemoryAside;
-use crate::ending::{Cut, Ending, ending_of};
+use crate::tail_store::MemoryTailStore;
+use crate::ending::{CutTail, JournalEnding, ending_of};
 use crate::group::{are_taken, group_of};
-use crate::journal::{Journal, OpenFault};
+use crate::journal::{Journal, JournalOpenFault};
 use crate::log::{AppendFault, Log};
-use crate::memory::Memory;
+use crate::memory_storage::MemoryStorage;
 use crate::reading::read;
 use crate::record::push;
 use crate::signature::Signature;
@@ -88,23 +88,23 @@ fn changed_files_are_read(rt: HostRuntime) {
 }
 
 #[test]
-fn endings_are_told(rt: HostRuntime) {
-    assert!(rt; ending_of(0, &[]) == Ending::Whole);
-    assert!(rt; ending_of(0, &MARKED[..43]) == Ending::Torn);
+fn endings_are_decided(rt: HostRuntime) {
+    assert!(rt; ending_of(0, &[]) == JournalEnding::Whole);
+    assert!(rt; ending_of(0, &MARKED[..43]) == JournalEnding::Torn);
     // The mark was written for the beginning of a file.
-    assert!(rt; ending_of(59, MARKED) == Ending::Moved(71));
-    assert!(rt; ending_of(59, &MARKED[..43]) == Ending::Torn);
-    assert!(rt; ending_of(59, b"\0") == Ending::Torn);
-    assert!(rt; ending_of(59, b"other") == Ending::Unexplained);
-    assert!(rt; ending_of(44, b"other") == Ending::Foreign(Signature::Text));
+    assert!(rt; ending_of(59, MARKED) == JournalEnding::Moved(71));
+    assert!(rt; ending_of(59, &MARKED[..43]) == JournalEnding::Torn);
+    assert!(rt; ending_of(59, b"\0") == JournalEnding::Torn);
+    assert!(rt; ending_of(59, b"other") == JournalEnding::Unexplained);
+    assert!(rt; ending_of(44, b"other") == JournalEnding::Foreign(Signature::Text));
     // The first record is whole, and its checksum is another after other records.
-    assert!(rt; ending_of(59, FIRST) == Ending::Unexplained);
+    assert!(rt; ending_of(59, FIRST) == JournalEnding::Unexplained);
 }
 
 #[test]
-fn foreign_files_are_told(rt: HostRuntime) {
+fn foreign_files_are_recognized(rt: HostRuntime) {
     let told = |bytes: &[u8]| match ending_of(0, bytes) {
-        Ending::Foreign(signature) => Some(signature),
+        JournalEnding::Foreign(signature) => Some(signature),
         _ => None,
     };
     assert!(rt; told(b"\x1f\x8b\x08") == Some(Signature::Gzip));
@@ -117,8 +117,8 @@ fn foreign_files_are_told(rt: HostRuntime) {
 }
 
 /// Memory for what is cut.
-fn aside(alloc: Global, is_answering: bool) -> MemoryAside {
-    MemoryAside {
+fn aside(alloc: Global, is_answering: bool) -> MemoryTailStore {
+    MemoryTailStore {
         from: 0,
         bytes: Vec::new(alloc),
         is_answering,
@@ -126,8 +126,8 @@ fn aside(alloc: Global, is_answering: bool) -> MemoryAside {
 }
 
 /// A journal of two groups, of which the first was synced before the second was appended; so many calls succeed.
-fn journal_of_two(alloc: Global, calls_left: u32) -> Option<Journal<Memory>> {
-    let medium = Memory {
+fn journal_of_two(alloc: Global, calls_left: u32) -> Option<Journal<MemoryStorage>> {
+    let medium = MemoryStorage {
         bytes: Vec::new(alloc),
         calls_left,
         is_synced: true,
@@ -155,7 +155,7 @@ fn journals_are_read(rt: HostRuntime) {
     let found = journal.read_from(1).expect(&rt, "texts");
     assert!(rt; found.len() == 1 && found[0].as_slice() == b"two!".as_slice());
     assert!(rt; journal.sync() == Ok(2));
-    let mut journal = Journal::open(rt.alloc(), journal.into_medium()).expect(&rt, "a journal");
+    let mut journal = Journal::open(rt.alloc(), journal.into_storage()).expect(&rt, "a journal");
     let found = journal.read_from(0).expect(&rt, "texts");
     assert!(rt; found.len() == 2 && found[0].as_slice() == b"one".as_slice());
 }
@@ -164,7 +164,7 @@ fn journals_are_read(rt: HostRuntime) {
 fn torn_journals_are_cut(rt: HostRuntime) {
     let mut medium = journal_of_two(rt.alloc(), 10)
         .expect(&rt, "a journal")
-        .into_medium();
+        .into_storage();
     // The first group has 59 bytes, the mark of the second 44, its payload's record 16, of which one byte is lost.
     medium.bytes.truncate(118);
     let behind = medium.bytes.get(103..).unwrap_or_default();
@@ -173,59 +173,59 @@ fn torn_journals_are_cut(rt: HostRuntime) {
     let mut journal = Journal::recover(rt.alloc(), medium, &mut aside).expect(&rt, "a journal");
     assert!(rt;
         journal.cut()
-            == Some(Cut {
+            == Some(CutTail {
                 from: 103,
                 count: 15
             })
     );
     assert!(rt; aside.from == 103 && aside.bytes == behind);
     assert!(rt; journal.sync() == Ok(1));
-    assert!(rt; journal.into_medium().bytes.len() == 103);
+    assert!(rt; journal.into_storage().bytes.len() == 103);
 }
 
 #[test]
 fn what_is_not_kept_is_not_cut(rt: HostRuntime) {
     let mut medium = journal_of_two(rt.alloc(), 10)
         .expect(&rt, "a journal")
-        .into_medium();
+        .into_storage();
     medium.bytes.truncate(118);
     let mut none = aside(rt.alloc(), false);
     let fault = Journal::recover(rt.alloc(), medium, &mut none).err();
-    assert!(rt; fault == Some(OpenFault::NotKept));
+    assert!(rt; fault == Some(JournalOpenFault::NotKept));
 }
 
 #[test]
 fn torn_journals_are_not_opened(rt: HostRuntime) {
     let mut medium = journal_of_two(rt.alloc(), 10)
         .expect(&rt, "a journal")
-        .into_medium();
+        .into_storage();
     medium.bytes.truncate(118);
     let fault = Journal::open(rt.alloc(), medium).err();
-    assert!(rt; fault == Some(OpenFault::Torn(103)));
+    assert!(rt; fault == Some(JournalOpenFault::Torn(103)));
 }
 
 #[test]
 fn shortened_journals_are_refused(rt: HostRuntime) {
     let mut medium = journal_of_two(rt.alloc(), 10)
         .expect(&rt, "a journal")
-        .into_medium();
+        .into_storage();
     assert!(rt; medium.bytes.len() > 57);
     // One byte of the first payload is removed, so that the mark of the second group stands elsewhere.
     if medium.bytes.len() > 57 {
         let _ = medium.bytes.remove(57);
     }
     let fault = Journal::open(rt.alloc(), medium).err();
-    assert!(rt; fault == Some(OpenFault::Damaged(59)));
+    assert!(rt; fault == Some(JournalOpenFault::Damaged(59)));
 }
 
 #[test]
 fn damaged_journals_are_refused(rt: HostRuntime) {
     let mut medium = journal_of_two(rt.alloc(), 10)
         .expect(&rt, "a journal")
-        .into_medium();
+        .into_storage();
     flip(&mut medium.bytes, 50);
     let fault = Journal::open(rt.alloc(), medium).err();
-    assert!(rt; fault == Some(OpenFault::Damaged(59)));
+    assert!(rt; fault == Some(JournalOpenFault::Damaged(59)));
 }
 
 #[test]

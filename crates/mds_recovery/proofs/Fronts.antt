@@ -8,8 +8,8 @@ use Rattle.mds_request.specs.declared.config.Actor.TheVariants.{Author, Operator
 use Rattle.mds_machine.specs.Step.{Exchange}
 use Rattle.mds_machine.specs.Fronts.{Turn, requests_in}
 use Rattle.mds_machine.specs.Room.{is_authors, authors_in}
-use Rattle.mds_restarts.specs.Kept.{is_kept, kept}
-use Rattle.mds_restarts.specs.Kept.{requests_in as room_requests_in}
+use Rattle.mds_restarts.specs.Persisted.{is_kept, kept}
+use Rattle.mds_restarts.specs.Persisted.{requests_in as room_requests_in}
 use Rattle.mds_restarts.specs.Servers.{kept_turns}
 use Rattle.mds_recovery.specs.Laws.{requests_by, is_turn_kept, FrontsAreJournals}
 use Rattle.mds_recovery.proofs.Lists.{none_some}

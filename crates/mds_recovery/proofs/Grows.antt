@@ -16,12 +16,12 @@ use Rattle.mds_machine.specs.Step.{Exchange}
 use Rattle.mds_machine.specs.Views.{is_place}
 use Rattle.mds_machine.specs.Fronts.{Turn, requests_in}
 use Rattle.mds_machine.specs.Room.{is_authors, is_the_author, authors_in}
-use Rattle.mds_restarts.specs.Kept.{is_kept, kept}
-use Rattle.mds_restarts.specs.Kept.{requests_in as room_requests_in}
+use Rattle.mds_restarts.specs.Persisted.{is_kept, kept}
+use Rattle.mds_restarts.specs.Persisted.{requests_in as room_requests_in}
 use Rattle.mds_restarts.specs.Servers.{kept_turns}
 use Rattle.mds_entries.specs.Entries.{Entry}
 use Rattle.mds_entries.specs.Requests.{has_id, actor_by, request_by, asker_at, asked_by, ReadsTheRequest}
-use Rattle.mds_entries.specs.declared.entry.Asker.TheVariants.{Author as TheAuthor, Operator as OperatorBy}
+use Rattle.mds_entries.specs.declared.entry.EntryClient.TheVariants.{Author as TheAuthor, Operator as OperatorBy}
 use Rattle.mds_recovery.specs.Laws.{is_actor, requests_by, is_turn_kept, IsEntryOf, IsOneTurnMore, JournalGrowsByExchange, JournalGrowsByTurn}
 use Rattle.mds_recovery.proofs.Lists.{the_same, none_some}
 use Rattle.mds_recovery.proofs.Answered.{first_own, first_other}

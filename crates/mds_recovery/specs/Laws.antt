@@ -14,8 +14,8 @@ use Rattle.mds_machine.specs.Desks.{AreTurns}
 use Rattle.mds_machine.specs.Fronts.{Turn, last_front, requests_in}
 use Rattle.mds_machine.specs.OneHistory.{HasServed}
 use Rattle.mds_machine.specs.Room.{AreRoomTurns, is_authors, authors_in}
-use Rattle.mds_restarts.specs.Kept.{AreSuccesses, is_kept, kept}
-use Rattle.mds_restarts.specs.Kept.{requests_in as room_requests_in}
+use Rattle.mds_restarts.specs.Persisted.{AreSuccesses, is_kept, kept}
+use Rattle.mds_restarts.specs.Persisted.{requests_in as room_requests_in}
 use Rattle.mds_restarts.specs.Servers.{AreServed, kept_turns}
 use Rattle.mds_desk.specs.Desk.{DeskState, new_desks}
 use Rattle.mds_desk.specs.Room.{held_in, new_room}

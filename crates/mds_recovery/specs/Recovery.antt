@@ -6,7 +6,7 @@ use Rattle.mds_request.specs.Request.{Request}
 use Rattle.mds_request.specs.Reply.{Reply}
 use Rattle.mds_request.specs.declared.config.Actor.{Actor}
 use Rattle.mds_request.specs.declared.config.Actor.TheVariants.{Author, Operator as OperatorAt, Nobody}
-use Rattle.mds_snapshot.specs.declared.history.Naming.{Ghosts}
+use Rattle.mds_snapshot.specs.declared.history.OpeningName.{Ghosts}
 use Rattle.mds_desk.specs.Desk.{DeskState, TakesTurn, Learns, state_of}
 use Rattle.mds_desk.specs.Room.{RoomState, TakesRoomTurn, room_of}
 use Rattle.mds_desk.specs.declared.author.AuthorRoom.{AuthorRoom}

@@ -7,12 +7,12 @@ use mds_entries::reads_the_request;
 use mds_restarts::laws as restarts;
 
 /// Replaying entries in parts is replaying them, so that a long journal needn't be in memory as a whole.
-pub fn answered_by_parts()
+pub fn replay_by_parts()
     ensures { AnsweredByParts }
 {}
 
 /// Entries that were replayed are turns of the room and of each desk, all successes, on their requests.
-pub fn answered_are_turns()
+pub fn replayed_are_turns()
     ensures { AnsweredAreTurns }
 {}
 
@@ -21,7 +21,7 @@ pub fn answered_are_turns()
 pub fn journal_leads_back()
     ensures { JournalLeadsBack }
 {
-    answered_are_turns();
+    replayed_are_turns();
     restarts::room_is_recovered();
     restarts::desk_is_recovered();
 }
@@ -51,6 +51,6 @@ pub fn journal_grows_by_turn()
 
 /// Each prefix of a journal is the journal of a prefix of what was done, so that what was synced before a crash leaves
 /// nothing out in between, and has nothing in part.
-pub fn fronts_are_journals()
+pub fn prefixes_are_journals()
     ensures { FrontsAreJournals }
 {}

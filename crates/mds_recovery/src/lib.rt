@@ -4,10 +4,10 @@
 mod fault;
 pub mod laws;
 mod progress;
-mod recovering;
-mod starting;
+mod replay;
+mod restart;
 
 pub use fault::{Cause, Fault, StartFault};
-pub use progress::{Progress, Silent};
-pub use recovering::recover;
-pub use starting::start_again;
+pub use progress::{Progress, SilentProgress};
+pub use replay::recover;
+pub use restart::start_again;

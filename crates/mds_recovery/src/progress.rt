@@ -3,13 +3,13 @@
 /// Reports the progress of a replay, for a program that shows it.
 pub trait Progress {
     /// Called after each entry that was replayed, with how many were so far.
-    fn answered(&mut self, entries: usize);
+    fn on_replayed(&mut self, entries: usize);
 }
 
 /// Reports nothing.
 #[derive(Clone, Copy, Debug)]
-pub struct Silent;
+pub struct SilentProgress;
 
-impl Progress for Silent {
-    fn answered(&mut self, _entries: usize) {}
+impl Progress for SilentProgress {
+    fn on_replayed(&mut self, _entries: usize) {}
 }

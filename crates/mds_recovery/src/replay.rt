@@ -11,10 +11,10 @@ ghost use Rattle.mds_recovery.specs.Recovery.{IsAnsweredAgain, AreAnswered, IsRe
 
 use crate::fault::{Cause, Fault};
 use crate::progress::Progress;
-use mds_desk::{Answer, AuthorRoom, Desk, OpenGate};
-use mds_entries::{Entry, actor_by, request_by};
+use mds_desk::{SharedReply, AuthorRoom, Desk, OpenGate};
+use mds_entries::{JournalEntry, actor_by, request_by};
 use mds_request::{Actor, Config, Request};
-use mds_snapshot::{Naming, Note};
+use mds_snapshot::{OpeningName, Note};
 use mds_verdict::Plain;
 use std::sync::Wait;
 
@@ -22,7 +22,7 @@ use std::sync::Wait;
 const SUCCESS: u16 = 200;
 
 /// Each desk learns what was published.
-fn learn_all<K: Naming>(desks: &mut [Desk<K>], note: &Note<K>)
+fn learn_all<K: OpeningName>(desks: &mut [Desk<K>], note: &Note<K>)
     ensures { AllLearn (Some note.now) (map state_of desks.old) (map state_of desks.new) }
 {
     for place in 0..desks.len() {
@@ -31,7 +31,7 @@ fn learn_all<K: Naming>(desks: &mut [Desk<K>], note: &Note<K>)
 }
 
 /// Each desk learns what was published, if something was.
-fn learn_note<K: Naming>(desks: &mut [Desk<K>], note: Option<Note<K>>)
+fn learn_note<K: OpeningName>(desks: &mut [Desk<K>], note: Option<Note<K>>)
     ensures { AllLearn note (map state_of desks.old) (map state_of desks.new) }
 {
     if let Some(note) = note {
@@ -40,12 +40,12 @@ fn learn_note<K: Naming>(desks: &mut [Desk<K>], note: Option<Note<K>>)
 }
 
 /// The room answers the author's request, and each desk learns what it publishes.
-fn room_answers<K: Naming, R: Wait>(
+fn room_answers<K: OpeningName, R: Wait>(
     rt: &R,
     room: &mut AuthorRoom<K>,
     desks: &mut [Desk<K>],
     request: &Request<'_>,
-) -> Answer
+) -> SharedReply
     ensures { RoomAnswers (request_of request.now) result (server_of room.old desks.old) (server_of room.new desks.new) }
 {
     let (answer, note) = room.answer(rt, request);
@@ -54,7 +54,7 @@ fn room_answers<K: Naming, R: Wait>(
 }
 
 /// The desk at an index answers its operator's request.
-fn desk_answers<K: Naming>(desks: &mut [Desk<K>], place: usize, request: &Request<'_>) -> Answer
+fn desk_answers<K: OpeningName>(desks: &mut [Desk<K>], place: usize, request: &Request<'_>) -> SharedReply
     requires { place < length desks.old }
     ensures { (room : RoomState) → DeskAnswers place (request_of request.now) result
         (record { room = room; desks = map state_of desks.old }) (record { room = room; desks = map state_of desks.new }) }
@@ -64,7 +64,7 @@ fn desk_answers<K: Naming>(desks: &mut [Desk<K>], place: usize, request: &Reques
 
 /// Answers a client's request, the author's at the room and an operator's at its desk, and returns the status; `None`
 /// where there is no such desk.
-fn answered<K: Naming, R: Wait>(
+fn answer_at<K: OpeningName, R: Wait>(
     rt: &R,
     room: &mut AuthorRoom<K>,
     desks: &mut [Desk<K>],
@@ -94,12 +94,12 @@ fn answered<K: Naming, R: Wait>(
 /// # Errors
 ///
 /// Why it wasn't answered with success.
-fn answer_again<'a, K: Naming, R: Wait>(
+fn replay_entry<'a, K: OpeningName, R: Wait>(
     rt: &R,
     config: &'a Config,
     room: &mut AuthorRoom<K>,
     desks: &mut [Desk<K>],
-    entry: &Entry<'a>,
+    entry: &JournalEntry<'a>,
 ) -> Result<(), Cause>
     ensures again { OnOk result (IsAnsweredAgain (configuration config.now) (entry_of entry.now)
         (server_of room.old desks.old) (server_of room.new desks.new)) }
@@ -110,7 +110,7 @@ fn answer_again<'a, K: Naming, R: Wait>(
         return Err(Cause::NoDesk);
     };
     let actor = actor_by(config, entry.asker);
-    match answered(rt, room, desks, actor, &request) {
+    match answer_at(rt, room, desks, actor, &request) {
         None => Err(Cause::NoDesk),
         Some(SUCCESS) => Ok(()),
         Some(status) => Err(Cause::Refused(status)),
@@ -128,12 +128,12 @@ fn answer_again<'a, K: Naming, R: Wait>(
 ///
 /// The first entry that wasn't answered with success. The room and the desks have answered those before it, and must
 /// not be used.
-pub fn recover<'a, K: Naming, R: Wait, P: Progress>(
+pub fn recover<'a, K: OpeningName, R: Wait, P: Progress>(
     rt: &R,
     config: &'a Config,
     room: &mut AuthorRoom<K>,
     desks: &mut [Desk<K>],
-    entries: &[Entry<'a>],
+    entries: &[JournalEntry<'a>],
     progress: &mut P,
 ) -> Result<(), Fault>
     ensures recovered { OnOk result (AreAnswered (configuration config.now) (map entry_of entries.now)
@@ -142,10 +142,10 @@ pub fn recover<'a, K: Naming, R: Wait, P: Progress>(
         (server_of room.old desks.old) (server_of room.new desks.new)) }
 {
     for entry in 0..entries.len() {
-        if let Err(cause) = answer_again(rt, config, room, desks, &entries[entry]) {
+        if let Err(cause) = replay_entry(rt, config, room, desks, &entries[entry]) {
             return Err(Fault { entry, cause });
         }
-        progress.answered(entry + 1);
+        progress.on_replayed(entry + 1);
     }
     Ok(())
 }

@@ -10,11 +10,11 @@ ghost use Rattle.mds_recovery.specs.Recovery.{server_of, AreAnswered};
 use crate::fault::StartFault;
 use crate::laws;
 use crate::progress::Progress;
-use crate::recovering::recover;
+use crate::replay::recover;
 use mds_desk::{AuthorRoom, Desk, furnish};
-use mds_entries::Entry;
+use mds_entries::JournalEntry;
 use mds_request::Config;
-use mds_snapshot::{Blank, Naming, OpenFault};
+use mds_snapshot::{Blank, OpeningName, OpenFault};
 use std::alloc::Global;
 use std::sync::Wait;
 
@@ -24,11 +24,11 @@ use std::sync::Wait;
 ///
 /// `Opening` where no reference to the configuration could be made, `Stopped` at the first entry that wasn't answered
 /// with success.
-fn answered_all<K: Naming, R: Wait, P: Progress>(
+fn replay_all<K: OpeningName, R: Wait, P: Progress>(
     rt: &R,
     room: &mut AuthorRoom<K>,
     desks: &mut [Desk<K>],
-    entries: &[Entry<'_>],
+    entries: &[JournalEntry<'_>],
     progress: &mut P,
 ) -> Result<(), StartFault>
     ensures answered { OnOk result (AreAnswered (room_of room.old).configuration (map entry_of entries.now)
@@ -54,26 +54,26 @@ fn answered_all<K: Naming, R: Wait, P: Progress>(
 ///
 /// `Opening` where out of memory or of readers' places as the room and the desks were made; `Stopped` at the first
 /// entry that wasn't answered with success.
-pub fn start_again<K: Naming, R: Wait, P: Progress>(
+pub fn start_again<K: OpeningName, R: Wait, P: Progress>(
     rt: &R,
     alloc: Global,
     config: Config,
     blank: Blank,
-    entries: &[Entry<'_>],
+    entries: &[JournalEntry<'_>],
     progress: &mut P,
 ) -> Result<(AuthorRoom<K>, Vec<Desk<K>>), StartFault>
     requires { book_of blank ≡ K.book }
     ensures started { IfOk result (λ r. IsStartedAgain (configuration config) (map entry_of entries.now) (server_of r.0 r.1.items)) }
     ensures refused { IfErr result (IsStartRefused (configuration config) (map entry_of entries.now)) }
 {
-    laws::answered_are_turns();
+    laws::replayed_are_turns();
     laws::journal_leads_back();
     laws::goes_on_as_one_server();
     let (mut room, mut desks) = match furnish::<K, R>(rt, alloc, config, blank) {
         Ok(furnished) => furnished,
         Err(fault) => return Err(StartFault::Opening(fault)),
     };
-    match answered_all(rt, &mut room, &mut desks, entries, progress) {
+    match replay_all(rt, &mut room, &mut desks, entries, progress) {
         Ok(()) => Ok((room, desks)),
         Err(fault) => {
             room.finish(rt);

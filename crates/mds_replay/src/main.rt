@@ -3,7 +3,7 @@
 #![tactic(auto)]
 
 use mds_diagnosis::Detail;
-use mds_lines::{ReplayFault, run_told};
+use mds_lines::{ReplayFault, run_with_detail};
 use mds_verdict::Plain;
 use mds_world::World;
 use std::alloc::Global;
@@ -27,7 +27,7 @@ fn main(rt: HostRuntime) -> ExitCode {
     keep_freed_memory(rt.alloc());
     let mut detail = Detail::Untold;
     let writer = io::writer(&rt);
-    match run_told::<World<Plain>, _, _>(rt.alloc(), rt.reader(), writer, &mut detail) {
+    match run_with_detail::<World<Plain>, _, _>(rt.alloc(), rt.reader(), writer, &mut detail) {
         Ok(_) => ExitCode::SUCCESS,
         Err(fault) => {
             let _ = eprintln!(rt; "{}", fault.message());

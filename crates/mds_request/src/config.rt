@@ -70,7 +70,7 @@ impl Config {
     {
         match config_from(alloc, text) {
             Ok(config) => Ok(config),
-            Err(fault) => Err(fault.apart()),
+            Err(fault) => Err(fault.normalize()),
         }
     }
 

@@ -83,7 +83,7 @@ impl ConfigFault {
 
     /// The same fault, with out of memory as `ConfigFault::NoMemory` instead of a fault of the
     /// text.
-    pub(crate) fn apart(self) -> ConfigFault
+    pub(crate) fn normalize(self) -> ConfigFault
         ensures cause { config_cause result ≡ config_cause self }
         ensures apart { IsApart result }
     {

@@ -14,7 +14,7 @@ use crate::fault::ConfigFault;
 use crate::lookup::are_alike;
 use mds_match::{MOST_VEHICLES, Zone};
 use mds_reading::{
-    Node, Source, document_of, int_of, object_of, required_id, required_list, required_member,
+    Node, NodeBuffer, document_of, int_of, object_of, required_id, required_list, required_member,
     required_text, text_of,
 };
 use mds_text::{Field, TextFault};
@@ -24,7 +24,7 @@ use std::alloc::Global;
 pub(crate) fn config_from(alloc: Global, text: &[u8]) -> Result<Config, ConfigFault>
     ensures { Gives config_cause configuration result (read_configuration text.now) }
 {
-    let mut source = Source::new(alloc);
+    let mut source = NodeBuffer::new(alloc);
     let tree = source.read(alloc, text)?;
     config_of(alloc, &tree)
 }

@@ -1,4 +1,4 @@
 pub mod Field
 pub mod Json
-pub mod Guided
+pub mod RefusalField
 pub mod Methods

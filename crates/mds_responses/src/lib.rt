@@ -3,18 +3,18 @@
 #![tactic(auto)]
 
 mod fields;
-mod guide;
+mod hint;
 mod json;
 mod methods;
 mod refusal_field;
 mod refusal_reply;
 
 pub use fields::{HttpResult, set_field, with_field};
-pub use guide::Guide;
+pub use hint::RefusalHint;
 pub use json::json_response;
 pub use methods::{Methods, methods_of};
-pub use refusal_field::guided;
-pub use refusal_reply::GuidedReply;
+pub use refusal_field::with_refusal_field;
+pub use refusal_reply::HintedReply;
 
 #[cfg(test)]
 mod tests;

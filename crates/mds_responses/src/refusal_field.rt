@@ -3,10 +3,10 @@ ghost use Rattle.std.specs.Prelude.{◌≡◌, IfOk, IsTrue};
 ghost use Rattle.std.specs.Option.{is_some};
 ghost use Rattle.http_header.specs.FieldValue.{is_visible_text};
 ghost use Rattle.http_header.specs.HeaderMap.{get};
-ghost use Rattle.mds_responses.specs.Guided.{IsGuided, IsNamed};
+ghost use Rattle.mds_responses.specs.RefusalField.{IsGuided, IsNamed};
 
 use crate::fields::{HttpResult, with_field};
-use crate::guide::Guide;
+use crate::hint::RefusalHint;
 use bytes::Bytes;
 use http::header::{ALLOW, WWW_AUTHENTICATE};
 use http::{HeaderMap, HeaderName, HeaderValue, Response};
@@ -43,7 +43,7 @@ fn with_missing(response: Response<Full<Bytes>>, name: HeaderName, text: &'stati
 /// # Errors
 ///
 /// Out of memory.
-pub fn guided(response: Response<Full<Bytes>>, guide: Guide) -> HttpResult
+pub fn with_refusal_field(response: Response<Full<Bytes>>, guide: RefusalHint) -> HttpResult
     ensures { IfOk result (IsGuided guide.methods response) }
 {
     match (response.status().as_u16(), guide.methods) {

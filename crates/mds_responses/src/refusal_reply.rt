@@ -1,31 +1,31 @@
 //! A pending response that gets the header field of its refusal.
 ghost use Rattle.std.specs.Prelude.{◌≡◌};
-ghost use Rattle.mds_responses.specs.Guided.{Follows};
+ghost use Rattle.mds_responses.specs.RefusalField.{Follows};
 
 use crate::fields::HttpResult;
-use crate::guide::Guide;
-use crate::refusal_field::guided;
+use crate::hint::RefusalHint;
+use crate::refusal_field::with_refusal_field;
 use futures::Future;
 use futures::task::{Context, Poll};
 
 /// A pending response that gets the header field of its refusal.
 #[derive(Drop)]
-pub struct GuidedReply<F> {
+pub struct HintedReply<F> {
     reply: F,
-    guide: Guide,
+    guide: RefusalHint,
 }
 
-impl<F: Future> GuidedReply<F> {
+impl<F: Future> HintedReply<F> {
     /// This pending response, to a request with that guide.
-    pub fn new(reply: F, guide: Guide) -> GuidedReply<F>
+    pub fn new(reply: F, guide: RefusalHint) -> HintedReply<F>
         ensures reply { result.reply ≡ reply }
         ensures guide { result.guide ≡ guide }
     {
-        GuidedReply { reply, guide }
+        HintedReply { reply, guide }
     }
 }
 
-impl<F: Future<Output = HttpResult>> Future for GuidedReply<F> {
+impl<F: Future<Output = HttpResult>> Future for HintedReply<F> {
     type Output = HttpResult;
 
     ghost can_poll = { λ s. F.can_poll s.reply };
@@ -38,7 +38,7 @@ impl<F: Future<Output = HttpResult>> Future for GuidedReply<F> {
     fn poll(&mut self, cx: &mut Context<'_>) -> Poll<HttpResult> {
         match self.reply.poll(cx) {
             Poll::Pending => Poll::Pending,
-            Poll::Ready(Ok(response)) => Poll::Ready(guided(response, self.guide)),
+            Poll::Ready(Ok(response)) => Poll::Ready(with_refusal_field(response, self.guide)),
             Poll::Ready(Err(fault)) => Poll::Ready(Err(fault)),
         }
     }

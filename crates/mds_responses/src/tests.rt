@@ -1,8 +1,8 @@
 //! Tests of refusals and their header fields.
-use crate::guide::Guide;
+use crate::hint::RefusalHint;
 use crate::methods::{Methods, methods_of};
-use crate::refusal_field::guided;
-use crate::refusal_reply::GuidedReply;
+use crate::refusal_field::with_refusal_field;
+use crate::refusal_reply::HintedReply;
 use bytes::Bytes;
 use futures::executor::block_on;
 use futures::future::ready;
@@ -54,7 +54,7 @@ fn methods_are_listed(rt: HostRuntime) {
 #[test]
 fn a_401_names_the_scheme(rt: HostRuntime) {
     let plain = empty(rt.alloc(), StatusCode::UNAUTHORIZED);
-    let told = guided(plain, Guide::without_methods()).expect(&rt, "memory");
+    let told = with_refusal_field(plain, RefusalHint::without_methods()).expect(&rt, "memory");
     assert!(rt; told.status().as_u16() == 401);
     assert!(rt; has(&told, WWW_AUTHENTICATE, b"Bearer"));
     assert!(rt; !told.headers().contains_key(ALLOW));
@@ -64,7 +64,7 @@ fn a_401_names_the_scheme(rt: HostRuntime) {
 #[test]
 fn a_405_names_the_methods(rt: HostRuntime) {
     let plain = empty(rt.alloc(), StatusCode::METHOD_NOT_ALLOWED);
-    let told = guided(plain, Guide::of("/fleet/events")).expect(&rt, "memory");
+    let told = with_refusal_field(plain, RefusalHint::of("/fleet/events")).expect(&rt, "memory");
     assert!(rt; told.status().as_u16() == 405);
     assert!(rt; has(&told, ALLOW, b"POST"));
     assert!(rt; !told.headers().contains_key(WWW_AUTHENTICATE));
@@ -78,14 +78,14 @@ fn a_field_is_kept(rt: HostRuntime) {
         .headers_mut()
         .insert(ALLOW, value)
         .expect(&rt, "memory");
-    let told = guided(plain, Guide::of("/publish")).expect(&rt, "memory");
+    let told = with_refusal_field(plain, RefusalHint::of("/publish")).expect(&rt, "memory");
     assert!(rt; has(&told, ALLOW, b"GET, HEAD"));
 }
 
 #[test]
 fn a_reply_is_guided(rt: HostRuntime) {
     let plain = empty(rt.alloc(), StatusCode::UNAUTHORIZED);
-    let reply = GuidedReply::new(ready(Ok(plain)), Guide::without_methods());
+    let reply = HintedReply::new(ready(Ok(plain)), RefusalHint::without_methods());
     let given = block_on(&rt, reply).expect(&rt, "memory");
     let told = given.expect(&rt, "memory");
     assert!(rt; has(&told, WWW_AUTHENTICATE, b"Bearer"));
@@ -94,13 +94,13 @@ fn a_reply_is_guided(rt: HostRuntime) {
 #[test]
 fn another_status_is_left(rt: HostRuntime) {
     let plain = empty(rt.alloc(), StatusCode::OK);
-    let told = guided(plain, Guide::of("/policies")).expect(&rt, "memory");
+    let told = with_refusal_field(plain, RefusalHint::of("/policies")).expect(&rt, "memory");
     assert!(rt; told.headers().is_empty());
 }
 
 #[test]
 fn a_405_without_methods_names_none(rt: HostRuntime) {
     let plain = empty(rt.alloc(), StatusCode::METHOD_NOT_ALLOWED);
-    let told = guided(plain, Guide::without_methods()).expect(&rt, "memory");
+    let told = with_refusal_field(plain, RefusalHint::without_methods()).expect(&rt, "memory");
     assert!(rt; told.headers().is_empty());
 }

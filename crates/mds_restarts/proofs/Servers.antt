@@ -23,7 +23,7 @@ use Rattle.mds_machine.proofs.Successes.{succeeds_on, operator_succeeds, settled
 use Rattle.mds_machine.specs.Desks.{AreTurns, IsTurn, IsUnavailable, desk_does, refusal_of}
 use Rattle.mds_machine.specs.Fronts.{Turn, last_front, requests_in, replies_in}
 use Rattle.mds_machine.proofs.Views.{prefix_on}
-use Rattle.mds_restarts.specs.Kept.{may_change, is_kept}
+use Rattle.mds_restarts.specs.Persisted.{may_change, is_kept}
 use Rattle.mds_restarts.proofs.Kept.{changes_apart}
 use Rattle.mds_restarts.specs.Servers.{kept_turns, AreServed}
 

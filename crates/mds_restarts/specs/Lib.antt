@@ -1,3 +1,3 @@
-pub mod Kept
+pub mod Persisted
 pub mod Servers
-pub mod Thinning
+pub mod Compaction

@@ -1,7 +1,7 @@
 //! Which reports of a device compaction keeps: those that are enough for its row.
 ghost use Rattle.std.specs.Prelude.{◌≡◌, [], map, MatchOption, bytes_eq};
 ghost use Rattle.mds_fleet.specs.Books.{report_document};
-ghost use Rattle.mds_restarts.specs.Thinning.{ThinsTo};
+ghost use Rattle.mds_restarts.specs.Compaction.{ThinsTo};
 
 use mds_fleet::Report;
 
@@ -24,7 +24,7 @@ fn is_same_state(report: &Report, other: &Report) -> bool
 /// Which of a device's accepted reports compaction keeps, given in the order in which they were accepted, since the
 /// device was last removed: the last one, and the one that began the run of its state. They lead to the same row as all
 /// of them (`crate::laws::thinned_is_the_same`). `None` where there is no report.
-pub fn thinned(reports: &[Report]) -> Option<KeptReports>
+pub fn reports_to_keep(reports: &[Report]) -> Option<KeptReports>
     ensures { MatchOption result (reports.now ≡ []) (λ kept. ThinsTo (map report_document reports.now) kept.begun kept.last) }
 {
     if reports.is_empty() {

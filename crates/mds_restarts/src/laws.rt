@@ -1,29 +1,29 @@
 //! Laws of what a journal persists, and of what is recovered from it. Each function's contract is the law; the
 //! functions do nothing but call the laws that theirs follow from.
-ghost use Rattle.mds_restarts.specs.Kept.{KeptLeadsThere, AnsweredAgainLeadsThere, FrontsAreFronts, IsOneHistory, RowsStandApart, ChangesStandApart, ThinnedIsTheSame};
+ghost use Rattle.mds_restarts.specs.Persisted.{KeptLeadsThere, AnsweredAgainLeadsThere, FrontsAreFronts, IsOneHistory, RowsStandApart, ChangesStandApart, ThinnedIsTheSame};
 ghost use Rattle.mds_restarts.specs.Servers.{DeskIsRecovered, DeskGoesOn, RoomIsRecovered, IsOneServer};
 
 use mds_machine::{desk_laws as fronts, laws as machine};
 
 /// The persisted exchanges of a history are a history with the same replies, to the same state.
-pub fn kept_leads_there()
+pub fn persisted_leads_there()
     ensures { KeptLeadsThere }
 {
-    machine::refused_leaves();
+    machine::refusal_keeps_state();
 }
 
 /// The persisted requests, replayed with success at their own moments, have the replies that they had, and lead to the
 /// same state.
-pub fn answered_again_leads_there()
+pub fn replay_leads_there()
     ensures { AnsweredAgainLeadsThere }
 {
-    machine::refused_leaves();
+    machine::refusal_keeps_state();
     machine::is_determined();
 }
 
 /// A prefix of the persisted exchanges is what is persisted of a prefix of the history: no exchange is left out, and
 /// none is there in part.
-pub fn fronts_are_fronts()
+pub fn prefixes_are_prefixes()
     ensures { FrontsAreFronts }
 {}
 
@@ -31,7 +31,7 @@ pub fn fronts_are_fronts()
 pub fn is_one_history()
     ensures { IsOneHistory }
 {
-    answered_again_leads_there();
+    replay_leads_there();
 }
 
 /// What is published doesn't affect an operator's rows, so a journal needn't say at which publications a report was
@@ -47,7 +47,7 @@ pub fn changes_stand_apart()
 
 /// A device's row follows from its last accepted report and the one that began its run, so a journal that has only
 /// these two leads to the same row.
-pub fn thinned_is_the_same()
+pub fn compacted_row_is_the_same()
     ensures { ThinnedIsTheSame }
 {}
 
@@ -67,7 +67,7 @@ pub fn room_is_recovered()
     ensures { RoomIsRecovered }
 {
     fronts::room_is_history();
-    answered_again_leads_there();
+    replay_leads_there();
 }
 
 /// What a server answered before a restart and what is done after it is what one server did. So the laws of isolation

@@ -2,9 +2,9 @@
 //! that replays it.
 #![tactic(auto)]
 
-mod keeping;
+mod persistence;
 pub mod laws;
-mod thinning;
+mod compaction;
 
-pub use keeping::{is_kept, keeps, may_change};
-pub use thinning::{KeptReports, thinned};
+pub use persistence::{is_persisted, persists, may_change};
+pub use compaction::{KeptReports, reports_to_keep};

@@ -3,7 +3,7 @@ ghost use Rattle.std.specs.Prelude.{◌≡◌, ◌==◌, ◌&&◌};
 ghost use Rattle.mds_request.specs.Configuration.{configuration};
 ghost use Rattle.mds_request.specs.Reply.{Reply};
 ghost use Rattle.mds_request.specs.Request.{request_of};
-ghost use Rattle.mds_restarts.specs.Kept.{is_kept, may_change};
+ghost use Rattle.mds_restarts.specs.Persisted.{is_kept, may_change};
 
 use mds_request::{AuthorCall, Call, Code, Config, OperatorCall, Request, Routes, read_call};
 
@@ -26,16 +26,16 @@ pub fn may_change(call: &Result<Call, Code>) -> bool
 }
 
 /// Whether a call that was answered with this status is persisted: a success that may have changed something.
-pub fn keeps(call: &Result<Call, Code>, status: u16) -> bool
+pub fn persists(call: &Result<Call, Code>, status: u16) -> bool
     ensures { result ≡ (may_change call.now && (status == 200)) }
 {
     may_change(call) && status == SUCCESS
 }
 
 /// Whether a request that was answered with this status is persisted.
-pub fn is_kept(routes: &Routes, config: &Config, request: &Request<'_>, status: u16) -> bool
+pub fn is_persisted(routes: &Routes, config: &Config, request: &Request<'_>, status: u16) -> bool
     ensures { (reply : Reply) → reply.status ≡ status
         → result ≡ is_kept (configuration config.now) (record { request = request_of request.now; reply = reply }) }
 {
-    keeps(&read_call(routes, config, request), status)
+    persists(&read_call(routes, config, request), status)
 }

@@ -1,21 +1,21 @@
 -- What becomes of a log whose file may be a compacted one, at each step.
 use Rattle.std.proofs.Common.{◌≡◌, ℕ, ◌+◌, Bool, true, false, List, [], ◌∷◌, ◌++◌, length, refl, sym, ap, subst, ◌∙◌, append_assoc, inl, inr, arith}
 use Rattle.std.proofs.lemmas.List.{length-append, append-nil}
-use Rattle.mds_records.specs.Seals.{IsSealed}
-use Rattle.mds_records.specs.declared.seal.Seal.{Seal}
+use Rattle.mds_records.specs.LogEnds.{IsSealed}
+use Rattle.mds_records.specs.declared.log_end.LogEnd.{LogEnd}
 use Rattle.mds_rolling.specs.Leading.{LeadsBeside, Leads}
-use Rattle.mds_rolling.specs.Shorter.{IsShorter}
-use Rattle.mds_rolling.specs.Rolled.{IsRolled, IsCaughtUp}
+use Rattle.mds_rolling.specs.Compacted.{IsShorter}
+use Rattle.mds_rolling.specs.Swapped.{IsRolled, IsCaughtUp}
 use Rattle.mds_rolling.proofs.Leading.{grown, joined, beside_then}
 
 -- a log by itself
-pub rolled_new : (same : List (List ℕ) → List (List ℕ) → Type 0) (may : List (List ℕ) → Type 0) (exchanged keeping : Bool) (seal at : Seal) (since : List (List ℕ)) (list : List (List ℕ))
+pub rolled_new : (same : List (List ℕ) → List (List ℕ) → Type 0) (may : List (List ℕ) → Type 0) (exchanged keeping : Bool) (seal at : LogEnd) (since : List (List ℕ)) (list : List (List ℕ))
     → may list → ((l : List (List ℕ)) → may l → IsSealed at l) → keeping ≡ false → IsRolled same may exchanged keeping seal since at.count list
 rolled_new same may exchanged keeping seal at since list m sealed none =
     record { held = list; may = m; leads = ([], refl); counted = (sealed list m).counted; own = λ e. refl; behind = λ e. absurd cc }
 
 -- payloads were appended to the file, and copies of them are kept where those before are
-pub rolled_more : (same : List (List ℕ) → List (List ℕ) → Type 0) (before after : List (List ℕ) → Type 0) (exchanged keeping keeping-after : Bool) (seal seal-after : Seal)
+pub rolled_more : (same : List (List ℕ) → List (List ℕ) → Type 0) (before after : List (List ℕ) → Type 0) (exchanged keeping keeping-after : Bool) (seal seal-after : LogEnd)
     (since since-after texts : List (List ℕ)) (count more : ℕ) (list : List (List ℕ))
     → IsRolled same before exchanged keeping seal since count list → ((held : List (List ℕ)) → before held → after (held ++ texts)) → more ≡ length texts
     → (keeping-after ≡ true → (keeping ≡ true) × (seal-after ≡ seal) × (since-after ≡ since ++ texts))
@@ -32,12 +32,12 @@ rolled_more same before after exchanged keeping keeping-after seal seal-after si
           let b = r.behind k.0 in (
             b.0,
             ap (λ (l : List (List ℕ)). l ++ texts) b.1 ∙ append_assoc b.0 since texts ∙ ap (λ (s : List (List ℕ)). b.0 ++ s) (sym k.2),
-            subst (λ (s : Seal). IsSealed s b.0) (sym k.1) b.2,
+            subst (λ (s : LogEnd). IsSealed s b.0) (sym k.1) b.2,
           );
     }
 
 -- the same file, with no copies kept
-pub rolled_still : (same : List (List ℕ) → List (List ℕ) → Type 0) (before after : List (List ℕ) → Type 0) (exchanged keeping keeping-after : Bool) (seal seal-after : Seal)
+pub rolled_still : (same : List (List ℕ) → List (List ℕ) → Type 0) (before after : List (List ℕ) → Type 0) (exchanged keeping keeping-after : Bool) (seal seal-after : LogEnd)
     (since since-after : List (List ℕ)) (count : ℕ) (list : List (List ℕ))
     → IsRolled same before exchanged keeping seal since count list → ((held : List (List ℕ)) → before held → after held)
     → (keeping-after ≡ true → (keeping ≡ true) × (seal-after ≡ seal) × (since-after ≡ since))
@@ -52,11 +52,11 @@ rolled_still same before after exchanged keeping keeping-after seal seal-after s
       behind = λ e.
           let k = kept e in
           let b = r.behind k.0 in
-          (b.0, b.1 ∙ ap (λ (s : List (List ℕ)). b.0 ++ s) (sym k.2), subst (λ (s : Seal). IsSealed s b.0) (sym k.1) b.2);
+          (b.0, b.1 ∙ ap (λ (s : List (List ℕ)). b.0 ++ s) (sym k.2), subst (λ (s : LogEnd). IsSealed s b.0) (sym k.1) b.2);
     }
 
 -- copies of what is appended after this log end are kept from here on
-pub rolled_begun : (same : List (List ℕ) → List (List ℕ) → Type 0) (may : List (List ℕ) → Type 0) (exchanged keeping keeping-after : Bool) (seal at seal-after : Seal)
+pub rolled_begun : (same : List (List ℕ) → List (List ℕ) → Type 0) (may : List (List ℕ) → Type 0) (exchanged keeping keeping-after : Bool) (seal at seal-after : LogEnd)
     (since since-after : List (List ℕ)) (count : ℕ) (list : List (List ℕ))
     → IsRolled same may exchanged keeping seal since count list → ((held : List (List ℕ)) → may held → IsSealed at held) → seal-after ≡ at → since-after ≡ []
     → IsRolled same may exchanged keeping-after seal-after since-after count list
@@ -68,11 +68,11 @@ rolled_begun same may exchanged keeping keeping-after seal at seal-after since s
       counted = r.counted;
       own = r.own;
       behind = λ e.
-          (r.held, sym (append-nil r.held) ∙ ap (λ (s : List (List ℕ)). r.held ++ s) (sym nothing), subst (λ (s : Seal). IsSealed s r.held) (sym is-at) (sealed r.held r.may));
+          (r.held, sym (append-nil r.held) ∙ ap (λ (s : List (List ℕ)). r.held ++ s) (sym nothing), subst (λ (s : LogEnd). IsSealed s r.held) (sym is-at) (sealed r.held r.may));
     }
 
 -- a compacted log with the kept copies is equivalent to the file, and takes its place
-pub rolled_exchanged : (same : List (List ℕ) → List (List ℕ) → Type 0) (before after : List (List ℕ) → Type 0) (exchanged exchanged-after keeping keeping-after : Bool) (seal seal-after : Seal)
+pub rolled_exchanged : (same : List (List ℕ) → List (List ℕ) → Type 0) (before after : List (List ℕ) → Type 0) (exchanged exchanged-after keeping keeping-after : Bool) (seal seal-after : LogEnd)
     (since since-after : List (List ℕ)) (count : ℕ) (list : List (List ℕ))
     → IsRolled same before exchanged keeping seal since count list → keeping ≡ true → IsCaughtUp same after seal since → exchanged-after ≡ true → keeping-after ≡ false
     → IsRolled same after exchanged-after keeping-after seal-after since-after count list
@@ -91,7 +91,7 @@ rolled_exchanged same before after exchanged exchanged-after keeping keeping-aft
     }
 
 -- a compacted log is equivalent to the other, also with more after both
-pub caught_up : (same : List (List ℕ) → List (List ℕ) → Type 0) (before after : List (List ℕ) → Type 0) (seal seal-after : Seal) (since : List (List ℕ))
+pub caught_up : (same : List (List ℕ) → List (List ℕ) → Type 0) (before after : List (List ℕ) → Type 0) (seal seal-after : LogEnd) (since : List (List ℕ))
     → IsShorter same before seal → ((l : List (List ℕ)) → before l → after (l ++ since)) → seal-after ≡ seal → IsCaughtUp same after seal-after since
 caught_up same before after seal seal-after since s appended is-at =
     record {
@@ -99,11 +99,11 @@ caught_up same before after seal seal-after since s appended is-at =
       before = s.before ++ s.rest;
       may = appended (s.front ++ s.rest) s.may;
       leads = ((s.before ++ s.rest) ∷ [], (record { front = s.front; other_front = s.before; rest = s.rest; is_one = refl; is_other = refl; fronts = inl s.found }, refl));
-      sealed = subst (λ (k : Seal). IsSealed k (s.before ++ s.rest)) (sym is-at) s.sealed;
+      sealed = subst (λ (k : LogEnd). IsSealed k (s.before ++ s.rest)) (sym is-at) s.sealed;
     }
 
 -- a compacted log that is brought up to a later log end
-pub shorter_more : (same : List (List ℕ) → List (List ℕ) → Type 0) (before after synced : List (List ℕ) → Type 0) (seal to : Seal) (texts : List (List ℕ))
+pub shorter_more : (same : List (List ℕ) → List (List ℕ) → Type 0) (before after synced : List (List ℕ) → Type 0) (seal to : LogEnd) (texts : List (List ℕ))
     → IsShorter same before seal → ((l : List (List ℕ)) → before l → after (l ++ texts)) → ((l : List (List ℕ)) → after l → synced l)
     → ((l : List (List ℕ)) → IsSealed seal l → IsSealed to (l ++ texts)) → IsShorter same synced to
 shorter_more same before after synced seal to texts s appended still sealed =
@@ -117,7 +117,7 @@ shorter_more same before after synced seal to texts s appended still sealed =
     }
 
 -- a log that was found equivalent to a list with this log end
-pub shorter_new : (same : List (List ℕ) → List (List ℕ) → Type 0) (may : List (List ℕ) → Type 0) (seal : Seal) (front before : List (List ℕ))
+pub shorter_new : (same : List (List ℕ) → List (List ℕ) → Type 0) (may : List (List ℕ) → Type 0) (seal : LogEnd) (front before : List (List ℕ))
     → may front → same front before → IsSealed seal before → IsShorter same may seal
 shorter_new same may seal front before m found sealed =
     record {

@@ -1,12 +1,12 @@
 -- A compacted log that may take another's place.
 use Rattle.std.specs.Prelude.{◌≡◌, ℕ, List, [], ◌∷◌, ◌++◌}
 use Rattle.std.specs.Coded.{Coded, coded_ℕ, coded_list}
-use Rattle.mds_records.specs.Seals.{IsSealed}
-use Rattle.mds_records.specs.declared.seal.Seal.{Seal}
+use Rattle.mds_records.specs.LogEnds.{IsSealed}
+use Rattle.mds_records.specs.declared.log_end.LogEnd.{LogEnd}
 
 -- The log may hold a list that begins with one that was found equivalent to another; that other, followed by the same
 -- rest, has the log end.
-pub record IsShorter (same : List (List ℕ) → List (List ℕ) → Type 0) (may_be : List (List ℕ) → Type 0) (seal : Seal) : Type 0 where
+pub record IsShorter (same : List (List ℕ) → List (List ℕ) → Type 0) (may_be : List (List ℕ) → Type 0) (seal : LogEnd) : Type 0 where
   pub front : List (List ℕ)
   pub before : List (List ℕ)
   pub rest : List (List ℕ)
@@ -15,7 +15,7 @@ pub record IsShorter (same : List (List ℕ) → List (List ℕ) → Type 0) (ma
   pub sealed : IsSealed seal (before ++ rest)
 
 -- a log end's numbers, as which contracts see a compacted log
-abbrev pub numbers_of : Seal → List ℕ
+abbrev pub numbers_of : LogEnd → List ℕ
 numbers_of seal = seal.position ∷ seal.sum ∷ seal.count ∷ []
 
 abbrev pub coded_numbers : Coded (List ℕ)

@@ -1,11 +1,11 @@
 -- When a log's file has the same effect as all that was appended, though it is a compacted one.
 use Rattle.std.specs.Prelude.{◌≡◌, ◌⊎◌, ℕ, List, [], ◌∷◌, ◌++◌}
-use Rattle.mds_records.specs.Seals.{IsSealed}
-use Rattle.mds_records.specs.declared.seal.Seal.{Seal}
+use Rattle.mds_records.specs.LogEnds.{IsSealed}
+use Rattle.mds_records.specs.declared.log_end.LogEnd.{LogEnd}
 
 -- lists with the same log end: they are one, assuming no checksum collision
 abbrev pub HaveOneSeal : (one other : List (List ℕ)) → Type 0
-HaveOneSeal one other = (seal : Seal) × IsSealed seal one × IsSealed seal other
+HaveOneSeal one other = (seal : LogEnd) × IsSealed seal one × IsSealed seal other
 
 module _ (same : List (List ℕ) → List (List ℕ) → Type 0) where
   -- One list is equivalent to another: they begin with two that were found equivalent, or that have the same log end,

@@ -1,4 +1,4 @@
 pub mod Leading
-pub mod Shorter
-pub mod Rolled
-pub mod Pace
+pub mod Compacted
+pub mod Swapped
+pub mod Schedule

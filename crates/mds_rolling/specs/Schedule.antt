@@ -1,5 +1,5 @@
 -- When a journal is compacted.
-use Rattle.mds_rolling.specs.declared.pace.TheConstants.{LITTLE}
+use Rattle.mds_rolling.specs.declared.schedule.TheConstants.{SMALL_LAG}
 use Rattle.std.specs.Prelude.{nat_le, ℕ, ◌+◌, ◌*◌, ◌^◌, ◌-◌, ◌==◌, ◌&&◌, Bool, not, min, nat_lt}
 
 -- a journal of so many bytes is to be compacted; never, where the least growth is 0
@@ -16,4 +16,4 @@ due_again bytes = min (2 ^ 64 - 1) (2 * bytes)
 
 -- few enough bytes that a compacted log may lack them when it takes the log's place
 abbrev pub is_little : (bytes : ℕ) → Bool
-is_little bytes = nat_le bytes LITTLE
+is_little bytes = nat_le bytes SMALL_LAG

@@ -1,37 +1,37 @@
 //! Copies of the payloads appended after a log end, for a compacted log that is to take the log's place.
 ghost use Rattle.std.specs.Prelude.{◌≡◌, ◌&&◌, ◌++◌, [], ℕ, List, map, true, false, OnOk};
-ghost use Rattle.mds_records.specs.declared.seal.Seal.{Seal as Known};
+ghost use Rattle.mds_records.specs.declared.log_end.LogEnd.{LogEnd as Known};
 
-use mds_records::Seal;
+use mds_records::LogEnd;
 use std::alloc::{AllocError, Global};
 
 /// The most bytes of payloads of which copies are kept.
-const MOST_KEPT: u64 = 8_388_608;
+const MOST_BUFFERED: u64 = 8_388_608;
 
 /// Copies of the payloads appended after a log end, while they are kept.
 #[derive(Drop)]
-pub(crate) struct Kept {
+pub(crate) struct CatchUpBuffer {
     pub(crate) is_keeping: bool,
-    pub(crate) seal: Seal,
+    pub(crate) seal: LogEnd,
     pub(crate) texts: Vec<Vec<u8>>,
     bytes: u64,
 }
 
-impl Kept {
+impl CatchUpBuffer {
     /// No copies are kept.
-    pub(crate) fn nothing(alloc: Global) -> Kept
+    pub(crate) fn new_idle(alloc: Global) -> CatchUpBuffer
         ensures { result.is_keeping ≡ false }
     {
-        Kept {
+        CatchUpBuffer {
             is_keeping: false,
-            seal: Seal::of_nothing(),
+            seal: LogEnd::of_empty_log(),
             texts: Vec::new(alloc),
             bytes: 0,
         }
     }
 
     /// Whether copies are kept of what is appended after this log end.
-    pub(crate) fn is_behind(&self, seal: Seal) -> bool
+    pub(crate) fn is_behind(&self, seal: LogEnd) -> bool
         ensures { result ≡ true → (self.now.is_keeping ≡ true) × (self.now.seal ≡ seal) }
     {
         self.is_keeping && self.seal == seal
@@ -47,7 +47,7 @@ impl Kept {
     }
 
     /// Keeps copies of what is appended after this log end, from now on.
-    pub(crate) fn begin(&mut self, seal: Seal)
+    pub(crate) fn begin(&mut self, seal: LogEnd)
         ensures seal { self.new.seal ≡ seal }
         ensures nothing { self.new.texts.items ≡ [] }
     {
@@ -79,7 +79,7 @@ impl Kept {
         if !self.is_keeping {
             return;
         }
-        if self.copy(alloc, texts).is_err() || self.bytes > MOST_KEPT {
+        if self.copy(alloc, texts).is_err() || self.bytes > MOST_BUFFERED {
             self.forget();
         }
     }

@@ -1,16 +1,16 @@
 //! A compacted log that may take another's place.
 ghost use Rattle.std.specs.Prelude.{◌≡◌, ◌++◌, ℕ, List, map, length, IfOk};
-ghost use Rattle.mds_records.specs.Seals.{IsSealed};
-ghost use Rattle.mds_rolling.specs.Shorter.{IsShorter, numbers_of};
+ghost use Rattle.mds_records.specs.LogEnds.{IsSealed};
+ghost use Rattle.mds_rolling.specs.Compacted.{IsShorter, numbers_of};
 
-use crate::finding::Finding;
-use mds_records::{AppendFault, NotSynced, ReadFault, Seal, Sealed, texts_between};
+use crate::equivalence::Equivalence;
+use mds_records::{AppendFault, SyncFault, ReadFault, LogEnd, HasLogEnd, texts_between};
 use std::alloc::Global;
 use std::marker::{Model, PhantomData};
 
 /// Why a compacted log isn't brought up to another log end.
 #[derive(Clone, Copy, Debug, PartialEq, Eq)]
-pub enum CatchFault {
+pub enum CatchUpFault {
     /// The bytes aren't those up to the log end.
     Damaged,
     /// The log couldn't be written or synced.
@@ -23,15 +23,15 @@ pub enum CatchFault {
 
 /// A compacted log with the same effect as another had at this log end. Contracts see the log end's numbers.
 #[derive(Drop)]
-pub struct Shorter<L: Sealed, P: Finding> {
+pub struct CompactedLog<L: HasLogEnd, P: Equivalence> {
     log: L,
-    seal: Seal,
+    seal: LogEnd,
     of: PhantomData<P>,
 }
 
-impl<L: Sealed, P: Finding> Model for Shorter<L, P> {
+impl<L: HasLogEnd, P: Equivalence> Model for CompactedLog<L, P> {
     ghost use Rattle.std.specs.Prelude.{ℕ, List};
-    ghost use Rattle.mds_rolling.specs.Shorter.{IsShorter, coded_numbers, numbers_of};
+    ghost use Rattle.mds_rolling.specs.Compacted.{IsShorter, coded_numbers, numbers_of};
 
     ghost Value = { List ℕ };
 
@@ -42,37 +42,37 @@ impl<L: Sealed, P: Finding> Model for Shorter<L, P> {
     ghost invariant = { λ s. IsShorter P.same (L.may_be s.log) s.seal };
 }
 
-impl From<ReadFault> for CatchFault {
-    fn from(fault: ReadFault) -> CatchFault {
+impl From<ReadFault> for CatchUpFault {
+    fn from(fault: ReadFault) -> CatchUpFault {
         match fault {
-            ReadFault::NoMemory => CatchFault::NoMemory,
-            _ => CatchFault::Damaged,
+            ReadFault::NoMemory => CatchUpFault::NoMemory,
+            _ => CatchUpFault::Damaged,
         }
     }
 }
 
-impl From<AppendFault> for CatchFault {
-    fn from(fault: AppendFault) -> CatchFault {
+impl From<AppendFault> for CatchUpFault {
+    fn from(fault: AppendFault) -> CatchUpFault {
         match fault {
-            AppendFault::NoMemory => CatchFault::NoMemory,
-            _ => CatchFault::NotWritten,
+            AppendFault::NoMemory => CatchUpFault::NoMemory,
+            _ => CatchUpFault::NotWritten,
         }
     }
 }
 
-impl From<NotSynced> for CatchFault {
-    fn from(_: NotSynced) -> CatchFault {
-        CatchFault::NotWritten
+impl From<SyncFault> for CatchUpFault {
+    fn from(_: SyncFault) -> CatchUpFault {
+        CatchUpFault::NotWritten
     }
 }
 
-impl<L: Sealed, P: Finding> Shorter<L, P> {
+impl<L: HasLogEnd, P: Equivalence> CompactedLog<L, P> {
     /// A log that was found equivalent to a list with this log end.
-    pub fn new(log: L, seal: Seal) -> Shorter<L, P>
+    pub fn new(log: L, seal: LogEnd) -> CompactedLog<L, P>
         requires { (front : List (List ℕ)) × (before : List (List ℕ)) × L.may_be log front × P.same front before × IsSealed seal before }
         ensures { result ≡ numbers_of seal }
     {
-        Shorter {
+        CompactedLog {
             log,
             seal,
             of: PhantomData,
@@ -80,17 +80,17 @@ impl<L: Sealed, P: Finding> Shorter<L, P> {
     }
 
     /// The log end up to which it is brought.
-    pub fn seal(&self) -> Seal
+    pub fn log_end(&self) -> LogEnd
         ensures { numbers_of result ≡ self.now }
     {
         self.seal
     }
 
     /// The log, and the log end of the list to which it is equivalent.
-    pub(crate) fn into_parts(self) -> (L, Seal)
+    pub(crate) fn into_parts(self) -> (L, LogEnd)
         ensures { IsShorter P.same (L.may_be result.0) result.1 }
     {
-        let Shorter {
+        let CompactedLog {
             log,
             seal,
             of: PhantomData,
@@ -103,25 +103,25 @@ impl<L: Sealed, P: Finding> Shorter<L, P> {
     /// # Errors
     ///
     /// See [`CatchFault`]. The compacted log can't be used then.
-    pub fn caught_up(
+    pub fn catch_up(
         self,
         alloc: Global,
-        to: Seal,
+        to: LogEnd,
         bytes: &[u8],
-    ) -> Result<Shorter<L, P>, CatchFault>
+    ) -> Result<CompactedLog<L, P>, CatchUpFault>
         ensures { IfOk result (λ shorter. shorter ≡ numbers_of to) }
     {
-        let Shorter {
+        let CompactedLog {
             log,
             seal,
             of: PhantomData,
         } = self;
         let mut log = log;
         let texts = texts_between(alloc, seal, to, bytes)?;
-        let count = log.seal().count;
+        let count = log.log_end().count;
         log.append(count, &texts)?;
         log.sync()?;
-        Ok(Shorter {
+        Ok(CompactedLog {
             log,
             seal: to,
             of: PhantomData,

@@ -1,6 +1,6 @@
 //! When a journal is compacted: by its size in bytes.
 ghost use Rattle.std.specs.Prelude.{◌≡◌, true, false};
-ghost use Rattle.mds_rolling.specs.Pace.{is_due, due_after, due_again, is_little};
+ghost use Rattle.mds_rolling.specs.Schedule.{is_due, due_after, due_again, is_little};
 
 /// Whether a journal of so many bytes is to be compacted: beyond `due`; never, where the least growth is 0.
 pub fn is_due(at_least: u64, due: u64, bytes: u64) -> bool
@@ -24,31 +24,31 @@ pub fn due_again(bytes: u64) -> u64
 }
 
 /// The most bytes that a compacted log may lack when it takes the log's place: 1 MiB.
-const LITTLE: u64 = 1_048_576;
+const SMALL_LAG: u64 = 1_048_576;
 
 /// Whether a compacted log that lacks so many bytes may take the log's place.
-pub fn is_little(bytes: u64) -> bool
+pub fn is_small_lag(bytes: u64) -> bool
     ensures { result ≡ is_little bytes }
 {
-    bytes <= LITTLE
+    bytes <= SMALL_LAG
 }
 
 /// The compaction schedule of a journal.
 #[derive(Clone, Copy, Debug, PartialEq, Eq)]
-pub struct Pace {
+pub struct CompactionSchedule {
     /// The least growth, in bytes, after which it is compacted; 0 for never.
     at_least: u64,
     /// The size in bytes beyond which it is compacted next.
     due: u64,
 }
 
-impl Pace {
+impl CompactionSchedule {
     /// The schedule of a journal whose last compaction isn't known: it is compacted once it is beyond the least growth.
-    pub fn new(at_least: u64) -> Pace
+    pub fn new(at_least: u64) -> CompactionSchedule
         ensures least { result.at_least ≡ at_least }
         ensures due { result.due ≡ at_least }
     {
-        Pace {
+        CompactionSchedule {
             at_least,
             due: at_least,
         }
@@ -62,7 +62,7 @@ impl Pace {
     }
 
     /// Compaction of the journal was tried, and the journal has so many bytes now.
-    pub fn tried(&mut self, is_thinned: bool, bytes: u64)
+    pub fn record_attempt(&mut self, is_thinned: bool, bytes: u64)
         ensures thinned { is_thinned ≡ true → self.new.due ≡ due_after self.old.at_least bytes }
         ensures failed { is_thinned ≡ false → self.new.due ≡ due_again bytes }
         ensures least { self.new.at_least ≡ self.old.at_least }

@@ -1,13 +1,13 @@
 //! A log whose file is replaced by a compacted one while it is appended to.
 ghost use Rattle.std.specs.Prelude.{◌≡◌, ◌++◌, ℕ, List, map, true, false, IfOk, OnOk, OnErr, IsErrOf};
 ghost use Rattle.mds_records.specs.Groups.{are_taken};
-ghost use Rattle.mds_rolling.specs.Rolled.{IsRolled, IsCaughtUp};
+ghost use Rattle.mds_rolling.specs.Swapped.{IsRolled, IsCaughtUp};
 
-use crate::beside::Beside;
-use crate::finding::Finding;
-use crate::kept::Kept;
-use crate::shorter::{CatchFault, Shorter};
-use mds_records::{AppendFault, Log, NotSynced, ReadFault, Sealed};
+use crate::compaction_source::CompactionSource;
+use crate::equivalence::Equivalence;
+use crate::catch_up_buffer::CatchUpBuffer;
+use crate::compacted_log::{CatchUpFault, CompactedLog};
+use mds_records::{AppendFault, Log, SyncFault, ReadFault, HasLogEnd};
 use std::alloc::Global;
 use std::marker::PhantomData;
 
@@ -17,14 +17,14 @@ const MOST_COUNT: u64 = 4_611_686_018_427_387_904;
 /// A log whose list is all that was appended, and whose file holds that list or one with the same effect. The
 /// compaction side (`beside`) supplies compacted logs, one of which takes the place in [`Log::sync`].
 #[derive(Drop)]
-pub struct Rolling<L: Sealed, P: Finding, B: Beside<L, P>> {
+pub struct SwapLog<L: HasLogEnd, P: Equivalence, B: CompactionSource<L, P>> {
     alloc: Global,
     log: L,
     beside: B,
     /// How many payloads the list has.
     count: u64,
     /// Copies of the payloads appended after a log end.
-    kept: Kept,
+    kept: CatchUpBuffer,
     /// Whether a compacted log took this one's place.
     is_exchanged: bool,
     /// Whether it isn't known which file stands in the log's place.
@@ -37,13 +37,13 @@ pub struct Rolling<L: Sealed, P: Finding, B: Beside<L, P>> {
 /// # Errors
 ///
 /// The log's, and `Unknown` in place of `Conflict`.
-fn append_to<L: Sealed>(log: &mut L, texts: &[Vec<u8>]) -> Result<(), AppendFault>
+fn append_to<L: HasLogEnd>(log: &mut L, texts: &[Vec<u8>]) -> Result<(), AppendFault>
     ensures appended { OnOk result ((list : List (List ℕ)) → L.may_be log.old list → L.may_be log.new (list ++ map (λ v. v.items) texts.now)) }
     ensures unchanged { OnErr result ((list : List (List ℕ)) → L.may_be log.old list → L.may_be log.new list) }
     ensures conflict { IsErrOf result AppendFault.Conflict → true ≡ false }
     ensures untaken { IsErrOf result AppendFault.Untaken → are_taken (map (λ v. v.items) texts.now) ≡ false }
 {
-    let count = log.seal().count;
+    let count = log.log_end().count;
     match log.append(count, texts) {
         Ok(_) => Ok(()),
         Err(AppendFault::Conflict) => Err(AppendFault::Unknown),
@@ -56,34 +56,34 @@ fn append_to<L: Sealed>(log: &mut L, texts: &[Vec<u8>]) -> Result<(), AppendFaul
 /// # Errors
 ///
 /// `NotKept` where they aren't kept, `NotWritten` or `NoMemory` where they can't be appended or synced.
-fn caught_up<L: Sealed, P: Finding>(shorter: Shorter<L, P>, kept: &Kept) -> Result<L, CatchFault>
+fn catch_up<L: HasLogEnd, P: Equivalence>(shorter: CompactedLog<L, P>, kept: &CatchUpBuffer) -> Result<L, CatchUpFault>
     ensures synced { IfOk result (λ log. L.is_synced log) }
     ensures kept { OnOk result (kept.now.is_keeping ≡ true) }
     ensures caught { IfOk result (λ log. IsCaughtUp P.same (L.may_be log) kept.now.seal (map (λ v. v.items) kept.now.texts.items)) }
 {
     let (mut log, seal) = shorter.into_parts();
     if !kept.is_behind(seal) {
-        return Err(CatchFault::NotKept);
+        return Err(CatchUpFault::NotKept);
     }
     append_to(&mut log, &kept.texts)?;
     log.sync()?;
     Ok(log)
 }
 
-impl<L: Sealed, P: Finding, B: Beside<L, P>> Rolling<L, P, B> {
+impl<L: HasLogEnd, P: Equivalence, B: CompactionSource<L, P>> SwapLog<L, P, B> {
     /// A log whose file may be replaced from now on, by compacted logs of this compaction side.
-    pub fn new(alloc: Global, log: L, beside: B) -> Rolling<L, P, B>
+    pub fn new(alloc: Global, log: L, beside: B) -> SwapLog<L, P, B>
         ensures { (list : List (List ℕ)) → L.may_be log list
             → IsRolled P.same (L.may_be result.log) result.is_exchanged result.kept.is_keeping result.kept.seal
             (map (λ v. v.items) result.kept.texts.items) result.count list }
     {
-        let count = log.seal().count;
-        Rolling {
+        let count = log.log_end().count;
+        SwapLog {
             alloc,
             log,
             beside,
             count,
-            kept: Kept::nothing(alloc),
+            kept: CatchUpBuffer::new_idle(alloc),
             is_exchanged: false,
             is_broken: false,
             of: PhantomData,
@@ -96,7 +96,7 @@ impl<L: Sealed, P: Finding, B: Beside<L, P>> Rolling<L, P, B> {
     /// # Errors
     ///
     /// It isn't known which file stands in the place.
-    fn adopt(&mut self, shorter: Shorter<L, P>) -> Result<bool, NotSynced>
+    fn swap_in(&mut self, shorter: CompactedLog<L, P>) -> Result<bool, SyncFault>
         ensures rolled { (list : List (List ℕ))
             → IsRolled P.same (L.may_be self.old.log) self.old.is_exchanged self.old.kept.is_keeping self.old.kept.seal
             (map (λ v. v.items) self.old.kept.texts.items) self.old.count list
@@ -105,20 +105,20 @@ impl<L: Sealed, P: Finding, B: Beside<L, P>> Rolling<L, P, B> {
         ensures synced { IfOk result (λ is_taken. is_taken ≡ true → L.is_synced self.new.log) }
         ensures count { self.new.count ≡ self.old.count }
     {
-        let Ok(log) = caught_up(shorter, &self.kept) else {
+        let Ok(log) = catch_up(shorter, &self.kept) else {
             self.kept.forget();
-            self.beside.ended(false, self.log.seal().position);
+            self.beside.on_swap_tried(false, self.log.log_end().position);
             return Ok(false);
         };
         if self.beside.replace(&log).is_err() {
             self.is_broken = true;
-            self.beside.ended(false, self.log.seal().position);
-            return Err(NotSynced);
+            self.beside.on_swap_tried(false, self.log.log_end().position);
+            return Err(SyncFault);
         }
         self.log = log;
         self.is_exchanged = true;
         self.kept.forget();
-        self.beside.ended(true, self.log.seal().position);
+        self.beside.on_swap_tried(true, self.log.log_end().position);
         Ok(true)
     }
 
@@ -128,7 +128,7 @@ impl<L: Sealed, P: Finding, B: Beside<L, P>> Rolling<L, P, B> {
     /// # Errors
     ///
     /// It isn't known whether the log is synced, or which file stands in the place.
-    fn settle(&mut self) -> Result<(), NotSynced>
+    fn swap_or_sync(&mut self) -> Result<(), SyncFault>
         ensures rolled { (list : List (List ℕ))
             → IsRolled P.same (L.may_be self.old.log) self.old.is_exchanged self.old.kept.is_keeping self.old.kept.seal
             (map (λ v. v.items) self.old.kept.texts.items) self.old.count list
@@ -137,8 +137,8 @@ impl<L: Sealed, P: Finding, B: Beside<L, P>> Rolling<L, P, B> {
         ensures synced { OnOk result (L.is_synced self.new.log) }
         ensures count { self.new.count ≡ self.old.count }
     {
-        if let Some(shorter) = self.beside.ready() {
-            if self.adopt(shorter)? {
+        if let Some(shorter) = self.beside.take_ready() {
+            if self.swap_in(shorter)? {
                 return Ok(());
             }
         }
@@ -147,7 +147,7 @@ impl<L: Sealed, P: Finding, B: Beside<L, P>> Rolling<L, P, B> {
     }
 }
 
-impl<L: Sealed, P: Finding, B: Beside<L, P>> Log for Rolling<L, P, B> {
+impl<L: HasLogEnd, P: Equivalence, B: CompactionSource<L, P>> Log for SwapLog<L, P, B> {
     ghost may_be = { λ r list. IsRolled P.same (L.may_be r.log) r.is_exchanged r.kept.is_keeping r.kept.seal
         (map (λ v. v.items) r.kept.texts.items) r.count list };
 
@@ -169,14 +169,14 @@ impl<L: Sealed, P: Finding, B: Beside<L, P>> Log for Rolling<L, P, B> {
         Ok(self.count)
     }
 
-    fn sync(&mut self) -> Result<u64, NotSynced> {
+    fn sync(&mut self) -> Result<u64, SyncFault> {
         if self.is_broken {
-            return Err(NotSynced);
+            return Err(SyncFault);
         }
         let count = self.count;
-        self.settle()?;
-        let seal = self.log.seal();
-        if self.beside.synced(seal) {
+        self.swap_or_sync()?;
+        let seal = self.log.log_end();
+        if self.beside.on_synced(seal) {
             self.kept.begin(seal);
         }
         Ok(count)
@@ -188,7 +188,7 @@ impl<L: Sealed, P: Finding, B: Beside<L, P>> Log for Rolling<L, P, B> {
         }
         self.kept.forget();
         let texts = self.log.read_from(position)?;
-        if self.log.seal().count != self.count {
+        if self.log.log_end().count != self.count {
             return Err(ReadFault::Damaged);
         }
         Ok(texts)

@@ -5,13 +5,13 @@ use Rattle.http.specs.declared.request.Parts.{Parts}
 use Rattle.http_uri.specs.Uri.{uri_path}
 use Rattle.mds_page.specs.File.{file_at}
 use Rattle.mds_page.specs.declared.file.File.{File}
-use Rattle.mds_public.specs.Asked.{asked_by}
-use Rattle.mds_public.specs.declared.asked.Asked.{Asked}
+use Rattle.mds_public.specs.Target.{asked_by}
+use Rattle.mds_public.specs.declared.public_target.PublicTarget.{PublicTarget}
 use Rattle.mds_request.specs.Call.{rows_at, segments_in}
 use Rattle.mds_routes.specs.App.{call_at}
 
 -- the public documents, where the configuration turns them on
-abbrev pub public_at : Bool → List ℕ → Option Asked
+abbrev pub public_at : Bool → List ℕ → Option PublicTarget
 public_at is_public path = if is_public then asked_by path else None
 
 -- the head asks for this file of the page
@@ -19,7 +19,7 @@ abbrev pub AsksFile : Parts → File → Type 0
 AsksFile parts file = file_at (uri_path parts.uri) ≡ Some file
 
 -- it asks for this public document
-pub record AsksPublic (is_public : Bool) (parts : Parts) (asked : Asked) : Type 0 where
+pub record AsksPublic (is_public : Bool) (parts : Parts) (asked : PublicTarget) : Type 0 where
   pub no_file : file_at (uri_path parts.uri) ≡ None
   pub is_it : public_at is_public (uri_path parts.uri) ≡ Some asked
 

@@ -8,5 +8,5 @@ mod resolved;
 mod state;
 
 pub use app::{AppCall, Question, app_at, path_of};
-pub use resolved::{Resolved, resolve};
+pub use resolved::{ResolvedHead, resolve};
 pub use state::{ResolvedState, StateCall};

@@ -4,42 +4,42 @@ ghost use Rattle.mds_limits.specs.declared.cost.Cost.TheVariants.{Free};
 ghost use Rattle.mds_request.specs.declared.config.Actor.TheVariants.{Nobody};
 ghost use Rattle.mds_request.specs.Configuration.{actor_of};
 ghost use Rattle.mds_request.specs.Request.{verb_of};
-ghost use Rattle.mds_hall.specs.Asked.{target_of, token_of};
-ghost use Rattle.mds_public.specs.declared.asked.Asked.{Asked};
+ghost use Rattle.mds_hall.specs.HttpRequest.{target_of, token_of};
+ghost use Rattle.mds_public.specs.declared.public_target.PublicTarget.{PublicTarget};
 ghost use Rattle.http_uri.specs.Uri.{uri_path};
 ghost use Rattle.mds_routes.specs.Endpoint.{AsksFile, AsksPublic, AsksState, public_at};
 ghost use Rattle.mds_routes.specs.State.{state_call, state_cost};
-ghost use Rattle.mds_routes.specs.declared.resolved.Resolved.TheVariants.{Asset, Public, State};
+ghost use Rattle.mds_routes.specs.declared.resolved.ResolvedHead.TheVariants.{Asset, Public, State};
 
 use crate::app::{app_at, path_of};
 use crate::state::{ResolvedState, StateCall, app_call, own_call};
 use http::request::Parts;
-use mds_hall::{Hall, Named, target};
+use mds_hall::{Hall, HallName, target};
 use mds_limits::Cost;
 use mds_page::File;
-use mds_public::Asked;
+use mds_public::PublicTarget;
 use mds_request::{Actor, Code, Verb};
 
 /// A head, and what it asks for: resolved once, before its body is read.
 #[derive(Drop)]
-pub enum Resolved<K: Named> {
+pub enum ResolvedHead<K: HallName> {
     /// A file of the page.
     Asset(Parts, File),
     /// A public document (MDS 2.0 Policy and Geography).
-    Public(Parts, Asked),
+    Public(Parts, PublicTarget),
     /// Anything else, which is asked of the city's state.
     State(ResolvedState<K>),
 }
 
 /// The public document at a path, where the configuration turns these on.
-fn public_at(is_public: bool, path: &[u8]) -> Option<Asked>
+fn public_at(is_public: bool, path: &[u8]) -> Option<PublicTarget>
     ensures { result ≡ public_at is_public path.now }
 {
-    if is_public { Asked::by(path) } else { None }
+    if is_public { PublicTarget::by(path) } else { None }
 }
 
 /// The client of a head, and its call of the city's state.
-fn state_of<K: Named>(hall: &Hall<K>, parts: &Parts) -> (Actor, Result<StateCall, Code>)
+fn state_of<K: HallName>(hall: &Hall<K>, parts: &Parts) -> (Actor, Result<StateCall, Code>)
     ensures asks { result.0 ≡ actor_of K.configuration (token_of parts.now.headers) }
     ensures calls { result.1 ≡ state_call result.0 (verb_of parts.now.method) (target_of parts.now.uri) }
 {
@@ -59,7 +59,7 @@ fn state_of<K: Named>(hall: &Hall<K>, parts: &Parts) -> (Actor, Result<StateCall
 
 /// Resolves a head: the first table that has its path has the request. The client is looked up only
 /// where the city's state is asked.
-pub fn resolve<K: Named>(hall: &Hall<K>, is_public: bool, parts: Parts) -> Resolved<K>
+pub fn resolve<K: HallName>(hall: &Hall<K>, is_public: bool, parts: Parts) -> ResolvedHead<K>
     ensures { elim result [
       | Asset own file ↦ (own ≡ parts) × AsksFile parts file
       | Public own asked ↦ (own ≡ parts) × AsksPublic is_public parts asked
@@ -68,16 +68,16 @@ pub fn resolve<K: Named>(hall: &Hall<K>, is_public: bool, parts: Parts) -> Resol
 {
     let path = parts.uri.path().as_bytes();
     if let Some(file) = File::at(path) {
-        return Resolved::Asset(parts, file);
+        return ResolvedHead::Asset(parts, file);
     }
     if let Some(asked) = public_at(is_public, path) {
-        return Resolved::Public(parts, asked);
+        return ResolvedHead::Public(parts, asked);
     }
     let (actor, call) = state_of(hall, &parts);
-    Resolved::State(ResolvedState::new(parts, actor, call))
+    ResolvedHead::State(ResolvedState::new(parts, actor, call))
 }
 
-impl<K: Named> Resolved<K> {
+impl<K: HallName> ResolvedHead<K> {
     /// The client. Files and public documents are the same for all: their access token isn't looked
     /// at.
     pub fn actor(&self) -> Actor
@@ -88,8 +88,8 @@ impl<K: Named> Resolved<K> {
         ] }
     {
         match self {
-            Resolved::Asset(..) | Resolved::Public(..) => Actor::Nobody,
-            Resolved::State(head) => head.actor(),
+            ResolvedHead::Asset(..) | ResolvedHead::Public(..) => Actor::Nobody,
+            ResolvedHead::State(head) => head.actor(),
         }
     }
 
@@ -102,8 +102,8 @@ impl<K: Named> Resolved<K> {
         ] }
     {
         match self {
-            Resolved::Asset(..) | Resolved::Public(..) => Cost::Free,
-            Resolved::State(head) => head.cost(length),
+            ResolvedHead::Asset(..) | ResolvedHead::Public(..) => Cost::Free,
+            ResolvedHead::State(head) => head.cost(length),
         }
     }
 }

@@ -2,12 +2,12 @@
 ghost use Rattle.std.specs.Prelude.{◌≡◌};
 ghost use Rattle.mds_request.specs.Configuration.{actor_of};
 ghost use Rattle.mds_request.specs.Request.{verb_of};
-ghost use Rattle.mds_hall.specs.Asked.{target_of, token_of};
+ghost use Rattle.mds_hall.specs.HttpRequest.{target_of, token_of};
 ghost use Rattle.mds_routes.specs.State.{app_call, own_call, state_call, state_cost};
 
 use crate::app::{AppCall, Question};
 use http::request::Parts;
-use mds_hall::Named;
+use mds_hall::HallName;
 use mds_limits::{Cost, cost_of};
 use mds_request::{Actor, Call, Code};
 use std::marker::PhantomData;
@@ -28,7 +28,7 @@ pub enum StateCall {
 /// A head that asks for something of the city's state: its client, and its call or the first
 /// refusal of the table.
 #[derive(Drop)]
-pub struct ResolvedState<K: Named> {
+pub struct ResolvedState<K: HallName> {
     parts: Parts,
     actor: Actor,
     call: Result<StateCall, Code>,
@@ -83,7 +83,7 @@ fn cost(call: &Result<StateCall, Code>, length: usize) -> Cost
     }
 }
 
-impl<K: Named> ResolvedState<K> {
+impl<K: HallName> ResolvedState<K> {
     /// A head with its client and its call, or its refusal.
     pub(crate) fn new(parts: Parts, actor: Actor, call: Result<StateCall, Code>) -> ResolvedState<K>
         requires asks { actor ≡ actor_of K.configuration (token_of parts.headers) }

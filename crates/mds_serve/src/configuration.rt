@@ -1,6 +1,6 @@
 //! The configuration on standard input.
 
-use crate::ending::Ending;
+use crate::failure::StartFailure;
 use mds_diagnosis::Detail;
 use mds_lines::{LINE_LIMIT, without_end};
 use mds_request::Config;
@@ -14,24 +14,24 @@ use std::io::{BufRead, ErrorKind, Read};
 ///
 /// The line can't be read, is longer than the limit, or is no configuration (`BadConfig`, with
 /// which of these or what is wrong), or there was no memory (`NotOpened`).
-pub fn read_configuration<S: BufRead + Drop>(alloc: Global, source: S) -> Result<Config, Ending> {
+pub fn read_configuration<S: BufRead + Drop>(alloc: Global, source: S) -> Result<Config, StartFailure> {
     let mut line = Vec::new(alloc);
     let mut front = source.take(LINE_LIMIT as u64 + 2);
     if let Err(error) = front.read_until(b'\n', &mut line) {
         return Err(match error.kind() {
-            ErrorKind::OutOfMemory => Ending::from(ServeFault::NotOpened),
-            _ => Ending::misconfigured(Detail::Unreadable),
+            ErrorKind::OutOfMemory => StartFailure::from(ServeFault::NotOpened),
+            _ => StartFailure::bad_config(Detail::Unreadable),
         });
     }
     let text = without_end(&line);
     if text.len() > LINE_LIMIT {
-        return Err(Ending::misconfigured(Detail::TooLong));
+        return Err(StartFailure::bad_config(Detail::TooLong));
     }
     match Config::read(alloc, text) {
         Ok(config) => Ok(config),
         Err(fault) => Err(match ServeFault::from(fault) {
-            ServeFault::BadConfig => Ending::misconfigured(Detail::of(alloc, text)),
-            fault => Ending::from(fault),
+            ServeFault::BadConfig => StartFailure::bad_config(Detail::of(alloc, text)),
+            fault => StartFailure::from(fault),
         }),
     }
 }

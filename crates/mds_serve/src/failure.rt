@@ -5,25 +5,25 @@ use mds_start::ServeFault;
 
 /// Why the program ends without serving.
 #[derive(Clone, Copy)]
-pub struct Ending {
+pub struct StartFailure {
     pub fault: ServeFault,
     /// What is wrong with a bad configuration.
     pub detail: Option<Detail>,
 }
 
-impl Ending {
+impl StartFailure {
     /// The end after a bad configuration.
-    pub fn misconfigured(detail: Detail) -> Ending {
-        Ending {
+    pub fn bad_config(detail: Detail) -> StartFailure {
+        StartFailure {
             fault: ServeFault::BadConfig,
             detail: Some(detail),
         }
     }
 }
 
-impl From<ServeFault> for Ending {
-    fn from(fault: ServeFault) -> Ending {
-        Ending {
+impl From<ServeFault> for StartFailure {
+    fn from(fault: ServeFault) -> StartFailure {
+        StartFailure {
             fault,
             detail: None,
         }

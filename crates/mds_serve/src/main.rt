@@ -4,7 +4,7 @@
 
 mod arguments;
 mod configuration;
-mod ending;
+mod failure;
 mod running;
 mod runtime;
 

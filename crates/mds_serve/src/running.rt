@@ -5,13 +5,13 @@ ghost use Rattle.mds_snapshot.specs.Opening.{book_of};
 
 use crate::arguments::{Arguments, read_words};
 use crate::configuration::read_configuration;
-use crate::ending::Ending;
+use crate::failure::StartFailure;
 use crate::runtime::ServerRuntime;
-use mds_connections::{MachineClock, Moments, Queues, bound};
-use mds_hall::{Hall, Named};
+use mds_connections::{MachineClock, Moments, Queues, bind_first};
+use mds_hall::{Hall, HallName};
 use mds_request::Config;
 use mds_snapshot::{Blank, prepare};
-use mds_start::{Asked, HELP, Reception, ServeFault, VERSION, asked_by, serve, workers};
+use mds_start::{ServeCommand, HELP, HallService, ServeFault, VERSION, command_of, serve, workers};
 use std::env::Env;
 use std::io::{self, Input};
 use std::marker::Brand;
@@ -23,19 +23,19 @@ use tokio::runtime::Runtime;
 /// # Errors
 ///
 /// The first fault, in the order of `ServeFault`'s cases.
-pub fn run<R: ServerRuntime + Env + Input>(rt: &R) -> Result<(), Ending> {
+pub fn run<R: ServerRuntime + Env + Input>(rt: &R) -> Result<(), StartFailure> {
     let words = read_words(rt)?;
-    match asked_by(&words) {
-        Some(Asked::Help) => {
+    match command_of(&words) {
+        Some(ServeCommand::Help) => {
             let _ = print!(rt; "{}", HELP);
             Ok(())
         }
-        Some(Asked::Version) => {
+        Some(ServeCommand::Version) => {
             let _ = println!(rt; "mds_serve {}", VERSION);
             Ok(())
         }
         Some(
-            Asked::Serve {
+            ServeCommand::Serve {
                 address,
                 connections,
             },
@@ -45,14 +45,14 @@ pub fn run<R: ServerRuntime + Env + Input>(rt: &R) -> Result<(), Ending> {
                 connections,
             };
             let config = read_configuration(rt.alloc(), rt.reader())?;
-            Ok(prepared(rt, arguments, config)?)
+            Ok(prepare_and_serve(rt, arguments, config)?)
         }
-        None => Err(Ending::from(ServeFault::Usage)),
+        None => Err(StartFailure::from(ServeFault::Usage)),
     }
 }
 
 /// Opens the server and serves.
-fn prepared<R: ServerRuntime>(
+fn prepare_and_serve<R: ServerRuntime>(
     rt: &R,
     arguments: Arguments<'_>,
     config: Config,
@@ -62,7 +62,7 @@ fn prepared<R: ServerRuntime>(
 }
 
 /// Opens a hall, serves and ends it.
-fn open<K: Named + Send + Sync, R: ServerRuntime>(
+fn open<K: HallName + Send + Sync, R: ServerRuntime>(
     rt: &R,
     arguments: Arguments<'_>,
     config: Config,
@@ -82,7 +82,7 @@ fn open<K: Named + Send + Sync, R: ServerRuntime>(
 }
 
 /// Binds, says so, serves by so many threads and ends the hall.
-fn listen<K: Named + Send + Sync, R: ServerRuntime, M: Moments + Send + Sync>(
+fn listen<K: HallName + Send + Sync, R: ServerRuntime, M: Moments + Send + Sync>(
     rt: &R,
     threads: usize,
     arguments: Arguments<'_>,
@@ -93,9 +93,9 @@ fn listen<K: Named + Send + Sync, R: ServerRuntime, M: Moments + Send + Sync>(
     requires { 0 < threads }
 {
     let mut runtime = Runtime::with_worker_threads(rt, threads)?;
-    let listener = bound(rt, arguments.address, runtime.handle().reactor())?;
+    let listener = bind_first(rt, arguments.address, runtime.handle().reactor())?;
     let _ = println!(rt; "ready");
-    let reception = Reception::new(*rt, hall, moments);
+    let reception = HallService::new(*rt, hall, moments);
     serve(
         rt,
         &mut runtime,

@@ -9,11 +9,11 @@ use std::thread::Threads;
 use std::time::Clock;
 
 /// What the machine gives to each thread.
-pub trait Host: Clock + RandomSource + AllocGlobal + Print + Sync + Send + Copy + Drop {}
+pub trait ServeHost: Clock + RandomSource + AllocGlobal + Print + Sync + Send + Copy + Drop {}
 
-impl Host for HostRuntime {}
+impl ServeHost for HostRuntime {}
 
 /// The runtime of a server: the host, with sockets, threads and blocking waits.
-pub trait ServerRuntime: Host + Wait + Threads + Net {}
+pub trait ServerRuntime: ServeHost + Wait + Threads + Net {}
 
-impl<R: Host + Wait + Threads + Net> ServerRuntime for R {}
+impl<R: ServeHost + Wait + Threads + Net> ServerRuntime for R {}

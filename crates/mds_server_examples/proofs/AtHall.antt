@@ -8,7 +8,7 @@ use Rattle.mds_examples.proofs.Rows.{no_rows}
 use Rattle.mds_examples.specs.Histories.{question, answer}
 use Rattle.mds_examples.specs.Requests.{alfa, configuration}
 use Rattle.mds_examples.specs.Vehicles.{one_row}
-use Rattle.mds_server_examples.specs.Held.{desk}
+use Rattle.mds_server_examples.specs.DeskStates.{desk}
 use Rattle.mds_server_examples.specs.Turns.{first_front, reported, counted}
 use Rattle.mds_server_examples.proofs.AtDesk.{reports, counts, first_turn, second_turn, known_turn}
 

@@ -7,7 +7,7 @@ use Rattle.mds_request.specs.declared.request.Verb.TheVariants.{Put}
 use Rattle.mds_request.specs.Reply.{success}
 use Rattle.mds_machine.specs.Answer.{settled}
 use Rattle.mds_machine.specs.Room.{room_does, IsRoomTurn, AreRoomTurns}
-use Rattle.mds_examples.proofs.Drafted.{no_square, geography_count, no_cap, policy_count, the_square, the_cap, square_out, cap_out}
+use Rattle.mds_examples.proofs.DraftCounts.{no_square, geography_count, no_cap, policy_count, the_square, the_cap, square_out, cap_out}
 use Rattle.mds_examples.proofs.Session.{square_call, cap_call}
 use Rattle.mds_examples.specs.Computed.{documents}
 use Rattle.mds_examples.specs.Geographies.{square_text, square_document}

@@ -1,3 +1,3 @@
 pub mod Heads
-pub mod Held
+pub mod DeskStates
 pub mod Turns

@@ -3,7 +3,7 @@
 
 ghost use Rattle.std.specs.Prelude.{◌≡◌, ◌∷◌, [], codes, replicate, Some, None};
 ghost use Rattle.mds_hall.specs.Early.{early};
-ghost use Rattle.mds_hall.specs.Asker.{IsWithin};
+ghost use Rattle.mds_hall.specs.Client.{IsWithin};
 ghost use Rattle.mds_hall.specs.Respond.{Responds};
 ghost use Rattle.mds_hall.specs.Response.{Says};
 ghost use Rattle.mds_limits.specs.declared.arrival.Arrived.TheVariants.{Whole, Broken, TooLong, NoMemory};
@@ -32,7 +32,7 @@ pub fn bodies()
 {}
 
 /// Nothing else is refused early: an unknown path and a body that is no JSON are refused as a desk or the room does.
-pub fn let_in()
+pub fn admitted_requests()
     ensures operator { early configuration (by_alfa (codes "/compliance")) (Whole []) (Some 2000) ≡ None }
     ensures author { early configuration (head (codes "POST") (origin (codes "/publish")) (with_credentials (codes "Bearer city" ∷ []))) (Whole (codes "{")) (Some 0) ≡ None }
     ensures no_route { early configuration (by_alfa (codes "/nowhere")) (Whole []) (Some 2000) ≡ None }
@@ -47,14 +47,14 @@ pub fn responses()
 {}
 
 /// The response is the early refusal, and no later one.
-pub fn responded()
+pub fn early_responses()
     ensures token { Responds configuration by_nobody (Whole []) (Some 2000) (json_response 401 (codes "{\"error\":\"token\"}")) }
     ensures clock { Responds configuration by_nobody (Whole []) None (json_response 503 (codes "{\"error\":\"clock\"}")) }
     ensures not_the_second { ¬ (Responds configuration by_nobody (Whole []) None (json_response 401 (codes "{\"error\":\"token\"}"))) }
 {}
 
 /// Of two operators the indices are 0 and 1. The author and anonymous clients are within any count.
-pub fn askers()
+pub fn client_indices()
     ensures second { IsWithin 2 (Operator 1) }
     ensures third { ¬ (IsWithin 2 (Operator 2)) }
     ensures author { IsWithin 2 Author }

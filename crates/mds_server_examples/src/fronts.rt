@@ -12,7 +12,7 @@ ghost use Rattle.mds_examples.specs.Requests.{alfa, configuration};
 ghost use Rattle.mds_server_examples.specs.Turns.{first_front, reported, counted, nothing_in_force, three_turns, two_turns, seen_by_three, without_memory, without_snapshot, by_another, without_route};
 
 /// Each front begins with the one before it, and may be the same. The last front is that of the last turn.
-pub fn rising()
+pub fn rising_fronts()
     ensures longer { AreRising [] three_turns }
     ensures same { AreRising first_front (counted ∷ counted ∷ []) }
     ensures last { last_front [] three_turns ≡ then_withdrawn }
@@ -21,7 +21,7 @@ pub fn rising()
 
 /// Fronts don't rise where one is shorter than the one before or than what was known, nor where one has what was
 /// known, but not as its prefix.
-pub fn not_rising()
+pub fn not_rising_fronts()
     ensures shorter { ¬ (AreRising [] (nothing_in_force ∷ counted ∷ [])) }
     ensures forgotten { ¬ (AreRising first_front (reported ∷ [])) }
     ensures not_first { ¬ (AreRising (withdrawal 3000 cap_id ∷ []) (nothing_in_force ∷ [])) }

@@ -23,12 +23,12 @@ pub fn parts()
 
 /// The first operator's exchanges are put among the author's, its report before the publication and its question
 /// after it, and are its part of the history.
-pub fn put_in()
+pub fn insertion()
     ensures whole { IsPutInto (new_state configuration) 0 own_exchanges at_the_room whole }
     ensures part { HasPart configuration 0 two_turns whole }
 {}
 
 /// A server has served the room's exchanges and the desks' turns.
-pub fn served()
+pub fn served_history()
     ensures server { HasServed configuration at_the_room first_front turns_of }
 {}

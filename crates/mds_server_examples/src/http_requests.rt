@@ -2,7 +2,7 @@
 #![tactic(auto)]
 
 ghost use Rattle.std.specs.Prelude.{◌≡◌, ◌∷◌, [], codes};
-ghost use Rattle.mds_hall.specs.Asked.{token_in, token_of, target_of, request_in};
+ghost use Rattle.mds_hall.specs.HttpRequest.{token_in, token_of, target_of, request_in};
 ghost use Rattle.mds_request.specs.Request.{verb_of};
 ghost use Rattle.mds_request.specs.declared.request.Verb.TheVariants.{Get, Post, Other};
 ghost use Rattle.mds_examples.specs.Machine.{ask};

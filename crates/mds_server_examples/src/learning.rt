@@ -12,7 +12,7 @@ ghost use Rattle.mds_examples.specs.Requests.{configuration};
 ghost use Rattle.mds_examples.specs.Vehicles.{one_row};
 ghost use Rattle.std.specs.FinMap.{empty};
 ghost use Rattle.mds_server_examples.specs.Heads.{json_response};
-ghost use Rattle.mds_server_examples.specs.Held.{desk, second_desk};
+ghost use Rattle.mds_server_examples.specs.DeskStates.{desk, second_desk};
 ghost use Rattle.mds_server_examples.specs.Turns.{first_front};
 
 /// Each operator has a new desk, which knows of no publication and has no row.

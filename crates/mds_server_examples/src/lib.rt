@@ -2,7 +2,7 @@
 //! a few of one kind, and each clause is named by what it shows. The functions themselves do nothing.
 #![tactic(auto)]
 
-pub mod asked;
+pub mod http_requests;
 pub mod counts;
 pub mod desks;
 pub mod early;
@@ -10,5 +10,5 @@ pub mod fronts;
 pub mod histories;
 pub mod learning;
 pub mod limits;
-pub mod resolved;
+pub mod resolution;
 pub mod rooms;

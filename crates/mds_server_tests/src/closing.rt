@@ -6,7 +6,7 @@ use futures::future::{Ready, ready};
 use http::Response;
 use http::request::Parts;
 use http_body_util::Full;
-use mds_connections::{Answers, Closing, Crowded, Ended, Queues, bound, serve_by};
+use mds_connections::{RequestService, ShutdownHandle, Crowded, ServeOutcome, Queues, bind_first, serve_by};
 use mds_limits::{Arrived, Cost};
 use mds_request::{Actor, Config};
 use std::alloc::{AllocError, Global};
@@ -27,11 +27,11 @@ const MOST_READS: u32 = 1000;
 
 /// A service that takes every request as the author's, and gives each the same answer.
 #[derive(Drop)]
-struct Parrot {
+struct FixedAnswerService {
     alloc: Global,
 }
 
-impl Answers for Parrot {
+impl RequestService for FixedAnswerService {
     type Head = Parts;
 
     type Reply = Ready<Result<Response<Full<Bytes>>, AllocError>>;
@@ -73,7 +73,7 @@ fn is_answered(stream: &mut TcpStream, alloc: Global) -> io::Result<bool> {
 
 /// Sends a request, shuts the server down, and returns whether the answer came and the connection then closed with no
 /// further byte.
-fn is_ended(mut stream: TcpStream, closing: &Closing, alloc: Global) -> io::Result<bool> {
+fn is_ended(mut stream: TcpStream, closing: &ShutdownHandle, alloc: Global) -> io::Result<bool> {
     let is_answered = is_answered(&mut stream, alloc);
     closing.close();
     let mut rest = Vec::new(alloc);
@@ -83,14 +83,14 @@ fn is_ended(mut stream: TcpStream, closing: &Closing, alloc: Global) -> io::Resu
 
 /// An idle connection closes when its server shuts down, and the service is returned.
 #[test]
-fn ends_with_a_connection_that_rests(rt: HostRuntime) -> Result<(), Fail> {
+fn ends_with_an_idle_connection(rt: HostRuntime) -> Result<(), Fail> {
     let alloc = rt.alloc();
     let config = Config::read(alloc, CONFIGURATION)?;
     let queues = Queues::new(alloc, &config)?;
     let mut runtime = Runtime::with_worker_threads(&rt, 2)?;
-    let listener = bound(&rt, "127.0.0.1:0", runtime.handle().reactor())?;
+    let listener = bind_first(&rt, "127.0.0.1:0", runtime.handle().reactor())?;
     let stream = TcpStream::connect(&rt, listener.local_addr()?)?;
-    let closing = Closing::new(alloc)?;
+    let closing = ShutdownHandle::new(alloc)?;
     let (ended, served) = join(
         &rt,
         || is_ended(stream, &closing, alloc),
@@ -98,12 +98,12 @@ fn ends_with_a_connection_that_rests(rt: HostRuntime) -> Result<(), Fail> {
             &rt,
             &mut runtime,
             listener,
-            Parrot { alloc },
+            FixedAnswerService { alloc },
             queues,
             &closing,
         ),
     );
-    let Ended { answers, outcome } = served?;
+    let ServeOutcome { answers, outcome } = served?;
     outcome?;
     assert!(rt; ended?);
     assert!(rt; answers.is_some());

@@ -4,8 +4,8 @@ use futures::executor::block_on;
 use http::header::CONNECTION;
 use http::{Response, StatusCode};
 use http_body_util::Full;
-use mds_connections::{Admittance, Register, Seat, busy, finished};
-use mds_limits::{Arrived, MOST_OF_ASKER, MOST_STRANGERS, MOST_WAITING};
+use mds_connections::{Admittance, ConnTable, ConnSlot, busy, close_unless_whole};
+use mds_limits::{Arrived, MOST_OF_CLIENT, MOST_ANONYMOUS, MOST_WAITING};
 use mds_request::Actor;
 use std::alloc::{AllocError, AllocGlobal, Global};
 use std::sync::Arc;
@@ -13,23 +13,23 @@ use std::sync::atomic::{AtomicU64, Ordering};
 use std::test::Fail;
 
 /// Gives an anonymous connection a slot, and returns its key; `None` where there is no slot for it.
-fn entered(register: &mut Register, alloc: Global) -> Result<Option<usize>, AllocError> {
-    let seat = Arc::new(alloc, Seat::new(alloc)?)?;
-    Ok(register.enter(seat))
+fn enter_anonymous(register: &mut ConnTable, alloc: Global) -> Result<Option<usize>, AllocError> {
+    let seat = Arc::new(alloc, ConnSlot::new(alloc)?)?;
+    Ok(register.add_conn(seat))
 }
 
 /// Anonymous connections have as many slots as they may have; one more gets in for the oldest idle one.
 #[test]
-fn strangers_have_half_of_the_seats(rt: HostRuntime) -> Result<(), Fail> {
+fn anonymous_connections_have_half_of_the_slots(rt: HostRuntime) -> Result<(), Fail> {
     let alloc = rt.alloc();
-    let mut register = Register::new(alloc, 3)?;
-    for _ in 0..MOST_STRANGERS {
-        entered(&mut register, alloc)?.ok_or("no seat")?;
+    let mut register = ConnTable::new(alloc, 3)?;
+    for _ in 0..MOST_ANONYMOUS {
+        enter_anonymous(&mut register, alloc)?.ok_or("no seat")?;
     }
-    let last = entered(&mut register, alloc)?.ok_or("no seat for one more")?;
-    let first = register.ask(0, Actor::Nobody, 0);
+    let last = enter_anonymous(&mut register, alloc)?.ok_or("no seat for one more")?;
+    let first = register.admit(0, Actor::Nobody, 0);
     assert!(rt; first == Admittance::Busy);
-    let asked = register.ask(last, Actor::Author, 0);
+    let asked = register.admit(last, Actor::Author, 0);
     assert!(rt; asked == Admittance::Admitted(Actor::Author));
     Ok(())
 }
@@ -38,59 +38,59 @@ fn strangers_have_half_of_the_seats(rt: HostRuntime) -> Result<(), Fail> {
 #[test]
 fn so_many_requests_wait(rt: HostRuntime) -> Result<(), Fail> {
     let alloc = rt.alloc();
-    let mut register = Register::new(alloc, 3)?;
+    let mut register = ConnTable::new(alloc, 3)?;
     for _ in 0..MOST_WAITING {
-        let key = entered(&mut register, alloc)?.ok_or("no seat")?;
-        let asked = register.ask(key, Actor::Nobody, 0);
+        let key = enter_anonymous(&mut register, alloc)?.ok_or("no seat")?;
+        let asked = register.admit(key, Actor::Nobody, 0);
         assert!(rt; asked == Admittance::Admitted(Actor::Nobody));
     }
-    let key = entered(&mut register, alloc)?.ok_or("no seat")?;
-    assert!(rt; register.ask(key, Actor::Nobody, 0) == Admittance::Busy);
-    register.answered(0);
-    let asked = register.ask(key, Actor::Nobody, 0);
+    let key = enter_anonymous(&mut register, alloc)?.ok_or("no seat")?;
+    assert!(rt; register.admit(key, Actor::Nobody, 0) == Admittance::Busy);
+    register.finish_request(0);
+    let asked = register.admit(key, Actor::Nobody, 0);
     assert!(rt; asked == Admittance::Admitted(Actor::Nobody));
     Ok(())
 }
 
 /// A client has at most `MOST_OF_ASKER` connections where none of them is idle.
 #[test]
-fn one_has_so_many_seats(rt: HostRuntime) -> Result<(), Fail> {
+fn a_client_has_so_many_slots(rt: HostRuntime) -> Result<(), Fail> {
     let alloc = rt.alloc();
-    let mut register = Register::new(alloc, 3)?;
+    let mut register = ConnTable::new(alloc, 3)?;
     let alfa = Actor::Operator(0);
-    for _ in 0..MOST_OF_ASKER {
-        let key = entered(&mut register, alloc)?.ok_or("no seat")?;
-        assert!(rt; register.ask(key, alfa, 0) == Admittance::Admitted(alfa));
+    for _ in 0..MOST_OF_CLIENT {
+        let key = enter_anonymous(&mut register, alloc)?.ok_or("no seat")?;
+        assert!(rt; register.admit(key, alfa, 0) == Admittance::Admitted(alfa));
     }
-    let key = entered(&mut register, alloc)?.ok_or("no seat")?;
-    assert!(rt; register.ask(key, alfa, 0) == Admittance::Busy);
-    register.answered(0);
-    register.rest(0);
-    assert!(rt; register.ask(key, alfa, 0) == Admittance::Admitted(alfa));
+    let key = enter_anonymous(&mut register, alloc)?.ok_or("no seat")?;
+    assert!(rt; register.admit(key, alfa, 0) == Admittance::Busy);
+    register.finish_request(0);
+    register.set_idle(0);
+    assert!(rt; register.admit(key, alfa, 0) == Admittance::Admitted(alfa));
     Ok(())
 }
 
 /// A closed table of connections lets in no connection and no request.
 #[test]
-fn a_closed_register_lets_nothing_in(rt: HostRuntime) -> Result<(), Fail> {
+fn a_closed_table_lets_nothing_in(rt: HostRuntime) -> Result<(), Fail> {
     let alloc = rt.alloc();
-    let mut register = Register::new(alloc, 3)?;
-    let key = entered(&mut register, alloc)?.ok_or("no seat")?;
+    let mut register = ConnTable::new(alloc, 3)?;
+    let key = enter_anonymous(&mut register, alloc)?.ok_or("no seat")?;
     register.close();
-    assert!(rt; register.ask(key, Actor::Author, 0) == Admittance::Busy);
-    assert!(rt; entered(&mut register, alloc)?.is_none());
+    assert!(rt; register.admit(key, Actor::Author, 0) == Admittance::Busy);
+    assert!(rt; enter_anonymous(&mut register, alloc)?.is_none());
     Ok(())
 }
 
 /// Each connection is notified that the server shuts down: that it is to close, and that a response is its last one.
 #[test]
-fn each_connection_is_told(rt: HostRuntime) -> Result<(), Fail> {
+fn each_connection_is_notified(rt: HostRuntime) -> Result<(), Fail> {
     let alloc = rt.alloc();
-    let mut register = Register::new(alloc, 3)?;
-    let seat = Arc::new(alloc, Seat::new(alloc)?)?;
-    let (told, last) = (seat.told()?, seat.last()?);
-    register.enter(seat).ok_or("no seat")?;
-    register.tell();
+    let mut register = ConnTable::new(alloc, 3)?;
+    let seat = Arc::new(alloc, ConnSlot::new(alloc)?)?;
+    let (told, last) = (seat.close_notice()?, seat.shutdown_notice()?);
+    register.add_conn(seat).ok_or("no seat")?;
+    register.notify_shutdown();
     block_on(&rt, told)??;
     block_on(&rt, last)??;
     Ok(())
@@ -111,27 +111,27 @@ fn busy_says_so(rt: HostRuntime) -> Result<(), Fail> {
 fn a_last_reply_says_so(rt: HostRuntime) -> Result<(), Fail> {
     let alloc = rt.alloc();
     let long = Response::new(alloc, Full::new(Bytes::new()));
-    let long = finished(long, &Arrived::TooLong)?;
+    let long = close_unless_whole(long, &Arrived::TooLong)?;
     assert!(rt; long.headers().get(CONNECTION).is_some());
     let whole = Response::new(alloc, Full::new(Bytes::new()));
-    let whole = finished(whole, &Arrived::Whole(Bytes::new()))?;
+    let whole = close_unless_whole(whole, &Arrived::Whole(Bytes::new()))?;
     assert!(rt; whole.headers().get(CONNECTION).is_none());
     Ok(())
 }
 
 /// A counter holds the number of open connections, from the moment it is passed on.
 #[test]
-fn tells_how_many_are_open(rt: HostRuntime) -> Result<(), Fail> {
+fn counts_open_connections(rt: HostRuntime) -> Result<(), Fail> {
     let alloc = rt.alloc();
-    let mut register = Register::new(alloc, 3)?;
-    let first = entered(&mut register, alloc)?.ok_or("no seat")?;
+    let mut register = ConnTable::new(alloc, 3)?;
+    let first = enter_anonymous(&mut register, alloc)?.ok_or("no seat")?;
     let open = Arc::new(alloc, AtomicU64::new(7))?;
     register.count_at(Arc::try_clone(&open)?);
     assert!(rt; open.load(Ordering::SeqCst) == 1);
-    entered(&mut register, alloc)?.ok_or("no second seat")?;
+    enter_anonymous(&mut register, alloc)?.ok_or("no second seat")?;
     assert!(rt; open.load(Ordering::SeqCst) == 2);
-    register.leave(first);
-    register.leave(first);
+    register.remove_conn(first);
+    register.remove_conn(first);
     assert!(rt; open.load(Ordering::SeqCst) == 1);
     Ok(())
 }

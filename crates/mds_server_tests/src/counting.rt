@@ -8,14 +8,14 @@ use std::sync::atomic::{AtomicU64, Ordering};
 
 /// Evaluates as `Plain` does, and counts the policies that it is given.
 #[derive(Drop)]
-pub(crate) struct Counting {
+pub(crate) struct CountingEvaluator {
     policies: AtomicU64,
 }
 
-impl Counting {
+impl CountingEvaluator {
     /// An evaluator that wasn't called yet.
-    pub(crate) fn new() -> Counting {
-        Counting {
+    pub(crate) fn new() -> CountingEvaluator {
+        CountingEvaluator {
             policies: AtomicU64::new(0),
         }
     }
@@ -26,7 +26,7 @@ impl Counting {
     }
 }
 
-impl<P: Places> Evaluator<P> for Counting {
+impl<P: Places> Evaluator<P> for CountingEvaluator {
     ghost use Rattle.std.specs.Prelude.{◌≡◌, ◌^◌, ◌<◌, All, IfOk, map};
     ghost use Rattle.mds_policy.specs.Policy.{policy_document};
     ghost use Rattle.mds_match.specs.Row.{row_of};

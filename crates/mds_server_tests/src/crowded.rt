@@ -6,7 +6,7 @@ use futures::future::{Ready, ready};
 use http::Response;
 use http::request::Parts;
 use http_body_util::Full;
-use mds_connections::{Answers, Closing, Crowded, Ended, Queues, bound, serve_by};
+use mds_connections::{RequestService, ShutdownHandle, Crowded, ServeOutcome, Queues, bind_first, serve_by};
 use mds_limits::{Arrived, Cost};
 use mds_request::{Actor, Config};
 use std::alloc::{AllocError, Global};
@@ -35,7 +35,7 @@ struct Echo {
     asked: AtomicU64,
 }
 
-impl Answers for Echo {
+impl RequestService for Echo {
     type Head = Parts;
 
     type Reply = Ready<Result<Response<Full<Bytes>>, AllocError>>;
@@ -69,7 +69,7 @@ impl Answers for Echo {
 }
 
 /// Sends a request over a connection that closes after it, and returns the response.
-fn ask(stream: &mut TcpStream, alloc: Global) -> io::Result<Vec<u8>> {
+fn send_request(stream: &mut TcpStream, alloc: Global) -> io::Result<Vec<u8>> {
     stream.write_all(REQUEST)?;
     let mut told = Vec::new(alloc);
     stream.read_to_end(&mut told)?;
@@ -77,8 +77,8 @@ fn ask(stream: &mut TcpStream, alloc: Global) -> io::Result<Vec<u8>> {
 }
 
 /// Sends a request, shuts the server down, and returns the response.
-fn ask_and_end(mut stream: TcpStream, closing: &Closing, alloc: Global) -> io::Result<Vec<u8>> {
-    let told = ask(&mut stream, alloc);
+fn send_and_shut_down(mut stream: TcpStream, closing: &ShutdownHandle, alloc: Global) -> io::Result<Vec<u8>> {
+    let told = send_request(&mut stream, alloc);
     closing.close();
     told
 }
@@ -86,24 +86,24 @@ fn ask_and_end(mut stream: TcpStream, closing: &Closing, alloc: Global) -> io::R
 /// A request of a crowded client is passed to the service again, with its body, until it is
 /// answered.
 #[test]
-fn asks_a_crowded_request_again(rt: HostRuntime) -> Result<(), Fail> {
+fn tries_a_crowded_request_again(rt: HostRuntime) -> Result<(), Fail> {
     let alloc = rt.alloc();
     let config = Config::read(alloc, CONFIGURATION)?;
     let queues = Queues::new(alloc, &config)?;
     let mut runtime = Runtime::with_worker_threads(&rt, 2)?;
-    let listener = bound(&rt, "127.0.0.1:0", runtime.handle().reactor())?;
+    let listener = bind_first(&rt, "127.0.0.1:0", runtime.handle().reactor())?;
     let stream = TcpStream::connect(&rt, listener.local_addr()?)?;
-    let closing = Closing::new(alloc)?;
+    let closing = ShutdownHandle::new(alloc)?;
     let echo = Echo {
         alloc,
         asked: AtomicU64::new(0),
     };
     let (told, served) = join(
         &rt,
-        || ask_and_end(stream, &closing, alloc),
+        || send_and_shut_down(stream, &closing, alloc),
         || serve_by(&rt, &mut runtime, listener, echo, queues, &closing),
     );
-    let Ended { answers, outcome } = served?;
+    let ServeOutcome { answers, outcome } = served?;
     outcome?;
     let told = told?;
     assert!(rt; told.starts_with(b"HTTP/1.1 200 "));

@@ -4,9 +4,9 @@ ghost use Rattle.std.specs.Prelude.{◌≡◌};
 ghost use Rattle.mds_snapshot.specs.Opening.{book_of};
 
 use crate::city::{BOTH, CAP, CONFIGURATION, NEW, SQUARE};
-use mds_desk::{Answer, AuthorRoom, Desk, OpenGate, furnish};
+use mds_desk::{SharedReply, AuthorRoom, Desk, OpenGate, furnish};
 use mds_request::{Config, Request, Verb};
-use mds_snapshot::{Blank, Naming, Note, OpenFault, prepare};
+use mds_snapshot::{Blank, OpeningName, Note, OpenFault, prepare};
 use mds_text::Moment;
 use mds_verdict::Plain;
 use std::alloc::{AllocError, Global};
@@ -26,7 +26,7 @@ const NO_SNAPSHOT: &str = r#"{"error":"no_snapshot"}"#;
 
 /// A request at a moment, and the body of its success, status 200.
 #[derive(Clone, Copy)]
-struct Exchange {
+struct DeskExchange {
     at: i64,
     token: &'static str,
     verb: Verb,
@@ -35,7 +35,7 @@ struct Exchange {
     success: &'static str,
 }
 
-const PUT_SQUARE: &Exchange = &Exchange {
+const PUT_SQUARE: &DeskExchange = &DeskExchange {
     at: 1000,
     token: "city",
     verb: Verb::Put,
@@ -44,7 +44,7 @@ const PUT_SQUARE: &Exchange = &Exchange {
     success: NEW,
 };
 
-const PUT_CAP: &Exchange = &Exchange {
+const PUT_CAP: &DeskExchange = &DeskExchange {
     at: 1000,
     token: "city",
     verb: Verb::Put,
@@ -54,9 +54,9 @@ const PUT_CAP: &Exchange = &Exchange {
 };
 
 /// Both documents are put as drafts.
-const DRAFTS: &[&Exchange] = &[PUT_SQUARE, PUT_CAP];
+const DRAFTS: &[&DeskExchange] = &[PUT_SQUARE, PUT_CAP];
 
-const PUBLISH: &Exchange = &Exchange {
+const PUBLISH: &DeskExchange = &DeskExchange {
     at: 1000,
     token: "city",
     verb: Verb::Post,
@@ -65,7 +65,7 @@ const PUBLISH: &Exchange = &Exchange {
     success: r#"{"published_date":1000,"revision":1}"#,
 };
 
-const REPORT_FIRST: &Exchange = &Exchange {
+const REPORT_FIRST: &DeskExchange = &DeskExchange {
     at: 2000,
     token: "alfa",
     verb: Verb::Post,
@@ -74,7 +74,7 @@ const REPORT_FIRST: &Exchange = &Exchange {
     success: NEW,
 };
 
-const WITHIN: &Exchange = &Exchange {
+const WITHIN: &DeskExchange = &DeskExchange {
     at: 2000,
     token: "alfa",
     verb: Verb::Get,
@@ -83,7 +83,7 @@ const WITHIN: &Exchange = &Exchange {
     success: r#"{"at":2000,"policies":[{"policy_id":"00000000-0000-4000-8000-000000000201","rules":[{"measure":1,"rule_id":"00000000-0000-4000-8000-000000000301","status":"ok"}]}],"revision":1,"version":2}"#,
 };
 
-const REPORT_SECOND: &Exchange = &Exchange {
+const REPORT_SECOND: &DeskExchange = &DeskExchange {
     at: 2001,
     token: "alfa",
     verb: Verb::Post,
@@ -92,7 +92,7 @@ const REPORT_SECOND: &Exchange = &Exchange {
     success: NEW,
 };
 
-const EXCEEDED: &Exchange = &Exchange {
+const EXCEEDED: &DeskExchange = &DeskExchange {
     at: 2001,
     token: "alfa",
     verb: Verb::Get,
@@ -102,13 +102,13 @@ const EXCEEDED: &Exchange = &Exchange {
 };
 
 /// One vehicle is reported, and then another, with a compliance question after each.
-const LINES: &[&Exchange; 4] = &[REPORT_FIRST, WITHIN, REPORT_SECOND, EXCEEDED];
+const LINES: &[&DeskExchange; 4] = &[REPORT_FIRST, WITHIN, REPORT_SECOND, EXCEEDED];
 
 /// The answer at 2000 where no vehicle is counted.
 const NONE_COUNTED: &str =
     r#"{"at":2000,"policies":[{"policy_id":"00000000-0000-4000-8000-000000000201","rules":[{"measure":0,"rule_id":"00000000-0000-4000-8000-000000000301","status":"ok"}]}],"revision":1,"version":2}"#;
 
-const NONE_FOR_ALFA: &Exchange = &Exchange {
+const NONE_FOR_ALFA: &DeskExchange = &DeskExchange {
     at: 2000,
     token: "alfa",
     verb: Verb::Get,
@@ -117,7 +117,7 @@ const NONE_FOR_ALFA: &Exchange = &Exchange {
     success: NONE_COUNTED,
 };
 
-const NONE_FOR_BRAVO: &Exchange = &Exchange {
+const NONE_FOR_BRAVO: &DeskExchange = &DeskExchange {
     at: 2000,
     token: "bravo",
     verb: Verb::Get,
@@ -129,7 +129,7 @@ const NONE_FOR_BRAVO: &Exchange = &Exchange {
 /// The answer at 2000 where nothing is published.
 const NOTHING_PUBLISHED: &str = r#"{"at":2000,"policies":[],"revision":0,"version":2}"#;
 
-const NOTHING_FOR_ALFA: &Exchange = &Exchange {
+const NOTHING_FOR_ALFA: &DeskExchange = &DeskExchange {
     at: 2000,
     token: "alfa",
     verb: Verb::Get,
@@ -138,7 +138,7 @@ const NOTHING_FOR_ALFA: &Exchange = &Exchange {
     success: NOTHING_PUBLISHED,
 };
 
-const NOTHING_FOR_BRAVO: &Exchange = &Exchange {
+const NOTHING_FOR_BRAVO: &DeskExchange = &DeskExchange {
     at: 2000,
     token: "bravo",
     verb: Verb::Get,
@@ -147,7 +147,7 @@ const NOTHING_FOR_BRAVO: &Exchange = &Exchange {
     success: NOTHING_PUBLISHED,
 };
 
-const GEOGRAPHIES: &Exchange = &Exchange {
+const GEOGRAPHIES: &DeskExchange = &DeskExchange {
     at: 1000,
     token: "alfa",
     verb: Verb::Get,
@@ -156,7 +156,7 @@ const GEOGRAPHIES: &Exchange = &Exchange {
     success: r#"{"geographies":[{"geography_id":"00000000-0000-4000-8000-000000000101","geography_json":{"features":[{"geometry":{"coordinates":[[[[0,0],[10,0],[10,10],[0,10],[0,0]]]],"type":"MultiPolygon"},"properties":null,"type":"Feature"}],"type":"FeatureCollection"},"name":"square","published_date":1000}],"revision":1}"#,
 };
 
-const POLICY: &Exchange = &Exchange {
+const POLICY: &DeskExchange = &DeskExchange {
     at: 1000,
     token: "alfa",
     verb: Verb::Get,
@@ -166,14 +166,14 @@ const POLICY: &Exchange = &Exchange {
 };
 
 /// A test of a room and the desks of two operators, none of which has learnt of a publication.
-trait Scene {
+trait DeskTest {
     ghost use Rattle.std.specs.Prelude.{⊤};
 
     /// The condition under which it may be run.
     ghost may_play: { Type 0 } = { ⊤ };
 
     /// Runs the test, and returns whether it came to its end; it doesn't where memory ran out.
-    fn play<K: Naming, R: Wait + Abort>(
+    fn run_test<K: OpeningName, R: Wait + Abort>(
         &self,
         rt: &R,
         alloc: Global,
@@ -185,7 +185,7 @@ trait Scene {
 }
 
 /// Runs a test on a room and desks that are furnished for the configuration; false where memory ran out.
-fn stage<S: Scene, R: Wait + Abort>(rt: &R, alloc: Global, scene: &S) -> Result<bool, Fail>
+fn furnish_and_run<S: DeskTest, R: Wait + Abort>(rt: &R, alloc: Global, scene: &S) -> Result<bool, Fail>
     requires { S.may_play }
 {
     let Ok(config) = Config::read(alloc, CONFIGURATION) else {
@@ -194,11 +194,11 @@ fn stage<S: Scene, R: Wait + Abort>(rt: &R, alloc: Global, scene: &S) -> Result<
     let Ok(blank) = prepare(alloc) else {
         return Ok(false);
     };
-    Ok(furnished::<Brand, S, R>(rt, alloc, config, blank, scene)?)
+    Ok(run_and_finish::<Brand, S, R>(rt, alloc, config, blank, scene)?)
 }
 
 /// The desks of two operators.
-fn two<K: Naming>(rt: &impl Abort, mut desks: Vec<Desk<K>>) -> (Desk<K>, Desk<K>) {
+fn two<K: OpeningName>(rt: &impl Abort, mut desks: Vec<Desk<K>>) -> (Desk<K>, Desk<K>) {
     assert!(rt; desks.len() == 2);
     let bravo = desks.pop().expect(rt, "bravo's desk");
     let alfa = desks.pop().expect(rt, "alfa's desk");
@@ -206,7 +206,7 @@ fn two<K: Naming>(rt: &impl Abort, mut desks: Vec<Desk<K>>) -> (Desk<K>, Desk<K>
 }
 
 /// Runs a test, and finishes the room: a desk has no snapshot to show then.
-fn furnished<K: Naming, S: Scene, R: Wait + Abort>(
+fn run_and_finish<K: OpeningName, S: DeskTest, R: Wait + Abort>(
     rt: &R,
     alloc: Global,
     config: Config,
@@ -219,10 +219,10 @@ fn furnished<K: Naming, S: Scene, R: Wait + Abort>(
     match furnish::<K, R>(rt, alloc, config, blank) {
         Ok((mut room, desks)) => {
             let (mut alfa, mut bravo) = two(rt, desks);
-            let outcome = scene.play(rt, alloc, &mut room, &mut alfa, &mut bravo);
+            let outcome = scene.run_test(rt, alloc, &mut room, &mut alfa, &mut bravo);
             drop(bravo);
             room.finish(rt);
-            assert_ended(rt, &mut alfa);
+            assert_finished(rt, &mut alfa);
             outcome
         }
         Err(fault) => {
@@ -233,16 +233,16 @@ fn furnished<K: Naming, S: Scene, R: Wait + Abort>(
 }
 
 /// Checks that the room of this desk is finished.
-fn assert_ended<K: Naming>(rt: &impl Abort, desk: &mut Desk<K>) {
-    let reply = asked(rt, desk, NOTHING_FOR_ALFA);
+fn assert_finished<K: OpeningName>(rt: &impl Abort, desk: &mut Desk<K>) {
+    let reply = desk_reply(rt, desk, NOTHING_FOR_ALFA);
     assert_refused(rt, &reply, 503, NO_SNAPSHOT);
 }
 
-fn moment(rt: &impl Abort, exchange: &Exchange) -> Moment {
+fn moment(rt: &impl Abort, exchange: &DeskExchange) -> Moment {
     Moment::new(exchange.at).expect(rt, "a moment")
 }
 
-fn request(at: Moment, exchange: &Exchange) -> Request<'_> {
+fn request(at: Moment, exchange: &DeskExchange) -> Request<'_> {
     Request {
         at,
         token: exchange.token.as_bytes(),
@@ -252,42 +252,42 @@ fn request(at: Moment, exchange: &Exchange) -> Request<'_> {
     }
 }
 
-fn asked<K: Naming>(rt: &impl Abort, desk: &mut Desk<K>, exchange: &Exchange) -> Answer {
+fn desk_reply<K: OpeningName>(rt: &impl Abort, desk: &mut Desk<K>, exchange: &DeskExchange) -> SharedReply {
     let request = request(moment(rt, exchange), exchange);
     desk.answer(&request, &mut OpenGate, &Plain)
 }
 
 /// Whether the reply has this status and body.
-fn is_reply(reply: &Answer, status: u16, body: &str) -> bool {
+fn is_reply(reply: &SharedReply, status: u16, body: &str) -> bool {
     reply.status() == status && reply.body() == body.as_bytes()
 }
 
 /// Checks that this is the exchange's reply.
-fn assert_success(rt: &impl Abort, reply: &Answer, exchange: &Exchange) {
+fn assert_success(rt: &impl Abort, reply: &SharedReply, exchange: &DeskExchange) {
     let is_success = is_reply(reply, 200, exchange.success);
     assert!(rt; is_success, "no {} at {}", exchange.success, exchange.at);
 }
 
 /// Checks that this reply is a refusal with this status and body.
-fn assert_refused(rt: &impl Abort, reply: &Answer, status: u16, body: &str) {
+fn assert_refused(rt: &impl Abort, reply: &SharedReply, status: u16, body: &str) {
     assert!(rt; is_reply(reply, status, body), "no {body}");
 }
 
 /// Checks that the desk gives the exchange's reply.
-fn assert_answers<K: Naming>(rt: &impl Abort, desk: &mut Desk<K>, exchange: &Exchange) {
-    let reply = asked(rt, desk, exchange);
+fn assert_answers<K: OpeningName>(rt: &impl Abort, desk: &mut Desk<K>, exchange: &DeskExchange) {
+    let reply = desk_reply(rt, desk, exchange);
     assert_success(rt, &reply, exchange);
 }
 
 /// Checks that the desk gives the reply of each exchange.
-fn assert_answers_each<K: Naming>(rt: &impl Abort, desk: &mut Desk<K>, exchanges: &[&Exchange]) {
+fn assert_answers_each<K: OpeningName>(rt: &impl Abort, desk: &mut Desk<K>, exchanges: &[&DeskExchange]) {
     for exchange in exchanges {
         assert_answers(rt, desk, exchange);
     }
 }
 
 /// The requests of two exchanges.
-fn two_requests<'a>(rt: &impl Abort, exchanges: &'a [&'a Exchange; 2]) -> [Request<'a>; 2] {
+fn two_requests<'a>(rt: &impl Abort, exchanges: &'a [&'a DeskExchange; 2]) -> [Request<'a>; 2] {
     let [first, second] = exchanges;
     [
         request(moment(rt, first), first),
@@ -296,7 +296,7 @@ fn two_requests<'a>(rt: &impl Abort, exchanges: &'a [&'a Exchange; 2]) -> [Reque
 }
 
 /// Checks that these are the exchanges' replies.
-fn assert_successes(rt: &impl Abort, replies: &[Answer], exchanges: &[&Exchange]) {
+fn assert_successes(rt: &impl Abort, replies: &[SharedReply], exchanges: &[&DeskExchange]) {
     assert!(rt; replies.len() == exchanges.len());
     for (reply, exchange) in replies.iter().zip(exchanges) {
         assert_success(rt, reply, exchange);
@@ -304,19 +304,19 @@ fn assert_successes(rt: &impl Abort, replies: &[Answer], exchanges: &[&Exchange]
 }
 
 /// The reply of the author's room to an exchange's request, and its note, if any.
-fn room_turn<K: Naming, R: Wait + Abort>(
+fn room_turn<K: OpeningName, R: Wait + Abort>(
     rt: &R,
     room: &mut AuthorRoom<K>,
-    exchange: &Exchange,
-) -> (Answer, Option<Note<K>>) {
+    exchange: &DeskExchange,
+) -> (SharedReply, Option<Note<K>>) {
     room.answer(rt, &request(moment(rt, exchange), exchange))
 }
 
 /// Checks that the room gives the exchange's reply, and returns its note, if any.
-fn room_answers<K: Naming, R: Wait + Abort>(
+fn room_answers<K: OpeningName, R: Wait + Abort>(
     rt: &R,
     room: &mut AuthorRoom<K>,
-    exchange: &Exchange,
+    exchange: &DeskExchange,
 ) -> Option<Note<K>> {
     let (reply, note) = room_turn(rt, room, exchange);
     assert_success(rt, &reply, exchange);
@@ -324,9 +324,9 @@ fn room_answers<K: Naming, R: Wait + Abort>(
 }
 
 /// Checks that the room gave a refusal with this status and body, and no note.
-fn assert_unnoted<K: Naming>(
+fn assert_unnoted<K: OpeningName>(
     rt: &impl Abort,
-    given: &(Answer, Option<Note<K>>),
+    given: &(SharedReply, Option<Note<K>>),
     status: u16,
     body: &str,
 ) {
@@ -335,19 +335,19 @@ fn assert_unnoted<K: Naming>(
 }
 
 /// Puts both documents as drafts, which gives no note.
-fn draft<K: Naming, R: Wait + Abort>(rt: &R, room: &mut AuthorRoom<K>) {
+fn draft<K: OpeningName, R: Wait + Abort>(rt: &R, room: &mut AuthorRoom<K>) {
     for exchange in DRAFTS {
         assert!(rt; room_answers(rt, room, exchange).is_none());
     }
 }
 
 /// Puts both documents and publishes them.
-pub(crate) fn set_up<K: Naming, R: Wait + Abort>(rt: &R, room: &mut AuthorRoom<K>) -> Note<K> {
+pub(crate) fn set_up<K: OpeningName, R: Wait + Abort>(rt: &R, room: &mut AuthorRoom<K>) -> Note<K> {
     draft(rt, room);
     room_answers(rt, room, PUBLISH).expect(rt, "a note")
 }
 
 /// Puts both documents and publishes them, and has a desk learn of it.
-fn set_up_for<K: Naming, R: Wait + Abort>(rt: &R, room: &mut AuthorRoom<K>, desk: &mut Desk<K>) {
+fn set_up_for<K: OpeningName, R: Wait + Abort>(rt: &R, room: &mut AuthorRoom<K>, desk: &mut Desk<K>) {
     desk.learn(&set_up(rt, room));
 }

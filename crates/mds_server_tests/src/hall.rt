@@ -10,7 +10,7 @@ use http::header::{AUTHORIZATION, CONTENT_TYPE};
 use http::request::Parts;
 use http::{HeaderMap, HeaderValue, Method, Response, Uri, Version};
 use http_body_util::{BodyExt, Full};
-use mds_hall::{Arrived, Hall, Named, respond};
+use mds_hall::{Arrived, Hall, HallName, respond};
 use mds_parallel::Chunked;
 use mds_request::Config;
 use mds_snapshot::{Blank, prepare};
@@ -29,28 +29,28 @@ mod resolving;
 mod session;
 
 /// The status of an answer, and its body, which is JSON.
-struct Answer {
+struct ExpectedAnswer {
     status: u16,
     body: &'static str,
 }
 
-const TAKEN: &Answer = &Answer {
+const NEW_RESULT: &ExpectedAnswer = &ExpectedAnswer {
     status: 200,
     body: NEW,
 };
 
-const PUBLISHED: &Answer = &Answer {
+const PUBLISHED: &ExpectedAnswer = &ExpectedAnswer {
     status: 200,
     body: r#"{"published_date":1000,"revision":1}"#,
 };
 
 /// The answer at 2000 where no vehicle is counted.
-const NONE_COUNTED: &Answer = &Answer {
+const NONE_COUNTED: &ExpectedAnswer = &ExpectedAnswer {
     status: 200,
     body: r#"{"at":2000,"policies":[{"policy_id":"00000000-0000-4000-8000-000000000201","rules":[{"measure":0,"rule_id":"00000000-0000-4000-8000-000000000301","status":"ok"}]}],"revision":1,"version":2}"#,
 };
 
-const TOKEN: &Answer = &Answer {
+const TOKEN: &ExpectedAnswer = &ExpectedAnswer {
     status: 401,
     body: r#"{"error":"token"}"#,
 };
@@ -66,33 +66,33 @@ const CITY: &str = "Bearer city";
 const JSON: &[u8] = b"application/json";
 
 /// A request at a moment, and its answer.
-struct Exchange {
+struct HallExchange {
     at: i64,
     credentials: Option<&'static str>,
     target: &'static str,
     body: &'static str,
-    answer: &'static Answer,
+    answer: &'static ExpectedAnswer,
 }
 
 /// The drafts that are put before they are published.
-const DRAFTS: &[Exchange] = &[
-    Exchange {
+const DRAFTS: &[HallExchange] = &[
+    HallExchange {
         at: 1000,
         credentials: Some(CITY),
         target: "/drafts/geographies/00000000-0000-4000-8000-000000000101",
         body: SQUARE,
-        answer: TAKEN,
+        answer: NEW_RESULT,
     },
-    Exchange {
+    HallExchange {
         at: 1000,
         credentials: Some(CITY),
         target: "/drafts/policies/00000000-0000-4000-8000-000000000201",
         body: CAP,
-        answer: TAKEN,
+        answer: NEW_RESULT,
     },
 ];
 
-const PUBLISH: &Exchange = &Exchange {
+const PUBLISH: &HallExchange = &HallExchange {
     at: 1000,
     credentials: Some(CITY),
     target: "/publish",
@@ -101,7 +101,7 @@ const PUBLISH: &Exchange = &Exchange {
 };
 
 /// A question by bravo, who has no vehicle.
-const ASKED_BY_BRAVO: &Exchange = &Exchange {
+const QUESTION_OF_BRAVO: &HallExchange = &HallExchange {
     at: 2000,
     credentials: Some(BRAVO),
     target: COMPLIANCE,
@@ -110,13 +110,13 @@ const ASKED_BY_BRAVO: &Exchange = &Exchange {
 };
 
 /// What tests need of the runtime, besides that threads may share it.
-trait Host: Wait + Threads + RandomSource + AllocGlobal + Abort + Copy {}
+trait HallRuntime: Wait + Threads + RandomSource + AllocGlobal + Abort + Copy {}
 
-impl<R: Wait + Threads + RandomSource + AllocGlobal + Abort + Copy> Host for R {}
+impl<R: Wait + Threads + RandomSource + AllocGlobal + Abort + Copy> HallRuntime for R {}
 
 /// The test that is run on a hall.
 #[derive(Clone, Copy)]
-enum Visit {
+enum HallTest {
     OwnQuestions,
     EachForm,
     EachArrival,
@@ -129,19 +129,19 @@ enum Visit {
     LargeReport,
 }
 
-fn visited<R: Host + Sync>(rt: &R, visit: Visit) -> Result<(), Fail> {
+fn run_hall_test<R: HallRuntime + Sync>(rt: &R, visit: HallTest) -> Result<(), Fail> {
     let alloc = rt.alloc();
     let config = Config::read(alloc, CONFIGURATION)?;
     let blank = prepare(alloc)?;
-    opened::<Brand, R>(rt, alloc, config, blank, visit)
+    open_and_run::<Brand, R>(rt, alloc, config, blank, visit)
 }
 
-fn opened<K: Named + Send + Sync, R: Host + Sync>(
+fn open_and_run<K: HallName + Send + Sync, R: HallRuntime + Sync>(
     rt: &R,
     alloc: Global,
     config: Config,
     blank: Blank,
-    visit: Visit,
+    visit: HallTest,
 ) -> Result<(), Fail>
     requires book { book_of blank ≡ K.book }
     requires configured { configuration config ≡ K.configuration }
@@ -149,16 +149,16 @@ fn opened<K: Named + Send + Sync, R: Host + Sync>(
     let hall = Hall::<K>::new(rt, alloc, config, blank)?;
     let config = hall.configuration().expect(rt, "a share");
     match visit {
-        Visit::OwnQuestions => session::own_questions(rt, alloc, &hall),
-        Visit::EachForm => session::each_form(rt, alloc, &hall),
-        Visit::EachArrival => early::each_arrival(rt, alloc, &hall),
-        Visit::LargeAndUnknown => early::large_and_unknown(rt, alloc, &hall),
-        Visit::BesideAHeldQuestion => overlapping::beside_a_held_question(rt, alloc, &hall),
-        Visit::LatestNote => session::latest_note(rt, alloc, &hall),
-        Visit::Judged => session::judged(rt, alloc, &hall),
-        Visit::RefusedBesideLocks => early::refused_beside_locks(rt, alloc, &hall),
-        Visit::EachHead => resolving::each_head(rt, alloc, &hall),
-        Visit::LargeReport => resolving::large_report(rt, alloc, &hall),
+        HallTest::OwnQuestions => session::own_questions(rt, alloc, &hall),
+        HallTest::EachForm => session::each_form(rt, alloc, &hall),
+        HallTest::EachArrival => early::each_arrival(rt, alloc, &hall),
+        HallTest::LargeAndUnknown => early::large_and_unknown(rt, alloc, &hall),
+        HallTest::BesideAHeldQuestion => overlapping::during_a_held_question(rt, alloc, &hall),
+        HallTest::LatestNote => session::latest_note(rt, alloc, &hall),
+        HallTest::Judged => session::given_evaluator(rt, alloc, &hall),
+        HallTest::RefusedBesideLocks => early::refusals_under_locks(rt, alloc, &hall),
+        HallTest::EachHead => resolving::each_head(rt, alloc, &hall),
+        HallTest::LargeReport => resolving::large_report(rt, alloc, &hall),
     }
     hall.finish(rt);
     // A room that isn't finished keeps its `Arc`.
@@ -206,7 +206,7 @@ fn whole(body: &'static str) -> Arrived {
 }
 
 /// The body of a response.
-fn body_of<R: Host>(rt: &R, response: Response<Full<Bytes>>) -> Option<Bytes> {
+fn body_of<R: HallRuntime>(rt: &R, response: Response<Full<Bytes>>) -> Option<Bytes> {
     let mut body = response.into_body();
     match block_on(rt, body.frame()) {
         Ok(Some(Ok(frame))) => frame.into_data().ok(),
@@ -215,7 +215,7 @@ fn body_of<R: Host>(rt: &R, response: Response<Full<Bytes>>) -> Option<Bytes> {
 }
 
 /// Whether the response has this status and the content type of JSON.
-fn is_headed(response: &Response<Full<Bytes>>, status: u16) -> bool {
+fn has_head(response: &Response<Full<Bytes>>, status: u16) -> bool {
     match response.headers().get(CONTENT_TYPE) {
         Some(kind) => kind.as_bytes() == JSON && response.status().as_u16() == status,
         None => false,
@@ -223,15 +223,15 @@ fn is_headed(response: &Response<Full<Bytes>>, status: u16) -> bool {
 }
 
 /// Whether the response is this answer.
-fn is_answer<R: Host>(
+fn is_answer<R: HallRuntime>(
     rt: &R,
     response: Result<Response<Full<Bytes>>, AllocError>,
-    answer: &Answer,
+    answer: &ExpectedAnswer,
 ) -> bool {
     let Ok(response) = response else {
         return false;
     };
-    let is_headed = is_headed(&response, answer.status);
+    let is_headed = has_head(&response, answer.status);
     match body_of(rt, response) {
         Some(said) => is_headed && said.as_slice() == answer.body.as_bytes(),
         None => false,
@@ -240,13 +240,13 @@ fn is_answer<R: Host>(
 
 /// Whether the hall gives this answer to a head, if there is one, with this body. Vehicles are evaluated by several
 /// threads.
-fn gives<K: Named, R: Host + Sync>(
+fn gives<K: HallName, R: HallRuntime + Sync>(
     rt: &R,
     hall: &Hall<K>,
     parts: Option<Parts>,
     arrived: Arrived,
     at: Option<Moment>,
-    answer: &Answer,
+    answer: &ExpectedAnswer,
 ) -> bool {
     let Some(parts) = parts else {
         return false;
@@ -256,12 +256,12 @@ fn gives<K: Named, R: Host + Sync>(
 }
 
 /// Whether the hall gives the exchange's answer to its request with this method.
-fn answers<K: Named, R: Host + Sync>(
+fn answers<K: HallName, R: HallRuntime + Sync>(
     rt: &R,
     alloc: Global,
     hall: &Hall<K>,
     method: Method,
-    exchange: &Exchange,
+    exchange: &HallExchange,
 ) -> bool {
     let parts = parts(alloc, method, exchange.target, exchange.credentials);
     let body = whole(exchange.body);
@@ -270,19 +270,19 @@ fn answers<K: Named, R: Host + Sync>(
 }
 
 /// Checks that the hall gives the exchange's answer to its request with this method.
-fn assert_answers<K: Named, R: Host + Sync>(
+fn assert_answers<K: HallName, R: HallRuntime + Sync>(
     rt: &R,
     alloc: Global,
     hall: &Hall<K>,
     method: Method,
-    exchange: &Exchange,
+    exchange: &HallExchange,
 ) {
     let is_answered = answers(rt, alloc, hall, method, exchange);
     assert!(rt; is_answered, "no {}", exchange.answer.body);
 }
 
 /// Puts the policy and its square as drafts and publishes them, at 1000.
-fn set_up<K: Named, R: Host + Sync>(rt: &R, alloc: Global, hall: &Hall<K>) {
+fn set_up<K: HallName, R: HallRuntime + Sync>(rt: &R, alloc: Global, hall: &Hall<K>) {
     for exchange in DRAFTS {
         assert_answers(rt, alloc, hall, Method::PUT, exchange);
     }

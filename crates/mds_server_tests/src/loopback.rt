@@ -3,11 +3,11 @@ ghost use Rattle.std.specs.Prelude.{◌≡◌};
 ghost use Rattle.mds_request.specs.Configuration.{configuration};
 ghost use Rattle.mds_snapshot.specs.Opening.{book_of};
 
-use mds_connections::{Moments, Queues, bound};
-use mds_hall::{Hall, Named};
+use mds_connections::{Moments, Queues, bind_first};
+use mds_hall::{Hall, HallName};
 use mds_request::Config;
 use mds_snapshot::{Blank, prepare};
-use mds_start::{Reception, serve};
+use mds_start::{HallService, serve};
 use mds_text::Moment;
 use std::alloc::{AllocGlobal, Global};
 use std::io::{self, Read, Write};
@@ -26,7 +26,7 @@ const CONFIGURATION: &[u8] =
     br#"{"author":"city","operators":[{"id":"00000000-0000-4000-8000-0000000000a1","limit":2,"token":"alfa"},{"id":"00000000-0000-4000-8000-0000000000b1","limit":2,"token":"bravo"}],"zone":"Z"}"#;
 
 /// A request, and the status and the body of its answer.
-struct Exchange {
+struct LoopbackExchange {
     line: &'static str,
     token: &'static str,
     body: &'static str,
@@ -37,29 +37,29 @@ struct Exchange {
 const SUCCESS: &str = "HTTP/1.1 200 ";
 
 /// A policy is published, and alfa asks for compliance.
-const EXCHANGES: &[Exchange] = &[
-    Exchange {
+const EXCHANGES: &[LoopbackExchange] = &[
+    LoopbackExchange {
         line: "PUT /drafts/geographies/00000000-0000-4000-8000-000000000101",
         token: "city",
         body: r#"{"geography_id":"00000000-0000-4000-8000-000000000101","name":"square","geography_json":{"type":"Polygon","coordinates":[[[0,0],[10,0],[10,10],[0,10],[0,0]]]}}"#,
         status: SUCCESS,
         answer: r#"{"result":"new"}"#,
     },
-    Exchange {
+    LoopbackExchange {
         line: "PUT /drafts/policies/00000000-0000-4000-8000-000000000201",
         token: "city",
         body: r#"{"policy_id":"00000000-0000-4000-8000-000000000201","name":"cap","start_date":1000,"rules":[{"rule_id":"00000000-0000-4000-8000-000000000301","name":"cap","rule_type":"count","geographies":["00000000-0000-4000-8000-000000000101"],"maximum":1}]}"#,
         status: SUCCESS,
         answer: r#"{"result":"new"}"#,
     },
-    Exchange {
+    LoopbackExchange {
         line: "POST /publish",
         token: "city",
         body: r#"{"geographies":["00000000-0000-4000-8000-000000000101"],"policies":["00000000-0000-4000-8000-000000000201"]}"#,
         status: SUCCESS,
         answer: r#"{"published_date":2000,"revision":1}"#,
     },
-    Exchange {
+    LoopbackExchange {
         line: "GET /compliance",
         token: "alfa",
         body: "",
@@ -70,15 +70,15 @@ const EXCHANGES: &[Exchange] = &[
 
 /// Requests and their answers where the clock gives no moment, which is found before the access
 /// token is read.
-const AT_NO_MOMENT: &[Exchange] = &[
-    Exchange {
+const AT_NO_MOMENT: &[LoopbackExchange] = &[
+    LoopbackExchange {
         line: "GET /policies",
         token: "alfa",
         body: "",
         status: "HTTP/1.1 503 ",
         answer: r#"{"error":"clock"}"#,
     },
-    Exchange {
+    LoopbackExchange {
         line: "GET /policies",
         token: "nobody",
         body: "",
@@ -89,9 +89,9 @@ const AT_NO_MOMENT: &[Exchange] = &[
 
 /// A clock that always gives this moment, or none.
 #[derive(Clone, Copy)]
-struct Standing(Option<Moment>);
+struct FixedClock(Option<Moment>);
 
-impl Moments for Standing {
+impl Moments for FixedClock {
     fn now(&self) -> Option<Moment> {
         self.0
     }
@@ -105,24 +105,24 @@ enum Script {
 }
 
 impl Script {
-    fn exchanges(self) -> &'static [Exchange] {
+    fn exchanges(self) -> &'static [LoopbackExchange] {
         match self {
             Script::Published => EXCHANGES,
             Script::NoMoment => AT_NO_MOMENT,
         }
     }
 
-    fn clock(self) -> Standing {
+    fn clock(self) -> FixedClock {
         match self {
-            Script::Published => Standing(Moment::new(2000)),
-            Script::NoMoment => Standing(None),
+            Script::Published => FixedClock(Moment::new(2000)),
+            Script::NoMoment => FixedClock(None),
         }
     }
 }
 
 /// A connection, the request to send over it, and what its response must begin and end with.
 #[derive(Drop)]
-struct Asked {
+struct LoopbackClient {
     stream: TcpStream,
     request: String,
     status: &'static str,
@@ -130,13 +130,13 @@ struct Asked {
 }
 
 /// Opens a connection for an exchange.
-fn connected<R: Net<Stream = TcpStream> + AllocGlobal>(
+fn open_client<R: Net<Stream = TcpStream> + AllocGlobal>(
     rt: &R,
     address: SocketAddr,
-    exchange: &Exchange,
-) -> io::Result<Asked> {
+    exchange: &LoopbackExchange,
+) -> io::Result<LoopbackClient> {
     let alloc = rt.alloc();
-    Ok(Asked {
+    Ok(LoopbackClient {
         stream: TcpStream::connect(rt, address)?,
         request: format!(in alloc;
             "{} HTTP/1.1\r\nhost: localhost\r\nauthorization: Bearer {}\r\ncontent-length: {}\r\nconnection: close\r\n\r\n{}",
@@ -151,7 +151,7 @@ fn connected<R: Net<Stream = TcpStream> + AllocGlobal>(
 }
 
 /// Sends the request, and returns whether the response is the expected one.
-fn is_answered(alloc: Global, asked: &mut Asked) -> io::Result<bool> {
+fn is_answered(alloc: Global, asked: &mut LoopbackClient) -> io::Result<bool> {
     asked.stream.write_all(asked.request.as_bytes())?;
     let mut answer = Vec::new(alloc);
     asked.stream.read_to_end(&mut answer)?;
@@ -160,7 +160,7 @@ fn is_answered(alloc: Global, asked: &mut Asked) -> io::Result<bool> {
 
 /// Sends requests one after another, each once the one before is answered. Returns whether all
 /// responses are the expected ones.
-fn are_answered(alloc: Global, mut clients: Vec<Asked>) -> bool {
+fn are_answered(alloc: Global, mut clients: Vec<LoopbackClient>) -> bool {
     let mut wanted = true;
     for asked in &mut clients {
         wanted &= matches!(is_answered(alloc, asked), Ok(true));
@@ -172,42 +172,42 @@ fn are_answered(alloc: Global, mut clients: Vec<Asked>) -> bool {
 fn clients_of<R: Net<Stream = TcpStream> + AllocGlobal>(
     rt: &R,
     address: SocketAddr,
-    exchanges: &[Exchange],
-) -> io::Result<Vec<Asked>> {
+    exchanges: &[LoopbackExchange],
+) -> io::Result<Vec<LoopbackClient>> {
     let mut clients = Vec::with_capacity(rt.alloc(), exchanges.len())?;
     for exchange in exchanges {
-        clients.push(connected(rt, address, exchange)?)?;
+        clients.push(open_client(rt, address, exchange)?)?;
     }
     Ok(clients)
 }
 
 /// The runtime, the listener of the server, and its clients.
 #[derive(Drop)]
-struct Scene {
+struct LoopbackSetup {
     runtime: Runtime,
     listener: TcpListener,
-    clients: Vec<Asked>,
+    clients: Vec<LoopbackClient>,
 }
 
 /// A listener on a free port, and its clients.
-fn listening<R: Net<Stream = TcpStream> + AllocGlobal>(
+fn listen_with_clients<R: Net<Stream = TcpStream> + AllocGlobal>(
     rt: &R,
     runtime: &Runtime,
-    exchanges: &[Exchange],
-) -> io::Result<(TcpListener, Vec<Asked>)> {
-    let listener = bound(rt, "127.0.0.1:0", runtime.handle().reactor())?;
+    exchanges: &[LoopbackExchange],
+) -> io::Result<(TcpListener, Vec<LoopbackClient>)> {
+    let listener = bind_first(rt, "127.0.0.1:0", runtime.handle().reactor())?;
     let address = listener.local_addr()?;
     let clients = clients_of(rt, address, exchanges)?;
     Ok((listener, clients))
 }
 
-fn scene_of<R>(rt: &R, exchanges: &[Exchange]) -> io::Result<Scene>
+fn setup_of<R>(rt: &R, exchanges: &[LoopbackExchange]) -> io::Result<LoopbackSetup>
 where
     R: Clock + Net<Stream = TcpStream> + RandomSource + AllocGlobal,
 {
     let runtime = Runtime::with_worker_threads(rt, 2)?;
-    let (listener, clients) = listening(rt, &runtime, exchanges)?;
-    Ok(Scene {
+    let (listener, clients) = listen_with_clients(rt, &runtime, exchanges)?;
+    Ok(LoopbackSetup {
         runtime,
         listener,
         clients,
@@ -216,7 +216,7 @@ where
 
 /// Serves one of the scripts. The hall is made once all else is there, so that no earlier failure
 /// leaves one to finish.
-fn served<K: Named + Send + Sync, R>(
+fn serve_script<K: HallName + Send + Sync, R>(
     rt: &R,
     config: Config,
     blank: Blank,
@@ -237,22 +237,22 @@ where
     requires book { book_of blank ≡ K.book }
     requires configured { configuration config ≡ K.configuration }
 {
-    let scene = scene_of(rt, script.exchanges())?;
+    let scene = setup_of(rt, script.exchanges())?;
     let queues = Queues::new(rt.alloc(), &config)?;
     let hall = Hall::<K>::new(rt, rt.alloc(), config, blank)?;
-    let (wanted, served) = both(rt, scene, hall, queues, script.clock());
+    let (wanted, served) = send_and_serve(rt, scene, hall, queues, script.clock());
     served?;
     assert!(rt; wanted);
     Ok(())
 }
 
 /// Sends the requests, and serves concurrently.
-fn both<K: Named + Send + Sync, R>(
+fn send_and_serve<K: HallName + Send + Sync, R>(
     rt: &R,
-    scene: Scene,
+    scene: LoopbackSetup,
     hall: Hall<K>,
     queues: Queues,
-    moments: Standing,
+    moments: FixedClock,
 ) -> (bool, io::Result<()>)
 where
     R: Wait
@@ -266,13 +266,13 @@ where
         + Copy
         + Drop,
 {
-    let Scene {
+    let LoopbackSetup {
         mut runtime,
         listener,
         clients,
     } = scene;
     let (alloc, count) = (rt.alloc(), clients.len());
-    let reception = Reception::new(*rt, hall, moments);
+    let reception = HallService::new(*rt, hall, moments);
     join(
         rt,
         move || are_answered(alloc, clients),
@@ -281,7 +281,7 @@ where
 }
 
 /// Runs one of the scripts.
-fn played<R>(rt: &R, script: Script) -> Result<(), Fail>
+fn run_script<R>(rt: &R, script: Script) -> Result<(), Fail>
 where
     R: Wait
         + Threads
@@ -297,17 +297,17 @@ where
 {
     let config = Config::read(rt.alloc(), CONFIGURATION)?;
     let blank = prepare(rt.alloc())?;
-    served::<Brand, _>(rt, config, blank, script)
+    serve_script::<Brand, _>(rt, config, blank, script)
 }
 
 /// A policy is published, and an operator asks for compliance.
 #[test]
 fn answers_over_loopback(rt: HostRuntime) -> Result<(), Fail> {
-    played(&rt, Script::Published)
+    run_script(&rt, Script::Published)
 }
 
 /// Without a moment each request is answered with `clock`.
 #[test]
 fn has_no_moment_over_loopback(rt: HostRuntime) -> Result<(), Fail> {
-    played(&rt, Script::NoMoment)
+    run_script(&rt, Script::NoMoment)
 }

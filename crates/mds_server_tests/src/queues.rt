@@ -36,21 +36,21 @@ fn permits(turn: &mut Option<Turn>, cx: &mut Context<'_>) -> Option<Permits>
 
 /// A future that tries turns in the queue of alfa, where nothing else waits.
 #[derive(Drop)]
-struct Alfa<'a> {
+struct QueueTest<'a> {
     queues: &'a Queues,
-    scene: Scene,
+    scene: QueueCase,
 }
 
 /// The answers that wait.
 #[derive(Clone, Copy)]
-enum Scene {
+enum QueueCase {
     /// Two short answers.
     Short,
     /// Three long answers, and short ones.
     Long,
 }
 
-impl Alfa<'_> {
+impl QueueTest<'_> {
     /// A turn in alfa's queue.
     fn turn(&self, cost: Cost) -> Option<Turn>
         ensures { IfSome result IsWaiting }
@@ -59,7 +59,7 @@ impl Alfa<'_> {
     }
 
     /// Whether two short answers run concurrently.
-    fn are_side_by_side(&self, cx: &mut Context<'_>) -> bool
+    fn are_concurrent(&self, cx: &mut Context<'_>) -> bool
         ensures { Keeps cx.old cx.new }
     {
         let first = permits(&mut self.turn(Cost::Shared), cx);
@@ -101,24 +101,24 @@ impl Alfa<'_> {
     }
 }
 
-impl Future for Alfa<'_> {
+impl Future for QueueTest<'_> {
     type Output = bool;
 
     fn poll(&mut self, cx: &mut Context<'_>) -> Poll<bool> {
         Poll::Ready(match self.scene {
-            Scene::Short => self.are_side_by_side(cx),
-            Scene::Long => self.are_in_order(cx),
+            QueueCase::Short => self.are_concurrent(cx),
+            QueueCase::Long => self.are_in_order(cx),
         })
     }
 }
 
 /// Short answers to one client run concurrently.
 #[test]
-fn short_answers_are_given_side_by_side(rt: HostRuntime) -> Result<(), Fail> {
+fn short_answers_run_concurrently(rt: HostRuntime) -> Result<(), Fail> {
     let alloc = rt.alloc();
     let queues = &Queues::new(alloc, &Config::read(alloc, CONFIGURATION)?)?;
-    let scene = Scene::Short;
-    assert!(rt; block_on(&rt, Alfa { queues, scene })?);
+    let scene = QueueCase::Short;
+    assert!(rt; block_on(&rt, QueueTest { queues, scene })?);
     Ok(())
 }
 
@@ -127,8 +127,8 @@ fn short_answers_are_given_side_by_side(rt: HostRuntime) -> Result<(), Fail> {
 fn a_short_answer_waits_for_one_long(rt: HostRuntime) -> Result<(), Fail> {
     let alloc = rt.alloc();
     let queues = &Queues::new(alloc, &Config::read(alloc, CONFIGURATION)?)?;
-    let scene = Scene::Long;
-    assert!(rt; block_on(&rt, Alfa { queues, scene })?);
+    let scene = QueueCase::Long;
+    assert!(rt; block_on(&rt, QueueTest { queues, scene })?);
     Ok(())
 }
 

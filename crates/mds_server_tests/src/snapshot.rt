@@ -5,7 +5,7 @@ ghost use Rattle.mds_snapshot.specs.Opening.{book_of};
 use mds_catalog::{Batch, Catalogue};
 use mds_geography::Geography;
 use mds_policy::Policy;
-use mds_snapshot::{Blank, Naming, Note, OpenFault, Pane, Publisher, open, prepare};
+use mds_snapshot::{Blank, OpeningName, Note, OpenFault, Pane, Publisher, open, prepare};
 use mds_text::{Id, Moment};
 use std::alloc::{AllocError, Global};
 use std::marker::Brand;
@@ -77,7 +77,7 @@ fn both(alloc: Global) -> Option<(Arc<Batch>, Arc<Batch>)> {
 }
 
 /// Publishes a batch, once it is checked to be lawful.
-fn publish<K: Naming, R: Wait + Abort>(
+fn publish<K: OpeningName, R: Wait + Abort>(
     rt: &R,
     publisher: &mut Publisher<K>,
     batch: &Arc<Batch>,
@@ -87,7 +87,7 @@ fn publish<K: Naming, R: Wait + Abort>(
 }
 
 /// Publishes a batch, once it is checked to be lawful. Publishing needs no memory.
-fn published<K: Naming, R: Wait + Abort>(
+fn publish_lawful<K: OpeningName, R: Wait + Abort>(
     rt: &R,
     publisher: &mut Publisher<K>,
     batch: &Arc<Batch>,
@@ -104,7 +104,7 @@ fn assert_front(rt: &impl Abort, catalogue: &Catalogue, length: u64) {
 }
 
 /// Takes a look and leaves it, and checks that it shows so many batches.
-fn shown<K: Naming>(rt: &impl Abort, pane: Pane<K>, length: u64) -> Pane<K> {
+fn expect_shown<K: OpeningName>(rt: &impl Abort, pane: Pane<K>, length: u64) -> Pane<K> {
     match pane.look() {
         Ok(look) => {
             assert_front(rt, look.catalogue(), length);
@@ -115,18 +115,18 @@ fn shown<K: Naming>(rt: &impl Abort, pane: Pane<K>, length: u64) -> Pane<K> {
 }
 
 /// Learns a note, and checks that the next look shows so many batches.
-fn told<K: Naming>(rt: &impl Abort, mut pane: Pane<K>, note: &Note<K>, length: u64) -> Pane<K> {
+fn learn_and_expect<K: OpeningName>(rt: &impl Abort, mut pane: Pane<K>, note: &Note<K>, length: u64) -> Pane<K> {
     pane.learn(note);
-    shown(rt, pane, length)
+    expect_shown(rt, pane, length)
 }
 
 #[test]
 fn notes_reach_each_pane(rt: HostRuntime) -> Result<(), Fail> {
     let blank = prepare(rt.alloc())?;
-    opened::<Brand, _>(&rt, rt.alloc(), blank)
+    open_two_panes::<Brand, _>(&rt, rt.alloc(), blank)
 }
 
-fn opened<K: Naming, R: Wait + Abort>(rt: &R, alloc: Global, blank: Blank) -> Result<(), Fail>
+fn open_two_panes<K: OpeningName, R: Wait + Abort>(rt: &R, alloc: Global, blank: Blank) -> Result<(), Fail>
     requires { book_of blank ≡ K.book }
 {
     let (mut publisher, panes) = open::<K, R>(rt, alloc, blank, 2)?;
@@ -138,53 +138,53 @@ fn opened<K: Naming, R: Wait + Abort>(rt: &R, alloc: Global, blank: Blank) -> Re
 }
 
 /// A pane after its first look, which shows nothing published.
-fn fresh<K: Naming>(rt: &impl Abort, panes: &mut Vec<Pane<K>>) -> Pane<K> {
-    shown(rt, panes.pop().expect(rt, "a pane"), 0)
+fn unpublished_pane<K: OpeningName>(rt: &impl Abort, panes: &mut Vec<Pane<K>>) -> Pane<K> {
+    expect_shown(rt, panes.pop().expect(rt, "a pane"), 0)
 }
 
-fn in_turn<K: Naming, R: Wait + Abort>(
+fn in_turn<K: OpeningName, R: Wait + Abort>(
     rt: &R,
     publisher: &mut Publisher<K>,
     mut panes: Vec<Pane<K>>,
     batches: &(Arc<Batch>, Arc<Batch>),
 ) -> Pane<K> {
     assert!(rt; panes.len() == 2);
-    let left = fresh(rt, &mut panes);
-    let right = fresh(rt, &mut panes);
-    let note = published(rt, publisher, &batches.0);
-    let right = told(rt, right, &note.again(), 1);
-    let left = told(rt, left, &note, 1);
-    told_late(rt, publisher, &batches.1, left, &note);
-    shown(rt, right, 2)
+    let left = unpublished_pane(rt, &mut panes);
+    let right = unpublished_pane(rt, &mut panes);
+    let note = publish_lawful(rt, publisher, &batches.0);
+    let right = learn_and_expect(rt, right, &note.again(), 1);
+    let left = learn_and_expect(rt, left, &note, 1);
+    learn_late(rt, publisher, &batches.1, left, &note);
+    expect_shown(rt, right, 2)
 }
 
 /// Checks that an older note takes nothing away from what a pane learnt.
-fn told_late<K: Naming, R: Wait + Abort>(
+fn learn_late<K: OpeningName, R: Wait + Abort>(
     rt: &R,
     publisher: &mut Publisher<K>,
     batch: &Arc<Batch>,
     mut pane: Pane<K>,
     older: &Note<K>,
 ) {
-    pane.learn(&published(rt, publisher, batch));
-    told(rt, pane, older, 2);
+    pane.learn(&publish_lawful(rt, publisher, batch));
+    learn_and_expect(rt, pane, older, 2);
     assert_front(rt, publisher.catalogue(), 2);
 }
 
 /// With one allocation refused, whichever it is: opening may run out of memory; publications, notes, learning and
 /// looks need none.
 #[test]
-fn survives_want_of_memory(rt: HostRuntime) -> Result<(), Fail> {
+fn survives_out_of_memory(rt: HostRuntime) -> Result<(), Fail> {
     let alloc = rt.alloc();
     let batches = match both(alloc) {
         Some(batches) => batches,
         None => both(alloc).ok_or("batches")?,
     };
-    prepared(&rt, alloc, &batches)
+    prepare_at_last(&rt, alloc, &batches)
 }
 
 /// Prepares a blank, at the second try at the latest, and opens it.
-fn prepared<R: Wait + Abort>(
+fn prepare_at_last<R: Wait + Abort>(
     rt: &R,
     alloc: Global,
     batches: &(Arc<Batch>, Arc<Batch>),
@@ -193,11 +193,11 @@ fn prepared<R: Wait + Abort>(
         Ok(blank) => blank,
         Err(_) => prepare(alloc)?,
     };
-    wanting::<Brand, R>(rt, alloc, blank, batches);
+    open_or_out_of_memory::<Brand, R>(rt, alloc, blank, batches);
     Ok(())
 }
 
-fn wanting<K: Naming, R: Wait + Abort>(
+fn open_or_out_of_memory<K: OpeningName, R: Wait + Abort>(
     rt: &R,
     alloc: Global,
     blank: Blank,
@@ -207,9 +207,9 @@ fn wanting<K: Naming, R: Wait + Abort>(
 {
     match open::<K, R>(rt, alloc, blank, 64) {
         Ok((mut publisher, panes)) => {
-            let pane = at_each_place(rt, &mut publisher, panes, &batches.0);
-            let mut closed = publisher.closed();
-            refused(rt, &mut closed, pane, &batches.1);
+            let pane = at_each_pane(rt, &mut publisher, panes, &batches.0);
+            let mut closed = publisher.into_closed();
+            expect_refusals(rt, &mut closed, pane, &batches.1);
             closed.finish(rt);
         }
         Err(fault) => assert!(rt; fault == OpenFault::NoMemory),
@@ -217,24 +217,24 @@ fn wanting<K: Naming, R: Wait + Abort>(
 }
 
 /// Publishes a batch, has each pane learn of it, and returns one of the panes.
-fn at_each_place<K: Naming, R: Wait + Abort>(
+fn at_each_pane<K: OpeningName, R: Wait + Abort>(
     rt: &R,
     publisher: &mut Publisher<K>,
     mut panes: Vec<Pane<K>>,
     batch: &Arc<Batch>,
 ) -> Pane<K> {
     assert!(rt; panes.len() == 64);
-    let note = published(rt, publisher, batch);
-    let kept = told(rt, panes.pop().expect(rt, "a pane"), &note, 1);
+    let note = publish_lawful(rt, publisher, batch);
+    let kept = learn_and_expect(rt, panes.pop().expect(rt, "a pane"), &note, 1);
     for pane in panes {
-        told(rt, pane, &note.again(), 1);
+        learn_and_expect(rt, pane, &note.again(), 1);
     }
     assert_front(rt, publisher.catalogue(), 1);
     kept
 }
 
 /// Checks that a closed publisher refuses every batch, and keeps its list and its catalogue.
-fn refused<K: Naming, R: Wait + Abort>(
+fn expect_refusals<K: OpeningName, R: Wait + Abort>(
     rt: &R,
     closed: &mut Publisher<K>,
     pane: Pane<K>,
@@ -243,6 +243,6 @@ fn refused<K: Naming, R: Wait + Abort>(
     for _ in 0..2 {
         assert!(rt; publish(rt, closed, batch).is_err());
     }
-    shown(rt, pane, 1);
+    expect_shown(rt, pane, 1);
     assert_front(rt, closed.catalogue(), 1);
 }

@@ -5,10 +5,10 @@ use denote.Ref.{NamedLft}
 use denote.Param.Send.{IsSend, IsSync, sendable}
 use denote.Param.SendFields.{declared_send, declared_sync}
 use Rattle.std.proofs.Crossing.{crosses}
-use Rattle.mds_snapshot.specs.declared.history.Naming.{Ghosts as Openings}
-use Rattle.mds_hall.specs.declared.named.Named.{Ghosts as Names}
+use Rattle.mds_snapshot.specs.declared.history.OpeningName.{Ghosts as Openings}
+use Rattle.mds_hall.specs.declared.hall_name.HallName.{Ghosts as Names}
 use Rattle.mds_records.specs.declared.log.Log.{Ghosts as Logs}
-use Rattle.mds_commit.specs.declared.history.Naming.{Ghosts as Books}
+use Rattle.mds_commit.specs.declared.history.LogName.{Ghosts as Books}
 use Rattle.mds_commit.specs.declared.space.Space.{Ghosts as Spaces}
 use Rattle.mds_control.proofs.counters.Counters.TheSendSync as counters
 use Rattle.mds_page.proofs.page.Page.TheSendSync as page

@@ -2,10 +2,10 @@
 //! resolved to.
 #![tactic(auto)]
 
-mod answers;
+mod service;
 mod calls;
 mod site;
 
-pub use answers::{AtOnce, CityReply, SiteReply};
-pub use calls::{guide_for, kind_of};
+pub use service::{ReadyReply, CityReply, SiteReply};
+pub use calls::{hint_for, kind_of};
 pub use site::Site;

@@ -2,54 +2,54 @@
 ghost use Rattle.std.specs.Prelude.{◌≡◌, ⊤, ℕ, Option, is_some, option_map, IfOk, IfSome, IsSome, MatchResult};
 ghost use Rattle.futures.specs.declared.future.either.Either.TheVariants.{Left, Right};
 ghost use Rattle.http_uri.specs.Uri.{uri_path};
-ghost use Rattle.mds_app.specs.Badges.{badges_view};
-ghost use Rattle.mds_city.specs.City.{CityResponds};
+ghost use Rattle.mds_app.specs.OperatorNames.{badges_view};
+ghost use Rattle.mds_city.specs.DurableResponse.{CityResponds};
 ghost use Rattle.mds_limits.specs.declared.cost.Cost.TheVariants.{Free};
 ghost use Rattle.mds_page.specs.File.{text_of};
 ghost use Rattle.mds_page.specs.Response.{Says};
 ghost use Rattle.mds_page.specs.Tag.{tag_of};
-ghost use Rattle.mds_page.specs.Told.{told_of};
-ghost use Rattle.mds_public.specs.Told.{IsTold};
+ghost use Rattle.mds_page.specs.FileReply.{told_of};
+ghost use Rattle.mds_public.specs.CachedDocuments.{IsTold};
 ghost use Rattle.mds_responses.specs.Methods.{text_of as methods_text};
 ghost use Rattle.mds_request.specs.declared.config.Actor.TheVariants.{Nobody};
 ghost use Rattle.mds_routes.specs.Endpoint.{AsksFile, AsksPublic, AsksState};
 ghost use Rattle.mds_routes.specs.State.{state_cost};
-ghost use Rattle.mds_routes.specs.declared.resolved.Resolved.TheVariants.{Asset, Public, State};
+ghost use Rattle.mds_routes.specs.declared.resolved.ResolvedHead.TheVariants.{Asset, Public, State};
 ghost use Rattle.mds_site.specs.Calls.{methods_for};
 
-use crate::calls::{guide_for, kind_of};
+use crate::calls::{hint_for, kind_of};
 use crate::site::Site;
 use futures::future::{Either, Ready, ready};
 use http::request::Parts;
 use mds_catalog::Catalogue;
-use mds_city::Leaving;
-use mds_commit::{Naming, Space};
-use mds_connections::{Answers, Crowded};
-use mds_control::{MeteredReply, Ticket};
-use mds_hall::Named;
+use mds_city::PendingResponse;
+use mds_commit::{LogName, Space};
+use mds_connections::{RequestService, Crowded};
+use mds_control::{MeteredReply, RequestTimer};
+use mds_hall::HallName;
 use mds_limits::{Arrived, Cost};
 use mds_page::File;
-use mds_public::Asked;
+use mds_public::PublicTarget;
 use mds_records::Log;
 use mds_request::Actor;
-use mds_responses::{GuidedReply, HttpResult};
-use mds_routes::{Resolved, ResolvedState};
+use mds_responses::{HintedReply, HttpResult};
+use mds_routes::{ResolvedHead, ResolvedState};
 use mds_verdict::Evaluator;
 use std::alloc::AllocError;
 use std::sync::Wait;
 use std::time::Clock;
 
 /// A response that is there at once.
-pub type AtOnce = Ready<HttpResult>;
+pub type ReadyReply = Ready<HttpResult>;
 
 /// A pending response of the city: it waits until all that it shows is synced, gets the header
 /// field of its refusal, and is counted as it leaves.
-pub type CityReply<'a, N, L, S, R> = GuidedReply<MeteredReply<'a, Leaving<N, L, S>, R>>;
+pub type CityReply<'a, N, L, S, R> = HintedReply<MeteredReply<'a, PendingResponse<N, L, S>, R>>;
 
 /// A response of a site.
-pub type SiteReply<'a, N, L, S, R> = Either<AtOnce, CityReply<'a, N, L, S, R>>;
+pub type SiteReply<'a, N, L, S, R> = Either<ReadyReply, CityReply<'a, N, L, S, R>>;
 
-impl<'a, K: Named, N: Naming, L: Log, S: Space, R: Wait, E> Site<'a, K, N, L, S, R, E> {
+impl<'a, K: HallName, N: LogName, L: Log, S: Space, R: Wait, E> Site<'a, K, N, L, S, R, E> {
     /// The response to a request for a file of the page.
     fn respond_with_file(&self, parts: &Parts, file: File) -> HttpResult
         ensures { IfOk result (Says (told_of parts.now.method parts.now.headers (tag_of (text_of file))) file) }
@@ -60,7 +60,7 @@ impl<'a, K: Named, N: Naming, L: Log, S: Space, R: Wait, E> Site<'a, K, N, L, S,
     }
 
     /// The response to a request for a public document.
-    fn respond_to_everyone(&self, parts: &Parts, asked: Asked) -> HttpResult
+    fn respond_with_public(&self, parts: &Parts, asked: PublicTarget) -> HttpResult
         ensures { IfOk result (IsTold K.configuration asked parts.now) }
     {
         match &self.window {
@@ -72,8 +72,8 @@ impl<'a, K: Named, N: Naming, L: Log, S: Space, R: Wait, E> Site<'a, K, N, L, S,
 
 impl<'a, K, N, L, S, R, E> Site<'a, K, N, L, S, R, E>
 where
-    K: Named,
-    N: Naming,
+    K: HallName,
+    N: LogName,
     L: Log,
     S: Space,
     R: Wait + Clock + Copy + Drop,
@@ -96,30 +96,30 @@ where
             × CityResponds K.configuration (badges_view self.now.state.city.badges) head.now.parts body.now at s.reply s.stamp)) }
     {
         let call = head.call();
-        let ticket = Ticket::new(self.counters, self.state.rt, kind_of(&call));
+        let ticket = RequestTimer::new(self.counters, self.state.rt, kind_of(&call));
         let leaving = self.state.answer(head, body)?;
-        let guide = guide_for(&call, head.parts().uri.path());
-        Ok(GuidedReply::new(MeteredReply::new(leaving, ticket), guide))
+        let guide = hint_for(&call, head.parts().uri.path());
+        Ok(HintedReply::new(MeteredReply::new(leaving, ticket), guide))
     }
 }
 
-impl<'a, K, N, L, S, R, E> Answers for Site<'a, K, N, L, S, R, E>
+impl<'a, K, N, L, S, R, E> RequestService for Site<'a, K, N, L, S, R, E>
 where
-    K: Named,
-    N: Naming,
+    K: HallName,
+    N: LogName,
     L: Log,
     S: Space,
     R: Wait + Clock + Copy + Drop,
     E: Evaluator<Catalogue> + Drop,
 {
-    type Head = Resolved<K>;
+    type Head = ResolvedHead<K>;
 
     type Reply = SiteReply<'a, N, L, S, R>;
 
     ghost may_answer = { E.may_judge };
 
     /// Public documents have paths only where there is a `Window`.
-    fn resolve(&self, parts: Parts) -> Resolved<K>
+    fn resolve(&self, parts: Parts) -> ResolvedHead<K>
         ensures { elim result [
           | Asset own file ↦ (own ≡ parts) × AsksFile parts file
           | Public own asked ↦ (own ≡ parts) × AsksPublic (is_some self.now.window) parts asked
@@ -129,7 +129,7 @@ where
         self.state.resolve(self.window.is_some(), parts)
     }
 
-    fn actor(head: &Resolved<K>) -> Actor
+    fn actor(head: &ResolvedHead<K>) -> Actor
         ensures { elim head.now [
           | Asset parts file ↦ result ≡ Nobody
           | Public parts asked ↦ result ≡ Nobody
@@ -139,7 +139,7 @@ where
         head.actor()
     }
 
-    fn cost(head: &Resolved<K>, length: usize) -> Cost
+    fn cost(head: &ResolvedHead<K>, length: usize) -> Cost
         ensures { elim head.now [
           | Asset parts file ↦ result ≡ Free
           | Public parts asked ↦ result ≡ Free
@@ -156,7 +156,7 @@ where
     /// The city is asked, and the client's share is used up.
     fn answer(
         &self,
-        head: &Resolved<K>,
+        head: &ResolvedHead<K>,
         body: &Arrived,
     ) -> Result<SiteReply<'a, N, L, S, R>, Crowded>
         requires ready { E.may_judge }
@@ -179,13 +179,13 @@ where
         ] }
     {
         match head {
-            Resolved::Asset(parts, file) => {
+            ResolvedHead::Asset(parts, file) => {
                 Ok(Either::Left(ready(self.respond_with_file(parts, *file))))
             }
-            Resolved::Public(parts, asked) => {
-                Ok(Either::Left(ready(self.respond_to_everyone(parts, *asked))))
+            ResolvedHead::Public(parts, asked) => {
+                Ok(Either::Left(ready(self.respond_with_public(parts, *asked))))
             }
-            Resolved::State(head) => Ok(Either::Right(self.answer_by_city(head, body)?)),
+            ResolvedHead::State(head) => Ok(Either::Right(self.answer_by_city(head, body)?)),
         }
     }
 }

@@ -1,14 +1,14 @@
 //! A site: all that answers the requests of a server.
 ghost use Rattle.std.specs.Prelude.{◌≡◌, is_some, IfOk};
-ghost use Rattle.mds_public.specs.Configured.{is_public};
+ghost use Rattle.mds_public.specs.Switch.{is_public};
 
-use mds_city::{City, CityReception};
-use mds_commit::{Naming, Space};
+use mds_city::{DurableHall, DurableService};
+use mds_commit::{LogName, Space};
 use mds_connections::MachineClock;
 use mds_control::Counters;
-use mds_hall::Named;
+use mds_hall::HallName;
 use mds_page::Page;
-use mds_public::{Everyone, Face, Shows, Window};
+use mds_public::{PublicDocumentsQuery, PublicDocuments, DocumentSource, PublicCache};
 use mds_records::Log;
 use mds_snapshot::Note;
 use std::alloc::{AllocError, AllocGlobal};
@@ -16,21 +16,21 @@ use std::sync::Wait;
 
 /// All that answers the requests of a server.
 #[derive(Drop)]
-pub struct Site<'a, K: Named, N: Naming, L: Log, S: Space, R, E> {
+pub struct Site<'a, K: HallName, N: LogName, L: Log, S: Space, R, E> {
     /// The files of the page.
     pub page: Page,
     /// The public documents; none, where the configuration doesn't turn them on.
-    pub window: Option<Window<K>>,
+    pub window: Option<PublicCache<K>>,
     /// The city, at the moments of the machine's clock, with the evaluator of its vehicles.
-    pub state: CityReception<K, N, R, E, MachineClock<R>, L, S>,
+    pub state: DurableService<K, N, R, E, MachineClock<R>, L, S>,
     /// Counts the responses of the city.
     pub counters: &'a Counters,
 }
 
 impl<'a, K, N, L, S, R, E> Site<'a, K, N, L, S, R, E>
 where
-    K: Named,
-    N: Naming,
+    K: HallName,
+    N: LogName,
     L: Log,
     S: Space,
     R: Wait + AllocGlobal + Copy + Drop,
@@ -45,7 +45,7 @@ where
     /// Out of memory.
     pub fn open(
         rt: &R,
-        city: City<K, N, L, S>,
+        city: DurableHall<K, N, L, S>,
         evaluator: E,
         configuration: &[u8],
         counters: &'a Counters,
@@ -57,7 +57,7 @@ where
         let mut site = Site {
             page: Page::new(alloc)?,
             window: None,
-            state: CityReception {
+            state: DurableService {
                 rt: *rt,
                 alloc,
                 city,
@@ -66,17 +66,17 @@ where
             },
             counters,
         };
-        site.window = Window::open(alloc, configuration, &site)?;
+        site.window = PublicCache::open(alloc, configuration, &site)?;
         Ok(site)
     }
 }
 
-impl<K: Named, N: Naming, L: Log, S: Space, R: Wait, E> Shows<K> for Site<'_, K, N, L, S, R, E> {
+impl<K: HallName, N: LogName, L: Log, S: Space, R: Wait, E> DocumentSource<K> for Site<'_, K, N, L, S, R, E> {
     fn note(&self) -> Option<Note<K>> {
         self.state.city.note(&self.state.rt)
     }
 
-    fn face(&self) -> Result<Face, AllocError> {
-        self.state.city.tell(&self.state.rt, &Everyone)
+    fn documents(&self) -> Result<PublicDocuments, AllocError> {
+        self.state.city.read_publications(&self.state.rt, &PublicDocumentsQuery)
     }
 }

@@ -5,7 +5,7 @@ ghost use Rattle.std.specs.Coded.{Coded-set};
 ghost use Rattle.mds_snapshot.specs.Codes.{coded_publications};
 ghost use Rattle.mds_snapshot.specs.declared.opening.OpenFault.TheVariants.{NoMemory};
 
-use crate::history::Start;
+use crate::history::NewHistory;
 use crate::opening::OpenFault;
 use mds_catalog::Catalogue;
 use std::alloc::Global;
@@ -13,7 +13,7 @@ use std::alloc::Global;
 /// Two copies of an empty catalogue, the publisher's own one and an empty history, not yet opened under a name.
 #[derive(Drop)]
 pub struct Blank {
-    pub(crate) start: Start,
+    pub(crate) start: NewHistory,
     pub(crate) first: Catalogue,
     pub(crate) second: Catalogue,
     pub(crate) own: Catalogue,
@@ -38,7 +38,7 @@ pub fn prepare(alloc: Global) -> Result<Blank, OpenFault>
         return Err(OpenFault::NoMemory);
     };
     Ok(Blank {
-        start: Start::new(),
+        start: NewHistory::new(),
         first,
         second,
         own,

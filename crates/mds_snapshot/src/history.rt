@@ -10,11 +10,11 @@ use mds_catalog::Batch;
 use std::marker::{Brand, Model, PhantomData};
 
 /// A batch, which contracts see as its publication. No value of this type exists at run time.
-pub struct Listed {
+pub struct LoggedBatch {
     batch: Batch,
 }
 
-impl Model for Listed {
+impl Model for LoggedBatch {
     ghost use Rattle.mds_catalog.specs.Publication.{Publication, publication_of};
     ghost use Rattle.mds_snapshot.specs.Codes.{coded_publication};
 
@@ -26,9 +26,9 @@ impl Model for Listed {
 }
 
 /// The invariant of the book in which the history is recorded.
-pub struct Law;
+pub struct PublicationsRule;
 
-impl Rule<Listed, u64> for Law {
+impl Rule<LoggedBatch, u64> for PublicationsRule {
     ghost use Rattle.std.specs.Prelude.{[]};
     ghost use base.Fml.{ftrue};
     ghost use Rattle.mds_snapshot.specs.History.{IsKept};
@@ -47,24 +47,24 @@ impl Rule<Listed, u64> for Law {
 }
 
 /// Callers trade nothing in a step.
-pub struct Nothing;
+pub struct NoSnapshotGain;
 
-impl Gain<Listed, u64> for Nothing {
+impl Gain<LoggedBatch, u64> for NoSnapshotGain {
     ghost use base.Fml.{ftrue};
 
     ghost after = { λ names about answer. ftrue };
 }
 
 /// The step that appends a publication.
-pub struct Add;
+pub struct AddPublication;
 
-impl Play<Listed, u64> for Add {
+impl Play<LoggedBatch, u64> for AddPublication {
     ghost use Rattle.mds_snapshot.specs.History.{Adds};
 
     ghost then = { Adds };
 }
 
-impl Plain<Batch, Listed, u64> for Add {
+impl Plain<Batch, LoggedBatch, u64> for AddPublication {
     ghost use Rattle.std.specs.Prelude.{None};
     ghost use Rattle.mds_catalog.specs.Publication.{publication_of};
 
@@ -75,49 +75,49 @@ impl Plain<Batch, Listed, u64> for Add {
 
 /// Says to which opening a publisher, a pane, a look or a note belongs. A program passes what it opens to a function
 /// that is generic over this trait, and calls it with `Brand`; the proof of that call picks the book of the `Blank`.
-pub trait Naming {
+pub trait OpeningName {
     ghost use Rattle.logbook.specs.Pages.{Book};
 
     ghost book: { Book };
 }
 
-impl Naming for Brand {
+impl OpeningName for Brand {
     ghost book = { record { number = 0; log_name = 0; cells_name = 0 } };
 }
 
 /// An empty history, not yet under a name.
 #[derive(Drop)]
-pub struct Start {
-    head: Word<Listed, u64, Law>,
-    pub seen: Seen<Listed, u64, Law>,
+pub struct NewHistory {
+    head: Word<LoggedBatch, u64, PublicationsRule>,
+    pub seen: Seen<LoggedBatch, u64, PublicationsRule>,
     /// What was seen of the history: nothing yet.
     pub ghost empty: { seen.log ≡ [] },
     pub ghost head_is: { head ≡ head_of seen.book },
 }
 
-impl Start {
+impl NewHistory {
     /// Begins a history.
-    pub fn new() -> Start {
+    pub fn new() -> NewHistory {
         let (seen, mut first, _second) = Seen::open(logbook::Start::alone(), 0, 0);
-        Start {
+        NewHistory {
             head: Word::tracked(0, &mut first),
             seen,
         }
     }
 
     /// Puts it under a name: the word that has its length, and the empty front.
-    pub fn named<K: Naming>(self) -> (Ledger<K>, Front<K>)
+    pub fn with_name<K: OpeningName>(self) -> (PublicationsHead<K>, PublishedFront<K>)
         requires { self.seen.book ≡ K.book }
         ensures { result.1 ≡ [] }
     {
-        let Start { head, seen } = self;
+        let NewHistory { head, seen } = self;
         (
-            Ledger {
+            PublicationsHead {
                 head,
                 of: PhantomData,
             },
-            Front {
-                trail: Trail { count: 0, seen },
+            PublishedFront {
+                trail: UnnamedFront { count: 0, seen },
                 of: PhantomData,
             },
         )
@@ -126,27 +126,27 @@ impl Start {
 
 /// The shared word: the length of the history.
 #[derive(Drop)]
-pub struct Ledger<K: Naming> {
-    head: Word<Listed, u64, Law>,
+pub struct PublicationsHead<K: OpeningName> {
+    head: Word<LoggedBatch, u64, PublicationsRule>,
     of: PhantomData<K>,
     ghost head_is: { head ≡ head_of K.book },
 }
 
 /// A front of some history that was reached, and its length, without a name.
 #[derive(Drop)]
-pub struct Trail {
+pub struct UnnamedFront {
     count: u64,
     /// What was seen of the history: the front.
-    pub seen: Seen<Listed, u64, Law>,
+    pub seen: Seen<LoggedBatch, u64, PublicationsRule>,
     ghost counted: { count ≡ length seen.log },
 }
 
-impl Trail {
+impl UnnamedFront {
     /// The same front.
-    pub fn again(&self) -> Trail
+    pub fn again(&self) -> UnnamedFront
         ensures { result ≡ self.now }
     {
-        Trail {
+        UnnamedFront {
             count: self.count,
             seen: self.seen.again(),
         }
@@ -155,12 +155,12 @@ impl Trail {
 
 /// A front of the history of this name. Contracts see its publications.
 #[derive(Drop)]
-pub struct Front<K: Naming> {
-    trail: Trail,
+pub struct PublishedFront<K: OpeningName> {
+    trail: UnnamedFront,
     of: PhantomData<K>,
 }
 
-impl<K: Naming> Model for Front<K> {
+impl<K: OpeningName> Model for PublishedFront<K> {
     ghost use Rattle.std.specs.Prelude.{◌≡◌, List};
     ghost use Rattle.mds_catalog.specs.Publication.{Publication};
     ghost use Rattle.mds_snapshot.specs.Codes.{coded_publications};
@@ -174,37 +174,37 @@ impl<K: Naming> Model for Front<K> {
     ghost invariant = { λ f. f.trail.seen.book ≡ K.book };
 }
 
-impl<K: Naming> Front<K> {
+impl<K: OpeningName> PublishedFront<K> {
     /// The front of a trail of this name's history.
-    pub fn of(trail: Trail) -> Front<K>
+    pub fn of(trail: UnnamedFront) -> PublishedFront<K>
         requires { trail.seen.book ≡ K.book }
         ensures { result ≡ trail.seen.log }
     {
-        Front {
+        PublishedFront {
             trail,
             of: PhantomData,
         }
     }
 
     /// The same front.
-    pub fn again(&self) -> Front<K>
+    pub fn again(&self) -> PublishedFront<K>
         ensures { result ≡ self.now }
     {
-        Front {
+        PublishedFront {
             trail: self.trail.again(),
             of: PhantomData,
         }
     }
 
     /// The front's trail, for the copies, which have no name.
-    pub fn trail(&self) -> Trail
+    pub fn trail(&self) -> UnnamedFront
         ensures { (result.seen.log ≡ self.now) × (result.seen.book ≡ K.book) }
     {
         self.trail.again()
     }
 
     /// Whether the other front is a prefix of this one; else this one is a prefix of the other, which is longer.
-    pub fn covers(&self, other: &Front<K>) -> bool
+    pub fn covers(&self, other: &PublishedFront<K>) -> bool
         ensures { MatchBool result (IsPrefix other.now self.now) (IsShorterFront self.now other.now) }
     {
         let mut both = self.trail.seen.again();
@@ -213,19 +213,19 @@ impl<K: Naming> Front<K> {
     }
 
     /// Tries to append a batch after all that was seen, and returns whether it did.
-    pub fn extend(&mut self, ledger: &Ledger<K>, batch: &Batch) -> bool
+    pub fn extend(&mut self, ledger: &PublicationsHead<K>, batch: &Batch) -> bool
         requires room { length self.old < 2 ^ 62 }
         ensures { MatchBool result (self.new ≡ self.old ++ publication_of batch.now ∷ []) (IsPrefix self.old self.new) }
     {
-        let Trail { count, mut seen } = self.trail.again();
-        let mut offer: Offer<Listed, u64, Law, Nothing> = seen.plain::<Nothing, Batch, Add>(batch);
+        let UnnamedFront { count, mut seen } = self.trail.again();
+        let mut offer: Offer<LoggedBatch, u64, PublicationsRule, NoSnapshotGain> = seen.plain::<NoSnapshotGain, Batch, AddPublication>(batch);
         let mut pen = seen.no_pen();
         let found = ledger
             .head
-            .compare_exchange::<Add, Nothing>(count, count + 1, &mut seen, &mut offer, &mut pen);
+            .compare_exchange::<AddPublication, NoSnapshotGain>(count, count + 1, &mut seen, &mut offer, &mut pen);
         let added = found == count;
         let count = if added { count + 1 } else { found };
-        self.trail = Trail { count, seen };
+        self.trail = UnnamedFront { count, seen };
         added
     }
 }

@@ -8,10 +8,10 @@ mod opening;
 mod pane;
 mod publisher;
 mod rule;
-mod shown;
+mod snapshot_copy;
 
 pub use blank::{Blank, prepare};
-pub use history::Naming;
+pub use history::OpeningName;
 pub use note::Note;
 pub use opening::{OpenFault, READER_PLACES, open};
 pub use pane::{Look, NotShown, Pane};

@@ -3,16 +3,16 @@ ghost use Rattle.std.specs.Prelude.{◌≡◌, ◌≢◌, MatchBool};
 ghost use mathlib.Core.List.{IsPrefix};
 ghost use Rattle.mds_snapshot.specs.Publishing.{IsShorterFront};
 
-use crate::history::{Front, Naming};
+use crate::history::{PublishedFront, OpeningName};
 use std::marker::Model;
 
 /// A version of what is published, for a pane to learn. Contracts see its list of publications.
 #[derive(Drop)]
-pub struct Note<K: Naming> {
-    front: Front<K>,
+pub struct Note<K: OpeningName> {
+    front: PublishedFront<K>,
 }
 
-impl<K: Naming> Model for Note<K> {
+impl<K: OpeningName> Model for Note<K> {
     ghost use Rattle.std.specs.Prelude.{List};
     ghost use Rattle.mds_catalog.specs.Publication.{Publication};
     ghost use Rattle.mds_snapshot.specs.Codes.{coded_publications};
@@ -24,8 +24,8 @@ impl<K: Naming> Model for Note<K> {
     ghost view = { λ n. n.front };
 }
 
-impl<K: Naming> Note<K> {
-    pub(crate) fn of(front: Front<K>) -> Note<K>
+impl<K: OpeningName> Note<K> {
+    pub(crate) fn of(front: PublishedFront<K>) -> Note<K>
         ensures { result ≡ front }
     {
         Note { front }
@@ -56,7 +56,7 @@ impl<K: Naming> Note<K> {
         self.covers(other) && other.covers(self)
     }
 
-    pub(crate) fn front(&self) -> Front<K>
+    pub(crate) fn front(&self) -> PublishedFront<K>
         ensures { result ≡ self.now }
     {
         self.front.again()

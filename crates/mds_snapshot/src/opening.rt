@@ -4,10 +4,10 @@ ghost use Rattle.mds_snapshot.specs.declared.opening.TheConstants.{READER_PLACES
 ghost use Rattle.mds_snapshot.specs.Opening.{book_of};
 
 use crate::blank::Blank;
-use crate::history::Naming;
+use crate::history::OpeningName;
 use crate::pane::Pane;
 use crate::publisher::{Copies, Publisher};
-use crate::shown::Shown;
+use crate::snapshot_copy::SnapshotCopy;
 use std::alloc::Global;
 use std::sync::Wait;
 
@@ -25,7 +25,7 @@ pub enum OpenFault {
 
 /// A publisher of the empty list.
 #[tactic(auto, using(crate::proofs::Lawful::lawful_none))]
-fn publisher<K: Naming>(alloc: Global, blank: Blank) -> Result<Publisher<K>, OpenFault>
+fn publisher<K: OpeningName>(alloc: Global, blank: Blank) -> Result<Publisher<K>, OpenFault>
     requires name { book_of blank ≡ K.book }
     ensures { IfOk result (λ p. p ≡ record { publications = []; is_open = true }) }
 {
@@ -35,13 +35,13 @@ fn publisher<K: Naming>(alloc: Global, blank: Blank) -> Result<Publisher<K>, Ope
         second,
         own,
     } = blank;
-    let (ledger, front) = start.named::<K>();
+    let (ledger, front) = start.with_name::<K>();
     let trail = front.trail();
-    let first = Shown {
+    let first = SnapshotCopy {
         catalogue: first,
         trail: trail.again(),
     };
-    let second = Shown {
+    let second = SnapshotCopy {
         catalogue: second,
         trail,
     };
@@ -52,7 +52,7 @@ fn publisher<K: Naming>(alloc: Global, blank: Blank) -> Result<Publisher<K>, Ope
 }
 
 /// `n` panes that have seen nothing.
-fn panes<K: Naming>(
+fn panes<K: OpeningName>(
     alloc: Global,
     publisher: &Publisher<K>,
     n: usize,
@@ -77,7 +77,7 @@ fn panes<K: Naming>(
 /// # Errors
 ///
 /// Out of memory, or there is no slot for a further reader.
-pub fn open<K: Naming, R: Wait>(
+pub fn open<K: OpeningName, R: Wait>(
     rt: &R,
     alloc: Global,
     blank: Blank,
@@ -87,7 +87,7 @@ pub fn open<K: Naming, R: Wait>(
     requires places { n ≤ READER_PLACES }
     ensures { IfOk result (λ r. (r.0 ≡ record { publications = []; is_open = true }) × (r.1.items ≡ replicate n [])) }
 {
-    let (publisher, rested) = publisher::<K>(alloc, blank)?.rested(rt);
+    let (publisher, rested) = publisher::<K>(alloc, blank)?.warm_up(rt);
     let panes = match rested {
         Ok(()) => panes(alloc, &publisher, n),
         Err(_) => Err(OpenFault::NoMemory),

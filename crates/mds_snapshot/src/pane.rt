@@ -4,10 +4,10 @@ ghost use mathlib.Core.List.{IsPrefix};
 ghost use Rattle.mds_catalog.specs.Catalogue.{publications_of};
 ghost use Rattle.mds_catalog.specs.Laws.{AreLawful};
 
-use crate::history::{Front, Listed, Naming};
+use crate::history::{PublishedFront, LoggedBatch, OpeningName};
 use crate::note::Note;
 use crate::rule::Fronts;
-use crate::shown::Shown;
+use crate::snapshot_copy::SnapshotCopy;
 use left_right::reader::{Reader, Reading};
 use mds_catalog::Catalogue;
 use std::marker::Model;
@@ -15,12 +15,12 @@ use std::marker::Model;
 /// A snapshot reader: one reader's slot, and what it knows to be published. Contracts see the longest front that was
 /// seen or learnt.
 #[derive(Drop)]
-pub struct Pane<K: Naming> {
-    reader: Reader<Shown, [Listed; 0], Fronts<K>>,
-    known: Front<K>,
+pub struct Pane<K: OpeningName> {
+    reader: Reader<SnapshotCopy, [LoggedBatch; 0], Fronts<K>>,
+    known: PublishedFront<K>,
 }
 
-impl<K: Naming> Model for Pane<K> {
+impl<K: OpeningName> Model for Pane<K> {
     ghost use Rattle.std.specs.Prelude.{List};
     ghost use Rattle.mds_catalog.specs.Publication.{Publication};
     ghost use Rattle.mds_snapshot.specs.Codes.{coded_publications};
@@ -34,12 +34,12 @@ impl<K: Naming> Model for Pane<K> {
 
 /// A snapshot: one front of what is published, held until it is left. Dropping a look also drops its pane. Contracts
 /// see the front.
-pub struct Look<K: Naming> {
-    reading: Reading<Shown, [Listed; 0], Fronts<K>>,
-    front: Front<K>,
+pub struct Look<K: OpeningName> {
+    reading: Reading<SnapshotCopy, [LoggedBatch; 0], Fronts<K>>,
+    front: PublishedFront<K>,
 }
 
-impl<K: Naming> Model for Look<K> {
+impl<K: OpeningName> Model for Look<K> {
     ghost use Rattle.std.specs.Prelude.{◌≡◌, List};
     ghost use Rattle.mds_catalog.specs.Publication.{Publication};
     ghost use Rattle.mds_catalog.specs.Catalogue.{publications_of};
@@ -57,19 +57,19 @@ impl<K: Naming> Model for Look<K> {
 
 /// There is nothing to look at: the publisher is finished. The pane is unchanged.
 #[derive(Drop)]
-pub struct NotShown<K: Naming> {
+pub struct NotShown<K: OpeningName> {
     /// The pane, for further use.
     pub pane: Pane<K>,
 }
 
-impl<K: Naming> Pane<K> {
-    pub(crate) fn over(reader: Reader<Shown, [Listed; 0], Fronts<K>>, known: Front<K>) -> Pane<K>
+impl<K: OpeningName> Pane<K> {
+    pub(crate) fn over(reader: Reader<SnapshotCopy, [LoggedBatch; 0], Fronts<K>>, known: PublishedFront<K>) -> Pane<K>
         ensures { result ≡ known }
     {
         Pane { reader, known }
     }
 
-    pub(crate) fn front(&self) -> Front<K>
+    pub(crate) fn front(&self) -> PublishedFront<K>
         ensures { result ≡ self.now }
     {
         self.known.again()
@@ -86,7 +86,7 @@ impl<K: Naming> Pane<K> {
         let Self { reader, known } = self;
         match reader.enter_as::<Fronts<K>>() {
             Ok(reading) => {
-                let front: Front<K> = Front::of(reading.get().trail.again());
+                let front: PublishedFront<K> = PublishedFront::of(reading.get().trail.again());
                 if front.covers(&known) {
                     Ok(Look { reading, front })
                 } else {
@@ -115,7 +115,7 @@ impl<K: Naming> Pane<K> {
     }
 }
 
-impl<K: Naming> Look<K> {
+impl<K: OpeningName> Look<K> {
     /// The catalogue of the front.
     pub fn catalogue(&self) -> &Catalogue
         ensures publications { publications_of result.now ≡ self.now }
@@ -143,7 +143,7 @@ impl<K: Naming> Look<K> {
     }
 }
 
-impl<K: Naming> Drop for Look<K> {
+impl<K: OpeningName> Drop for Look<K> {
     fn drop(self) {
         drop(self.leave());
     }

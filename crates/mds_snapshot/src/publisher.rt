@@ -7,11 +7,11 @@ ghost use Rattle.mds_catalog.specs.Laws.{AreLawful};
 ghost use Rattle.mds_snapshot.specs.Copies.{IsFrontOf};
 ghost use Rattle.mds_snapshot.specs.Publishing.{IsShorterFront};
 
-use crate::history::{Front, Ledger, Listed, Naming, Trail};
+use crate::history::{PublishedFront, PublicationsHead, LoggedBatch, OpeningName, UnnamedFront};
 use crate::note::Note;
 use crate::pane::Pane;
 use crate::rule::Fronts;
-use crate::shown::{Operation, Shown};
+use crate::snapshot_copy::{CopyOperation, SnapshotCopy};
 use core::mem::replace_with;
 use left_right::writer::Writer;
 use mds_catalog::{Batch, Catalogue};
@@ -20,20 +20,20 @@ use std::marker::Model;
 use std::sync::{Arc, Wait};
 
 /// The writer of the two copies of what is visible.
-pub(crate) type Copies<K> = Writer<Shown, Operation, [Listed; 0], Fronts<K>>;
+pub(crate) type Copies<K> = Writer<SnapshotCopy, CopyOperation, [LoggedBatch; 0], Fronts<K>>;
 
 /// The writer of what is published, with a catalogue of its own. Contracts see the list that is published, and whether
 /// the publisher is open: running out of memory within an exchange of the copies closes it. It is not `Drop`: end it
 /// with `finish`.
-pub struct Publisher<K: Naming> {
+pub struct Publisher<K: OpeningName> {
     writer: Copies<K>,
-    ledger: Ledger<K>,
-    front: Front<K>,
+    ledger: PublicationsHead<K>,
+    front: PublishedFront<K>,
     catalogue: Catalogue,
     is_open: bool,
 }
 
-impl<K: Naming> Model for Publisher<K> {
+impl<K: OpeningName> Model for Publisher<K> {
     ghost use Rattle.std.specs.Prelude.{◌≡◌, [], drop, true};
     ghost use Rattle.mds_catalog.specs.Catalogue.{publications_of};
     ghost use Rattle.mds_snapshot.specs.Copies.{IsFrontOf};
@@ -48,12 +48,12 @@ impl<K: Naming> Model for Publisher<K> {
     ghost invariant = { λ p. IsFrontOf K.book p.writer.desk.shown.value × (publications_of p.writer.desk.shown.value.catalogue ≡ p.front) × (p.is_open ≡ true → drop p.writer.behind p.writer.log.items ≡ []) × (publications_of p.catalogue ≡ p.front) };
 }
 
-impl<K: Naming> Publisher<K> {
+impl<K: OpeningName> Publisher<K> {
     /// An open publisher of the list that is visible.
     pub(crate) fn over(
         writer: Copies<K>,
-        ledger: Ledger<K>,
-        front: Front<K>,
+        ledger: PublicationsHead<K>,
+        front: PublishedFront<K>,
         catalogue: Catalogue,
     ) -> Publisher<K>
         requires shown { IsFrontOf K.book writer.desk.shown.value × (publications_of writer.desk.shown.value.catalogue ≡ front) }
@@ -83,7 +83,7 @@ impl<K: Naming> Publisher<K> {
 
     /// Runs an exchange of the copies that changes nothing. It allocates the room in the operations' log that each
     /// publication needs.
-    pub(crate) fn rested<R: Wait>(self, rt: &R) -> (Publisher<K>, Result<(), AllocError>)
+    pub(crate) fn warm_up<R: Wait>(self, rt: &R) -> (Publisher<K>, Result<(), AllocError>)
         requires { self.is_open ≡ true }
         ensures { OnOk result.1 (result.0 ≡ self) }
     {
@@ -142,11 +142,11 @@ impl<K: Naming> Publisher<K> {
         replace_with(
             self,
             (rt, batch),
-            |publisher, (rt, batch)| publisher.published(rt, batch),
+            |publisher, (rt, batch)| publisher.publish_owned(rt, batch),
         )
     }
 
-    fn published<R: Wait>(
+    fn publish_owned<R: Wait>(
         self,
         rt: &R,
         batch: Arc<Batch>,
@@ -160,17 +160,17 @@ impl<K: Naming> Publisher<K> {
             return (self, Err(AllocError));
         }
         let Ok(own) = Arc::try_clone(&batch) else {
-            return (self.closed(), Err(AllocError));
+            return (self.into_closed(), Err(AllocError));
         };
         let mut after = self.front.again();
         if !after.extend(&self.ledger, &batch) {
-            return (self.closed(), Err(AllocError));
+            return (self.into_closed(), Err(AllocError));
         }
-        self.exchanged(rt, batch, own, after)
+        self.exchange_copies(rt, batch, own, after)
     }
 
     /// Closes the publisher: the list and the catalogue stay, and each further publication is refused.
-    pub fn closed(self) -> Publisher<K>
+    pub fn into_closed(self) -> Publisher<K>
         ensures { result ≡ record { publications = self.publications; is_open = false } }
     {
         let Self {
@@ -190,12 +190,12 @@ impl<K: Naming> Publisher<K> {
     }
 
     /// Runs the exchange that publishes, with the publisher's own reference to the batch and the list afterwards.
-    fn exchanged<R: Wait>(
+    fn exchange_copies<R: Wait>(
         self,
         rt: &R,
         batch: Arc<Batch>,
         own: Arc<Batch>,
-        after: Front<K>,
+        after: PublishedFront<K>,
     ) -> (Publisher<K>, Result<Note<K>, AllocError>)
         requires open { self.is_open ≡ true }
         requires lawful { is_lawful self.publications (publication_of batch.value) ≡ true }
@@ -252,11 +252,11 @@ impl<K: Naming> Publisher<K> {
 }
 
 /// The exchange: one batch more is shown, or what was shown before.
-fn show<K: Naming, R: Wait>(
+fn show<K: OpeningName, R: Wait>(
     rt: &R,
     mut writer: Copies<K>,
     batch: Arc<Batch>,
-    trail: Trail,
+    trail: UnnamedFront,
 ) -> (Copies<K>, Result<(), AllocError>)
     requires idle { drop writer.behind writer.log.items ≡ [] }
     requires lawful { is_lawful (publications_of writer.desk.shown.value.catalogue) (publication_of batch.value) ≡ true }
@@ -267,14 +267,14 @@ fn show<K: Naming, R: Wait>(
         × IsFrontOf K.book result.0.desk.shown.value) }
     ensures err { OnErr result.1 (result.0.desk.shown.value ≡ writer.desk.shown.value) }
 {
-    match writer.append(Operation::Publish(batch, trail)) {
+    match writer.append(CopyOperation::Publish(batch, trail)) {
         Ok(()) => writer.publish_as::<Fronts<K>, R>(rt),
         Err(_) => (writer, Err(AllocError)),
     }
 }
 
 /// Runs an exchange that changes nothing. It allocates the room in the operations' log that each publication needs.
-pub(crate) fn rest<K: Naming, R: Wait>(
+pub(crate) fn rest<K: OpeningName, R: Wait>(
     rt: &R,
     mut writer: Copies<K>,
 ) -> (Copies<K>, Result<(), AllocError>)
@@ -284,7 +284,7 @@ pub(crate) fn rest<K: Naming, R: Wait>(
         × IsFrontOf K.book result.0.desk.shown.value) }
     ensures err { OnErr result.1 (result.0.desk.shown.value ≡ writer.desk.shown.value) }
 {
-    match writer.append(Operation::Rest) {
+    match writer.append(CopyOperation::Rest) {
         Ok(()) => writer.publish_as::<Fronts<K>, R>(rt),
         Err(_) => (writer, Err(AllocError)),
     }

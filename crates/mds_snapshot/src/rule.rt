@@ -12,17 +12,17 @@
 //! | dropping a pane or finishing the publisher | none |
 //!
 //! No clause speaks of two panes at once: each step is proved for its one slot. `Note::again` is no step.
-use crate::history::{Listed, Naming};
-use crate::shown::Shown;
+use crate::history::{LoggedBatch, OpeningName};
+use crate::snapshot_copy::SnapshotCopy;
 use crossbeam_utils::rule::{Outcome, Protocol};
 use std::marker::PhantomData;
 
 /// The protocol of the copies: what each reader and the writer have seen is a front of what is visible.
-pub struct Fronts<K: Naming> {
+pub struct Fronts<K: OpeningName> {
     of: PhantomData<K>,
 }
 
-impl<K: Naming> Protocol<Shown, [Listed; 0]> for Fronts<K> {
+impl<K: OpeningName> Protocol<SnapshotCopy, [LoggedBatch; 0]> for Fronts<K> {
     ghost use Rattle.std.specs.Prelude.{[]};
     ghost use Rattle.mds_snapshot.specs.Copies.{IsKeptAt};
 
@@ -31,7 +31,7 @@ impl<K: Naming> Protocol<Shown, [Listed; 0]> for Fronts<K> {
     ghost first = { [] };
 }
 
-impl<K: Naming> Outcome<Shown, [Listed; 0]> for Fronts<K> {
+impl<K: OpeningName> Outcome<SnapshotCopy, [LoggedBatch; 0]> for Fronts<K> {
     ghost use Rattle.mds_snapshot.specs.Copies.{Sees};
 
     ghost then = { Sees K.book };

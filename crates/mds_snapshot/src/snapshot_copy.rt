@@ -1,5 +1,5 @@
 //! The value of each copy: a catalogue, with the front of the history that it is the fold of.
-use crate::history::{Listed, Trail};
+use crate::history::{LoggedBatch, UnnamedFront};
 use left_right::Absorb;
 use mds_catalog::{Batch, Catalogue};
 use std::alloc::AllocError;
@@ -7,38 +7,38 @@ use std::sync::Arc;
 
 /// An operation on both copies.
 #[derive(Drop)]
-pub enum Operation {
+pub enum CopyOperation {
     /// Changes nothing.
     Rest,
     /// Appends a batch; the front is the one that ends with it.
-    Publish(Arc<Batch>, Trail),
+    Publish(Arc<Batch>, UnnamedFront),
 }
 
 /// A catalogue and its front.
 #[derive(Drop)]
-pub struct Shown {
+pub struct SnapshotCopy {
     /// The published documents.
     pub catalogue: Catalogue,
     /// The front that the catalogue is the fold of.
-    pub trail: Trail,
+    pub trail: UnnamedFront,
 }
 
-impl Absorb<Operation> for Shown {
+impl Absorb<CopyOperation> for SnapshotCopy {
     ghost use Rattle.std.specs.Prelude.{◌≡◌, IsOk, MatchResult};
     ghost use Rattle.mds_catalog.specs.Catalogue.{publications_of};
     ghost use Rattle.mds_snapshot.specs.Copies.{applied};
 
     // A clause reads an array as a list, of any length.
-    type State = ([Listed; 0], Trail);
+    type State = ([LoggedBatch; 0], UnnamedFront);
 
     ghost state = { λ s. (publications_of s.catalogue, s.trail) };
 
     ghost applied = { applied };
 
-    fn absorb_first(&mut self, operation: &Operation, _other: &Shown) -> Result<(), AllocError> {
+    fn absorb_first(&mut self, operation: &CopyOperation, _other: &SnapshotCopy) -> Result<(), AllocError> {
         match operation {
-            Operation::Rest => Ok(()),
-            Operation::Publish(batch, trail) => {
+            CopyOperation::Rest => Ok(()),
+            CopyOperation::Publish(batch, trail) => {
                 self.catalogue.absorb(batch)?;
                 self.trail = trail.again();
                 Ok(())
@@ -46,10 +46,10 @@ impl Absorb<Operation> for Shown {
         }
     }
 
-    fn absorb_second(&mut self, operation: Operation, _other: &Shown) -> Result<(), Operation> {
+    fn absorb_second(&mut self, operation: CopyOperation, _other: &SnapshotCopy) -> Result<(), CopyOperation> {
         match operation {
-            Operation::Rest => {}
-            Operation::Publish(batch, trail) => {
+            CopyOperation::Rest => {}
+            CopyOperation::Publish(batch, trail) => {
                 self.catalogue.adopt(batch);
                 self.trail = trail;
             }

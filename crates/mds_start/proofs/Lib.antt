@@ -1,2 +1,2 @@
 mod Counts
-mod Receptions
+mod HallServices

@@ -3,8 +3,8 @@ use Rattle.std.specs.Prelude.{ℕ, ◌==◌, List, [], ◌∷◌, Option, Some, 
 use Rattle.std.specs.List.{list_all}
 use Rattle.std.specs.Char.{is_ascii_digit}
 use Rattle.std.specs.Str.Parse.{digits_value}
-use Rattle.mds_start.specs.declared.asking.Asked.{Asked}
-use Rattle.mds_start.specs.declared.asking.Asked.TheVariants.{Help, Version, Serve}
+use Rattle.mds_start.specs.declared.command.ServeCommand.{ServeCommand}
+use Rattle.mds_start.specs.declared.command.ServeCommand.TheVariants.{Help, Version, Serve}
 
 abbrev pub are_digits : List ℕ → Bool
 are_digits bytes = list_all is_ascii_digit bytes
@@ -49,7 +49,7 @@ asked_by (word ∷ []) = asked_alone word
 asked_by (address ∷ count ∷ []) = asked_counted address (count_in count)
 asked_by words = None
 
-abbrev pub asked_view : Asked → Request
+abbrev pub asked_view : ServeCommand → Request
 asked_view Help = help
 asked_view Version = version
 asked_view (Serve address connections) = serve address.now connections

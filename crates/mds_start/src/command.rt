@@ -39,7 +39,7 @@ Example: mds_serve 127.0.0.1:8080 < city.json
 
 /// What the arguments ask for.
 #[derive(Clone, Copy)]
-pub enum Asked<'a> {
+pub enum ServeCommand<'a> {
     /// How the program is called.
     Help,
     /// The version.
@@ -55,11 +55,11 @@ pub enum Asked<'a> {
 
 /// What the words after the program's name ask for: `--help`, `--version`, or `ADDRESS
 /// [CONNECTIONS]`, where no address begins with `-`. `None` for any others.
-pub fn asked_by(words: &[String]) -> Option<Asked<'_>>
+pub fn command_of(words: &[String]) -> Option<ServeCommand<'_>>
     ensures { option_map asked_view result ≡ asked_by (map string_bytes words.now) }
 {
     match words {
-        [word] => asked_alone(word.as_str()),
+        [word] => command_of_word(word.as_str()),
         [address, count] => match count_of(count.as_str()) {
             Some(count) => serve_at(address.as_str(), Some(count)),
             None => None,
@@ -69,26 +69,26 @@ pub fn asked_by(words: &[String]) -> Option<Asked<'_>>
 }
 
 /// What one word asks for.
-fn asked_alone(word: &str) -> Option<Asked<'_>>
+fn command_of_word(word: &str) -> Option<ServeCommand<'_>>
     ensures { option_map asked_view result ≡ asked_alone word.now }
 {
     if word == "--help" {
-        Some(Asked::Help)
+        Some(ServeCommand::Help)
     } else if word == "--version" {
-        Some(Asked::Version)
+        Some(ServeCommand::Version)
     } else {
         serve_at(word, None)
     }
 }
 
 /// To serve at an address, which begins with no `-`.
-fn serve_at(address: &str, connections: Option<usize>) -> Option<Asked<'_>>
+fn serve_at(address: &str, connections: Option<usize>) -> Option<ServeCommand<'_>>
     ensures { option_map asked_view result ≡ serve_at address.now connections }
 {
     if is_flag(address.as_bytes()) {
         None
     } else {
-        Some(Asked::Serve {
+        Some(ServeCommand::Serve {
             address,
             connections,
         })

@@ -1,15 +1,15 @@
 //! The service of a hall, which answers at the moments of a clock.
 ghost use Rattle.std.specs.Prelude.{◌≡◌, ℕ, Option, IfOk, IfSome, IsOk, IsSome};
 ghost use Rattle.mds_request.specs.Configuration.{actor_of};
-ghost use Rattle.mds_hall.specs.Asked.{token_of};
+ghost use Rattle.mds_hall.specs.HttpRequest.{token_of};
 ghost use Rattle.mds_hall.specs.Resolved.{call_in, cost_in};
 ghost use Rattle.mds_hall.specs.Respond.{Responds};
 
 use futures::future::{Ready, ready};
 use http::request::Parts;
 use mds_catalog::Catalogue;
-use mds_connections::{Answers, Crowded, Moments};
-use mds_hall::{Hall, HallContext, Named, ResolvedCall};
+use mds_connections::{RequestService, Crowded, Moments};
+use mds_hall::{Hall, HallContext, HallName, ResolvedCall};
 use mds_limits::{Arrived, Cost};
 use mds_parallel::Chunked;
 use mds_request::Actor;
@@ -21,7 +21,7 @@ use std::thread::Threads;
 
 /// A hall, the evaluator of its vehicles, and the clock that gives each request its moment.
 #[derive(Drop)]
-pub struct Reception<K: Named, R, E, M> {
+pub struct HallService<K: HallName, R, E, M> {
     pub rt: R,
     pub alloc: Global,
     pub hall: Hall<K>,
@@ -29,14 +29,14 @@ pub struct Reception<K: Named, R, E, M> {
     pub moments: M,
 }
 
-impl<K: Named, R: Threads + Sync + AllocGlobal + Copy, M> Reception<K, R, Chunked<R>, M> {
+impl<K: HallName, R: Threads + Sync + AllocGlobal + Copy, M> HallService<K, R, Chunked<R>, M> {
     /// The service of a hall whose vehicles are judged by as many threads as there are processors,
     /// each request at the moment of this clock. Its hall and its clock are those given.
-    pub fn new(rt: R, hall: Hall<K>, moments: M) -> Reception<K, R, Chunked<R>, M>
+    pub fn new(rt: R, hall: Hall<K>, moments: M) -> HallService<K, R, Chunked<R>, M>
         ensures hall { result.hall ≡ hall }
         ensures moments { result.moments ≡ moments }
     {
-        Reception {
+        HallService {
             rt,
             alloc: rt.alloc(),
             hall,
@@ -46,8 +46,8 @@ impl<K: Named, R: Threads + Sync + AllocGlobal + Copy, M> Reception<K, R, Chunke
     }
 }
 
-impl<K: Named, R: Wait + Drop, E: Evaluator<Catalogue> + Drop, M: Moments> Answers
-    for Reception<K, R, E, M> {
+impl<K: HallName, R: Wait + Drop, E: Evaluator<Catalogue> + Drop, M: Moments> RequestService
+    for HallService<K, R, E, M> {
     type Head = ResolvedCall<K>;
 
     type Reply = Ready<HttpResult>;

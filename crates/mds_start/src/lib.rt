@@ -2,16 +2,16 @@
 //! service of a hall that persists nothing.
 #![tactic(auto)]
 
-mod asking;
+mod command;
 mod count;
 mod fault;
-mod reception;
+mod hall_service;
 mod serving;
 mod threads;
 
-pub use asking::{Asked, HELP, USAGE, VERSION, asked_by};
+pub use command::{ServeCommand, HELP, USAGE, VERSION, command_of};
 pub use count::count_of;
 pub use fault::ServeFault;
-pub use reception::Reception;
+pub use hall_service::HallService;
 pub use serving::serve;
 pub use threads::workers;

@@ -1,8 +1,8 @@
 //! Serves a hall over a listener, and ends it.
 
-use crate::reception::Reception;
-use mds_connections::{ConnectionRuntime, Ended, Moments, Queues, serve_up_to};
-use mds_hall::Named;
+use crate::hall_service::HallService;
+use mds_connections::{ConnectionRuntime, ServeOutcome, Moments, Queues, serve_up_to};
+use mds_hall::HallName;
 use mds_parallel::Chunked;
 use std::io;
 use tokio::net::TcpListener;
@@ -13,16 +13,16 @@ use tokio::runtime::Runtime;
 /// # Errors
 ///
 /// The server couldn't be started, or waiting for events failed.
-pub fn serve<K: Named + Send + Sync, R: ConnectionRuntime + Copy, M: Moments + Send + Sync>(
+pub fn serve<K: HallName + Send + Sync, R: ConnectionRuntime + Copy, M: Moments + Send + Sync>(
     rt: &R,
     runtime: &mut Runtime,
     listener: TcpListener,
-    reception: Reception<K, R, Chunked<R>, M>,
+    reception: HallService<K, R, Chunked<R>, M>,
     queues: Queues,
     connections: Option<usize>,
 ) -> io::Result<()> {
     let ended = serve_up_to(rt, runtime, listener, reception, queues, connections);
-    let Ended { answers, outcome } = ended?;
+    let ServeOutcome { answers, outcome } = ended?;
     if let Some(reception) = answers {
         reception.hall.finish(rt);
     }

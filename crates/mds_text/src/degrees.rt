@@ -34,7 +34,7 @@ pub fn units_of(text: &str) -> Result<Units7, NumberFault>
     let Some(size) = size_of(&number) else {
         return Err(NumberFault::OutOfRange);
     };
-    signed(number.negative, size)
+    with_sign(number.negative, size)
 }
 
 /// Parses a number whose text and exponent aren't too long; `BadNumber` for any other text.
@@ -54,7 +54,7 @@ fn short_number(text: &[u8]) -> Result<Number<'_>, NumberFault>
 }
 
 /// A size with its sign; `OutOfRange` beyond 180 degrees.
-fn signed(negative: bool, size: u64) -> Result<Units7, NumberFault>
+fn with_sign(negative: bool, size: u64) -> Result<Units7, NumberFault>
     ensures { Gives number_cause (λ u. u) result (in_range negative size) }
 {
     if size > MOST_UNITS {
@@ -72,7 +72,7 @@ fn size_of(number: &Number<'_>) -> Option<u64>
     requires exponent { length number.now.exponent.now ≤ most_exponent_digits }
     ensures { result ≡ up_to_limit most_units (size_of (parts_view number.now)) }
 {
-    match leading(number.whole, number.fraction, places_of(number)) {
+    match leading_value(number.whole, number.fraction, places_of(number)) {
         Some(tenths) => Some((tenths + 5) / 10),
         None => None,
     }
@@ -110,7 +110,7 @@ fn value_of(digits: &[u8]) -> usize
 }
 
 /// The value of the first `places` digits, the last followed by zeros; `None` above the limit.
-fn leading(whole: &[u8], fraction: &[u8], places: usize) -> Option<u64>
+fn leading_value(whole: &[u8], fraction: &[u8], places: usize) -> Option<u64>
     requires whole { AllDigits 10 whole.now }
     requires fraction { AllDigits 10 fraction.now }
     ensures { result ≡ up_to_limit MOST_TENTHS (leading (whole.now ++ fraction.now) places) }

@@ -30,7 +30,7 @@ pub use moment::Moment;
 pub use number::two_digits;
 pub use print::{print_tree, print_units};
 pub use quote::{is_quoted, quote_numbers};
-pub use read::{read_counted, read_tree};
+pub use read::{read_and_count, read_tree};
 pub use token::Token;
 pub use tree::{Member, Tree};
 pub use units::Units7;

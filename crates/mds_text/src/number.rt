@@ -25,7 +25,7 @@ pub struct Number<'a> {
 pub fn number_of(text: &[u8]) -> Option<Number<'_>>
     ensures { option_map parts_view result ≡ number_of text.now }
 {
-    let (negative, rest) = match cut(text, b'-') {
+    let (negative, rest) = match strip_byte(text, b'-') {
         Some(rest) => (true, rest),
         None => (false, text),
     };
@@ -54,11 +54,11 @@ pub fn is_plain(number: &Number<'_>) -> bool
     number.fraction.is_empty()
         && number.exponent.is_empty()
         && number.whole.len() <= PLAIN_DIGITS
-        && !(number.negative && cut(number.whole, b'0').is_some())
+        && !(number.negative && strip_byte(number.whole, b'0').is_some())
 }
 
 /// What follows this byte, where the text begins with it.
-fn cut(text: &[u8], byte: u8) -> Option<&[u8]>
+fn strip_byte(text: &[u8], byte: u8) -> Option<&[u8]>
     ensures { option_map (λ rest. rest.now) result ≡ (if begins_with byte text.now then Some (drop 1 text.now) else None) }
 {
     match text.split_first() {
@@ -68,7 +68,7 @@ fn cut(text: &[u8], byte: u8) -> Option<&[u8]>
 }
 
 /// The digits that a text begins with, and what follows them.
-fn cut_digits(text: &[u8]) -> (&[u8], &[u8])
+fn split_digits(text: &[u8]) -> (&[u8], &[u8])
     ensures digits { result.0.now ≡ digits text.now }
     ensures rest { result.1.now ≡ behind_digits text.now }
 {
@@ -87,7 +87,7 @@ fn digits_len(text: &[u8]) -> usize
 fn whole_at(text: &[u8]) -> Option<(&[u8], &[u8])>
     ensures { option_map (λ p. (p.0.now, p.1.now)) result ≡ whole_at text.now }
 {
-    let (whole, rest) = cut_digits(text);
+    let (whole, rest) = split_digits(text);
     match whole.split_first() {
         None => None,
         Some((first, others)) => {
@@ -104,7 +104,7 @@ fn whole_at(text: &[u8]) -> Option<(&[u8], &[u8])>
 fn digits_at(text: &[u8]) -> Option<(&[u8], &[u8])>
     ensures { option_map (λ p. (p.0.now, p.1.now)) result ≡ digits_at text.now }
 {
-    let (digits, rest) = cut_digits(text);
+    let (digits, rest) = split_digits(text);
     if digits.is_empty() {
         None
     } else {
@@ -116,19 +116,19 @@ fn digits_at(text: &[u8]) -> Option<(&[u8], &[u8])>
 fn fraction_at(text: &[u8]) -> Option<(&[u8], &[u8])>
     ensures { option_map (λ p. (p.0.now, p.1.now)) result ≡ fraction_at text.now }
 {
-    match cut(text, b'.') {
+    match strip_byte(text, b'.') {
         Some(rest) => digits_at(rest),
         None => Some((&text[..0], text)),
     }
 }
 
 /// What follows an `e` or `E`, where the text begins with one.
-fn cut_e(text: &[u8]) -> Option<&[u8]>
+fn strip_e(text: &[u8]) -> Option<&[u8]>
     ensures { option_map (λ rest. rest.now) result ≡ (if has_exponent text.now then Some (drop 1 text.now) else None) }
 {
-    match cut(text, b'e') {
+    match strip_byte(text, b'e') {
         Some(rest) => Some(rest),
-        None => cut(text, b'E'),
+        None => strip_byte(text, b'E'),
     }
 }
 
@@ -136,9 +136,9 @@ fn cut_e(text: &[u8]) -> Option<&[u8]>
 fn behind_sign(text: &[u8]) -> &[u8]
     ensures { result.now ≡ behind_sign text.now }
 {
-    match cut(text, b'-') {
+    match strip_byte(text, b'-') {
         Some(rest) => rest,
-        None => match cut(text, b'+') {
+        None => match strip_byte(text, b'+') {
             Some(rest) => rest,
             None => text,
         },
@@ -149,7 +149,7 @@ fn behind_sign(text: &[u8]) -> &[u8]
 fn exponent_at(text: &[u8]) -> Option<(&[u8], &[u8])>
     ensures { option_map (λ p. (p.0.now, p.1.now)) result ≡ exponent_at text.now }
 {
-    match cut_e(text) {
+    match strip_e(text) {
         Some(rest) => digits_at(behind_sign(rest)),
         None => Some((&text[..0], text)),
     }
@@ -159,8 +159,8 @@ fn exponent_at(text: &[u8]) -> Option<(&[u8], &[u8])>
 fn is_lowering(text: &[u8]) -> bool
     ensures { result ≡ is_lowering text.now }
 {
-    match cut_e(text) {
-        Some(rest) => cut(rest, b'-').is_some(),
+    match strip_e(text) {
+        Some(rest) => strip_byte(rest, b'-').is_some(),
         None => false,
     }
 }

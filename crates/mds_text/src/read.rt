@@ -22,12 +22,12 @@ const LIMIT: i64 = 1_000_000_000_000_000_000;
 pub fn read_tree(alloc: Global, bytes: &[u8]) -> Result<Tree, TextFault>
     ensures { Gives text_cause view result (read_text bytes.now) }
 {
-    let (tree, _quoted) = read_counted(alloc, bytes)?;
+    let (tree, _quoted) = read_and_count(alloc, bytes)?;
     Ok(tree)
 }
 
 /// Reads a text as `read_tree` does, and counts its numbers that aren't plain.
-pub fn read_counted(alloc: Global, bytes: &[u8]) -> Result<(Tree, u64), TextFault>
+pub fn read_and_count(alloc: Global, bytes: &[u8]) -> Result<(Tree, u64), TextFault>
     ensures tree { Gives text_cause (λ r. view r.0) result (read_text bytes.now) }
     ensures quoted { IfOk result (λ r. r.1 ≡ quoted_count bytes.now) }
 {

@@ -4,7 +4,7 @@ use Rattle.std.proofs.lemmas.List.{map-append, take_more}
 use Rattle.mds_request.specs.Configuration.{Configuration}
 use Rattle.mds_request.specs.Reply.{Reply}
 use Rattle.mds_entries.specs.Entries.{Entry}
-use Rattle.mds_entries.specs.declared.entry.Asker.TheVariants.{Author}
+use Rattle.mds_entries.specs.declared.entry.EntryClient.TheVariants.{Author}
 use Rattle.mds_recovery.specs.Recovery.{Server}
 use Rattle.mds_thinning.specs.Questions.{asks, is_draft, drafts}
 use Rattle.mds_thinning.specs.Replies.{IsTold, AreTold}

@@ -11,10 +11,10 @@ use Rattle.std.proofs.lemmas.Bool.Decides.{nat_tests, Decides-eqb}
 use Rattle.std.proofs.lemmas.Map.Text.{is_eq-slice_cmp}
 use Rattle.std.proofs.lemmas.Slice.Eq.{bytes_eq-Decides}
 use Rattle.mds_thinning.specs.declared.kind.Device.{Device}
-use Rattle.mds_thinning.specs.declared.kind.Kind.{Kind}
-use Rattle.mds_thinning.specs.declared.kind.Kind.TheVariants.{Report, Removal, Other}
-use Rattle.mds_thinning.specs.declared.kind.Ahead.{Ahead}
-use Rattle.mds_thinning.specs.declared.kind.Ahead.TheVariants.{Run, Settled}
+use Rattle.mds_thinning.specs.declared.kind.EntryKind.{EntryKind}
+use Rattle.mds_thinning.specs.declared.kind.EntryKind.TheVariants.{Report, Removal, Other}
+use Rattle.mds_thinning.specs.declared.kind.LaterEntries.{LaterEntries}
+use Rattle.mds_thinning.specs.declared.kind.LaterEntries.TheVariants.{Run, Settled}
 use Rattle.mds_thinning.specs.Staying.{is_same, is_removal, states_of, state_before, begins, is_none, stays}
 use Rattle.mds_thinning.specs.Passes.{device_cmp, begins_at, joined, ahead_of, stays_by, stays_at}
 
@@ -75,7 +75,7 @@ all_of_none p [] h = refl
 all_of_none p (state ∷ states) h = cc
 
 -- whether a report stays, if the next report of its device has the same state
-at_same : (any none all b : Bool) (t : List ℕ) (ahead : Option Ahead) → bytes_eq t t ≡ true → (none ≡ true → all ≡ true)
+at_same : (any none all b : Bool) (t : List ℕ) (ahead : Option LaterEntries) → bytes_eq t t ≡ true → (none ≡ true → all ≡ true)
     → ((c : Bool) → (not any && (none || (all && c))) ≡ stays_by t c ahead)
     → (not any && (all && b)) ≡ stays_by t b (Some (joined t ahead))
 at_same true none all b t None s h e = absurd (false≢true (e true))
@@ -97,7 +97,7 @@ at_same false false all b t (Some (Run u)) s h e = by (bytes_eq u t) (sym (and_t
 at_same false false all b t (Some Settled) s h e = ap (λ x. x && b) (sym (and_true all) ∙ e true)
 
 -- a report doesn't stay if the next report of its device has another state
-at_other : (b : Bool) (state t : List ℕ) (ahead : Option Ahead) → bytes_eq t state ≡ false → stays_by state b (Some (joined t ahead)) ≡ false
+at_other : (b : Bool) (state t : List ℕ) (ahead : Option LaterEntries) → bytes_eq t state ≡ false → stays_by state b (Some (joined t ahead)) ≡ false
 at_other b state t None apart = ap (λ x. x && b) apart
 at_other b state t (Some (Run u)) apart = by (bytes_eq u t)
   where
@@ -107,18 +107,18 @@ at_other b state t (Some (Run u)) apart = by (bytes_eq u t)
 at_other b state t (Some Settled) apart = refl
 
 -- whether a report stays, by whether it begins a run
-abbrev may_stay : Device → List ℕ → Bool → List Kind → Bool
+abbrev may_stay : Device → List ℕ → Bool → List EntryKind → Bool
 may_stay device state b behind =
     not (list_any (is_removal device) behind) && (is_none (states_of device behind) || (list_all (bytes_eq state) (states_of device behind) && b))
 
 -- one more removal comes after it
-at_removal : (same any rest : Bool) (ahead : Option Ahead) (state : List ℕ) (b : Bool) → (not any && rest) ≡ stays_by state b ahead
+at_removal : (same any rest : Bool) (ahead : Option LaterEntries) (state : List ℕ) (b : Bool) → (not any && rest) ≡ stays_by state b ahead
     → (not (same || any) && rest) ≡ stays_by state b (cond same (Some Settled) ahead)
 at_removal true any rest ahead state b h = refl
 at_removal false any rest ahead state b h = h
 
 -- one more report of its device comes after it
-at_report : (state told : List ℕ) (b : Bool) (any none all : Bool) (ahead : Option Ahead) → (none ≡ true → all ≡ true)
+at_report : (state told : List ℕ) (b : Bool) (any none all : Bool) (ahead : Option LaterEntries) → (none ≡ true → all ≡ true)
     → ((c : Bool) → (not any && (none || (all && c))) ≡ stays_by state c ahead)
     → (same : Bool) → bytes_eq state told ≡ same
     → (not any && ((same && all) && b)) ≡ stays_by state b (Some (joined told ahead))
@@ -128,7 +128,7 @@ at_report state told b any none all ahead h e true is =
 at_report state told b any none all ahead h e false is = and_false (not any) ∙ sym (at_other b state told ahead (apart state told is))
 
 -- what comes after a report says whether it stays
-pub stays_by_ahead : (device : Device) (state : List ℕ) (b : Bool) (behind : List Kind)
+pub stays_by_ahead : (device : Device) (state : List ℕ) (b : Bool) (behind : List EntryKind)
     → may_stay device state b behind ≡ stays_by state b (ahead_of device behind)
 stays_by_ahead device state b [] = refl
 stays_by_ahead device state b (Other ∷ behind) = stays_by_ahead device state b behind
@@ -149,7 +149,7 @@ stays_by_ahead device state b (Report other told ∷ behind) = by (is_same other
         (bytes_eq state told) refl
     by false e = e b
 
-pub stays_as_known : (before : List Kind) (kind : Kind) (behind : List Kind) → stays_at kind (begins_at before kind) behind ≡ stays before kind behind
+pub stays_as_known : (before : List EntryKind) (kind : EntryKind) (behind : List EntryKind) → stays_at kind (begins_at before kind) behind ≡ stays before kind behind
 stays_as_known before Other behind = refl
 stays_as_known before (Removal device) behind = refl
 stays_as_known before (Report device state) behind = sym (stays_by_ahead device state (begins state (state_before device before)) behind)
@@ -161,7 +161,7 @@ same_is d q h = λ i. record { operator = numbers i; id = equal_bytes d.id q.id 
     numbers = (Decides-eqb d.operator q.operator).0 (and_left (d.operator == q.operator) (bytes_eq d.id q.id) h)
 
 -- what a map has of each device once a report is added
-pub joins : (d : Device) (state : List ℕ) (behind : List Kind) (q : Device)
+pub joins : (d : Device) (state : List ℕ) (behind : List EntryKind) (q : Device)
     → cond (is_same d q) (Some (joined state (ahead_of d behind))) (ahead_of q behind) ≡ ahead_of q (Report d state ∷ behind)
 joins d state behind q = by (is_same d q) refl
   where

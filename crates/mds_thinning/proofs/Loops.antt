@@ -4,7 +4,7 @@ use Rattle.std.proofs.Common.{Bool, true, false, cond, List, [], ◌∷◌, ◌+
 use Rattle.std.proofs.Math.Seq.{take-suc, drop-cons}
 use Rattle.std.proofs.lemmas.Grind.{reverse_onto}
 use Rattle.std.proofs.lemmas.List.{reverse-append}
-use Rattle.mds_thinning.specs.declared.kind.Kind.{Kind}
+use Rattle.mds_thinning.specs.declared.kind.EntryKind.{EntryKind}
 use Rattle.mds_thinning.specs.Staying.{staying, picked}
 use Rattle.mds_thinning.specs.Passes.{begins_at, beginnings, stays_at}
 use Rattle.mds_thinning.proofs.Known.{stays_as_known}
@@ -16,7 +16,7 @@ pub reverse_more : {A : Type 0} (xs : List A) (i : ℕ) (d : A) → i < length x
 reverse_more xs i d h = let e : i + 1 ≡ suc i = omega arith in rw e (ap reverse (take-suc xs i d h) ∙ reverse-append (take i xs) (get_or xs i d ∷ []))
 
 -- whether one more entry begins a run, with what was found so far
-pub begins_more : (found : List Bool) (kinds : List Kind) (i : ℕ) (d : Kind) (is : Bool) → i < length kinds
+pub begins_more : (found : List Bool) (kinds : List EntryKind) (i : ℕ) (d : EntryKind) (is : Bool) → i < length kinds
     → found ++ beginnings (reverse (take i kinds)) (drop i kinds) ≡ beginnings [] kinds
     → is ≡ begins_at (reverse (take i kinds)) (get_or kinds i d)
     → (found ++ is ∷ []) ++ beginnings (reverse (take (i + 1) kinds)) (drop (i + 1) kinds) ≡ beginnings [] kinds
@@ -27,11 +27,11 @@ begins_more found kinds i d is h all found_is =
     ∙ ap (λ behind. found ++ beginnings (reverse (take i kinds)) behind) (sym (drop_more kinds i d h))
     ∙ all
 
-pub length_beginnings : (before kinds : List Kind) → length (beginnings before kinds) ≡ length kinds
+pub length_beginnings : (before kinds : List EntryKind) → length (beginnings before kinds) ≡ length kinds
 length_beginnings before [] = refl
 length_beginnings before (kind ∷ kinds) = ap (λ n. suc n) (length_beginnings (kind ∷ before) kinds)
 
-beginning_behind : (before kinds : List Kind) (p : ℕ) (d : Kind) (b : Bool) → p < length kinds
+beginning_behind : (before kinds : List EntryKind) (p : ℕ) (d : EntryKind) (b : Bool) → p < length kinds
     → get_or (beginnings before kinds) p b ≡ begins_at (reverse (take p kinds) ++ before) (get_or kinds p d)
 beginning_behind before [] p d b h = absurd (omega (arith, h))
 beginning_behind before (kind ∷ kinds) zero d b h = refl
@@ -44,11 +44,11 @@ append_nil : {A : Type 0} (xs : List A) → xs ++ [] ≡ xs
 append_nil [] = refl
 append_nil (x ∷ xs) = ap (λ rest. x ∷ rest) (append_nil xs)
 
-pub beginning_at : (kinds : List Kind) (p : ℕ) (d : Kind) (b : Bool) → p < length kinds
+pub beginning_at : (kinds : List EntryKind) (p : ℕ) (d : EntryKind) (b : Bool) → p < length kinds
     → get_or (beginnings [] kinds) p b ≡ begins_at (reverse (take p kinds)) (get_or kinds p d)
 beginning_at kinds p d b h = beginning_behind [] kinds p d b h ∙ ap (λ front. begins_at front (get_or kinds p d)) (append_nil (reverse (take p kinds)))
 
-stays_one_more : (found : List Bool) (kinds : List Kind) (p : ℕ) (d : Kind) (b is : Bool) → p < length kinds
+stays_one_more : (found : List Bool) (kinds : List EntryKind) (p : ℕ) (d : EntryKind) (b is : Bool) → p < length kinds
     → reverse found ≡ staying (reverse (take (p + 1) kinds)) (drop (p + 1) kinds)
     → b ≡ begins_at (reverse (take p kinds)) (get_or kinds p d)
     → is ≡ stays_at (get_or kinds p d) b (drop (p + 1) kinds)
@@ -62,7 +62,7 @@ stays_one_more found kinds p d b is h all begins_is stays_is =
     ∙ ap (staying (reverse (take p kinds))) (sym (drop_more kinds p d h))
 
 -- whether one more entry stays, from the last one on
-pub stays_more : (found : List Bool) (kinds : List Kind) (place : ℕ) (d : Kind) (b is : Bool) → 0 < place → place ≤ length kinds
+pub stays_more : (found : List Bool) (kinds : List EntryKind) (place : ℕ) (d : EntryKind) (b is : Bool) → 0 < place → place ≤ length kinds
     → reverse found ≡ staying (reverse (take place kinds)) (drop place kinds)
     → b ≡ begins_at (reverse (take (place - 1) kinds)) (get_or kinds (place - 1) d)
     → is ≡ stays_at (get_or kinds (place - 1) d) b (drop place kinds)
@@ -99,6 +99,6 @@ picked_more of marks entries i d e kept next h k is all =
     ∙ ap (λ es. kept ++ picked (drop i marks) (map of es)) (sym (drop_more entries i e k))
     ∙ all
 
-pub length_staying : (before kinds : List Kind) → length (staying before kinds) ≡ length kinds
+pub length_staying : (before kinds : List EntryKind) → length (staying before kinds) ≡ length kinds
 length_staying before [] = refl
 length_staying before (kind ∷ kinds) = ap (λ n. suc n) (length_staying (kind ∷ before) kinds)

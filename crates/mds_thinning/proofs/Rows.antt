@@ -7,12 +7,12 @@ use Rattle.mds_text.specs.Fault.{Fault}
 use Rattle.mds_fleet.specs.Books.{Report as Told, row_from}
 use Rattle.mds_fleet.specs.History.{row_by, run_from}
 use Rattle.mds_fleet.specs.Reading.{read_report}
-use Rattle.mds_restarts.specs.Kept.{run_begun, ThinnedIsTheSame}
+use Rattle.mds_restarts.specs.Persisted.{run_begun, ThinnedIsTheSame}
 use Rattle.mds_thinning.specs.declared.kind.Device.{Device}
-use Rattle.mds_thinning.specs.declared.kind.Kind.{Kind}
-use Rattle.mds_thinning.specs.declared.kind.Kind.TheVariants.{Report, Removal, Other}
-use Rattle.mds_thinning.specs.declared.kind.Ahead.{Ahead}
-use Rattle.mds_thinning.specs.declared.kind.Ahead.TheVariants.{Run, Settled}
+use Rattle.mds_thinning.specs.declared.kind.EntryKind.{EntryKind}
+use Rattle.mds_thinning.specs.declared.kind.EntryKind.TheVariants.{Report, Removal, Other}
+use Rattle.mds_thinning.specs.declared.kind.LaterEntries.{LaterEntries}
+use Rattle.mds_thinning.specs.declared.kind.LaterEntries.TheVariants.{Run, Settled}
 use Rattle.mds_thinning.specs.Staying.{is_same, state_before, begins, stays, staying, picked}
 use Rattle.mds_thinning.specs.Passes.{joined, ahead_of, stays_by}
 use Rattle.mds_request.specs.Call.{call_of}
@@ -24,7 +24,7 @@ use Rattle.mds_request.specs.declared.code.Code.{Code}
 use Rattle.mds_entries.specs.Entries.{Entry}
 use Rattle.mds_entries.specs.Requests.{actor_by, token_of, with_token}
 use Rattle.mds_thinning.specs.Kinds.{as_report, kind_by, kind_asked, kind_of}
-use Rattle.mds_thinning.specs.Thinned.{thinned}
+use Rattle.mds_thinning.specs.Compacting.{thinned}
 use Rattle.mds_thinning.specs.Laws.{added, reports_since, RowsStay}
 use Rattle.mds_thinning.proofs.Known.{stays_as_known, same_is, equal_bytes, same_bytes, apart}
 
@@ -34,7 +34,7 @@ begun_of state [] = []
 begun_of state (report ∷ earlier) = cond (bytes_eq report.state state) (run_begun state report earlier ∷ []) []
 
 -- what is kept of a device's reports, the last one first, by what comes after them
-abbrev pub expected : Option Ahead → List Told → List Told
+abbrev pub expected : Option LaterEntries → List Told → List Told
 expected None [] = []
 expected None (last ∷ earlier) = last ∷ begun_of last.state earlier
 expected (Some (Run state)) reports = begun_of state reports
@@ -45,7 +45,7 @@ head_state [] = None
 head_state (report ∷ earlier) = Some report.state
 
 -- the body of a report reads as one of its state
-abbrev pub Fits : Kind → Result Told Fault → Type 0
+abbrev pub Fits : EntryKind → Result Told Fault → Type 0
 Fits (Report device state) read = (report : Told) × (read ≡ Ok report) × (report.state ≡ state)
 Fits (Removal device) read = Unit {0}
 Fits Other read = Unit {0}
@@ -62,7 +62,7 @@ in_run r (h ∷ earlier) = by (bytes_eq h.state r.state)
     by false = refl
 
 -- a report of the device
-reported : (r : Told) (ahead : Option Ahead) (reports : List Told)
+reported : (r : Told) (ahead : Option LaterEntries) (reports : List Told)
     → cond (stays_by r.state (begins r.state (head_state reports)) ahead)
     (r ∷ expected (Some (joined r.state ahead)) reports) (expected (Some (joined r.state ahead)) reports)
     ≡ expected ahead (r ∷ reports)
@@ -85,7 +85,7 @@ same_either true x = refl
 same_either false x = refl
 
 -- a report of the device, by what comes before it and after it
-at_device : (device other : Device) (before behind : List Kind) (state : List ℕ) (r : Told) (reports kept : List Told) → r.state ≡ state → other ≡ device
+at_device : (device other : Device) (before behind : List EntryKind) (state : List ℕ) (r : Told) (reports kept : List Told) → r.state ≡ state → other ≡ device
     → kept ≡ expected (Some (joined state (ahead_of device behind))) reports → state_before device before ≡ head_state reports
     → cond (stays before (Report other state) behind) (r ∷ kept) kept ≡ expected (ahead_of device behind) (r ∷ reports)
 at_device device other before behind state r reports kept is_state is_device is known =
@@ -99,13 +99,13 @@ at_device device other before behind state r reports kept is_state is_device is 
     ∙ subst (λ s. cond (stays_by s (begins s (head_state reports)) ahead) (r ∷ expected (Some (joined s ahead)) reports) (expected (Some (joined s ahead)) reports)
     ≡ expected ahead (r ∷ reports)) is_state (reported r ahead reports)
 
-nothing : (ahead : Option Ahead) → [] ≡ expected ahead []
+nothing : (ahead : Option LaterEntries) → [] ≡ expected ahead []
 nothing None = refl
 nothing (Some (Run state)) = refl
 nothing (Some Settled) = refl
 
 -- one entry more: what is kept
-kept_more : (device : Device) (before behind : List Kind) (kind : Kind) (read : Result Told Fault) (reports kept : List Told) → Fits kind read
+kept_more : (device : Device) (before behind : List EntryKind) (kind : EntryKind) (read : Result Told Fault) (reports kept : List Told) → Fits kind read
     → kept ≡ expected (ahead_of device (kind ∷ behind)) reports → state_before device before ≡ head_state reports
     → cond (stays before kind behind) (added device kind read kept) kept ≡ expected (ahead_of device behind) (added device kind read reports)
 kept_more device before behind Other read reports kept fits is known = is
@@ -127,7 +127,7 @@ kept_more device before behind (Report other state) read reports kept fits is kn
     by false at is = same_either (stays before (Report other state) behind) kept ∙ is
 
 -- and what is known of the device
-known_more : (device : Device) (before : List Kind) (kind : Kind) (read : Result Told Fault) (reports : List Told) → Fits kind read
+known_more : (device : Device) (before : List EntryKind) (kind : EntryKind) (read : Result Told Fault) (reports : List Told) → Fits kind read
     → state_before device before ≡ head_state reports → state_before device (kind ∷ before) ≡ head_state (added device kind read reports)
 known_more device before Other read reports fits known = known
 known_more device before (Removal other) read reports fits known = by (is_same other device)
@@ -196,7 +196,7 @@ module _ (configuration : Configuration) (device : Device) where
   run_picked true marks e entries reports = refl
   run_picked false marks e entries reports = refl
 
-  row_stays : ThinnedIsTheSame → (entries : List Entry) (before : List Kind) (reports kept : List Told)
+  row_stays : ThinnedIsTheSame → (entries : List Entry) (before : List EntryKind) (reports kept : List Told)
       → kept ≡ expected (ahead_of device (map (kind_of configuration) entries)) reports → state_before device before ≡ head_state reports
       → row_by (run kept (picked (staying before (map (kind_of configuration) entries)) entries)) ≡ row_by (run reports entries)
   row_stays law [] before reports kept is known = ap row_by is ∙ row_of_expected law reports

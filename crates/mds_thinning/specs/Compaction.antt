@@ -5,8 +5,8 @@ use Rattle.mds_request.specs.Reply.{Reply}
 use Rattle.mds_entries.specs.Entries.{Entry, entry_text}
 use Rattle.mds_thinning.specs.Questions.{questions}
 use Rattle.mds_thinning.specs.Replies.{AreReplies}
-use Rattle.mds_thinning.specs.Thinned.{thinned}
-use Rattle.mds_thinning.specs.declared.thinning.Counts.{Counts}
+use Rattle.mds_thinning.specs.Compacting.{thinned}
+use Rattle.mds_thinning.specs.declared.compaction.Counts.{Counts}
 
 -- the payloads of a journal: a head, and one of each entry
 abbrev pub IsJournal : List (List ℕ) → List ℕ → List Entry → Type 0

@@ -13,27 +13,27 @@ use Rattle.mds_request.specs.declared.call.OperatorCall.TheVariants.{Report as R
 use Rattle.mds_request.specs.declared.code.Code.{Code}
 use Rattle.mds_entries.specs.Entries.{Entry}
 use Rattle.mds_entries.specs.Requests.{request_by}
-use Rattle.mds_thinning.specs.declared.kind.Kind.{Kind}
-use Rattle.mds_thinning.specs.declared.kind.Kind.TheVariants.{Report, Removal, Other}
+use Rattle.mds_thinning.specs.declared.kind.EntryKind.{EntryKind}
+use Rattle.mds_thinning.specs.declared.kind.EntryKind.TheVariants.{Report, Removal, Other}
 
-abbrev pub as_report : ℕ → Result Told Fault → Kind
+abbrev pub as_report : ℕ → Result Told Fault → EntryKind
 as_report operator (Ok report) = Report (record { operator = operator; id = report.device }) report.state
 as_report operator (Err fault) = Other
 
 -- the kind of an entry with this body, reported by the operator at a place
-abbrev pub reported : ℕ → List ℕ → Kind
+abbrev pub reported : ℕ → List ℕ → EntryKind
 reported operator body = as_report operator (read_report body)
 
 -- the kind of a call with this body
-abbrev pub kind_by : Result Call Code → List ℕ → Kind
+abbrev pub kind_by : Result Call Code → List ℕ → EntryKind
 kind_by (Ok (OperatorAt operator Reports)) body = reported operator body
 kind_by (Ok (OperatorAt operator (RemoveVehicle id))) body = Removal (record { operator = operator; id = id })
 kind_by other body = Other
 
-abbrev pub kind_asked : Configuration → Option Request → Kind
+abbrev pub kind_asked : Configuration → Option Request → EntryKind
 kind_asked configuration None = Other
 kind_asked configuration (Some request) = kind_by (call_of configuration request) request.body
 
 -- the kind of an entry, by the operators of a configuration
-abbrev pub kind_of : Configuration → Entry → Kind
+abbrev pub kind_of : Configuration → Entry → EntryKind
 kind_of configuration e = kind_asked configuration (request_by configuration e)

@@ -7,14 +7,14 @@ use Rattle.mds_fleet.specs.Reading.{read_report}
 use Rattle.mds_request.specs.Configuration.{Configuration}
 use Rattle.mds_entries.specs.Entries.{Entry}
 use Rattle.mds_thinning.specs.declared.kind.Device.{Device}
-use Rattle.mds_thinning.specs.declared.kind.Kind.{Kind}
-use Rattle.mds_thinning.specs.declared.kind.Kind.TheVariants.{Report, Removal, Other}
+use Rattle.mds_thinning.specs.declared.kind.EntryKind.{EntryKind}
+use Rattle.mds_thinning.specs.declared.kind.EntryKind.TheVariants.{Report, Removal, Other}
 use Rattle.mds_thinning.specs.Kinds.{kind_of}
 use Rattle.mds_thinning.specs.Staying.{is_same}
-use Rattle.mds_thinning.specs.Thinned.{thinned}
+use Rattle.mds_thinning.specs.Compacting.{thinned}
 
 -- a device's reports, the last one first, after an entry of this kind, whose body reads so
-abbrev pub added : Device → Kind → Result Told Fault → List Told → List Told
+abbrev pub added : Device → EntryKind → Result Told Fault → List Told → List Told
 added device (Report other state) (Ok report) reports = if is_same other device then report ∷ reports else reports
 added device (Report other state) (Err fault) reports = reports
 added device (Removal other) read reports = if is_same other device then [] else reports

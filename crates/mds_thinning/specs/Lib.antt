@@ -1,9 +1,9 @@
 pub mod Kinds
 pub mod Staying
 pub mod Passes
-pub mod Thinned
+pub mod Compacting
 pub mod Laws
 pub mod Questions
 pub mod Replies
-pub mod Thinning
+pub mod Compaction
 pub mod Alike

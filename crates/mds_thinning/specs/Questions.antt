@@ -4,14 +4,14 @@ use Rattle.mds_request.specs.Configuration.{Configuration, Operator}
 use Rattle.mds_request.specs.declared.request.Verb.{Verb}
 use Rattle.mds_request.specs.declared.request.Verb.TheVariants.{Get, Put}
 use Rattle.mds_entries.specs.Entries.{Entry}
-use Rattle.mds_entries.specs.declared.entry.Asker.{Asker}
-use Rattle.mds_entries.specs.declared.entry.Asker.TheVariants.{Author, Operator as OperatorBy}
+use Rattle.mds_entries.specs.declared.entry.EntryClient.{EntryClient}
+use Rattle.mds_entries.specs.declared.entry.EntryClient.TheVariants.{Author, Operator as OperatorBy}
 
 -- a GET request for this target
-abbrev pub asks : ℕ → Asker → List ℕ → Entry
+abbrev pub asks : ℕ → EntryClient → List ℕ → Entry
 asks at asker target = record { asker = asker; at = at; verb = Get; target = target; body = [] }
 
-abbrev pub is_put_by : Asker → Verb → Bool
+abbrev pub is_put_by : EntryClient → Verb → Bool
 is_put_by Author Put = true
 is_put_by asker verb = false
 

@@ -5,10 +5,10 @@ ghost use Rattle.std.specs.BTreeMap.{get};
 ghost use Rattle.std.specs.Option.{option_copied};
 ghost use Rattle.mds_thinning.specs.Staying.{begins, state_before, staying};
 ghost use Rattle.mds_thinning.specs.Passes.{device_cmp, begins_at, beginnings, joined, ahead_of, stays_by, stays_at};
-ghost use Rattle.mds_thinning.specs.declared.kind.Kind.{Kind as Known};
+ghost use Rattle.mds_thinning.specs.declared.kind.EntryKind.{EntryKind as Known};
 ghost use Rattle.mds_thinning.specs.declared.kind.Device.{Device as Owned};
 
-use crate::kind::{Ahead, Device, Kind};
+use crate::kind::{LaterEntries, Device, EntryKind};
 use mds_text::Token;
 use std::alloc::{AllocError, Global};
 use std::collections::BTreeMap;
@@ -31,28 +31,28 @@ fn is_beginning(state: Token, before: Option<Token>) -> bool
 }
 
 /// Whether an entry begins a run of its device. The map has the device's state from then on.
-fn begins_run(states: &mut BTreeMap<Device, Token>, kind: Kind) -> Result<bool, AllocError>
+fn begins_run(states: &mut BTreeMap<Device, Token>, kind: EntryKind) -> Result<bool, AllocError>
     ensures begins { (before : List Known) → IfOk result (λ is. ((q : Owned) → get device_cmp states.old q ≡ state_before q before)
         → is ≡ begins_at before kind) }
     ensures known { (before : List Known) → OnOk result (((q : Owned) → get device_cmp states.old q ≡ state_before q before)
         → (q : Owned) → get device_cmp states.new q ≡ state_before q (kind ∷ before)) }
 {
     match kind {
-        Kind::Report(device, state) => {
+        EntryKind::Report(device, state) => {
             let begins = is_beginning(state, states.get(&device).copied());
             states.insert(device, state)?;
             Ok(begins)
         }
-        Kind::Removal(device) => {
+        EntryKind::Removal(device) => {
             states.remove(&device);
             Ok(false)
         }
-        Kind::Other => Ok(false),
+        EntryKind::Other => Ok(false),
     }
 }
 
 /// Which of the entries begin a run of their device's state.
-fn beginnings(alloc: Global, kinds: &[Kind]) -> Result<Vec<bool>, AllocError>
+fn beginnings(alloc: Global, kinds: &[EntryKind]) -> Result<Vec<bool>, AllocError>
     ensures { IfOk result (λ found. found.items ≡ beginnings [] kinds.now) }
 {
     let mut states = BTreeMap::new(alloc);
@@ -64,53 +64,53 @@ fn beginnings(alloc: Global, kinds: &[Kind]) -> Result<Vec<bool>, AllocError>
 }
 
 /// Whether a report stays, by what comes after it.
-fn stays_by(state: Token, begins: bool, ahead: Option<&Ahead>) -> bool
+fn stays_by(state: Token, begins: bool, ahead: Option<&LaterEntries>) -> bool
     ensures { result ≡ stays_by state begins (option_copied ahead.entry) }
 {
     match ahead {
         None => true,
-        Some(Ahead::Run(other)) => is_same_state(*other, state) && begins,
-        Some(Ahead::Settled) => false,
+        Some(LaterEntries::Run(other)) => is_same_state(*other, state) && begins,
+        Some(LaterEntries::Settled) => false,
     }
 }
 
 /// What comes at and after a report.
-fn joined(state: Token, ahead: Option<&Ahead>) -> Ahead
+fn with_report(state: Token, ahead: Option<&LaterEntries>) -> LaterEntries
     ensures { result ≡ joined state (option_copied ahead.entry) }
 {
     match ahead {
-        None => Ahead::Run(state),
-        Some(Ahead::Run(other)) => {
+        None => LaterEntries::Run(state),
+        Some(LaterEntries::Run(other)) => {
             if is_same_state(*other, state) {
-                Ahead::Run(state)
+                LaterEntries::Run(state)
             } else {
-                Ahead::Settled
+                LaterEntries::Settled
             }
         }
-        Some(Ahead::Settled) => Ahead::Settled,
+        Some(LaterEntries::Settled) => LaterEntries::Settled,
     }
 }
 
 /// Whether an entry stays, by what is known to come after it, to which it is then added.
-fn stays(behind: &mut BTreeMap<Device, Ahead>, kind: Kind, begins: bool) -> Result<bool, AllocError>
+fn stays(behind: &mut BTreeMap<Device, LaterEntries>, kind: EntryKind, begins: bool) -> Result<bool, AllocError>
     ensures stays { (kinds : List Known) → IfOk result (λ is. ((q : Owned) → get device_cmp behind.old q ≡ ahead_of q kinds)
         → is ≡ stays_at kind begins kinds) }
     ensures known { (kinds : List Known) → OnOk result (((q : Owned) → get device_cmp behind.old q ≡ ahead_of q kinds)
         → (q : Owned) → get device_cmp behind.new q ≡ ahead_of q (kind ∷ kinds)) }
 {
     match kind {
-        Kind::Report(device, state) => {
+        EntryKind::Report(device, state) => {
             let ahead = behind.get(&device);
             let stays = stays_by(state, begins, ahead);
-            let next = joined(state, ahead);
+            let next = with_report(state, ahead);
             behind.insert(device, next)?;
             Ok(stays)
         }
-        Kind::Removal(device) => {
-            behind.insert(device, Ahead::Settled)?;
+        EntryKind::Removal(device) => {
+            behind.insert(device, LaterEntries::Settled)?;
             Ok(false)
         }
-        Kind::Other => Ok(true),
+        EntryKind::Other => Ok(true),
     }
 }
 
@@ -119,7 +119,7 @@ fn stays(behind: &mut BTreeMap<Device, Ahead>, kind: Kind, begins: bool) -> Resu
 /// # Errors
 ///
 /// Out of memory.
-pub(crate) fn chosen(alloc: Global, kinds: &[Kind]) -> Result<Vec<bool>, AllocError>
+pub(crate) fn stay_marks(alloc: Global, kinds: &[EntryKind]) -> Result<Vec<bool>, AllocError>
     ensures { IfOk result (λ marks. marks.items ≡ staying [] kinds.now) }
 {
     let begun = beginnings(alloc, kinds)?;

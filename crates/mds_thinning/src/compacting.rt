@@ -4,16 +4,16 @@ ghost use Rattle.mds_request.specs.Configuration.{configuration};
 ghost use Rattle.mds_entries.specs.Entries.{entry_of};
 ghost use Rattle.mds_thinning.specs.Kinds.{kind_of};
 ghost use Rattle.mds_thinning.specs.Staying.{staying, picked};
-ghost use Rattle.mds_thinning.specs.Thinned.{thinned};
+ghost use Rattle.mds_thinning.specs.Compacting.{thinned};
 
-use crate::choosing::chosen;
-use crate::kind::{Kind, kind_of};
-use mds_entries::Entry;
+use crate::choosing::stay_marks;
+use crate::kind::{EntryKind, kind_of};
+use mds_entries::JournalEntry;
 use mds_request::{Config, Routes};
 use std::alloc::{AllocError, Global};
 
 /// The kind of each entry.
-fn kinds_of(alloc: Global, config: &Config, entries: &[Entry<'_>]) -> Result<Vec<Kind>, AllocError>
+fn kinds_of(alloc: Global, config: &Config, entries: &[JournalEntry<'_>]) -> Result<Vec<EntryKind>, AllocError>
     ensures { IfOk result (λ kinds. kinds.items ≡ map (kind_of (configuration config.now)) (map entry_of entries.now)) }
 {
     let routes = Routes::new(alloc)?;
@@ -25,10 +25,10 @@ fn kinds_of(alloc: Global, config: &Config, entries: &[Entry<'_>]) -> Result<Vec
 }
 
 /// The same entry.
-fn again<'a>(entry: &Entry<'a>) -> Entry<'a>
+fn copy_entry<'a>(entry: &JournalEntry<'a>) -> JournalEntry<'a>
     ensures { entry_of result ≡ entry_of entry.now }
 {
-    Entry {
+    JournalEntry {
         asker: entry.asker,
         at: entry.at,
         verb: entry.verb,
@@ -38,24 +38,24 @@ fn again<'a>(entry: &Entry<'a>) -> Entry<'a>
 }
 
 /// Adds an entry where it is marked.
-fn keep<'a>(kept: &mut Vec<Entry<'a>>, entry: &Entry<'a>, mark: bool) -> Result<(), AllocError>
+fn keep<'a>(kept: &mut Vec<JournalEntry<'a>>, entry: &JournalEntry<'a>, mark: bool) -> Result<(), AllocError>
     ensures { OnOk result (map entry_of kept.new.items ≡ map entry_of kept.old.items ++ (if mark then entry_of entry.now ∷ [] else [])) }
 {
     if !mark {
         return Ok(());
     }
-    match kept.push(again(entry)) {
+    match kept.push(copy_entry(entry)) {
         Ok(()) => Ok(()),
         Err(_) => Err(AllocError),
     }
 }
 
 /// The entries that are marked, in their order.
-fn picked<'a>(
+fn marked_entries<'a>(
     alloc: Global,
-    entries: &[Entry<'a>],
+    entries: &[JournalEntry<'a>],
     marks: &[bool],
-) -> Result<Vec<Entry<'a>>, AllocError>
+) -> Result<Vec<JournalEntry<'a>>, AllocError>
     requires { length marks.now ≡ length entries.now }
     ensures { IfOk result (λ kept. map entry_of kept.items ≡ picked marks.now (map entry_of entries.now)) }
 {
@@ -75,14 +75,14 @@ fn picked<'a>(
 /// # Errors
 ///
 /// Out of memory.
-pub fn thinned_entries<'a>(
+pub fn compact_entries<'a>(
     alloc: Global,
     config: &Config,
-    entries: &[Entry<'a>],
-) -> Result<Vec<Entry<'a>>, AllocError>
+    entries: &[JournalEntry<'a>],
+) -> Result<Vec<JournalEntry<'a>>, AllocError>
     ensures { IfOk result (λ kept. map entry_of kept.items ≡ thinned (configuration config.now) (map entry_of entries.now)) }
 {
     let kinds = kinds_of(alloc, config, entries)?;
-    let marks = chosen(alloc, &kinds)?;
-    picked(alloc, entries, &marks)
+    let marks = stay_marks(alloc, &kinds)?;
+    marked_entries(alloc, entries, &marks)
 }

@@ -4,27 +4,27 @@ ghost use Rattle.mds_request.specs.Configuration.{configuration, read_configurat
 ghost use Rattle.mds_entries.specs.Entries.{entry_of};
 ghost use Rattle.mds_snapshot.specs.Opening.{book_of};
 ghost use Rattle.mds_thinning.specs.Replies.{AreReplies};
-ghost use Rattle.mds_thinning.specs.Thinning.{IsThinned, IsJournal, AreAlike};
+ghost use Rattle.mds_thinning.specs.Compaction.{IsThinned, IsJournal, AreAlike};
 
 use crate::comparing::are_same;
-use crate::fault::ThinFault;
+use crate::fault::CompactFault;
 use crate::questions::questions;
-use crate::replies::{Opening, ReplyFault, replies};
-use crate::thinned::thinned_entries;
-use crate::writing::written;
-use mds_desk::Answer;
-use mds_entries::Entry;
+use crate::replies::{ServerOpening, QuestionFault, replies};
+use crate::compacting::compact_entries;
+use crate::writing::write_synced;
+use mds_desk::SharedReply;
+use mds_entries::JournalEntry;
 use mds_folder::{Damage, FolderFault, entries_in, suits};
 use mds_records::Log;
 use mds_request::Config;
-use mds_snapshot::{Blank, Naming};
+use mds_snapshot::{Blank, OpeningName};
 use mds_text::Moment;
 use std::alloc::Global;
 use std::sync::Wait;
 
 /// A journal that is to be compacted.
 #[derive(Clone, Copy)]
-pub struct Old<'a> {
+pub struct SourceJournal<'a> {
     /// The text of the configuration, as `mds_request::Config::read` reads it.
     pub config: &'a [u8],
     /// The payloads of the journal's records, the head first.
@@ -44,44 +44,44 @@ pub struct Counts {
 
 /// The configuration and the questions for both servers.
 #[derive(Clone, Copy)]
-struct Asking<'a> {
+struct ServerQuestions<'a> {
     config: &'a Config,
     /// The text of the configuration.
     text: &'a [u8],
-    questions: &'a [Entry<'a>],
+    questions: &'a [JournalEntry<'a>],
 }
 
 /// The configuration of a text.
-fn config_of(alloc: Global, text: &[u8]) -> Result<Config, ThinFault>
+fn config_of(alloc: Global, text: &[u8]) -> Result<Config, CompactFault>
     ensures { IfOk result (λ config. read_configuration text.now ≡ Ok (configuration config)) }
 {
     match Config::read(alloc, text) {
         Ok(config) => Ok(config),
-        Err(fault) => Err(ThinFault::from(fault)),
+        Err(fault) => Err(CompactFault::from(fault)),
     }
 }
 
 /// The head and the entries of a journal's payloads.
-fn parts<'a>(alloc: Global, texts: &'a [Vec<u8>]) -> Result<(&'a [u8], Vec<Entry<'a>>), ThinFault>
+fn parts<'a>(alloc: Global, texts: &'a [Vec<u8>]) -> Result<(&'a [u8], Vec<JournalEntry<'a>>), CompactFault>
     ensures { IfOk result (λ r. IsJournal (map (λ t. t.items) texts.now) r.0.now (map entry_of r.1.items)) }
 {
     let Some((head, rest)) = texts.split_first() else {
-        return Err(ThinFault::Folder(FolderFault::Damaged(Damage::NoHead)));
+        return Err(CompactFault::Folder(FolderFault::Damaged(Damage::NoHead)));
     };
     match entries_in(alloc, 1, rest) {
         Ok(entries) => Ok((head.as_slice(), entries)),
-        Err(fault) => Err(ThinFault::from(fault)),
+        Err(fault) => Err(CompactFault::from(fault)),
     }
 }
 
 /// The answers of a server that is started from entries.
-fn replies_of<K: Naming, R: Wait>(
+fn replies_of<K: OpeningName, R: Wait>(
     rt: &R,
     alloc: Global,
-    asking: &Asking<'_>,
+    asking: &ServerQuestions<'_>,
     blank: Blank,
-    entries: &[Entry<'_>],
-) -> Result<Vec<Answer>, ReplyFault>
+    entries: &[JournalEntry<'_>],
+) -> Result<Vec<SharedReply>, QuestionFault>
     requires named { book_of blank ≡ K.book }
     requires read { read_configuration asking.now.text.now ≡ Ok (configuration asking.now.config.now) }
     ensures { IfOk result (λ replies. AreReplies (configuration asking.now.config.now) (map entry_of entries.now)
@@ -89,38 +89,38 @@ fn replies_of<K: Naming, R: Wait>(
 {
     let config = match config_of(alloc, asking.text) {
         Ok(config) => config,
-        Err(fault) => return Err(ReplyFault::Untold(fault)),
+        Err(fault) => return Err(QuestionFault::Untold(fault)),
     };
-    let opening = Opening { config, blank };
+    let opening = ServerOpening { config, blank };
     replies::<K, R>(rt, alloc, asking.config, opening, entries, asking.questions)
 }
 
 /// Why the server of the old journal gave no replies.
-fn of_old(fault: ReplyFault) -> ThinFault {
+fn old_fault(fault: QuestionFault) -> CompactFault {
     match fault {
-        ReplyFault::Refused(fault) => ThinFault::OldRefused(fault),
-        ReplyFault::Untold(fault) => fault,
+        QuestionFault::Refused(fault) => CompactFault::OldRefused(fault),
+        QuestionFault::Untold(fault) => fault,
     }
 }
 
 /// Why the server of the compacted journal gave no replies.
-fn of_new(fault: ReplyFault) -> ThinFault {
+fn new_fault(fault: QuestionFault) -> CompactFault {
     match fault {
-        ReplyFault::Refused(fault) => ThinFault::NewRefused(fault),
-        ReplyFault::Untold(fault) => fault,
+        QuestionFault::Refused(fault) => CompactFault::NewRefused(fault),
+        QuestionFault::Untold(fault) => fault,
     }
 }
 
 /// Compares the answers of a server that is started from the entries with those of one that is started from the
 /// payloads of the compacted journal.
-fn are_alike<K: Naming, O: Naming, R: Wait>(
+fn are_alike<K: OpeningName, O: OpeningName, R: Wait>(
     rt: &R,
     alloc: Global,
-    asking: &Asking<'_>,
+    asking: &ServerQuestions<'_>,
     blanks: (Blank, Blank),
-    entries: &[Entry<'_>],
+    entries: &[JournalEntry<'_>],
     texts: &[Vec<u8>],
-) -> Result<(), ThinFault>
+) -> Result<(), CompactFault>
     requires one { book_of blanks.0 ≡ K.book }
     requires other { book_of blanks.1 ≡ O.book }
     requires read { read_configuration asking.now.text.now ≡ Ok (configuration asking.now.config.now) }
@@ -130,7 +130,7 @@ fn are_alike<K: Naming, O: Naming, R: Wait>(
     let (one, other) = blanks;
     let before = match replies_of::<K, R>(rt, alloc, asking, one, entries) {
         Ok(replies) => replies,
-        Err(fault) => return Err(of_old(fault)),
+        Err(fault) => return Err(old_fault(fault)),
     };
     let (_, back) = match parts(alloc, texts) {
         Ok(found) => found,
@@ -138,12 +138,12 @@ fn are_alike<K: Naming, O: Naming, R: Wait>(
     };
     let after = match replies_of::<O, R>(rt, alloc, asking, other, &back) {
         Ok(replies) => replies,
-        Err(fault) => return Err(of_new(fault)),
+        Err(fault) => return Err(new_fault(fault)),
     };
     if are_same(&before, &after) {
         Ok(())
     } else {
-        Err(ThinFault::Differs)
+        Err(CompactFault::Differs)
     }
 }
 
@@ -158,13 +158,13 @@ fn are_alike<K: Naming, O: Naming, R: Wait>(
 /// `Configuration` where the configuration's text is none, `Folder` where the old payloads are no journal, or one that
 /// the configuration doesn't fit; `OldRefused` and `NewRefused` where no server starts from a journal, `NotWritten`
 /// where the new log fails, `Differs` where the two servers' answers differ, `NoMemory`. The new log is of no use then.
-pub fn thin<K: Naming, O: Naming, L: Log, R: Wait>(
+pub fn compact<K: OpeningName, O: OpeningName, L: Log, R: Wait>(
     rt: &R,
     alloc: Global,
-    old: &Old<'_>,
+    old: &SourceJournal<'_>,
     log: &mut L,
     blanks: (Blank, Blank),
-) -> Result<Counts, ThinFault>
+) -> Result<Counts, CompactFault>
     requires empty { L.may_be log.old [] }
     requires one { book_of blanks.0 ≡ K.book }
     requires other { book_of blanks.1 ≡ O.book }
@@ -181,10 +181,10 @@ pub fn thin<K: Naming, O: Naming, L: Log, R: Wait>(
         Err(fault) => return Err(fault),
     };
     suits(alloc, &config, head, &[])?;
-    let kept = thinned_entries(alloc, &config, &entries)?;
-    let texts = written(alloc, log, head, &kept)?;
+    let kept = compact_entries(alloc, &config, &entries)?;
+    let texts = write_synced(alloc, log, head, &kept)?;
     let questions = questions(alloc, &config, &entries, old.at)?;
-    let asking = Asking {
+    let asking = ServerQuestions {
         config: &config,
         text: old.config,
         questions: &questions,

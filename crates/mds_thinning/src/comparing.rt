@@ -1,17 +1,17 @@
 //! Whether two servers' answers are equal.
 ghost use Rattle.std.specs.Prelude.{◌≡◌, ◌↔◌, IsTrue};
 
-use mds_desk::Answer;
+use mds_desk::SharedReply;
 
 /// Whether two answers have the same status, and the same body byte for byte.
-fn is_same(one: &Answer, other: &Answer) -> bool
+fn is_same(one: &SharedReply, other: &SharedReply) -> bool
     ensures { IsTrue result ↔ (one.now ≡ other.now) }
 {
     one.status() == other.status() && one.body() == other.body()
 }
 
 /// Whether all answers of two servers to the same questions are equal.
-pub(crate) fn are_same(ones: &[Answer], others: &[Answer]) -> bool
+pub(crate) fn are_same(ones: &[SharedReply], others: &[SharedReply]) -> bool
     ensures { IsTrue result ↔ (ones.now ≡ others.now) }
 {
     if ones.len() != others.len() {

@@ -1,7 +1,7 @@
 //! Why a journal isn't compacted.
 use mds_entries::WriteFault;
 use mds_folder::FolderFault;
-use mds_records::{AppendFault, NotSynced, ReadFault};
+use mds_records::{AppendFault, SyncFault, ReadFault};
 use mds_recovery::StartFault;
 use mds_request::ConfigFault;
 use std::alloc::{AllocError, AllocFailed};
@@ -9,7 +9,7 @@ use std::fmt;
 
 /// Why a journal isn't compacted. The journal stays as it was.
 #[derive(Clone, Copy)]
-pub enum ThinFault {
+pub enum CompactFault {
     /// Out of memory, in this program or in a server that it starts or asks. No other fault means that.
     NoMemory,
     /// The configuration's text is none.
@@ -26,79 +26,79 @@ pub enum ThinFault {
     Differs,
 }
 
-impl From<AllocError> for ThinFault {
-    fn from(_: AllocError) -> ThinFault {
-        ThinFault::NoMemory
+impl From<AllocError> for CompactFault {
+    fn from(_: AllocError) -> CompactFault {
+        CompactFault::NoMemory
     }
 }
 
-impl<T: Drop> From<AllocFailed<T>> for ThinFault {
-    fn from(_: AllocFailed<T>) -> ThinFault {
-        ThinFault::NoMemory
+impl<T: Drop> From<AllocFailed<T>> for CompactFault {
+    fn from(_: AllocFailed<T>) -> CompactFault {
+        CompactFault::NoMemory
     }
 }
 
-impl From<ConfigFault> for ThinFault {
-    fn from(fault: ConfigFault) -> ThinFault {
+impl From<ConfigFault> for CompactFault {
+    fn from(fault: ConfigFault) -> CompactFault {
         match fault {
-            ConfigFault::NoMemory => ThinFault::NoMemory,
-            _ => ThinFault::Configuration(fault),
+            ConfigFault::NoMemory => CompactFault::NoMemory,
+            _ => CompactFault::Configuration(fault),
         }
     }
 }
 
-impl From<FolderFault> for ThinFault {
-    fn from(fault: FolderFault) -> ThinFault {
+impl From<FolderFault> for CompactFault {
+    fn from(fault: FolderFault) -> CompactFault {
         match fault {
-            FolderFault::NoMemory => ThinFault::NoMemory,
-            _ => ThinFault::Folder(fault),
+            FolderFault::NoMemory => CompactFault::NoMemory,
+            _ => CompactFault::Folder(fault),
         }
     }
 }
 
-impl From<WriteFault> for ThinFault {
-    fn from(fault: WriteFault) -> ThinFault {
+impl From<WriteFault> for CompactFault {
+    fn from(fault: WriteFault) -> CompactFault {
         match fault {
-            WriteFault::NoMemory => ThinFault::NoMemory,
-            WriteFault::TooLong => ThinFault::NotWritten,
+            WriteFault::NoMemory => CompactFault::NoMemory,
+            WriteFault::TooLong => CompactFault::NotWritten,
         }
     }
 }
 
-impl From<AppendFault> for ThinFault {
-    fn from(fault: AppendFault) -> ThinFault {
+impl From<AppendFault> for CompactFault {
+    fn from(fault: AppendFault) -> CompactFault {
         match fault {
-            AppendFault::NoMemory => ThinFault::NoMemory,
-            _ => ThinFault::NotWritten,
+            AppendFault::NoMemory => CompactFault::NoMemory,
+            _ => CompactFault::NotWritten,
         }
     }
 }
 
-impl From<NotSynced> for ThinFault {
-    fn from(_: NotSynced) -> ThinFault {
-        ThinFault::NotWritten
+impl From<SyncFault> for CompactFault {
+    fn from(_: SyncFault) -> CompactFault {
+        CompactFault::NotWritten
     }
 }
 
-impl From<ReadFault> for ThinFault {
-    fn from(fault: ReadFault) -> ThinFault {
+impl From<ReadFault> for CompactFault {
+    fn from(fault: ReadFault) -> CompactFault {
         match fault {
-            ReadFault::NoMemory => ThinFault::NoMemory,
-            _ => ThinFault::NotWritten,
+            ReadFault::NoMemory => CompactFault::NoMemory,
+            _ => CompactFault::NotWritten,
         }
     }
 }
 
-impl fmt::Display for ThinFault {
+impl fmt::Display for CompactFault {
     fn fmt<W: fmt::Write>(&self, f: &mut fmt::Formatter<W>) -> fmt::Result {
         f.write_str(match self {
-            ThinFault::NoMemory => "no memory",
-            ThinFault::Configuration(_) => "the configuration is none",
-            ThinFault::Folder(_) => "the folder can't be used",
-            ThinFault::OldRefused(_) => "no server starts from the journal",
-            ThinFault::NotWritten => "the thinned journal can't be written",
-            ThinFault::NewRefused(_) => "no server starts from the thinned journal",
-            ThinFault::Differs => "the thinned journal leads to another server",
+            CompactFault::NoMemory => "no memory",
+            CompactFault::Configuration(_) => "the configuration is none",
+            CompactFault::Folder(_) => "the folder can't be used",
+            CompactFault::OldRefused(_) => "no server starts from the journal",
+            CompactFault::NotWritten => "the thinned journal can't be written",
+            CompactFault::NewRefused(_) => "no server starts from the thinned journal",
+            CompactFault::Differs => "the thinned journal leads to another server",
         })
     }
 }

@@ -1,11 +1,11 @@
 //! Compaction of the journal in a city's folder.
 
-use crate::fault::ThinFault;
-use crate::front::emptied;
-use crate::place::{Place, thin_at};
-use crate::thinning::{Counts, Old};
+use crate::fault::CompactFault;
+use crate::prefix::check_empty;
+use crate::journal_location::{JournalLocation, compact_at};
+use crate::compaction::{Counts, SourceJournal};
 use mds_folder::{CutFiles, Folder, FolderFault, create_locked, open_folder, sync_names};
-use mds_records::{Journal, Log, Stored};
+use mds_records::{Journal, Log, FileStorage};
 use mds_text::Moment;
 use std::alloc::Global;
 use std::fs::{self, File, Files};
@@ -13,7 +13,7 @@ use std::sync::Wait;
 
 /// A city's folder, whose journal is to be replaced by the holder of its lock.
 #[derive(Drop)]
-struct Locked<'a, 'b, R: Files<File = File>> {
+struct LockedFolder<'a, 'b, R: Files<File = File>> {
     rt: &'a R,
     alloc: Global,
     folder: &'b str,
@@ -25,7 +25,7 @@ struct Locked<'a, 'b, R: Files<File = File>> {
 }
 
 /// Another handle of a file.
-fn again(file: &File) -> Result<File, FolderFault> {
+fn clone_handle(file: &File) -> Result<File, FolderFault> {
     match file.try_clone() {
         Ok(file) => Ok(file),
         Err(_) => Err(FolderFault::Unusable),
@@ -42,18 +42,18 @@ fn rename<R: Files<File = File>>(rt: &R, alloc: Global, folder: &str) -> Result<
     }
 }
 
-impl<R: Files<File = File>> Place<Journal<Stored<File>>> for Locked<'_, '_, R> {
+impl<R: Files<File = File>> JournalLocation<Journal<FileStorage<File>>> for LockedFolder<'_, '_, R> {
     ghost use Rattle.std.specs.Prelude.{⊤};
 
     // the proofs know nothing of the contents of files
     ghost is_replaced = { λ _. ⊤ };
 
-    fn beside(&mut self) -> Result<Journal<Stored<File>>, FolderFault> {
+    fn create_log(&mut self) -> Result<Journal<FileStorage<File>>, FolderFault> {
         let path = format!(in self.alloc; "{}/journal.thinned", self.folder)?;
         let file = create_locked(self.rt, path.as_str())?;
-        self.thinned = Some(again(&file)?);
-        match Journal::open(self.alloc, Stored::new(file)) {
-            Ok(log) => emptied(log),
+        self.thinned = Some(clone_handle(&file)?);
+        match Journal::open(self.alloc, FileStorage::new(file)) {
+            Ok(log) => check_empty(log),
             Err(fault) => Err(FolderFault::from(fault)),
         }
     }
@@ -72,7 +72,7 @@ fn texts_in<R: Files<File = File>>(
     file: File,
 ) -> Result<Vec<Vec<u8>>, FolderFault> {
     let mut aside = CutFiles::new(rt, alloc, folder)?;
-    let mut log = match Journal::recover(alloc, Stored::new(file), &mut aside) {
+    let mut log = match Journal::recover(alloc, FileStorage::new(file), &mut aside) {
         Ok(log) => log,
         Err(fault) => return Err(FolderFault::from(fault)),
     };
@@ -91,31 +91,31 @@ fn texts_in<R: Files<File = File>>(
 ///
 /// Those of `thin`, and `Folder` where the folder can't be used or another program has it. The journal stays as it was,
 /// except where renaming it or syncing the folder failed: then it isn't known whether it did.
-pub fn thin_folder<R: Wait + Files<File = File>>(
+pub fn compact_folder<R: Wait + Files<File = File>>(
     rt: &R,
     alloc: Global,
     folder: &str,
     config: &[u8],
     at: Moment,
-) -> Result<Counts, ThinFault> {
+) -> Result<Counts, CompactFault> {
     let Folder {
         lock,
         journal,
         ballast: _ballast,
     } = open_folder(rt, alloc, folder)?;
-    let held = again(&journal)?;
+    let held = clone_handle(&journal)?;
     let texts = texts_in(rt, alloc, folder, journal)?;
-    let old = Old {
+    let old = SourceJournal {
         config,
         texts: &texts,
         at,
     };
-    let mut place = Locked {
+    let mut place = LockedFolder {
         rt,
         alloc,
         folder,
         locks: (lock, held),
         thinned: None,
     };
-    thin_at::<Locked<'_, '_, R>, Journal<Stored<File>>, R>(rt, alloc, &mut place, &old)
+    compact_at::<LockedFolder<'_, '_, R>, Journal<FileStorage<File>>, R>(rt, alloc, &mut place, &old)
 }

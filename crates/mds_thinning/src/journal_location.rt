@@ -1,28 +1,28 @@
 //! The order in which a compacted journal takes the place of the old one.
 ghost use Rattle.std.specs.Prelude.{◌≡◌, ◌⊎◌, map};
 ghost use Rattle.mds_snapshot.specs.Opening.{book_of};
-ghost use Rattle.mds_thinning.specs.Thinning.{IsThinned};
-ghost use Rattle.mds_thinning.specs.declared.thinning.Counts.{Counts as Numbers};
+ghost use Rattle.mds_thinning.specs.Compaction.{IsThinned};
+ghost use Rattle.mds_thinning.specs.declared.compaction.Counts.{Counts as Numbers};
 
-use crate::fault::ThinFault;
-use crate::thinning::{Counts, Old, thin};
+use crate::fault::CompactFault;
+use crate::compaction::{Counts, SourceJournal, compact};
 use mds_folder::FolderFault;
 use mds_records::Log;
-use mds_snapshot::{Blank, Naming, prepare};
+use mds_snapshot::{Blank, OpeningName, prepare};
 use std::alloc::Global;
 use std::marker::Brand;
 use std::sync::Wait;
 
 /// Where a journal is, and another next to it: a folder of files, or memory in tests. A crash at any step leaves the
 /// one or the other in its place, whole.
-pub trait Place<L: Log> {
+pub trait JournalLocation<L: Log> {
     ghost use Rattle.std.specs.Prelude.{[], IfOk};
 
     /// Another journal than at first is in the place.
     ghost is_replaced: { Self → Type 0 };
 
     /// Creates an empty log next to the journal.
-    fn beside(&mut self) -> Result<L, FolderFault>
+    fn create_log(&mut self) -> Result<L, FolderFault>
         ensures empty { IfOk result (λ log. L.may_be log []) }
         ensures kept { is_replaced self.new → is_replaced self.old };
 
@@ -31,42 +31,42 @@ pub trait Place<L: Log> {
 }
 
 /// Compacts a journal in place, where both openings are named.
-fn thin_both<P: Place<L>, K: Naming, O: Naming, L: Log, R: Wait>(
+fn compact_both<P: JournalLocation<L>, K: OpeningName, O: OpeningName, L: Log, R: Wait>(
     rt: &R,
     alloc: Global,
     place: &mut P,
-    old: &Old<'_>,
+    old: &SourceJournal<'_>,
     one: Blank,
     other: Blank,
-) -> Result<Counts, ThinFault>
+) -> Result<Counts, CompactFault>
     requires one { book_of one ≡ K.book }
     requires other { book_of other ≡ O.book }
     ensures { P.is_replaced place.new → P.is_replaced place.old
         ⊎ ((log : L) × L.is_synced log × (counts : Numbers)
         × IsThinned (L.may_be log) old.now.config.now old.now.at (map (λ t. t.items) old.now.texts.now) counts) }
 {
-    let mut log = place.beside()?;
-    let counts = thin::<K, O, L, R>(rt, alloc, old, &mut log, (one, other))?;
+    let mut log = place.create_log()?;
+    let counts = compact::<K, O, L, R>(rt, alloc, old, &mut log, (one, other))?;
     drop(log);
     place.replace()?;
     Ok(counts)
 }
 
 /// The same, where one opening is named. It names the other.
-fn thin_named<P: Place<L>, K: Naming, L: Log, R: Wait>(
+fn compact_named<P: JournalLocation<L>, K: OpeningName, L: Log, R: Wait>(
     rt: &R,
     alloc: Global,
     place: &mut P,
-    old: &Old<'_>,
+    old: &SourceJournal<'_>,
     one: Blank,
     other: Blank,
-) -> Result<Counts, ThinFault>
+) -> Result<Counts, CompactFault>
     requires { book_of one ≡ K.book }
     ensures { P.is_replaced place.new → P.is_replaced place.old
         ⊎ ((log : L) × L.is_synced log × (counts : Numbers)
         × IsThinned (L.may_be log) old.now.config.now old.now.at (map (λ t. t.items) old.now.texts.now) counts) }
 {
-    thin_both::<P, K, Brand, L, R>(rt, alloc, place, old, one, other)
+    compact_both::<P, K, Brand, L, R>(rt, alloc, place, old, one, other)
 }
 
 /// Compacts a journal in place: the compacted one is written next to it, synced and compared, and then put into its
@@ -76,21 +76,21 @@ fn thin_named<P: Place<L>, K: Naming, L: Log, R: Wait>(
 ///
 /// Those of `thin`, and `Folder` where the place can't be used. The old journal stays in its place, unless the last
 /// step failed: then it is only known that one of the two journals is there.
-pub fn thin_at<P: Place<L>, L: Log, R: Wait>(
+pub fn compact_at<P: JournalLocation<L>, L: Log, R: Wait>(
     rt: &R,
     alloc: Global,
     place: &mut P,
-    old: &Old<'_>,
-) -> Result<Counts, ThinFault>
+    old: &SourceJournal<'_>,
+) -> Result<Counts, CompactFault>
     ensures { P.is_replaced place.new → P.is_replaced place.old
         ⊎ ((log : L) × L.is_synced log × (counts : Numbers)
         × IsThinned (L.may_be log) old.now.config.now old.now.at (map (λ t. t.items) old.now.texts.now) counts) }
 {
     let Ok(one) = prepare(alloc) else {
-        return Err(ThinFault::NoMemory);
+        return Err(CompactFault::NoMemory);
     };
     let Ok(other) = prepare(alloc) else {
-        return Err(ThinFault::NoMemory);
+        return Err(CompactFault::NoMemory);
     };
-    thin_named::<P, Brand, L, R>(rt, alloc, place, old, one, other)
+    compact_named::<P, Brand, L, R>(rt, alloc, place, old, one, other)
 }

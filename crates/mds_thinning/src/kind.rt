@@ -4,7 +4,7 @@ ghost use Rattle.mds_request.specs.Configuration.{configuration};
 ghost use Rattle.mds_entries.specs.Entries.{entry_of};
 ghost use Rattle.mds_thinning.specs.Kinds.{kind_of, kind_by, reported};
 
-use mds_entries::{Entry, request_by};
+use mds_entries::{JournalEntry, request_by};
 use mds_fleet::Report;
 use mds_request::{Call, Code, Config, OperatorCall, Routes, read_call};
 use mds_text::{Id, TextFault, Token};
@@ -20,7 +20,7 @@ pub(crate) struct Device {
 
 /// The kind of an entry, for compaction.
 #[derive(Clone, Copy)]
-pub(crate) enum Kind {
+pub(crate) enum EntryKind {
     /// A report of a device, with the state in it.
     Report(Device, Token),
     /// The removal of a device.
@@ -31,7 +31,7 @@ pub(crate) enum Kind {
 
 /// What comes of a device after an entry, where something does.
 #[derive(Clone, Copy)]
-pub(crate) enum Ahead {
+pub(crate) enum LaterEntries {
     /// Reports of this state alone.
     Run(Token),
     /// A removal, or reports of several states.
@@ -39,32 +39,32 @@ pub(crate) enum Ahead {
 }
 
 /// The kind of an entry with this body, reported by the operator at a place.
-fn reported(alloc: Global, operator: usize, body: &[u8]) -> Result<Kind, AllocError>
+fn report_kind(alloc: Global, operator: usize, body: &[u8]) -> Result<EntryKind, AllocError>
     ensures { IfOk result (λ kind. kind ≡ reported operator body.now) }
 {
     match Report::read(alloc, body) {
         Ok(report) => {
             let id = report.device;
-            Ok(Kind::Report(Device { operator, id }, report.state()))
+            Ok(EntryKind::Report(Device { operator, id }, report.state()))
         }
         Err(TextFault::NoMemory) => Err(AllocError),
-        Err(_) => Ok(Kind::Other),
+        Err(_) => Ok(EntryKind::Other),
     }
 }
 
 /// The kind of a call with this body.
-fn kind_by(alloc: Global, call: &Result<Call, Code>, body: &[u8]) -> Result<Kind, AllocError>
+fn kind_by(alloc: Global, call: &Result<Call, Code>, body: &[u8]) -> Result<EntryKind, AllocError>
     ensures { IfOk result (λ kind. kind ≡ kind_by call.now body.now) }
 {
     match call {
-        Ok(Call::Operator(operator, OperatorCall::Report)) => reported(alloc, *operator, body),
+        Ok(Call::Operator(operator, OperatorCall::Report)) => report_kind(alloc, *operator, body),
         Ok(Call::Operator(operator, OperatorCall::RemoveVehicle(id))) => {
-            Ok(Kind::Removal(Device {
+            Ok(EntryKind::Removal(Device {
                 operator: *operator,
                 id: *id,
             }))
         }
-        _ => Ok(Kind::Other),
+        _ => Ok(EntryKind::Other),
     }
 }
 
@@ -78,12 +78,12 @@ pub(crate) fn kind_of(
     alloc: Global,
     routes: &Routes,
     config: &Config,
-    entry: &Entry<'_>,
-) -> Result<Kind, AllocError>
+    entry: &JournalEntry<'_>,
+) -> Result<EntryKind, AllocError>
     ensures { IfOk result (λ kind. kind ≡ kind_of (configuration config.now) (entry_of entry.now)) }
 {
     match request_by(config, entry) {
         Some(request) => kind_by(alloc, &read_call(routes, config, &request), request.body),
-        None => Ok(Kind::Other),
+        None => Ok(EntryKind::Other),
     }
 }

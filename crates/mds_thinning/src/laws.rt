@@ -8,5 +8,5 @@ use mds_restarts::laws as restarts;
 pub fn rows_stay()
     ensures { RowsStay }
 {
-    restarts::thinned_is_the_same();
+    restarts::compacted_row_is_the_same();
 }

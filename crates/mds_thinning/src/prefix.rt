@@ -1,24 +1,24 @@
 //! A prefix of a journal, compacted while the journal is appended to.
 ghost use Rattle.std.specs.Prelude.{◌≡◌, ℕ, List, [], map, IfOk};
-ghost use Rattle.mds_records.specs.Seals.{IsSealed};
-ghost use Rattle.mds_rolling.specs.Shorter.{numbers_of};
+ghost use Rattle.mds_records.specs.LogEnds.{IsSealed};
+ghost use Rattle.mds_rolling.specs.Compacted.{numbers_of};
 ghost use Rattle.mds_snapshot.specs.Opening.{book_of};
 
-use crate::fault::ThinFault;
-use crate::thinning::{Old, thin};
+use crate::fault::CompactFault;
+use crate::compaction::{SourceJournal, compact};
 use mds_folder::FolderFault;
-use mds_records::{Log, ReadFault, Seal, Sealed, texts_between};
-use mds_rolling::{Finding, Shorter};
-use mds_snapshot::{Blank, Naming, prepare};
+use mds_records::{Log, ReadFault, LogEnd, HasLogEnd, texts_between};
+use mds_rolling::{Equivalence, CompactedLog};
+use mds_snapshot::{Blank, OpeningName, prepare};
 use mds_text::Moment;
 use std::alloc::Global;
 use std::marker::Brand;
 use std::sync::Wait;
 
 /// The check that one journal leads to where another does: a server is started from each, and their answers are equal.
-pub struct Found;
+pub struct AnswersAgree;
 
-impl Finding for Found {
+impl Equivalence for AnswersAgree {
     ghost use Rattle.mds_thinning.specs.Alike.{LeadsAlike};
 
     ghost same = { LeadsAlike };
@@ -26,22 +26,22 @@ impl Finding for Found {
 
 /// The prefix of a journal that is to be compacted.
 #[derive(Clone, Copy)]
-pub struct Front<'a> {
+pub struct JournalPrefix<'a> {
     /// The text of the configuration, as `mds_request::Config::read` reads it.
     pub config: &'a [u8],
     /// The bytes of the journal's file, from its beginning up to the log end.
     pub bytes: &'a [u8],
     /// Where the prefix ends.
-    pub seal: Seal,
+    pub seal: LogEnd,
     /// The moment at which the servers are asked.
     pub at: Moment,
 }
 
 /// A journal that is to be compacted, and its log end.
 #[derive(Clone, Copy)]
-struct Whole<'a> {
-    old: Old<'a>,
-    seal: Seal,
+struct SourceWithEnd<'a> {
+    old: SourceJournal<'a>,
+    seal: LogEnd,
 }
 
 /// The payloads of a journal's prefix.
@@ -49,13 +49,13 @@ struct Whole<'a> {
 /// # Errors
 ///
 /// `Folder` where the bytes aren't those up to the log end, `NoMemory`.
-fn texts_of(alloc: Global, front: &Front<'_>) -> Result<Vec<Vec<u8>>, ThinFault>
+fn texts_of(alloc: Global, front: &JournalPrefix<'_>) -> Result<Vec<Vec<u8>>, CompactFault>
     ensures { IfOk result (λ texts. IsSealed front.now.seal (map (λ t. t.items) texts.items)) }
 {
-    match texts_between(alloc, Seal::of_nothing(), front.seal, front.bytes) {
+    match texts_between(alloc, LogEnd::of_empty_log(), front.seal, front.bytes) {
         Ok(texts) => Ok(texts),
-        Err(ReadFault::NoMemory) => Err(ThinFault::NoMemory),
-        Err(_) => Err(ThinFault::Folder(FolderFault::Unusable)),
+        Err(ReadFault::NoMemory) => Err(CompactFault::NoMemory),
+        Err(_) => Err(CompactFault::Folder(FolderFault::Unusable)),
     }
 }
 
@@ -64,7 +64,7 @@ fn texts_of(alloc: Global, front: &Front<'_>) -> Result<Vec<Vec<u8>>, ThinFault>
 /// # Errors
 ///
 /// It isn't empty, or can't be read.
-pub fn emptied<L: Log>(log: L) -> Result<L, FolderFault>
+pub fn check_empty<L: Log>(log: L) -> Result<L, FolderFault>
     ensures { IfOk result (λ log. L.may_be log []) }
 {
     let mut log = log;
@@ -76,13 +76,13 @@ pub fn emptied<L: Log>(log: L) -> Result<L, FolderFault>
 }
 
 /// Compacts a journal to a log, where both openings are named.
-fn shortened<K: Naming, O: Naming, L: Sealed, R: Wait>(
+fn compact_to<K: OpeningName, O: OpeningName, L: HasLogEnd, R: Wait>(
     rt: &R,
     alloc: Global,
-    whole: &Whole<'_>,
+    whole: &SourceWithEnd<'_>,
     log: L,
     blanks: (Blank, Blank),
-) -> Result<Shorter<L, Found>, ThinFault>
+) -> Result<CompactedLog<L, AnswersAgree>, CompactFault>
     requires empty { L.may_be log [] }
     requires one { book_of blanks.0 ≡ K.book }
     requires other { book_of blanks.1 ≡ O.book }
@@ -90,25 +90,25 @@ fn shortened<K: Naming, O: Naming, L: Sealed, R: Wait>(
     ensures { IfOk result (λ shorter. shorter ≡ numbers_of whole.now.seal) }
 {
     let mut log = log;
-    thin::<K, O, L, R>(rt, alloc, &whole.old, &mut log, blanks)?;
-    Ok(Shorter::new(log, whole.seal))
+    compact::<K, O, L, R>(rt, alloc, &whole.old, &mut log, blanks)?;
+    Ok(CompactedLog::new(log, whole.seal))
 }
 
 /// The same, where one opening is named. It names the other.
-fn shortened_named<K: Naming, L: Sealed, R: Wait>(
+fn compact_to_named<K: OpeningName, L: HasLogEnd, R: Wait>(
     rt: &R,
     alloc: Global,
-    whole: &Whole<'_>,
+    whole: &SourceWithEnd<'_>,
     log: L,
     one: Blank,
     other: Blank,
-) -> Result<Shorter<L, Found>, ThinFault>
+) -> Result<CompactedLog<L, AnswersAgree>, CompactFault>
     requires empty { L.may_be log [] }
     requires one { book_of one ≡ K.book }
     requires sealed { IsSealed whole.now.seal (map (λ t. t.items) whole.now.old.texts.now) }
     ensures { IfOk result (λ shorter. shorter ≡ numbers_of whole.now.seal) }
 {
-    shortened::<K, Brand, L, R>(rt, alloc, whole, log, (one, other))
+    compact_to::<K, Brand, L, R>(rt, alloc, whole, log, (one, other))
 }
 
 /// Compacts the prefix of a journal to an empty log, as `thin` does: the shorter log may take the journal's place once
@@ -117,12 +117,12 @@ fn shortened_named<K: Naming, L: Sealed, R: Wait>(
 /// # Errors
 ///
 /// Those of `thin`, and `Folder` where the bytes aren't those up to the log end.
-pub fn thin_front<L: Sealed, R: Wait>(
+pub fn compact_prefix<L: HasLogEnd, R: Wait>(
     rt: &R,
     alloc: Global,
-    front: &Front<'_>,
+    front: &JournalPrefix<'_>,
     log: L,
-) -> Result<Shorter<L, Found>, ThinFault>
+) -> Result<CompactedLog<L, AnswersAgree>, CompactFault>
     requires { L.may_be log [] }
     ensures { IfOk result (λ shorter. shorter ≡ numbers_of front.now.seal) }
 {
@@ -131,18 +131,18 @@ pub fn thin_front<L: Sealed, R: Wait>(
         Err(fault) => return Err(fault),
     };
     let Ok(one) = prepare(alloc) else {
-        return Err(ThinFault::NoMemory);
+        return Err(CompactFault::NoMemory);
     };
     let Ok(other) = prepare(alloc) else {
-        return Err(ThinFault::NoMemory);
+        return Err(CompactFault::NoMemory);
     };
-    let whole = Whole {
-        old: Old {
+    let whole = SourceWithEnd {
+        old: SourceJournal {
             config: front.config,
             texts: &texts,
             at: front.at,
         },
         seal: front.seal,
     };
-    shortened_named::<Brand, L, R>(rt, alloc, &whole, log, one, other)
+    compact_to_named::<Brand, L, R>(rt, alloc, &whole, log, one, other)
 }

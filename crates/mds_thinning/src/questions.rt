@@ -4,16 +4,16 @@ ghost use Rattle.mds_request.specs.Configuration.{configuration, operator};
 ghost use Rattle.mds_entries.specs.Entries.{entry_of};
 ghost use Rattle.mds_thinning.specs.Questions.{asks, is_draft, fleets, drafts, questions};
 
-use mds_entries::{Asker, Entry};
+use mds_entries::{EntryClient, JournalEntry};
 use mds_request::{Config, Operator, Verb};
 use mds_text::Moment;
 use std::alloc::{AllocError, Global};
 
 /// A request of this client, for this target.
-fn asks<'a>(at: Moment, asker: Asker, target: &'a [u8]) -> Entry<'a>
+fn question_for<'a>(at: Moment, asker: EntryClient, target: &'a [u8]) -> JournalEntry<'a>
     ensures { entry_of result ≡ asks at asker target.now }
 {
-    Entry {
+    JournalEntry {
         asker,
         at,
         verb: Verb::Get,
@@ -23,25 +23,25 @@ fn asks<'a>(at: Moment, asker: Asker, target: &'a [u8]) -> Entry<'a>
 }
 
 /// Whether the author put a draft by this entry.
-fn is_draft(entry: &Entry<'_>) -> bool
+fn is_draft(entry: &JournalEntry<'_>) -> bool
     ensures { result ≡ is_draft (entry_of entry.now) }
 {
     match (entry.asker, entry.verb) {
-        (Asker::Author, Verb::Put) => true,
+        (EntryClient::Author, Verb::Put) => true,
         _ => false,
     }
 }
 
 /// Adds a question.
 fn add<'a>(
-    list: &mut Vec<Entry<'a>>,
+    list: &mut Vec<JournalEntry<'a>>,
     at: Moment,
-    asker: Asker,
+    asker: EntryClient,
     target: &'a [u8],
 ) -> Result<(), AllocError>
     ensures { OnOk result (map entry_of list.new.items ≡ map entry_of list.old.items ++ asks at asker target.now ∷ []) }
 {
-    match list.push(asks(at, asker, target)) {
+    match list.push(question_for(at, asker, target)) {
         Ok(()) => Ok(()),
         Err(_) => Err(AllocError),
     }
@@ -49,24 +49,24 @@ fn add<'a>(
 
 /// Adds the question for each operator's vehicles.
 fn add_fleets<'a>(
-    list: &mut Vec<Entry<'a>>,
+    list: &mut Vec<JournalEntry<'a>>,
     operators: &[Operator],
     at: Moment,
 ) -> Result<(), AllocError>
     ensures { OnOk result (map entry_of list.new.items ≡ map entry_of list.old.items ++ fleets at (map operator operators.now)) }
 {
     for operator in operators {
-        add(list, at, Asker::Operator(operator.id), b"/fleet/vehicles")?;
+        add(list, at, EntryClient::Operator(operator.id), b"/fleet/vehicles")?;
     }
     Ok(())
 }
 
 /// Adds the question for an entry's draft, where the author put one by it.
-fn add_draft<'a>(list: &mut Vec<Entry<'a>>, entry: &Entry<'a>, at: Moment) -> Result<(), AllocError>
+fn add_draft<'a>(list: &mut Vec<JournalEntry<'a>>, entry: &JournalEntry<'a>, at: Moment) -> Result<(), AllocError>
     ensures { OnOk result (map entry_of list.new.items ≡ map entry_of list.old.items ++ drafts at (entry_of entry.now ∷ [])) }
 {
     if is_draft(entry) {
-        add(list, at, Asker::Author, entry.target)
+        add(list, at, EntryClient::Author, entry.target)
     } else {
         Ok(())
     }
@@ -74,8 +74,8 @@ fn add_draft<'a>(list: &mut Vec<Entry<'a>>, entry: &Entry<'a>, at: Moment) -> Re
 
 /// Adds the questions for the drafts that the author put by these entries.
 fn add_drafts<'a>(
-    list: &mut Vec<Entry<'a>>,
-    entries: &[Entry<'a>],
+    list: &mut Vec<JournalEntry<'a>>,
+    entries: &[JournalEntry<'a>],
     at: Moment,
 ) -> Result<(), AllocError>
     ensures { OnOk result (map entry_of list.new.items ≡ map entry_of list.old.items ++ drafts at (map entry_of entries.now)) }
@@ -95,14 +95,14 @@ fn add_drafts<'a>(
 pub(crate) fn questions<'a>(
     alloc: Global,
     config: &Config,
-    entries: &[Entry<'a>],
+    entries: &[JournalEntry<'a>],
     at: Moment,
-) -> Result<Vec<Entry<'a>>, AllocError>
+) -> Result<Vec<JournalEntry<'a>>, AllocError>
     ensures { IfOk result (λ list. map entry_of list.items ≡ questions (configuration config.now) at (map entry_of entries.now)) }
 {
     let mut list = Vec::new(alloc);
-    add(&mut list, at, Asker::Author, b"/policies")?;
-    add(&mut list, at, Asker::Author, b"/geographies")?;
+    add(&mut list, at, EntryClient::Author, b"/policies")?;
+    add(&mut list, at, EntryClient::Author, b"/geographies")?;
     add_fleets(&mut list, config.operators(), at)?;
     add_drafts(&mut list, entries, at)?;
     Ok(list)

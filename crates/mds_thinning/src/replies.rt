@@ -9,12 +9,12 @@ ghost use Rattle.mds_entries.specs.Entries.{entry_of};
 ghost use Rattle.mds_recovery.specs.Recovery.{server_of, DeskAnswers};
 ghost use Rattle.mds_thinning.specs.Replies.{RoomTells, Tells, IsTold, AreTold, AreReplies};
 
-use crate::fault::ThinFault;
-use mds_desk::{Answer, AuthorRoom, Desk, OpenGate};
-use mds_entries::{Entry, actor_by, request_by};
-use mds_recovery::{Cause, Fault, Silent, StartFault, start_again};
+use crate::fault::CompactFault;
+use mds_desk::{SharedReply, AuthorRoom, Desk, OpenGate};
+use mds_entries::{JournalEntry, actor_by, request_by};
+use mds_recovery::{Cause, Fault, SilentProgress, StartFault, start_again};
 use mds_request::{Actor, Config, Request};
-use mds_snapshot::{Blank, Naming, OpenFault};
+use mds_snapshot::{Blank, OpeningName, OpenFault};
 use mds_verdict::Plain;
 use std::alloc::Global;
 use std::sync::Wait;
@@ -23,13 +23,13 @@ use std::sync::Wait;
 const BUSY: u16 = 503;
 
 /// What a server is started with.
-pub(crate) struct Opening {
+pub(crate) struct ServerOpening {
     pub config: Config,
     pub blank: Blank,
 }
 
 /// The desk at a place answers its operator's request.
-fn desk_tells<K: Naming>(desks: &mut [Desk<K>], place: usize, request: &Request<'_>) -> Answer
+fn desk_answer<K: OpeningName>(desks: &mut [Desk<K>], place: usize, request: &Request<'_>) -> SharedReply
     requires { place < length desks.old }
     ensures { (room : RoomState) → DeskAnswers place (request_of request.now) result
         (record { room = room; desks = map state_of desks.old }) (record { room = room; desks = map state_of desks.new }) }
@@ -38,7 +38,7 @@ fn desk_tells<K: Naming>(desks: &mut [Desk<K>], place: usize, request: &Request<
 }
 
 /// The author's room answers a request. A question publishes nothing, so desks have nothing to learn.
-fn room_tells<K: Naming, R: Wait>(rt: &R, room: &mut AuthorRoom<K>, request: &Request<'_>) -> Answer
+fn room_answer<K: OpeningName, R: Wait>(rt: &R, room: &mut AuthorRoom<K>, request: &Request<'_>) -> SharedReply
     ensures { (desks : List DeskState) → RoomTells (request_of request.now) result
         (record { room = room_of room.old; desks = desks }) (record { room = room_of room.new; desks = desks }) }
 {
@@ -47,21 +47,21 @@ fn room_tells<K: Naming, R: Wait>(rt: &R, room: &mut AuthorRoom<K>, request: &Re
 }
 
 /// The author's room, or an operator's desk, answers a request; `None` where there is no such desk.
-fn tells<K: Naming, R: Wait>(
+fn answer_by<K: OpeningName, R: Wait>(
     rt: &R,
     room: &mut AuthorRoom<K>,
     desks: &mut [Desk<K>],
     actor: Actor,
     request: &Request<'_>,
-) -> Option<Answer>
+) -> Option<SharedReply>
     ensures { IfSome result (λ reply. Tells actor (request_of request.now) reply
         (server_of room.old desks.old) (server_of room.new desks.new)) }
 {
     match actor {
-        Actor::Author => Some(room_tells(rt, room, request)),
+        Actor::Author => Some(room_answer(rt, room, request)),
         Actor::Operator(place) => {
             if place < desks.len() {
-                Some(desk_tells(desks, place, request))
+                Some(desk_answer(desks, place, request))
             } else {
                 None
             }
@@ -75,68 +75,68 @@ fn tells<K: Naming, R: Wait>(
 /// # Errors
 ///
 /// `NoMemory` where the status is 503, `Differs` where the question's client isn't there.
-fn told<K: Naming, R: Wait>(
+fn answer_question<K: OpeningName, R: Wait>(
     rt: &R,
     config: &Config,
     room: &mut AuthorRoom<K>,
     desks: &mut [Desk<K>],
-    question: &Entry<'_>,
-) -> Result<Answer, ThinFault>
+    question: &JournalEntry<'_>,
+) -> Result<SharedReply, CompactFault>
     ensures { IfOk result (λ reply. IsTold (configuration config.now) (entry_of question.now) reply
         (server_of room.old desks.old) (server_of room.new desks.new)) }
 {
     let Some(request) = request_by(config, question) else {
-        return Err(ThinFault::Differs);
+        return Err(CompactFault::Differs);
     };
     let actor = actor_by(config, question.asker);
-    let Some(answer) = tells(rt, room, desks, actor, &request) else {
-        return Err(ThinFault::Differs);
+    let Some(answer) = answer_by(rt, room, desks, actor, &request) else {
+        return Err(CompactFault::Differs);
     };
     if answer.status() == BUSY {
-        return Err(ThinFault::NoMemory);
+        return Err(CompactFault::NoMemory);
     }
     Ok(answer)
 }
 
 /// The answers to questions, in their order.
-fn all_told<K: Naming, R: Wait>(
+fn answer_questions<K: OpeningName, R: Wait>(
     rt: &R,
     alloc: Global,
     config: &Config,
     room: &mut AuthorRoom<K>,
     desks: &mut [Desk<K>],
-    questions: &[Entry<'_>],
-) -> Result<Vec<Answer>, ThinFault>
+    questions: &[JournalEntry<'_>],
+) -> Result<Vec<SharedReply>, CompactFault>
     ensures { IfOk result (λ replies. AreTold (configuration config.now) (map entry_of questions.now) replies.items
         (server_of room.old desks.old) (server_of room.new desks.new)) }
 {
     let mut replies = Vec::new(alloc);
     for place in 0..questions.len() {
-        let reply = told(rt, config, room, desks, &questions[place])?;
+        let reply = answer_question(rt, config, room, desks, &questions[place])?;
         replies.push(reply)?;
     }
     Ok(replies)
 }
 
 /// Why there are no replies.
-pub(crate) enum ReplyFault {
+pub(crate) enum QuestionFault {
     /// The server doesn't start.
     Refused(StartFault),
     /// It doesn't answer a question.
-    Untold(ThinFault),
+    Untold(CompactFault),
 }
 
 /// Why a server doesn't start: it is out of memory, or else this fault.
-fn refused(fault: StartFault) -> ReplyFault {
+fn start_failure(fault: StartFault) -> QuestionFault {
     match fault {
-        StartFault::Opening(OpenFault::NoMemory) => ReplyFault::Untold(ThinFault::NoMemory),
+        StartFault::Opening(OpenFault::NoMemory) => QuestionFault::Untold(CompactFault::NoMemory),
         StartFault::Stopped(
             Fault {
                 cause: Cause::Refused(BUSY),
                 ..
             },
-        ) => ReplyFault::Untold(ThinFault::NoMemory),
-        _ => ReplyFault::Refused(fault),
+        ) => QuestionFault::Untold(CompactFault::NoMemory),
+        _ => QuestionFault::Refused(fault),
     }
 }
 
@@ -145,35 +145,35 @@ fn refused(fault: StartFault) -> ReplyFault {
 /// # Errors
 ///
 /// The server doesn't start, or a question isn't answered.
-pub(crate) fn replies<K: Naming, R: Wait>(
+pub(crate) fn replies<K: OpeningName, R: Wait>(
     rt: &R,
     alloc: Global,
     config: &Config,
-    opening: Opening,
-    entries: &[Entry<'_>],
-    questions: &[Entry<'_>],
-) -> Result<Vec<Answer>, ReplyFault>
+    opening: ServerOpening,
+    entries: &[JournalEntry<'_>],
+    questions: &[JournalEntry<'_>],
+) -> Result<Vec<SharedReply>, QuestionFault>
     requires named { book_of opening.blank ≡ K.book }
     requires same { configuration opening.config ≡ configuration config.now }
     ensures { IfOk result (λ replies. AreReplies (configuration config.now) (map entry_of entries.now)
         (map entry_of questions.now) replies.items) }
 {
-    let Opening { config: own, blank } = opening;
-    let (mut room, mut desks) = match start_again::<K, R, Silent>(
+    let ServerOpening { config: own, blank } = opening;
+    let (mut room, mut desks) = match start_again::<K, R, SilentProgress>(
         rt,
         alloc,
         own,
         blank,
         entries,
-        &mut Silent,
+        &mut SilentProgress,
     ) {
         Ok(started) => started,
-        Err(fault) => return Err(refused(fault)),
+        Err(fault) => return Err(start_failure(fault)),
     };
-    let told = all_told(rt, alloc, config, &mut room, &mut desks, questions);
+    let told = answer_questions(rt, alloc, config, &mut room, &mut desks, questions);
     room.finish(rt);
     match told {
         Ok(replies) => Ok(replies),
-        Err(fault) => Err(ReplyFault::Untold(fault)),
+        Err(fault) => Err(QuestionFault::Untold(fault)),
     }
 }

@@ -2,8 +2,8 @@
 ghost use Rattle.std.specs.Prelude.{◌≡◌, [], ◌∷◌, ◌++◌, List, ℕ, map, length, IfOk, OnOk};
 ghost use Rattle.mds_entries.specs.Entries.{entry_of, entry_text};
 
-use crate::fault::ThinFault;
-use mds_entries::{Entry, entry_text};
+use crate::fault::CompactFault;
+use mds_entries::{JournalEntry, entry_text};
 use mds_records::Log;
 use std::alloc::{AllocError, Global};
 
@@ -11,7 +11,7 @@ use std::alloc::{AllocError, Global};
 const GROUP: usize = 256;
 
 /// The payloads of entries.
-fn texts_of(alloc: Global, entries: &[Entry<'_>]) -> Result<Vec<Vec<u8>>, ThinFault>
+fn texts_of(alloc: Global, entries: &[JournalEntry<'_>]) -> Result<Vec<Vec<u8>>, CompactFault>
     ensures { IfOk result (λ texts. map (λ t. t.items) texts.items ≡ map (λ e. entry_text (entry_of e)) entries.now) }
 {
     let mut texts = Vec::new(alloc);
@@ -22,7 +22,7 @@ fn texts_of(alloc: Global, entries: &[Entry<'_>]) -> Result<Vec<Vec<u8>>, ThinFa
 }
 
 /// A list of one payload.
-fn alone(alloc: Global, text: &[u8]) -> Result<Vec<Vec<u8>>, AllocError>
+fn single_payload(alloc: Global, text: &[u8]) -> Result<Vec<Vec<u8>>, AllocError>
     ensures { IfOk result (λ group. map (λ t. t.items) group.items ≡ text.now ∷ []) }
 {
     let mut group = Vec::new(alloc);
@@ -35,8 +35,8 @@ fn append<L: Log>(
     alloc: Global,
     log: &mut L,
     count: u64,
-    entries: &[Entry<'_>],
-) -> Result<u64, ThinFault>
+    entries: &[JournalEntry<'_>],
+) -> Result<u64, CompactFault>
     ensures { OnOk result ((list : List (List ℕ)) → L.may_be log.old list
         → L.may_be log.new (list ++ map (λ e. entry_text (entry_of e)) entries.now)) }
 {
@@ -49,8 +49,8 @@ fn append_all<L: Log>(
     alloc: Global,
     log: &mut L,
     count: u64,
-    entries: &[Entry<'_>],
-) -> Result<(), ThinFault>
+    entries: &[JournalEntry<'_>],
+) -> Result<(), CompactFault>
     ensures { OnOk result ((list : List (List ℕ)) → L.may_be log.old list
         → L.may_be log.new (list ++ map (λ e. entry_text (entry_of e)) entries.now)) }
 {
@@ -69,12 +69,12 @@ fn write<L: Log>(
     alloc: Global,
     log: &mut L,
     head: &[u8],
-    entries: &[Entry<'_>],
-) -> Result<(), ThinFault>
+    entries: &[JournalEntry<'_>],
+) -> Result<(), CompactFault>
     requires { L.may_be log.old [] }
     ensures { OnOk result (L.may_be log.new (head.now ∷ map (λ e. entry_text (entry_of e)) entries.now)) }
 {
-    let count = log.append(0, &alone(alloc, head)?)?;
+    let count = log.append(0, &single_payload(alloc, head)?)?;
     append_all(alloc, log, count, entries)
 }
 
@@ -83,12 +83,12 @@ fn write<L: Log>(
 /// # Errors
 ///
 /// `NotWritten` where an entry is too long for a record or the log fails, `NoMemory`.
-pub(crate) fn written<L: Log>(
+pub(crate) fn write_synced<L: Log>(
     alloc: Global,
     log: &mut L,
     head: &[u8],
-    entries: &[Entry<'_>],
-) -> Result<Vec<Vec<u8>>, ThinFault>
+    entries: &[JournalEntry<'_>],
+) -> Result<Vec<Vec<u8>>, CompactFault>
     requires { L.may_be log.old [] }
     ensures written { OnOk result (L.may_be log.new (head.now ∷ map (λ e. entry_text (entry_of e)) entries.now)) }
     ensures back { IfOk result (λ texts. L.may_be log.new (map (λ t. t.items) texts.items)) }

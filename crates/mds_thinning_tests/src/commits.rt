@@ -3,10 +3,10 @@ ghost use Rattle.std.specs.Prelude.{◌≡◌, ℕ, List};
 
 use futures::executor::block_on;
 use mds_commit::{
-    Counted, FlushFault, Keeper, MOST_TEXTS_OF_ONE, Naming, NotTold, Opened, ReserveFault,
-    Settling, Stamp, Telling, Usage, open,
+    CountedSpace, FlushFault, CommitLog, MOST_TEXTS_OF_ONE, LogName, CommitFault, UnnamedHistory, ReserveFault,
+    AwaitSync, LogPosition, ResponseTiming, Usage, open,
 };
-use mds_records::{AppendFault, Journal, Log, Memory};
+use mds_records::{AppendFault, Journal, Log, MemoryStorage};
 use std::alloc::{AllocError, AllocGlobal, Global};
 use std::marker::Brand;
 use std::process::Abort;
@@ -16,15 +16,15 @@ use std::test::Fail;
 use std::thread::{Threads, join};
 
 /// How many clients there are.
-const ASKERS: usize = 6;
+const CLIENTS: usize = 6;
 
 /// The client, where there is one alone.
 const AUTHOR: usize = 1;
 
 /// Why no reservation is made for a payload of a client. One that is made is released.
-fn refused<K: Naming, L: Log, R: Wait>(
+fn reserve_fault<K: LogName, L: Log, R: Wait>(
     rt: &R,
-    keeper: &Keeper<K, L, Counted>,
+    keeper: &CommitLog<K, L, CountedSpace>,
     asker: usize,
     text: Vec<u8>,
 ) -> Option<ReserveFault> {
@@ -42,27 +42,27 @@ fn text(rt: &impl AllocGlobal, text: &[u8]) -> Result<Vec<u8>, AllocError> {
 }
 
 /// Appends a payload, and waits until it is synced for the response that shows it.
-fn replied<K: Naming, L: Log, R: Wait + RandomSource + AllocGlobal>(
+fn reply_once_synced<K: LogName, L: Log, R: Wait + RandomSource + AllocGlobal>(
     rt: &R,
-    keeper: &Arc<Keeper<K, L, Counted>>,
+    keeper: &Arc<CommitLog<K, L, CountedSpace>>,
     text: &[u8],
-) -> Result<Result<u32, NotTold>, Fail> {
+) -> Result<Result<u32, CommitFault>, Fail> {
     let Ok(place) = keeper.reserve(rt, AUTHOR, Vec::from_slice(rt.alloc(), text)?) else {
-        return Ok(Err(NotTold::NoMemory));
+        return Ok(Err(CommitFault::NoMemory));
     };
     let stamp = match keeper.append(rt, place) {
-        Ok(stamp) => keeper.stamp(&stamp),
+        Ok(stamp) => keeper.log_position(&stamp),
         Err(fault) => return Ok(Err(fault)),
     };
-    let reply = Settling::new(Arc::try_clone(keeper)?, stamp, 7u32);
+    let reply = AwaitSync::new(Arc::try_clone(keeper)?, stamp, 7u32);
     Ok(block_on(rt, reply)?)
 }
 
 /// Appends a payload as a publication is, and waits until it is synced: how many payloads are synced then, or `None`
 /// where that failed.
-fn published<K: Naming, L: Log, R: Wait + AllocGlobal>(
+fn publish<K: LogName, L: Log, R: Wait + AllocGlobal>(
     rt: &R,
-    keeper: &Keeper<K, L, Counted>,
+    keeper: &CommitLog<K, L, CountedSpace>,
     text: &[u8],
 ) -> Result<Option<u64>, Fail> {
     match keeper.reserve(rt, AUTHOR, Vec::from_slice(rt.alloc(), text)?) {
@@ -78,20 +78,20 @@ fn published<K: Naming, L: Log, R: Wait + AllocGlobal>(
 
 /// What a client was answered.
 #[derive(Drop)]
-struct Told {
-    reply: Result<u32, NotTold>,
+struct ClientReplies {
+    reply: Result<u32, CommitFault>,
     published: Option<u64>,
     /// Whether its whole share of the log is free then.
     is_free: bool,
 }
 
-fn asked<K: Naming, L: Log, R: Wait + RandomSource + AllocGlobal>(
+fn client_replies<K: LogName, L: Log, R: Wait + RandomSource + AllocGlobal>(
     rt: &R,
-    keeper: &Arc<Keeper<K, L, Counted>>,
-) -> Result<Told, Fail> {
-    Ok(Told {
-        reply: replied(rt, keeper, b"one")?,
-        published: published(rt, keeper, b"two")?,
+    keeper: &Arc<CommitLog<K, L, CountedSpace>>,
+) -> Result<ClientReplies, Fail> {
+    Ok(ClientReplies {
+        reply: reply_once_synced(rt, keeper, b"one")?,
+        published: publish(rt, keeper, b"two")?,
         is_free: keeper.has_share(
             rt,
             AUTHOR,
@@ -104,31 +104,31 @@ fn asked<K: Naming, L: Log, R: Wait + RandomSource + AllocGlobal>(
 }
 
 /// Serves one client, and returns how the flusher ended and what the client was answered.
-fn served<K, L, R>(rt: &R, opened: Opened<L>, log: L) -> Result<(Result<L, FlushFault>, Told), Fail>
+fn serve_client<K, L, R>(rt: &R, opened: UnnamedHistory<L>, log: L) -> Result<(Result<L, FlushFault>, ClientReplies), Fail>
 where
-    K: Naming + Send + Sync,
+    K: LogName + Send + Sync,
     L: Log + Send + Sync,
     R: Wait + Threads + RandomSource + AllocGlobal + Sync,
     requires book { opened.seen.book ≡ K.book }
     requires listed { (first : List (List ℕ)) × L.may_be log first }
 {
-    let space = Counted {
+    let space = CountedSpace {
         left: 100_000_000,
         aside: 0,
     };
-    let (keeper, flusher, _nothing) = open::<K, L, Counted>(
+    let (keeper, flusher, _nothing) = open::<K, L, CountedSpace>(
         rt.alloc(),
         opened,
         log,
         space,
-        ASKERS,
+        CLIENTS,
     )?;
     let keeper = Arc::new(rt.alloc(), keeper)?;
     let (log, told) = join(
         rt,
         || flusher.run(rt, &keeper),
         || {
-            let told = asked(rt, &keeper);
+            let told = client_replies(rt, &keeper);
             keeper.stop(rt);
             told
         },
@@ -137,8 +137,8 @@ where
 }
 
 /// Empty storage, on which so many calls succeed. Two are for opening a journal, and one for beginning to serve.
-fn medium(alloc: Global, calls_left: u32) -> Memory {
-    Memory {
+fn storage(alloc: Global, calls_left: u32) -> MemoryStorage {
+    MemoryStorage {
         bytes: Vec::new(alloc),
         calls_left,
         is_synced: true,
@@ -146,24 +146,24 @@ fn medium(alloc: Global, calls_left: u32) -> Memory {
 }
 
 /// Serves one client over a journal on whose storage so many calls succeed.
-fn journal_served<R: Wait + Threads + RandomSource + AllocGlobal + Sync>(
+fn serve_over_journal<R: Wait + Threads + RandomSource + AllocGlobal + Sync>(
     rt: &R,
     calls_left: u32,
-) -> Result<(Result<Journal<Memory>, FlushFault>, Told), Fail> {
-    let Ok(mut log) = Journal::open(rt.alloc(), medium(rt.alloc(), calls_left)) else {
+) -> Result<(Result<Journal<MemoryStorage>, FlushFault>, ClientReplies), Fail> {
+    let Ok(mut log) = Journal::open(rt.alloc(), storage(rt.alloc(), calls_left)) else {
         return Err("a journal".into());
     };
-    let Ok(opened) = Opened::new(&mut log) else {
+    let Ok(opened) = UnnamedHistory::new(&mut log) else {
         return Err("a history".into());
     };
-    served::<Brand, Journal<Memory>, R>(rt, opened, log)
+    serve_client::<Brand, Journal<MemoryStorage>, R>(rt, opened, log)
 }
 
 #[test]
 fn replies_leave_once_synced(rt: HostRuntime) -> Result<(), Fail> {
-    let (log, told) = journal_served(&rt, 100)?;
+    let (log, told) = serve_over_journal(&rt, 100)?;
     assert!(rt; told.reply == Ok(7) && told.published == Some(2) && told.is_free);
-    let medium = log.ok().ok_or("a log")?.into_medium();
+    let medium = log.ok().ok_or("a log")?.into_storage();
     assert!(rt; medium.is_synced);
     // Two groups, each of a mark of 44 bytes and a record of 15.
     assert!(rt; medium.bytes.len() == 118);
@@ -171,83 +171,83 @@ fn replies_leave_once_synced(rt: HostRuntime) -> Result<(), Fail> {
 }
 
 #[test]
-fn nothing_is_told_after_a_failed_sync(rt: HostRuntime) -> Result<(), Fail> {
-    let (log, told) = journal_served(&rt, 4)?;
-    assert!(rt; told.reply == Err(NotTold::Failed) && told.published == None);
+fn nothing_is_answered_after_a_failed_sync(rt: HostRuntime) -> Result<(), Fail> {
+    let (log, told) = serve_over_journal(&rt, 4)?;
+    assert!(rt; told.reply == Err(CommitFault::Failed) && told.published == None);
     assert!(rt; log.err() == Some(FlushFault::NotSynced));
     Ok(())
 }
 
 #[test]
-fn nothing_is_told_after_a_failed_append(rt: HostRuntime) -> Result<(), Fail> {
-    let (log, told) = journal_served(&rt, 3)?;
-    assert!(rt; told.reply == Err(NotTold::Failed) && told.published == None);
+fn nothing_is_answered_after_a_failed_append(rt: HostRuntime) -> Result<(), Fail> {
+    let (log, told) = serve_over_journal(&rt, 3)?;
+    assert!(rt; told.reply == Err(CommitFault::Failed) && told.published == None);
     assert!(rt; log.err() == Some(FlushFault::NotAppended(AppendFault::Unknown)));
     Ok(())
 }
 
 #[test]
-fn places_are_bounded(rt: HostRuntime) -> Result<(), Fail> {
-    journal_bounded(&rt)
+fn reservations_are_bounded(rt: HostRuntime) -> Result<(), Fail> {
+    expect_bounds_over_journal(&rt)
 }
 
-fn journal_bounded<R: Wait + Abort + AllocGlobal>(rt: &R) -> Result<(), Fail> {
-    let Ok(mut log) = Journal::open(rt.alloc(), medium(rt.alloc(), 3)) else {
+fn expect_bounds_over_journal<R: Wait + Abort + AllocGlobal>(rt: &R) -> Result<(), Fail> {
+    let Ok(mut log) = Journal::open(rt.alloc(), storage(rt.alloc(), 3)) else {
         return Err("a journal".into());
     };
-    let Ok(opened) = Opened::new(&mut log) else {
+    let Ok(opened) = UnnamedHistory::new(&mut log) else {
         return Err("a history".into());
     };
-    bounded::<Brand, Journal<Memory>, R>(rt, opened, log)
+    expect_bounds::<Brand, Journal<MemoryStorage>, R>(rt, opened, log)
 }
 
 /// Tries reservations where there is room for one record of three bytes, which takes 59.
-fn bounded<K: Naming, L: Log, R: Wait + Abort + AllocGlobal>(
+fn expect_bounds<K: LogName, L: Log, R: Wait + Abort + AllocGlobal>(
     rt: &R,
-    opened: Opened<L>,
+    opened: UnnamedHistory<L>,
     log: L,
 ) -> Result<(), Fail>
     requires book { opened.seen.book ≡ K.book }
     requires listed { (first : List (List ℕ)) × L.may_be log first }
 {
-    let space = Counted { left: 59, aside: 0 };
-    let (keeper, _flusher, nothing) = open::<K, L, Counted>(
+    let space = CountedSpace { left: 59, aside: 0 };
+    let (keeper, _flusher, nothing) = open::<K, L, CountedSpace>(
         rt.alloc(),
         opened,
         log,
         space,
-        ASKERS,
+        CLIENTS,
     )?;
-    assert!(rt; keeper.may_tell(&nothing) == Telling::Now && nothing.len() == 0);
-    assert!(rt; refused(rt, &keeper, AUTHOR, text(rt, b"")?) == Some(ReserveFault::Untaken));
-    assert!(rt; refused(rt, &keeper, AUTHOR, text(rt, b"four")?) == Some(ReserveFault::NoRoom));
-    assert!(rt; refused(rt, &keeper, AUTHOR, text(rt, b"one")?) == None);
+    assert!(rt; keeper.may_respond(&nothing) == ResponseTiming::Now && nothing.len() == 0);
+    assert!(rt; reserve_fault(rt, &keeper, AUTHOR, text(rt, b"")?) == Some(ReserveFault::Untaken));
+    assert!(rt; reserve_fault(rt, &keeper, AUTHOR, text(rt, b"four")?) == Some(ReserveFault::NoRoom));
+    assert!(rt; reserve_fault(rt, &keeper, AUTHOR, text(rt, b"one")?) == None);
     let (first, second, third) = (text(rt, b"one")?, text(rt, b"two")?, text(rt, b"two")?);
     let Ok(place) = keeper.reserve(rt, AUTHOR, first) else {
         return Err("a place".into());
     };
-    let none = refused(rt, &keeper, AUTHOR, second);
+    let none = reserve_fault(rt, &keeper, AUTHOR, second);
     let stamp = keeper.append(rt, place).ok().ok_or("a stamp")?;
     assert!(rt; none == Some(ReserveFault::NoRoom));
-    assert!(rt; keeper.may_tell(&stamp) == Telling::Later && stamp.len() == 1);
+    assert!(rt; keeper.may_respond(&stamp) == ResponseTiming::Later && stamp.len() == 1);
     keeper.stop(rt);
-    assert!(rt; refused(rt, &keeper, AUTHOR, third) == Some(ReserveFault::Stopping));
+    assert!(rt; reserve_fault(rt, &keeper, AUTHOR, third) == Some(ReserveFault::Stopping));
     Ok(())
 }
 
 #[test]
-fn many_places_are_settled_together(rt: HostRuntime) -> Result<(), Fail> {
-    journal_settled(&rt)
+fn many_reservations_are_settled_together(rt: HostRuntime) -> Result<(), Fail> {
+    expect_settlement_over_journal(&rt)
 }
 
-fn journal_settled<R: Wait + Abort + AllocGlobal>(rt: &R) -> Result<(), Fail> {
-    let Ok(mut log) = Journal::open(rt.alloc(), medium(rt.alloc(), 3)) else {
+fn expect_settlement_over_journal<R: Wait + Abort + AllocGlobal>(rt: &R) -> Result<(), Fail> {
+    let Ok(mut log) = Journal::open(rt.alloc(), storage(rt.alloc(), 3)) else {
         return Err("a journal".into());
     };
-    let Ok(opened) = Opened::new(&mut log) else {
+    let Ok(opened) = UnnamedHistory::new(&mut log) else {
         return Err("a history".into());
     };
-    settled::<Brand, Journal<Memory>, R>(rt, opened, log)
+    expect_settlement::<Brand, Journal<MemoryStorage>, R>(rt, opened, log)
 }
 
 /// So many payloads of three bytes.
@@ -260,43 +260,43 @@ fn texts(rt: &impl AllocGlobal, count: usize) -> Result<Vec<Vec<u8>>, Fail> {
 }
 
 /// Tries reservations of several records where there is room for two of three bytes, which take 118.
-fn settled<K: Naming, L: Log, R: Wait + Abort + AllocGlobal>(
+fn expect_settlement<K: LogName, L: Log, R: Wait + Abort + AllocGlobal>(
     rt: &R,
-    opened: Opened<L>,
+    opened: UnnamedHistory<L>,
     log: L,
 ) -> Result<(), Fail>
     requires book { opened.seen.book ≡ K.book }
     requires listed { (first : List (List ℕ)) × L.may_be log first }
 {
-    let space = Counted {
+    let space = CountedSpace {
         left: 118,
         aside: 0,
     };
-    let (keeper, _flusher, nothing) = open::<K, L, Counted>(
+    let (keeper, _flusher, nothing) = open::<K, L, CountedSpace>(
         rt.alloc(),
         opened,
         log,
         space,
-        ASKERS,
+        CLIENTS,
     )?;
-    assert!(rt; refused_together(rt, &keeper, AUTHOR, texts(rt, 3)?) == Some(ReserveFault::NoRoom));
-    assert!(rt; refused_together(rt, &keeper, AUTHOR, texts(rt, 2)?) == None);
+    assert!(rt; reserve_all_fault(rt, &keeper, AUTHOR, texts(rt, 3)?) == Some(ReserveFault::NoRoom));
+    assert!(rt; reserve_all_fault(rt, &keeper, AUTHOR, texts(rt, 2)?) == None);
     let (two, one) = (texts(rt, 2)?, text(rt, b"one")?);
     let Ok(places) = keeper.reserve_all(rt, AUTHOR, two) else {
         return Err("places".into());
     };
-    let none = refused(rt, &keeper, AUTHOR, one);
-    let stamp = keeper.settle(rt, &nothing, places, &[false, true]);
+    let none = reserve_fault(rt, &keeper, AUTHOR, one);
+    let stamp = keeper.append_chosen(rt, &nothing, places, &[false, true]);
     assert!(rt; none == Some(ReserveFault::NoRoom));
     assert!(rt; stamp.ok().map(|stamp| stamp.len()) == Some(1));
-    assert!(rt; refused(rt, &keeper, AUTHOR, text(rt, b"one")?) == None);
+    assert!(rt; reserve_fault(rt, &keeper, AUTHOR, text(rt, b"one")?) == None);
     Ok(())
 }
 
 /// Why no reservations are made for payloads of a client. Those that are made are released.
-fn refused_together<K: Naming, L: Log, R: Wait>(
+fn reserve_all_fault<K: LogName, L: Log, R: Wait>(
     rt: &R,
-    keeper: &Keeper<K, L, Counted>,
+    keeper: &CommitLog<K, L, CountedSpace>,
     asker: usize,
     texts: Vec<Vec<u8>>,
 ) -> Option<ReserveFault> {
@@ -310,32 +310,32 @@ fn refused_together<K: Naming, L: Log, R: Wait>(
 }
 
 #[test]
-fn places_are_shared_out(rt: HostRuntime) -> Result<(), Fail> {
-    journal_shared(&rt)
+fn reservations_are_shared_out(rt: HostRuntime) -> Result<(), Fail> {
+    expect_shares_over_journal(&rt)
 }
 
-fn journal_shared<R: Wait + Abort + AllocGlobal>(rt: &R) -> Result<(), Fail> {
-    let Ok(mut log) = Journal::open(rt.alloc(), medium(rt.alloc(), 3)) else {
+fn expect_shares_over_journal<R: Wait + Abort + AllocGlobal>(rt: &R) -> Result<(), Fail> {
+    let Ok(mut log) = Journal::open(rt.alloc(), storage(rt.alloc(), 3)) else {
         return Err("a journal".into());
     };
-    let Ok(opened) = Opened::new(&mut log) else {
+    let Ok(opened) = UnnamedHistory::new(&mut log) else {
         return Err("a history".into());
     };
-    shared::<Brand, Journal<Memory>, R>(rt, opened, log)
+    expect_shares::<Brand, Journal<MemoryStorage>, R>(rt, opened, log)
 }
 
 /// Appends so many payloads of a client, which wait for the flusher, or returns why they aren't reserved.
-fn awaited<K: Naming, L: Log, R: Wait + AllocGlobal>(
+fn append_waiting<K: LogName, L: Log, R: Wait + AllocGlobal>(
     rt: &R,
-    keeper: &Keeper<K, L, Counted>,
-    nothing: &Stamp<K, L>,
+    keeper: &CommitLog<K, L, CountedSpace>,
+    nothing: &LogPosition<K, L>,
     asker: usize,
     count: usize,
 ) -> Result<Option<ReserveFault>, Fail> {
     let kept = vec![in rt.alloc(); true; count]?;
     match keeper.reserve_all(rt, asker, texts(rt, count)?) {
         Ok(places) => {
-            let _ = keeper.settle(rt, nothing, places, &kept);
+            let _ = keeper.append_chosen(rt, nothing, places, &kept);
             Ok(None)
         }
         Err(fault) => Ok(Some(fault)),
@@ -343,36 +343,36 @@ fn awaited<K: Naming, L: Log, R: Wait + AllocGlobal>(
 }
 
 /// Three clients use up their shares, and a fourth all but a reservation for each of two others.
-fn shared<K: Naming, L: Log, R: Wait + Abort + AllocGlobal>(
+fn expect_shares<K: LogName, L: Log, R: Wait + Abort + AllocGlobal>(
     rt: &R,
-    opened: Opened<L>,
+    opened: UnnamedHistory<L>,
     log: L,
 ) -> Result<(), Fail>
     requires book { opened.seen.book ≡ K.book }
     requires listed { (first : List (List ℕ)) × L.may_be log first }
 {
-    let space = Counted {
+    let space = CountedSpace {
         left: 100_000_000,
         aside: 0,
     };
-    let (keeper, _flusher, nothing) = open::<K, L, Counted>(
+    let (keeper, _flusher, nothing) = open::<K, L, CountedSpace>(
         rt.alloc(),
         opened,
         log,
         space,
-        ASKERS,
+        CLIENTS,
     )?;
-    assert!(rt; awaited(rt, &keeper, &nothing, 1, 4_097)? == Some(ReserveFault::Untaken));
-    assert!(rt; awaited(rt, &keeper, &nothing, ASKERS, 1)? == Some(ReserveFault::Crowded));
+    assert!(rt; append_waiting(rt, &keeper, &nothing, 1, 4_097)? == Some(ReserveFault::Untaken));
+    assert!(rt; append_waiting(rt, &keeper, &nothing, CLIENTS, 1)? == Some(ReserveFault::Crowded));
     for asker in 1..4 {
-        assert!(rt; awaited(rt, &keeper, &nothing, asker, 4_096)? == None);
-        assert!(rt; refused(rt, &keeper, asker, text(rt, b"one")?) == Some(ReserveFault::Crowded));
+        assert!(rt; append_waiting(rt, &keeper, &nothing, asker, 4_096)? == None);
+        assert!(rt; reserve_fault(rt, &keeper, asker, text(rt, b"one")?) == Some(ReserveFault::Crowded));
     }
-    assert!(rt; awaited(rt, &keeper, &nothing, 4, 4_095)? == Some(ReserveFault::Crowded));
-    assert!(rt; awaited(rt, &keeper, &nothing, 4, 4_094)? == None);
+    assert!(rt; append_waiting(rt, &keeper, &nothing, 4, 4_095)? == Some(ReserveFault::Crowded));
+    assert!(rt; append_waiting(rt, &keeper, &nothing, 4, 4_094)? == None);
     // A reservation that was released can be made again.
-    assert!(rt; refused(rt, &keeper, 5, text(rt, b"one")?) == None);
-    assert!(rt; awaited(rt, &keeper, &nothing, 5, 1)? == None);
-    assert!(rt; refused(rt, &keeper, 5, text(rt, b"one")?) == Some(ReserveFault::Crowded));
+    assert!(rt; reserve_fault(rt, &keeper, 5, text(rt, b"one")?) == None);
+    assert!(rt; append_waiting(rt, &keeper, &nothing, 5, 1)? == None);
+    assert!(rt; reserve_fault(rt, &keeper, 5, text(rt, b"one")?) == Some(ReserveFault::Crowded));
     Ok(())
 }

@@ -1,7 +1,7 @@
 //! A disk in memory, of which one call fails, or each one from a call on.
 use mds_folder::FolderFault;
-use mds_records::{Journal, Log, Medium, MediumFault, Memory};
-use mds_thinning::Place;
+use mds_records::{Journal, Log, Storage, StorageFault, MemoryStorage};
+use mds_thinning::JournalLocation;
 use std::alloc::Global;
 use std::cell::{Cell, RefCell};
 
@@ -10,7 +10,7 @@ const ROOM: usize = 16_384;
 
 /// Which calls on a disk fail.
 #[derive(Clone, Copy, PartialEq, Eq)]
-pub(crate) enum Failing {
+pub(crate) enum FailingCalls {
     /// One call alone.
     Once,
     /// Each call from one on.
@@ -27,7 +27,7 @@ pub(crate) struct Disk {
     /// How many bytes of the file next to the journal are synced.
     synced: Cell<usize>,
     calls_left: Cell<u32>,
-    failing: Failing,
+    failing: FailingCalls,
 }
 
 impl Disk {
@@ -36,14 +36,14 @@ impl Disk {
         alloc: Global,
         texts: &[Vec<u8>],
         calls: u32,
-        failing: Failing,
+        failing: FailingCalls,
     ) -> Option<Disk> {
         let mut log = Journal::open(alloc, memory(Vec::new(alloc))).ok()?;
         log.append(0, texts).ok()?;
         let beside = Vec::with_capacity(alloc, ROOM).ok()?;
         Some(Disk {
             alloc,
-            journal: RefCell::new(log.into_medium().bytes),
+            journal: RefCell::new(log.into_storage().bytes),
             beside: RefCell::new(beside),
             synced: Cell::new(0),
             calls_left: Cell::new(calls),
@@ -58,7 +58,7 @@ impl Disk {
 
     /// The payloads of the journal, as they are read once it is opened; `None` where memory ran out.
     pub(crate) fn texts(&self) -> Option<Vec<Vec<u8>>> {
-        let bytes = copied(self.alloc, &self.journal).ok()?;
+        let bytes = copy_of(self.alloc, &self.journal).ok()?;
         let mut log = Journal::open(self.alloc, memory(bytes)).ok()?;
         log.read_from(0).ok()
     }
@@ -70,7 +70,7 @@ impl Disk {
             self.calls_left.set(left - 1);
             return true;
         }
-        if self.failing == Failing::Once {
+        if self.failing == FailingCalls::Once {
             self.mend();
         }
         false
@@ -104,8 +104,8 @@ impl Disk {
 }
 
 /// Storage in memory, on which the calls of a test succeed.
-fn memory(bytes: Vec<u8>) -> Memory {
-    Memory {
+fn memory(bytes: Vec<u8>) -> MemoryStorage {
+    MemoryStorage {
         bytes,
         calls_left: 5,
         is_synced: true,
@@ -113,20 +113,20 @@ fn memory(bytes: Vec<u8>) -> Memory {
 }
 
 /// A copy of the bytes in a cell.
-fn copied(alloc: Global, cell: &RefCell<Vec<u8>>) -> Result<Vec<u8>, MediumFault> {
+fn copy_of(alloc: Global, cell: &RefCell<Vec<u8>>) -> Result<Vec<u8>, StorageFault> {
     match cell.try_borrow() {
         Ok(bytes) => Ok(Vec::from_slice(alloc, &bytes)?),
-        Err(_) => Err(MediumFault::Failed),
+        Err(_) => Err(StorageFault::Failed),
     }
 }
 
 /// The file next to a disk's journal.
 #[derive(Drop)]
-pub(crate) struct Beside<'d> {
+pub(crate) struct NewFileStorage<'d> {
     disk: &'d Disk,
 }
 
-impl Medium for Beside<'_> {
+impl Storage for NewFileStorage<'_> {
     ghost use Rattle.std.specs.Prelude.{⊤};
 
     // the proofs know nothing of the bytes in cells
@@ -134,44 +134,44 @@ impl Medium for Beside<'_> {
 
     ghost is_synced = { λ _. ⊤ };
 
-    fn read(&mut self, alloc: Global) -> Result<Vec<u8>, MediumFault> {
+    fn read(&mut self, alloc: Global) -> Result<Vec<u8>, StorageFault> {
         if !self.disk.is_answered() {
-            return Err(MediumFault::Failed);
+            return Err(StorageFault::Failed);
         }
-        copied(alloc, &self.disk.beside)
+        copy_of(alloc, &self.disk.beside)
     }
 
-    fn append(&mut self, bytes: &[u8]) -> Result<(), MediumFault> {
+    fn append(&mut self, bytes: &[u8]) -> Result<(), StorageFault> {
         let is_answered = self.disk.is_answered();
         let Ok(mut beside) = self.disk.beside.try_borrow_mut() else {
-            return Err(MediumFault::Failed);
+            return Err(StorageFault::Failed);
         };
         if !is_answered {
             beside.extend_from_slice(&bytes[..bytes.len() / 2])?;
-            return Err(MediumFault::Failed);
+            return Err(StorageFault::Failed);
         }
         beside.extend_from_slice(bytes)?;
         Ok(())
     }
 
-    fn cut(&mut self, len: u64) -> Result<(), MediumFault> {
+    fn cut(&mut self, len: u64) -> Result<(), StorageFault> {
         if !self.disk.is_answered() {
-            return Err(MediumFault::Failed);
+            return Err(StorageFault::Failed);
         }
         let Ok(mut beside) = self.disk.beside.try_borrow_mut() else {
-            return Err(MediumFault::Failed);
+            return Err(StorageFault::Failed);
         };
         beside.truncate(len as usize);
         Ok(())
     }
 
-    fn sync(&mut self) -> Result<(), MediumFault> {
+    fn sync(&mut self) -> Result<(), StorageFault> {
         if !self.disk.is_answered() {
-            return Err(MediumFault::Failed);
+            return Err(StorageFault::Failed);
         }
         match self.disk.beside.try_borrow() {
             Ok(bytes) => self.disk.synced.set(bytes.len()),
-            Err(_) => return Err(MediumFault::Failed),
+            Err(_) => return Err(StorageFault::Failed),
         }
         Ok(())
     }
@@ -179,22 +179,22 @@ impl Medium for Beside<'_> {
 
 /// The place of a disk's journal.
 #[derive(Drop)]
-pub(crate) struct Held<'d> {
+pub(crate) struct JournalOnDisk<'d> {
     pub(crate) disk: &'d Disk,
 }
 
-impl<'d> Place<Journal<Beside<'d>>> for Held<'d> {
+impl<'d> JournalLocation<Journal<NewFileStorage<'d>>> for JournalOnDisk<'d> {
     ghost use Rattle.std.specs.Prelude.{⊤};
 
     // the proofs know nothing of the bytes in cells
     ghost is_replaced = { λ _. ⊤ };
 
-    fn beside(&mut self) -> Result<Journal<Beside<'d>>, FolderFault> {
+    fn create_log(&mut self) -> Result<Journal<NewFileStorage<'d>>, FolderFault> {
         let disk = self.disk;
         if !disk.empties() {
             return Err(FolderFault::Unusable);
         }
-        let mut log = match Journal::open(disk.alloc, Beside { disk }) {
+        let mut log = match Journal::open(disk.alloc, NewFileStorage { disk }) {
             Ok(log) => log,
             Err(fault) => return Err(FolderFault::from(fault)),
         };

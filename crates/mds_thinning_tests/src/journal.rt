@@ -1,15 +1,15 @@
 //! Journals of requests to a city.
-use mds_entries::{Entry, entry_by, entry_text, head_text, shares};
-use mds_exchanges::{CONFIGURATION, Exchange, PUBLISH, PUT_CAP, PUT_SQUARE, REPORT_FIRST};
+use mds_entries::{JournalEntry, entry_by, entry_text, head_text, shares};
+use mds_exchanges::{CONFIGURATION, FixtureExchange, PUBLISH, PUT_CAP, PUT_SQUARE, REPORT_FIRST};
 use mds_request::{Config, Request, Verb};
 use mds_text::Moment;
 use std::alloc::Global;
 
 /// A moment, in milliseconds since the Unix epoch, and the exchange whose request comes then.
-pub(crate) type Asked<'a> = (i64, &'a Exchange);
+pub(crate) type TimedExchange<'a> = (i64, &'a FixtureExchange);
 
 /// A report of alfa's first vehicle, where it was and in the state in which it was.
-pub(crate) const FIRST_LATER: &Exchange = &Exchange {
+pub(crate) const FIRST_LATER: &FixtureExchange = &FixtureExchange {
     at: 2002,
     token: "alfa",
     method: "POST",
@@ -20,7 +20,7 @@ pub(crate) const FIRST_LATER: &Exchange = &Exchange {
 };
 
 /// A publication, and three reports of one vehicle in one state.
-pub(crate) const OLD: &[Asked<'static>] = &[
+pub(crate) const OLD: &[TimedExchange<'static>] = &[
     (1000, &PUT_SQUARE),
     (1000, &PUT_CAP),
     (1000, &PUBLISH),
@@ -30,7 +30,7 @@ pub(crate) const OLD: &[Asked<'static>] = &[
 ];
 
 /// The same, compacted: without the report that is neither the last one nor begins its state's run.
-pub(crate) const THINNED: &[Asked<'static>] = &[
+pub(crate) const COMPACTED: &[TimedExchange<'static>] = &[
     (1000, &PUT_SQUARE),
     (1000, &PUT_CAP),
     (1000, &PUBLISH),
@@ -44,7 +44,7 @@ pub(crate) fn configuration(alloc: Global) -> Option<Config> {
 }
 
 /// The request of an exchange at a moment; `None` where that is no moment.
-pub(crate) fn request(at: i64, exchange: &Exchange) -> Option<Request<'_>> {
+pub(crate) fn request(at: i64, exchange: &FixtureExchange) -> Option<Request<'_>> {
     Some(Request {
         at: Moment::new(at)?,
         token: exchange.token.as_bytes(),
@@ -55,7 +55,7 @@ pub(crate) fn request(at: i64, exchange: &Exchange) -> Option<Request<'_>> {
 }
 
 /// The entry of an exchange's request at a moment.
-fn entry<'a>(config: &Config, at: i64, exchange: &'a Exchange) -> Option<Entry<'a>> {
+fn entry<'a>(config: &Config, at: i64, exchange: &'a FixtureExchange) -> Option<JournalEntry<'a>> {
     match request(at, exchange) {
         Some(request) => entry_by(config, &request),
         None => None,
@@ -64,10 +64,10 @@ fn entry<'a>(config: &Config, at: i64, exchange: &'a Exchange) -> Option<Entry<'
 
 /// Adds the entry of an exchange's request; `None` where there is none, or memory ran out.
 fn add<'a>(
-    entries: &mut Vec<Entry<'a>>,
+    entries: &mut Vec<JournalEntry<'a>>,
     config: &Config,
     at: i64,
-    exchange: &'a Exchange,
+    exchange: &'a FixtureExchange,
 ) -> Option<()> {
     let Some(entry) = entry(config, at, exchange) else {
         return None;
@@ -82,8 +82,8 @@ fn add<'a>(
 pub(crate) fn entries<'a>(
     alloc: Global,
     config: &Config,
-    asked: &[Asked<'a>],
-) -> Option<Vec<Entry<'a>>> {
+    asked: &[TimedExchange<'a>],
+) -> Option<Vec<JournalEntry<'a>>> {
     let mut entries = Vec::new(alloc);
     for (at, exchange) in asked {
         add(&mut entries, config, *at, exchange)?;
@@ -98,7 +98,7 @@ fn head(alloc: Global, config: &Config) -> Option<Vec<u8>> {
 }
 
 /// The payload of an entry.
-fn text(alloc: Global, config: &Config, at: i64, exchange: &Exchange) -> Option<Vec<u8>> {
+fn text(alloc: Global, config: &Config, at: i64, exchange: &FixtureExchange) -> Option<Vec<u8>> {
     match entry(config, at, exchange) {
         Some(entry) => entry_text(alloc, &entry).ok(),
         None => None,
@@ -111,7 +111,7 @@ fn push(texts: &mut Vec<Vec<u8>>, text: Option<Vec<u8>>) -> Option<()> {
 }
 
 /// The payloads of a journal of these requests, the head first; `None` where memory ran out.
-pub(crate) fn texts(alloc: Global, asked: &[Asked<'_>]) -> Option<Vec<Vec<u8>>> {
+pub(crate) fn texts(alloc: Global, asked: &[TimedExchange<'_>]) -> Option<Vec<Vec<u8>>> {
     let config = configuration(alloc)?;
     let mut texts = Vec::new(alloc);
     push(&mut texts, head(alloc, &config))?;

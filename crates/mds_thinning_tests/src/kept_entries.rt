@@ -1,12 +1,12 @@
 //! Which entries of a journal stay when it is compacted, worked out by hand.
-use crate::journal::{Asked, configuration, entries};
-use mds_exchanges::{Exchange, PUT_CAP, REPORT_FIRST, REPORT_SECOND};
-use mds_thinning::thinned_entries;
+use crate::journal::{TimedExchange, configuration, entries};
+use mds_exchanges::{FixtureExchange, PUT_CAP, REPORT_FIRST, REPORT_SECOND};
+use mds_thinning::compact_entries;
 use std::alloc::Global;
 use std::process::Abort;
 
 /// A report of alfa's first vehicle in another state.
-const FIRST_RESERVED: &Exchange = &Exchange {
+const FIRST_RESERVED: &FixtureExchange = &FixtureExchange {
     at: 2001,
     token: "alfa",
     method: "POST",
@@ -17,7 +17,7 @@ const FIRST_RESERVED: &Exchange = &Exchange {
 };
 
 /// A report whose body isn't one.
-const NO_REPORT: &Exchange = &Exchange {
+const NO_REPORT: &FixtureExchange = &FixtureExchange {
     at: 2001,
     token: "alfa",
     method: "POST",
@@ -28,7 +28,7 @@ const NO_REPORT: &Exchange = &Exchange {
 };
 
 /// Alfa's first vehicle is removed.
-const REMOVE_FIRST: &Exchange = &Exchange {
+const REMOVE_FIRST: &FixtureExchange = &FixtureExchange {
     at: 2001,
     token: "alfa",
     method: "DELETE",
@@ -39,7 +39,7 @@ const REMOVE_FIRST: &Exchange = &Exchange {
 };
 
 /// Three reports of the first device, in one state, and one of the second device between them.
-const RUN: &[Asked<'static>] = &[
+const RUN: &[TimedExchange<'static>] = &[
     (2001, &REPORT_FIRST),
     (2002, &REPORT_SECOND),
     (2003, &REPORT_FIRST),
@@ -47,7 +47,7 @@ const RUN: &[Asked<'static>] = &[
 ];
 
 /// Reports of a device whose state changes, and changes back.
-const BACK: &[Asked<'static>] = &[
+const BACK: &[TimedExchange<'static>] = &[
     (2001, &REPORT_FIRST),
     (2002, FIRST_RESERVED),
     (2003, &REPORT_FIRST),
@@ -55,7 +55,7 @@ const BACK: &[Asked<'static>] = &[
 ];
 
 /// A device is removed and reported again, among entries that are no reports.
-const REMOVED: &[Asked<'static>] = &[
+const REMOVED: &[TimedExchange<'static>] = &[
     (2001, &REPORT_FIRST),
     (2002, REMOVE_FIRST),
     (2003, &PUT_CAP),
@@ -65,12 +65,12 @@ const REMOVED: &[Asked<'static>] = &[
 ];
 
 /// Checks that compaction leaves the entries of these moments of a journal.
-fn stay(rt: &impl Abort, alloc: Global, journal: &[Asked<'_>], moments: &[i64]) {
+fn expect_entries(rt: &impl Abort, alloc: Global, journal: &[TimedExchange<'_>], moments: &[i64]) {
     let config = configuration(alloc).expect(rt, "a configuration");
     let Some(entries) = entries(alloc, &config, journal) else {
         panic!(rt; "entries");
     };
-    let Ok(kept) = thinned_entries(alloc, &config, &entries) else {
+    let Ok(kept) = compact_entries(alloc, &config, &entries) else {
         panic!(rt; "a thinned journal");
     };
     assert!(rt; kept.len() == moments.len());
@@ -82,17 +82,17 @@ fn stay(rt: &impl Abort, alloc: Global, journal: &[Asked<'_>], moments: &[i64]) 
 /// The middle one of the three reports is dropped.
 #[test]
 fn a_run_keeps_its_ends(rt: HostRuntime) {
-    stay(&rt, rt.alloc(), RUN, &[2001, 2002, 2004]);
+    expect_entries(&rt, rt.alloc(), RUN, &[2001, 2002, 2004]);
 }
 
 /// A state that comes back begins a run of its own; the reports before it are dropped.
 #[test]
 fn a_state_that_comes_back_begins_anew(rt: HostRuntime) {
-    stay(&rt, rt.alloc(), BACK, &[2003, 2004]);
+    expect_entries(&rt, rt.alloc(), BACK, &[2003, 2004]);
 }
 
 /// The device's entries up to its removal, this one too, are dropped; what isn't a report stays.
 #[test]
 fn a_removal_goes_with_what_stands_before(rt: HostRuntime) {
-    stay(&rt, rt.alloc(), REMOVED, &[2003, 2004, 2005, 2006]);
+    expect_entries(&rt, rt.alloc(), REMOVED, &[2003, 2004, 2005, 2006]);
 }

@@ -14,6 +14,6 @@ mod journal;
 #[cfg(test)]
 mod rolling;
 #[cfg(test)]
-mod starting;
+mod restart;
 #[cfg(test)]
-mod staying;
+mod kept_entries;

@@ -2,15 +2,15 @@
 ghost use Rattle.std.specs.Prelude.{◌≡◌};
 ghost use Rattle.mds_snapshot.specs.Opening.{book_of};
 
-use crate::journal::{Asked, configuration, entries, request};
-use mds_desk::{Answer, AuthorRoom, Desk, OpenGate};
+use crate::journal::{TimedExchange, configuration, entries, request};
+use mds_desk::{SharedReply, AuthorRoom, Desk, OpenGate};
 use mds_exchanges::{
-    EXCEEDED, Exchange, GEOGRAPHIES, NONE_FOR_BRAVO, PUBLISH, PUT_CAP, PUT_SQUARE, REPORT_FIRST,
+    EXCEEDED, FixtureExchange, GEOGRAPHIES, NONE_FOR_BRAVO, PUBLISH, PUT_CAP, PUT_SQUARE, REPORT_FIRST,
     REPORT_SECOND, VEHICLES, WITHDRAW,
 };
-use mds_recovery::{Silent, start_again};
+use mds_recovery::{SilentProgress, start_again};
 use mds_request::Config;
-use mds_snapshot::{Blank, Naming, prepare};
+use mds_snapshot::{Blank, OpeningName, prepare};
 use mds_verdict::Plain;
 use std::alloc::AllocGlobal;
 use std::marker::Brand;
@@ -18,7 +18,7 @@ use std::process::Abort;
 use std::sync::Wait;
 
 /// A publication, and a report of each of alfa's vehicles.
-const JOURNAL: &[Asked<'static>] = &[
+const JOURNAL: &[TimedExchange<'static>] = &[
     (1000, &PUT_SQUARE),
     (1000, &PUT_CAP),
     (1000, &PUBLISH),
@@ -27,12 +27,12 @@ const JOURNAL: &[Asked<'static>] = &[
 ];
 
 /// Whether an answer is the exchange's reply.
-fn is_reply(answer: &Answer, exchange: &Exchange) -> bool {
+fn is_reply(answer: &SharedReply, exchange: &FixtureExchange) -> bool {
     answer.status() == exchange.status && answer.body() == exchange.reply.as_bytes()
 }
 
 /// Whether the room gives the exchange's reply.
-fn room_replies<K: Naming, R: Wait>(rt: &R, room: &mut AuthorRoom<K>, exchange: &Exchange) -> bool {
+fn room_replies<K: OpeningName, R: Wait>(rt: &R, room: &mut AuthorRoom<K>, exchange: &FixtureExchange) -> bool {
     let Some(request) = request(exchange.at, exchange) else {
         return false;
     };
@@ -41,7 +41,7 @@ fn room_replies<K: Naming, R: Wait>(rt: &R, room: &mut AuthorRoom<K>, exchange: 
 }
 
 /// Whether the desk at this index gives the exchange's reply.
-fn desk_replies<K: Naming>(desks: &mut [Desk<K>], place: usize, exchange: &Exchange) -> bool {
+fn desk_replies<K: OpeningName>(desks: &mut [Desk<K>], place: usize, exchange: &FixtureExchange) -> bool {
     let Some(request) = request(exchange.at, exchange) else {
         return false;
     };
@@ -54,18 +54,18 @@ fn desk_replies<K: Naming>(desks: &mut [Desk<K>], place: usize, exchange: &Excha
 
 /// Checks that a room and desks replayed from a journal reply as those that wrote it: the desks know what was
 /// published, and alfa's has both vehicles; the room goes on at the next revision.
-fn go_on<K: Naming, R: Wait + Abort + AllocGlobal>(
+fn go_on<K: OpeningName, R: Wait + Abort + AllocGlobal>(
     rt: &R,
     config: Config,
     blank: Blank,
-    journal: &[Asked<'_>],
+    journal: &[TimedExchange<'_>],
 )
     requires { book_of blank ≡ K.book }
 {
     let Some(entries) = entries(rt.alloc(), &config, journal) else {
         panic!(rt; "entries");
     };
-    let started = start_again::<K, R, Silent>(rt, rt.alloc(), config, blank, &entries, &mut Silent);
+    let started = start_again::<K, R, SilentProgress>(rt, rt.alloc(), config, blank, &entries, &mut SilentProgress);
     let Ok((mut room, mut desks)) = started else {
         panic!(rt; "a server");
     };

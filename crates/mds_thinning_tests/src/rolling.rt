@@ -1,8 +1,8 @@
 //! Replacing a log's file by a compacted one, over journals in memory whose calls fail from the Nth on.
 ghost use Rattle.std.specs.Prelude.{ℕ, List, IfSome};
 
-use mds_records::{AppendFault, Journal, Log, Memory, NotSynced, ReadFault, Seal, Sealed};
-use mds_rolling::{Beside, Finding, NotReplaced, Pace, Rolling, Shorter, is_little};
+use mds_records::{AppendFault, Journal, Log, MemoryStorage, SyncFault, ReadFault, LogEnd, HasLogEnd};
+use mds_rolling::{CompactionSource, Equivalence, ReplaceFault, CompactionSchedule, SwapLog, CompactedLog, is_small_lag};
 use std::alloc::{AllocError, Global};
 use std::cell::{Cell, RefCell};
 
@@ -12,7 +12,7 @@ const MANY: u32 = 1_000;
 /// Takes any list to have the effect of any other.
 struct Anything;
 
-impl Finding for Anything {
+impl Equivalence for Anything {
     ghost use Rattle.std.specs.Prelude.{⊤};
 
     ghost same = { λ _ _. ⊤ };
@@ -20,54 +20,54 @@ impl Finding for Anything {
 
 /// What a test passes to the compaction side of a log, and what that side is notified of.
 #[derive(Drop)]
-struct Board<L: Sealed> {
-    ready: RefCell<Option<Shorter<L, Anything>>>,
+struct ProbeState<L: HasLogEnd> {
+    ready: RefCell<Option<CompactedLog<L, Anything>>>,
     /// Whether copies are kept of what is appended after the next log end.
     is_kept: Cell<bool>,
     /// Whether no compacted log can take the log's place.
     is_failing: Cell<bool>,
     /// The end of the compacted log that took the place last.
-    replaced: Cell<Option<Seal>>,
+    replaced: Cell<Option<LogEnd>>,
     /// Whether the last compacted log took the place, and how many bytes the log has then.
     ended: Cell<Option<(bool, u64)>>,
     /// The log end up to which the log was synced last.
-    synced: Cell<Option<Seal>>,
+    synced: Cell<Option<LogEnd>>,
 }
 
 /// The compaction side of a log, which a test steers and observes.
 #[derive(Drop)]
-struct OnBoard<'a, L: Sealed>(&'a Board<L>);
+struct CompactionProbe<'a, L: HasLogEnd>(&'a ProbeState<L>);
 
-type Rolled<'a> = Rolling<Journal<Memory>, Anything, OnBoard<'a, Journal<Memory>>>;
+type LogUnderTest<'a> = SwapLog<Journal<MemoryStorage>, Anything, CompactionProbe<'a, Journal<MemoryStorage>>>;
 
-impl<L: Sealed> Beside<L, Anything> for OnBoard<'_, L> {
-    fn ready(&mut self) -> Option<Shorter<L, Anything>> {
+impl<L: HasLogEnd> CompactionSource<L, Anything> for CompactionProbe<'_, L> {
+    fn take_ready(&mut self) -> Option<CompactedLog<L, Anything>> {
         match self.0.ready.try_replace(None) {
             Ok(ready) => ready,
             Err(_) => None,
         }
     }
 
-    fn replace(&mut self, log: &L) -> Result<(), NotReplaced> {
+    fn replace(&mut self, log: &L) -> Result<(), ReplaceFault> {
         if self.0.is_failing.get() {
-            return Err(NotReplaced);
+            return Err(ReplaceFault);
         }
-        self.0.replaced.set(Some(log.seal()));
+        self.0.replaced.set(Some(log.log_end()));
         Ok(())
     }
 
-    fn ended(&mut self, is_exchanged: bool, bytes: u64) {
+    fn on_swap_tried(&mut self, is_exchanged: bool, bytes: u64) {
         self.0.ended.set(Some((is_exchanged, bytes)));
     }
 
-    fn synced(&mut self, seal: Seal) -> bool {
+    fn on_synced(&mut self, seal: LogEnd) -> bool {
         self.0.synced.set(Some(seal));
         self.0.is_kept.get()
     }
 }
 
-fn quiet() -> Board<Journal<Memory>> {
-    Board {
+fn new_probe_state() -> ProbeState<Journal<MemoryStorage>> {
+    ProbeState {
         ready: RefCell::new(None),
         is_kept: Cell::new(true),
         is_failing: Cell::new(false),
@@ -84,7 +84,7 @@ fn texts(alloc: Global, text: &[u8]) -> Result<Vec<Vec<u8>>, AllocError> {
 }
 
 /// Appends a payload to a log, and syncs it.
-fn appended<L: Sealed>(alloc: Global, log: L, text: &[u8]) -> Option<L>
+fn append_one<L: HasLogEnd>(alloc: Global, log: L, text: &[u8]) -> Option<L>
     requires { (list : List (List ℕ)) × L.may_be log list }
     ensures { IfSome result (λ log. (list : List (List ℕ)) × L.may_be log list) }
 {
@@ -92,7 +92,7 @@ fn appended<L: Sealed>(alloc: Global, log: L, text: &[u8]) -> Option<L>
     let Ok(texts) = texts(alloc, text) else {
         return None;
     };
-    let count = log.seal().count;
+    let count = log.log_end().count;
     let Ok(_) = log.append(count, &texts) else {
         return None;
     };
@@ -103,15 +103,15 @@ fn appended<L: Sealed>(alloc: Global, log: L, text: &[u8]) -> Option<L>
 }
 
 /// A log as the compacted one of what another holds.
-fn shorter<L: Sealed>(log: L, other: &L) -> Shorter<L, Anything>
+fn as_compacted<L: HasLogEnd>(log: L, other: &L) -> CompactedLog<L, Anything>
     requires one { (list : List (List ℕ)) × L.may_be log list }
     requires other { (list : List (List ℕ)) × L.may_be other.now list }
 {
-    Shorter::new(log, other.seal())
+    CompactedLog::new(log, other.log_end())
 }
 
-fn memory(alloc: Global, calls_left: u32) -> Memory {
-    Memory {
+fn memory(alloc: Global, calls_left: u32) -> MemoryStorage {
+    MemoryStorage {
         bytes: Vec::new(alloc),
         calls_left,
         is_synced: true,
@@ -119,149 +119,149 @@ fn memory(alloc: Global, calls_left: u32) -> Memory {
 }
 
 /// A compacted log, of "both", for a log of "one" and "two". So many calls succeed on its storage after that.
-fn offered(alloc: Global, calls: u32) -> Option<Shorter<Journal<Memory>, Anything>> {
+fn compacted_log(alloc: Global, calls: u32) -> Option<CompactedLog<Journal<MemoryStorage>, Anything>> {
     let Ok(long) = Journal::open(alloc, memory(alloc, MANY)) else {
         return None;
     };
-    let long = appended(alloc, long, b"one")?;
-    let long = appended(alloc, long, b"two")?;
+    let long = append_one(alloc, long, b"one")?;
+    let long = append_one(alloc, long, b"two")?;
     // The storage is read and synced, and then appended to and synced once.
     let Ok(short) = Journal::open(alloc, memory(alloc, calls.saturating_add(4))) else {
         return None;
     };
-    let short = appended(alloc, short, b"both")?;
-    Some(shorter(short, &long))
+    let short = append_one(alloc, short, b"both")?;
+    Some(as_compacted(short, &long))
 }
 
 /// The log end of a log of these two payloads.
-fn seal_of(alloc: Global, first: &[u8], second: &[u8]) -> Option<Seal> {
+fn log_end_of(alloc: Global, first: &[u8], second: &[u8]) -> Option<LogEnd> {
     let Ok(log) = Journal::open(alloc, memory(alloc, MANY)) else {
         return None;
     };
-    let log = appended(alloc, log, first)?;
-    let log = appended(alloc, log, second)?;
-    Some(log.seal())
+    let log = append_one(alloc, log, first)?;
+    let log = append_one(alloc, log, second)?;
+    Some(log.log_end())
 }
 
 /// Appends a payload and syncs it: how many payloads the log has then.
-fn written(
+fn append_and_sync(
     alloc: Global,
-    log: &mut Rolled<'_>,
+    log: &mut LogUnderTest<'_>,
     count: u64,
     text: &[u8],
 ) -> Result<u64, AppendFault> {
     log.append(count, &texts(alloc, text)?)?;
     match log.sync() {
         Ok(count) => Ok(count),
-        Err(NotSynced) => Err(AppendFault::Unknown),
+        Err(SyncFault) => Err(AppendFault::Unknown),
     }
 }
 
 /// A log of "one" and "two", synced. So many calls succeed on its storage after that.
-fn rolling(alloc: Global, board: &Board<Journal<Memory>>, calls: u32) -> Option<Rolled<'_>> {
+fn log_of_two(alloc: Global, board: &ProbeState<Journal<MemoryStorage>>, calls: u32) -> Option<LogUnderTest<'_>> {
     let Ok(log) = Journal::open(alloc, memory(alloc, calls.saturating_add(6))) else {
         return None;
     };
-    let log = appended(alloc, log, b"one")?;
-    let mut log = Rolling::new(alloc, log, OnBoard(board));
-    written(alloc, &mut log, 1, b"two").ok()?;
+    let log = append_one(alloc, log, b"one")?;
+    let mut log = SwapLog::new(alloc, log, CompactionProbe(board));
+    append_and_sync(alloc, &mut log, 1, b"two").ok()?;
     Some(log)
 }
 
 /// Offers a compacted log to the compaction side, and returns whether there was one.
 fn offer(
-    board: &Board<Journal<Memory>>,
-    shorter: Option<Shorter<Journal<Memory>, Anything>>,
+    board: &ProbeState<Journal<MemoryStorage>>,
+    shorter: Option<CompactedLog<Journal<MemoryStorage>, Anything>>,
 ) -> bool {
     shorter.is_some() && board.ready.try_replace(shorter).is_ok()
 }
 
 /// How many payloads are read from a log.
-fn told(log: &mut Rolled<'_>) -> Result<usize, ReadFault> {
+fn read_count(log: &mut LogUnderTest<'_>) -> Result<usize, ReadFault> {
     Ok(log.read_from(0)?.len())
 }
 
 #[test]
-fn files_are_exchanged(rt: HostRuntime) {
+fn files_are_replaced(rt: HostRuntime) {
     let alloc = rt.alloc();
-    let board = quiet();
-    let mut log = rolling(alloc, &board, MANY).expect(&rt, "a log");
-    assert!(rt; told(&mut log) == Ok(2));
-    let mut log = rolling(alloc, &board, MANY).expect(&rt, "a log");
-    assert!(rt; offer(&board, offered(alloc, MANY)));
-    assert!(rt; written(alloc, &mut log, 2, b"three") == Ok(3));
-    let seal = seal_of(alloc, b"both", b"three").expect(&rt, "a seal");
+    let board = new_probe_state();
+    let mut log = log_of_two(alloc, &board, MANY).expect(&rt, "a log");
+    assert!(rt; read_count(&mut log) == Ok(2));
+    let mut log = log_of_two(alloc, &board, MANY).expect(&rt, "a log");
+    assert!(rt; offer(&board, compacted_log(alloc, MANY)));
+    assert!(rt; append_and_sync(alloc, &mut log, 2, b"three") == Ok(3));
+    let seal = log_end_of(alloc, b"both", b"three").expect(&rt, "a seal");
     assert!(rt; board.replaced.get() == Some(seal));
     assert!(rt; board.ended.get() == Some((true, seal.position)));
     assert!(rt; board.synced.get() == Some(seal));
-    assert!(rt; written(alloc, &mut log, 2, b"four") == Err(AppendFault::Conflict));
-    assert!(rt; written(alloc, &mut log, 3, b"four") == Ok(4));
+    assert!(rt; append_and_sync(alloc, &mut log, 2, b"four") == Err(AppendFault::Conflict));
+    assert!(rt; append_and_sync(alloc, &mut log, 3, b"four") == Ok(4));
     // Its file doesn't hold all that was appended.
-    assert!(rt; told(&mut log) == Err(ReadFault::NoAnswer));
+    assert!(rt; read_count(&mut log) == Err(ReadFault::NoAnswer));
 }
 
 #[test]
-fn what_is_lacking_is_not_exchanged(rt: HostRuntime) {
+fn a_log_that_lacks_payloads_takes_no_place(rt: HostRuntime) {
     let alloc = rt.alloc();
-    let board = quiet();
+    let board = new_probe_state();
     board.is_kept.set(false);
-    let mut log = rolling(alloc, &board, MANY).expect(&rt, "a log");
-    assert!(rt; offer(&board, offered(alloc, MANY)));
-    assert!(rt; written(alloc, &mut log, 2, b"three") == Ok(3));
-    assert!(rt; board.replaced.get().is_none() && told(&mut log) == Ok(3));
+    let mut log = log_of_two(alloc, &board, MANY).expect(&rt, "a log");
+    assert!(rt; offer(&board, compacted_log(alloc, MANY)));
+    assert!(rt; append_and_sync(alloc, &mut log, 2, b"three") == Ok(3));
+    assert!(rt; board.replaced.get().is_none() && read_count(&mut log) == Ok(3));
     let bytes = board.synced.get().expect(&rt, "a seal").position;
     assert!(rt; board.ended.get() == Some((false, bytes)));
     // The copies kept from here on come after another log end.
     board.is_kept.set(true);
-    assert!(rt; written(alloc, &mut log, 3, b"four") == Ok(4));
-    assert!(rt; offer(&board, offered(alloc, MANY)));
-    assert!(rt; written(alloc, &mut log, 4, b"five") == Ok(5));
-    assert!(rt; board.replaced.get().is_none() && told(&mut log) == Ok(5));
+    assert!(rt; append_and_sync(alloc, &mut log, 3, b"four") == Ok(4));
+    assert!(rt; offer(&board, compacted_log(alloc, MANY)));
+    assert!(rt; append_and_sync(alloc, &mut log, 4, b"five") == Ok(5));
+    assert!(rt; board.replaced.get().is_none() && read_count(&mut log) == Ok(5));
 }
 
 #[test]
 fn too_much_is_not_kept(rt: HostRuntime) {
     let alloc = rt.alloc();
-    let board = quiet();
-    let mut log = rolling(alloc, &board, MANY).expect(&rt, "a log");
+    let board = new_probe_state();
+    let mut log = log_of_two(alloc, &board, MANY).expect(&rt, "a log");
     board.is_kept.set(false);
     let large = vec![in alloc; 120u8; 1_048_576].expect(&rt, "memory");
     // They are as many bytes as copies may have at the most.
     for count in 2..10u64 {
-        assert!(rt; written(alloc, &mut log, count, &large) == Ok(count.saturating_add(1)));
+        assert!(rt; append_and_sync(alloc, &mut log, count, &large) == Ok(count.saturating_add(1)));
     }
-    assert!(rt; offer(&board, offered(alloc, MANY)));
-    assert!(rt; written(alloc, &mut log, 10, b"last") == Ok(11));
+    assert!(rt; offer(&board, compacted_log(alloc, MANY)));
+    assert!(rt; append_and_sync(alloc, &mut log, 10, b"last") == Ok(11));
     assert!(rt; board.replaced.get().is_none());
     assert!(rt; board.ended.get().is_some_and(|it| !it.0));
 }
 
 #[test]
-fn shorter_logs_that_fail_are_not_taken(rt: HostRuntime) {
+fn compacted_logs_that_fail_are_not_taken(rt: HostRuntime) {
     let alloc = rt.alloc();
     // The compacted log's append fails, or its sync.
     for calls in 0..2 {
-        let board = quiet();
-        let mut log = rolling(alloc, &board, MANY).expect(&rt, "a log");
-        assert!(rt; offer(&board, offered(alloc, calls)));
-        assert!(rt; written(alloc, &mut log, 2, b"three") == Ok(3));
-        assert!(rt; board.replaced.get().is_none() && told(&mut log) == Ok(3));
+        let board = new_probe_state();
+        let mut log = log_of_two(alloc, &board, MANY).expect(&rt, "a log");
+        assert!(rt; offer(&board, compacted_log(alloc, calls)));
+        assert!(rt; append_and_sync(alloc, &mut log, 2, b"three") == Ok(3));
+        assert!(rt; board.replaced.get().is_none() && read_count(&mut log) == Ok(3));
         assert!(rt; board.ended.get().is_some_and(|it| !it.0));
     }
 }
 
 #[test]
-fn places_that_fail_end_it(rt: HostRuntime) {
+fn replacements_that_fail_end_it(rt: HostRuntime) {
     let alloc = rt.alloc();
-    let board = quiet();
-    let mut log = rolling(alloc, &board, MANY).expect(&rt, "a log");
-    assert!(rt; offer(&board, offered(alloc, MANY)));
+    let board = new_probe_state();
+    let mut log = log_of_two(alloc, &board, MANY).expect(&rt, "a log");
+    assert!(rt; offer(&board, compacted_log(alloc, MANY)));
     board.is_failing.set(true);
-    assert!(rt; written(alloc, &mut log, 2, b"three") == Err(AppendFault::Unknown));
+    assert!(rt; append_and_sync(alloc, &mut log, 2, b"three") == Err(AppendFault::Unknown));
     assert!(rt; board.ended.get().is_some_and(|it| !it.0));
     board.is_failing.set(false);
-    assert!(rt; written(alloc, &mut log, 3, b"four") == Err(AppendFault::Unknown));
-    assert!(rt; log.sync().is_err() && told(&mut log) == Err(ReadFault::NoAnswer));
+    assert!(rt; append_and_sync(alloc, &mut log, 3, b"four") == Err(AppendFault::Unknown));
+    assert!(rt; log.sync().is_err() && read_count(&mut log) == Err(ReadFault::NoAnswer));
 }
 
 #[test]
@@ -269,24 +269,24 @@ fn logs_that_fail_end_it(rt: HostRuntime) {
     let alloc = rt.alloc();
     // The log's append fails, or its sync.
     for calls in 0..2 {
-        let board = quiet();
-        let mut log = rolling(alloc, &board, calls).expect(&rt, "a log");
-        assert!(rt; written(alloc, &mut log, 2, b"three") == Err(AppendFault::Unknown));
+        let board = new_probe_state();
+        let mut log = log_of_two(alloc, &board, calls).expect(&rt, "a log");
+        assert!(rt; append_and_sync(alloc, &mut log, 2, b"three") == Err(AppendFault::Unknown));
         assert!(rt; board.ended.get().is_none());
         assert!(rt; log.sync().is_err());
     }
 }
 
 #[test]
-fn journals_are_thinned_by_their_growth(rt: HostRuntime) {
-    let mut pace = Pace::new(100);
+fn journals_are_compacted_by_their_growth(rt: HostRuntime) {
+    let mut pace = CompactionSchedule::new(100);
     assert!(rt; !pace.is_due(100) && pace.is_due(101));
-    pace.tried(true, 50);
+    pace.record_attempt(true, 50);
     assert!(rt; !pace.is_due(250) && pace.is_due(251));
-    pace.tried(false, 251);
+    pace.record_attempt(false, 251);
     assert!(rt; !pace.is_due(502) && pace.is_due(503));
-    pace.tried(true, u64::MAX);
+    pace.record_attempt(true, u64::MAX);
     assert!(rt; !pace.is_due(u64::MAX));
-    assert!(rt; !Pace::new(0).is_due(u64::MAX));
-    assert!(rt; is_little(1_048_576) && !is_little(1_048_577));
+    assert!(rt; !CompactionSchedule::new(0).is_due(u64::MAX));
+    assert!(rt; is_small_lag(1_048_576) && !is_small_lag(1_048_577));
 }

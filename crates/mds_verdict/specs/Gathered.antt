@@ -8,7 +8,7 @@ use Rattle.mds_match.specs.declared.local.Local.{Local}
 use Rattle.mds_match.specs.Matching.{is_evaluated, is_open, first}
 use Rattle.mds_match.specs.Row.{Row}
 use Rattle.mds_verdict.specs.Verdict.{Verdict, measured, status_of, verdict_document}
-use Rattle.mds_verdict.specs.declared.tally.Tally.{Tally}
+use Rattle.mds_verdict.specs.declared.tally.VerdictTally.{VerdictTally}
 use Rattle.mds_verdict.specs.declared.verdict.RuleVerdict.{RuleVerdict}
 use Rattle.mds_verdict.specs.declared.verdict.TheConstants.{MOST_DEVICES}
 use Rattle.mds_verdict.specs.declared.verdict.Status.{Status}
@@ -37,17 +37,17 @@ abbrev pub shown : Verdict → Verdict
 shown verdict = record verdict { devices = shown_devices verdict.status verdict.devices }
 
 -- the tally of these rows
-abbrev pub IsTally : Tally → Policy → (List ℕ → List (List (List Position))) → List Row → Local → ℕ → Type 0
+abbrev pub IsTally : VerdictTally → Policy → (List ℕ → List (List (List Position))) → List Row → Local → ℕ → Type 0
 IsTally tally policy polygons rows local t = map verdict_document tally.rules.items ≡ gathered policy polygons rows local t
 
 -- this is the tally of some rows, and the number is that of the first rule that the row meets
-abbrev pub MayCount : Tally → Policy → Option ℕ → Row → ℕ → Type 0
+abbrev pub MayCount : VerdictTally → Policy → Option ℕ → Row → ℕ → Type 0
 MayCount tally policy number row t =
     (polygons : List ℕ → List (List (List Position))) × (rows : List Row) × (local : Local)
     × (number ≡ first policy polygons row local) × (IsTally tally policy polygons rows local t) × (length rows < 2 ^ 63)
 
 -- these are the tallies of some rows and of others
-abbrev pub MayJoin : Tally → Tally → Policy → Type 0
+abbrev pub MayJoin : VerdictTally → VerdictTally → Policy → Type 0
 MayJoin tally later policy =
     (polygons : List ℕ → List (List (List Position))) × (rows : List Row) × (more : List Row) × (local : Local) × (t : ℕ)
     × (IsTally tally policy polygons rows local t) × (IsTally later policy polygons more local t) × (length rows < 2 ^ 63) × (length more < 2 ^ 63)

@@ -1,4 +1,4 @@
-use crate::judge::of_all;
+use crate::judge::evaluate_all;
 use crate::verdict::RuleVerdict;
 use mds_match::{Local, Places, Vehicle};
 use mds_policy::Policy;
@@ -65,6 +65,6 @@ impl<P: Places> Evaluator<P> for Plain {
             ≡ verdicts (policy_document policy.now) (P.polygons places.now) (map (λ v. row_of v.now) vehicles.now) local moment) }
         ensures fits { IfOk result (λ found. All (λ v. v.measure < 2 ^ 63) found.items) }
     {
-        of_all(alloc, policy, places, vehicles, local, moment)
+        evaluate_all(alloc, policy, places, vehicles, local, moment)
     }
 }

@@ -4,7 +4,7 @@ ghost use Rattle.mds_match.specs.Row.{row_of};
 ghost use Rattle.mds_verdict.specs.Verdict.{verdict_document, verdicts};
 ghost use Rattle.mds_verdict.specs.Gathered.{IsTally};
 
-use crate::tally::Tally;
+use crate::tally::VerdictTally;
 use crate::verdict::RuleVerdict;
 use mds_match::{Local, Places, ResolvedPolicy, Vehicle};
 use mds_policy::Policy;
@@ -13,7 +13,7 @@ use std::alloc::{AllocError, Global};
 
 /// The verdicts on a policy's rules: the tally of all vehicles, without the devices of rules that
 /// aren't violated.
-pub(crate) fn of_all<P: Places>(
+pub(crate) fn evaluate_all<P: Places>(
     alloc: Global,
     policy: &Policy,
     places: &P,
@@ -38,12 +38,12 @@ fn gather<P: Places>(
     vehicles: &[&Vehicle],
     local: Local,
     moment: Moment,
-) -> Result<Tally, AllocError>
+) -> Result<VerdictTally, AllocError>
     ensures { IfOk result (λ tally. IsTally tally
         (policy_document policy.now) (P.polygons places.now) (map (λ r. row_of r.now) vehicles.now) local moment) }
 {
     let resolved = ResolvedPolicy::new(alloc, policy, places, local)?;
-    let mut tally = Tally::new(alloc, policy, local)?;
+    let mut tally = VerdictTally::new(alloc, policy, local)?;
     for vehicle in vehicles {
         tally.count(policy, resolved.first(vehicle), vehicle, moment)?;
     }

@@ -20,7 +20,7 @@ pub fn any_order()
 
 /// There is one verdict for each rule, no measure is greater than the number of vehicles, and no
 /// list of devices is longer than `MOST_DEVICES`.
-pub fn bounded()
+pub fn verdicts_are_bounded()
     ensures each { (policy : Policy) (polygons : List ℕ → List (List (List Position))) (rows : List Row) (local : Local) (t : ℕ) →
         length (verdicts policy polygons rows local t) ≡ length policy.rules }
     ensures measures { (policy : Policy) (polygons : List ℕ → List (List (List Position))) (rows : List Row) (local : Local) (t : ℕ) →

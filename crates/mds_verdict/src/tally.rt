@@ -17,11 +17,11 @@ use std::alloc::{AllocError, Global};
 /// The result of counting vehicles for each rule of a policy: how many it counts, and the first
 /// `MOST_DEVICES` of them in the order in which they came, whether the rule is violated or not.
 #[derive(Drop)]
-pub struct Tally {
+pub struct VerdictTally {
     rules: Vec<RuleVerdict>,
 }
 
-impl Tally {
+impl VerdictTally {
     ghost use Rattle.std.specs.Prelude.{◌≡◌, List, ℕ, [], ◌∷◌, ◌++◌, IfOk, OnOk, map};
     ghost use Rattle.mds_geometry.specs.declared.position.Position.{Position};
     ghost use Rattle.mds_policy.specs.Policy.{policy_document, Policy as Document};
@@ -36,12 +36,12 @@ impl Tally {
     /// # Errors
     ///
     /// Out of memory.
-    pub fn new(alloc: Global, policy: &Policy, local: Local) -> Result<Tally, AllocError>
+    pub fn new(alloc: Global, policy: &Policy, local: Local) -> Result<VerdictTally, AllocError>
         ensures { IfOk result (λ tally. (polygons : List ℕ → List (List (List Position))) (moment : ℕ) →
             IsTally tally (policy_document policy.now) polygons [] local moment) }
     {
-        let rules = of_none(alloc, policy.rules(), local)?;
-        Ok(Tally { rules })
+        let rules = initial_verdicts(alloc, policy.rules(), local)?;
+        Ok(VerdictTally { rules })
     }
 
     /// Counts one more vehicle for the rule at this index, the first that the vehicle meets, and
@@ -74,7 +74,7 @@ impl Tally {
     /// # Errors
     ///
     /// Out of memory.
-    pub fn join(&mut self, policy: &Policy, later: &Tally) -> Result<(), AllocError>
+    pub fn join(&mut self, policy: &Policy, later: &VerdictTally) -> Result<(), AllocError>
         requires { MayJoin self.old later.now (policy_document policy.now) }
         ensures { OnOk result ((polygons : List ℕ → List (List (List Position))) (rows more : List Row) (local : Time) (moment : ℕ) →
             IsTally self.old (policy_document policy.now) polygons rows local moment →
@@ -93,18 +93,18 @@ impl Tally {
             map verdict_document result.items ≡ verdicts policy polygons rows local moment }
     {
         let mut held = self.rules;
-        show(&mut held);
+        trim_verdicts(&mut held);
         held
     }
 }
 
 /// The verdicts on a policy's rules where there is no vehicle.
-fn of_none(alloc: Global, rules: &[Rule], local: Local) -> Result<Vec<RuleVerdict>, AllocError>
+fn initial_verdicts(alloc: Global, rules: &[Rule], local: Local) -> Result<Vec<RuleVerdict>, AllocError>
     ensures { IfOk result (λ v. map verdict_document v.items ≡ map (λ r. gathered_rule (rule_document r) local []) rules.now) }
 {
     let mut held = Vec::with_capacity(alloc, rules.len())?;
     for rule in rules {
-        held.push(judged(alloc, rule, local))?;
+        held.push(initial_verdict(alloc, rule, local))?;
     }
     Ok(held)
 }
@@ -191,16 +191,16 @@ fn join_in(verdict: &mut RuleVerdict, rule: &Rule, later: &RuleVerdict) -> Resul
 }
 
 /// Drops the devices of the rules that aren't violated.
-fn show(held: &mut [RuleVerdict])
+fn trim_verdicts(held: &mut [RuleVerdict])
     ensures { map verdict_document held.new ≡ map shown (map verdict_document held.old) }
 {
     for verdict in held.iter_mut() {
-        show_in(verdict);
+        trim_verdict(verdict);
     }
 }
 
 /// Drops the devices of a rule that isn't violated, and the spare capacity of the list.
-fn show_in(verdict: &mut RuleVerdict)
+fn trim_verdict(verdict: &mut RuleVerdict)
     ensures { verdict_document verdict.new ≡ shown (verdict_document verdict.old) }
 {
     if verdict.status != Status::Violated {
@@ -210,7 +210,7 @@ fn show_in(verdict: &mut RuleVerdict)
 }
 
 /// The verdict on a rule that counts no vehicle.
-fn judged(alloc: Global, rule: &Rule, local: Local) -> RuleVerdict
+fn initial_verdict(alloc: Global, rule: &Rule, local: Local) -> RuleVerdict
     ensures { verdict_document result ≡ gathered_rule (rule_document rule.now) local [] }
 {
     let status = if rule.kind == Kind::Other {

@@ -9,15 +9,15 @@ use Rattle.mds_request.specs.Call.{call_of}
 use Rattle.mds_request.specs.declared.call.Call.{Call}
 use Rattle.mds_machine.specs.Step.{State, Step, does, call_does}
 use Rattle.mds_world.specs.Denied.{denial, Denies, code_of}
-use Rattle.mds_world.specs.declared.denied.Denied.{Denied}
-use Rattle.mds_world.specs.declared.denied.Denied.TheVariants.{Refused, Exhausted}
+use Rattle.mds_world.specs.declared.call_fault.CallFault.{CallFault}
+use Rattle.mds_world.specs.declared.call_fault.CallFault.TheVariants.{Refused, Exhausted}
 
 -- a defined success
 pub done : {S : Type 0} (old : S) (defined : Result (Reply × S) Code) (outcome : Reply × S) → defined ≡ Ok outcome → Gives (Unit {0}) old defined outcome.0 outcome.1
 done old defined outcome is = inl (sym (ap (λ d. (settled old d).0) is), sym (ap (λ d. (settled old d).1) is))
 
 -- a defined refusal, or out of memory
-pub denied : {S : Type 0} (old new : S) (defined : Result (Reply × S) Code) (why : Denied) (reply : Reply) → Denies (denial why) defined → new ≡ old → reply ≡ refused (code_of why) → Gives (Unit {0}) old defined reply new
+pub denied : {S : Type 0} (old new : S) (defined : Result (Reply × S) Code) (why : CallFault) (reply : Reply) → Denies (denial why) defined → new ≡ old → reply ≡ refused (code_of why) → Gives (Unit {0}) old defined reply new
 denied old new defined (Refused code) reply is same said =
     inl (said ∙ sym (ap (λ d. (settled old d).0) is), same ∙ sym (ap (λ d. (settled old d).1) is))
 denied old new defined Exhausted reply is same said = inr (tt, said, same)

@@ -6,9 +6,9 @@ use Rattle.std.specs.List.{list_all}
 use Rattle.std.specs.Option.{option_map_or}
 use Rattle.mds_policy.specs.Policy.{Policy}
 use Rattle.mds_kept.specs.Masks.{matches}
-use Rattle.mds_kept.specs.Kept as kept
-use Rattle.mds_kept.specs.Kept.{IsListed}
-use Rattle.mds_kept.specs.declared.kept.Listed.{Listed}
+use Rattle.mds_kept.specs.Index as kept
+use Rattle.mds_kept.specs.Index.{IsListed}
+use Rattle.mds_kept.specs.declared.bitmap_index.IndexedFleet.{IndexedFleet}
 use Rattle.mds_fleet.specs.Fleet.{Fits, Fleet, Vehicles}
 use Rattle.mds_catalog.specs.Publication.{Publication, find_policy, is_geography_published, published_area}
 
@@ -29,7 +29,7 @@ abbrev pub IsOfItsId : List Publication → Policy → Type 0
 IsOfItsId publications policy = option_map (λ p. p.document) (find_policy publications policy.id) ≡ Some policy
 
 -- that an index is right has one proof at most, so it may be a ghost field
-listed_prop : (published : kept.Published) (vehicles : Vehicles) (listed : Option Listed) → IsProp (IfSome listed (IsListed published vehicles))
+listed_prop : (published : kept.Published) (vehicles : Vehicles) (listed : Option IndexedFleet) → IsProp (IfSome listed (IsListed published vehicles))
 listed_prop published vehicles None = Prim.hlevel logic.props
 listed_prop published vehicles (Some listed) = Prim.hlevel logic.props
 

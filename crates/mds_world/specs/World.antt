@@ -1,7 +1,7 @@
 -- The state of the machine of a `World`.
 use Rattle.std.specs.Prelude.{map}
 use Rattle.mds_catalog.specs.Catalogue.{publications_of}
-use Rattle.mds_drafts.specs.Shelf.{drafts_of}
+use Rattle.mds_drafts.specs.Values.{drafts_of}
 use Rattle.mds_request.specs.Configuration.{configuration}
 use Rattle.mds_machine.specs.Step.{State}
 use Rattle.mds_world.specs.declared.world.World.{World}

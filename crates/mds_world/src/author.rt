@@ -4,7 +4,7 @@ ghost use Rattle.mds_text.specs.Printed.{printed};
 ghost use Rattle.mds_text.specs.View.{view};
 ghost use Rattle.mds_catalog.specs.Catalogue.{publications_of};
 ghost use Rattle.mds_drafts.specs.Entries.{document_of as draft_document};
-ghost use Rattle.mds_drafts.specs.Shelf.{drafts_of};
+ghost use Rattle.mds_drafts.specs.Values.{drafts_of};
 ghost use Rattle.mds_request.specs.Request.{request_of};
 ghost use Rattle.mds_request.specs.Reply.{is_line};
 ghost use Rattle.mds_machine.specs.Answer.{Gives};
@@ -12,10 +12,10 @@ ghost use Rattle.mds_machine.specs.Author.{document_of, put_word, put_draft, dra
 ghost use Rattle.mds_machine.specs.Bodies.{result_json};
 ghost use Rattle.mds_world.specs.Acts.{outcome, IsOpen};
 ghost use Rattle.mds_world.specs.Denied.{Meets};
-ghost use Rattle.mds_world.specs.declared.bodies.TheConstants.{ROOM};
+ghost use Rattle.mds_world.specs.declared.bodies.TheConstants.{SHORT_BODY};
 
-use crate::bodies::{draft_reply, in_room, published_reply, removed_reply, room};
-use crate::denied::Denied;
+use crate::bodies::{draft_reply, success_in, published_reply, removed_reply, body_buffer};
+use crate::call_fault::CallFault;
 use crate::published::{geographies, geography, policies, policy};
 use mds_catalog::{Batch, Catalogue};
 use mds_drafts::{Draft, Drafts, PublishList, Put};
@@ -39,7 +39,7 @@ pub enum AuthorAct {
 /// The body of the reply to a put.
 fn put_body(put: Put) -> &'static [u8]
     ensures body { result.now ≡ printed (result_json (put_word put)) }
-    ensures short { length result.now ≤ ROOM }
+    ensures short { length result.now ≤ SHORT_BODY }
     ensures line { IsTrue (is_line result.now) }
 {
     match put {
@@ -54,7 +54,7 @@ fn document(
     drafts: &mut Drafts,
     kind: DraftKind,
     text: &[u8],
-) -> Result<Draft, Denied>
+) -> Result<Draft, CallFault>
     ensures read { Meets draft_document result (document_of kind text.now) }
     ensures drafts { drafts_of drafts.new ≡ drafts_of drafts.old }
 {
@@ -78,21 +78,21 @@ fn put_draft(
     kind: DraftKind,
     id: Id,
     text: &[u8],
-) -> Result<Reply, Denied>
+) -> Result<Reply, CallFault>
     ensures answer { Meets (λ r. (r, drafts_of drafts.new)) result (put_draft (drafts_of drafts.old) kind id text.now) }
     ensures refused { OnErr result (drafts_of drafts.new ≡ drafts_of drafts.old) }
 {
     let draft = document(alloc, drafts, kind, text)?;
     if draft.id() != id {
-        return Err(Denied::Refused(Code::IdMismatch));
+        return Err(CallFault::Refused(Code::IdMismatch));
     }
-    let body = room(alloc)?;
+    let body = body_buffer(alloc)?;
     let put = drafts.put(draft)?;
-    Ok(in_room(body, put_body(put)))
+    Ok(success_in(body, put_body(put)))
 }
 
 /// A draft as it is served.
-fn served(alloc: Global, draft: &Draft) -> Result<Tree, AllocError>
+fn served_tree(alloc: Global, draft: &Draft) -> Result<Tree, AllocError>
     ensures { IfOk result (λ t. view t ≡ draft_served (draft_document draft.now)) }
 {
     match draft {
@@ -102,25 +102,25 @@ fn served(alloc: Global, draft: &Draft) -> Result<Tree, AllocError>
 }
 
 /// The reply to a request for a draft.
-fn show_draft(alloc: Global, drafts: &Drafts, kind: DraftKind, id: Id) -> Result<Reply, Denied>
+fn show_draft(alloc: Global, drafts: &Drafts, kind: DraftKind, id: Id) -> Result<Reply, CallFault>
     ensures { Meets (λ r. r) result (draft_answer (drafts_of drafts.now) kind id) }
 {
     let Some(draft) = drafts.get(kind, id) else {
-        return Err(Denied::Refused(Code::NoDraft));
+        return Err(CallFault::Refused(Code::NoDraft));
     };
-    let reply = draft_reply(alloc, served(alloc, draft)?)?;
+    let reply = draft_reply(alloc, served_tree(alloc, draft)?)?;
     Ok(reply)
 }
 
 /// Drops a draft. The reply is made before the change.
-fn drop_draft(alloc: Global, drafts: &mut Drafts, kind: DraftKind, id: Id) -> Result<Reply, Denied>
+fn drop_draft(alloc: Global, drafts: &mut Drafts, kind: DraftKind, id: Id) -> Result<Reply, CallFault>
     ensures answer { Meets (λ r. (r, drafts_of drafts.new)) result (drop_draft (drafts_of drafts.old) kind id) }
     ensures refused { OnErr result (drafts_of drafts.new ≡ drafts_of drafts.old) }
 {
     let reply = removed_reply(alloc, id)?;
     match drafts.drop_draft(kind, id) {
         Ok(()) => Ok(reply),
-        Err(_) => Err(Denied::Refused(Code::NoDraft)),
+        Err(_) => Err(CallFault::Refused(Code::NoDraft)),
     }
 }
 
@@ -130,7 +130,7 @@ fn publish(
     drafts: &Drafts,
     catalogue: &Catalogue,
     request: &Request<'_>,
-) -> Result<AuthorAct, Denied>
+) -> Result<AuthorAct, CallFault>
     ensures answer { Meets (outcome (drafts_of drafts.now) (publications_of catalogue.now)) result
         (publish (drafts_of drafts.now) (publications_of catalogue.now) (request_of request.now)) }
     ensures lawful { IfOk result (IsOpen (drafts_of drafts.now) (publications_of catalogue.now) (drafts_of drafts.now)) }
@@ -148,7 +148,7 @@ fn act(
     catalogue: &Catalogue,
     call: &AuthorCall,
     request: &Request<'_>,
-) -> Result<AuthorAct, Denied>
+) -> Result<AuthorAct, CallFault>
     ensures answer { Meets (outcome (drafts_of drafts.new) (publications_of catalogue.now)) result
         (author_does (drafts_of drafts.old) (publications_of catalogue.now) call.now (request_of request.now)) }
     ensures lawful { IfOk result (IsOpen (drafts_of drafts.old) (publications_of catalogue.now) (drafts_of drafts.new)) }

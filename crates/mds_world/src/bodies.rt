@@ -18,18 +18,18 @@ use std::alloc::{AllocError, Global};
 const REPORT_VERSION: i64 = 2;
 
 /// The most bytes of a body that is written into memory allocated before.
-const ROOM: usize = 24;
+const SHORT_BODY: usize = 24;
 
 /// Allocates memory for a short body, so that the body can be written after a change.
-pub(crate) fn room(alloc: Global) -> Result<Vec<u8>, AllocError>
+pub(crate) fn body_buffer(alloc: Global) -> Result<Vec<u8>, AllocError>
     ensures empty { IfOk result (λ room. room.items ≡ []) }
     ensures roomy { IfOk result (λ room. ROOM ≤ vec_capacity room) }
 {
-    Vec::with_capacity(alloc, ROOM)
+    Vec::with_capacity(alloc, SHORT_BODY)
 }
 
 /// A success with this body, written into memory allocated before, so that it can't fail.
-pub(crate) fn in_room(mut room: Vec<u8>, body: &[u8]) -> Reply
+pub(crate) fn success_in(mut room: Vec<u8>, body: &[u8]) -> Reply
     requires empty { room.items ≡ [] }
     requires roomy { ROOM ≤ vec_capacity room }
     requires short { length body.now ≤ ROOM }
@@ -50,7 +50,7 @@ fn fill(room: &mut Vec<u8>, bytes: &[u8])
 
 /// A success with this value as its body.
 #[tactic(auto, using(crate::proofs::OneLine::one_line))]
-pub(crate) fn told(alloc: Global, value: &Tree) -> Result<Reply, AllocError>
+pub(crate) fn json_reply(alloc: Global, value: &Tree) -> Result<Reply, AllocError>
     ensures { IfOk result (λ r. r ≡ told (view value.now)) }
 {
     let body = print_tree(alloc, value)?;
@@ -63,7 +63,7 @@ pub(crate) fn removed_reply(alloc: Global, id: Id) -> Result<Reply, AllocError>
 {
     let mut members = Vec::new(alloc);
     add_member(&mut members, "removed", id_tree(alloc, &id)?)?;
-    told(alloc, &object_tree(members))
+    json_reply(alloc, &object_tree(members))
 }
 
 /// A draft: `{"draft":served}`.
@@ -72,7 +72,7 @@ pub(crate) fn draft_reply(alloc: Global, served: Tree) -> Result<Reply, AllocErr
 {
     let mut members = Vec::new(alloc);
     add_member(&mut members, "draft", served)?;
-    told(alloc, &object_tree(members))
+    json_reply(alloc, &object_tree(members))
 }
 
 /// A publication: `{"published_date":moment,"revision":revision}`.
@@ -87,7 +87,7 @@ pub(crate) fn published_reply(
     let mut members = Vec::new(alloc);
     add_member(&mut members, "published_date", int_tree(moment.get()))?;
     add_member(&mut members, "revision", int_tree(revision as i64))?;
-    told(alloc, &object_tree(members))
+    json_reply(alloc, &object_tree(members))
 }
 
 /// A result at a moment, under its name: `{"at":moment,name:value,"revision":revision,"version":2}`.
@@ -101,7 +101,7 @@ pub(crate) fn compliance_reply(
     requires { revision < 2 ^ 63 }
     ensures { IfOk result (λ r. r ≡ told (compliance_json moment name.now (view value) revision)) }
 {
-    told(
+    json_reply(
         alloc,
         &compliance_tree(alloc, moment, name, value, revision)?,
     )
@@ -188,5 +188,5 @@ pub(crate) fn vehicles_reply(alloc: Global, vehicles: &[&Vehicle]) -> Result<Rep
     }
     let mut members = Vec::new(alloc);
     add_member(&mut members, "vehicles", list_tree(trees))?;
-    told(alloc, &object_tree(members))
+    json_reply(alloc, &object_tree(members))
 }

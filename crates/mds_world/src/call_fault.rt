@@ -14,51 +14,51 @@ use std::alloc::{AllocError, AllocFailed};
 
 /// Why a call has no success.
 #[derive(Clone, Copy, Debug)]
-pub enum Denied {
+pub enum CallFault {
     /// It is refused, with this code.
     Refused(Code),
     /// Out of memory.
     Exhausted,
 }
 
-impl From<Denied> for Reply {
+impl From<CallFault> for Reply {
     ghost use Rattle.std.specs.Prelude.{◌≡◌};
     ghost use Rattle.mds_request.specs.Reply.{refused};
     ghost use Rattle.mds_world.specs.Denied.{code_of};
 
     ghost from_gives = { λ denied reply. reply ≡ refused (code_of denied) };
 
-    fn from(denied: Denied) -> Reply {
+    fn from(denied: CallFault) -> Reply {
         match denied {
-            Denied::Refused(code) => Reply::from(code),
-            Denied::Exhausted => Reply::from(Code::NoMemory),
+            CallFault::Refused(code) => Reply::from(code),
+            CallFault::Exhausted => Reply::from(Code::NoMemory),
         }
     }
 }
 
-impl From<AllocError> for Denied {
+impl From<AllocError> for CallFault {
     ghost use Rattle.std.specs.Prelude.{◌≡◌};
-    ghost use Rattle.mds_world.specs.declared.denied.Denied.TheVariants.{Exhausted};
+    ghost use Rattle.mds_world.specs.declared.call_fault.CallFault.TheVariants.{Exhausted};
 
     ghost from_gives = { λ _ e. e ≡ Exhausted };
 
-    fn from(_refused: AllocError) -> Denied {
-        Denied::Exhausted
+    fn from(_refused: AllocError) -> CallFault {
+        CallFault::Exhausted
     }
 }
 
-impl<T: Drop> From<AllocFailed<T>> for Denied {
+impl<T: Drop> From<AllocFailed<T>> for CallFault {
     ghost use Rattle.std.specs.Prelude.{◌≡◌};
-    ghost use Rattle.mds_world.specs.declared.denied.Denied.TheVariants.{Exhausted};
+    ghost use Rattle.mds_world.specs.declared.call_fault.CallFault.TheVariants.{Exhausted};
 
     ghost from_gives = { λ _ e. e ≡ Exhausted };
 
-    fn from(_refused: AllocFailed<T>) -> Denied {
-        Denied::Exhausted
+    fn from(_refused: AllocFailed<T>) -> CallFault {
+        CallFault::Exhausted
     }
 }
 
-impl From<TextFault> for Denied {
+impl From<TextFault> for CallFault {
     ghost use Rattle.std.specs.Prelude.{◌≡◌, option_map};
     ghost use Rattle.mds_text.specs.Fault.{text_cause};
     ghost use Rattle.mds_machine.specs.Codes.{fault_code};
@@ -66,18 +66,18 @@ impl From<TextFault> for Denied {
 
     ghost from_gives = { λ fault e. denial e ≡ option_map fault_code (text_cause fault) };
 
-    fn from(fault: TextFault) -> Denied {
+    fn from(fault: TextFault) -> CallFault {
         match fault {
-            TextFault::BadJson => Denied::Refused(Code::BadJson),
-            TextFault::BadField(_) => Denied::Refused(Code::BadField),
-            TextFault::BadNumber => Denied::Refused(Code::BadNumber),
-            TextFault::OutOfRange => Denied::Refused(Code::OutOfRange),
-            TextFault::NoMemory => Denied::Exhausted,
+            TextFault::BadJson => CallFault::Refused(Code::BadJson),
+            TextFault::BadField(_) => CallFault::Refused(Code::BadField),
+            TextFault::BadNumber => CallFault::Refused(Code::BadNumber),
+            TextFault::OutOfRange => CallFault::Refused(Code::OutOfRange),
+            TextFault::NoMemory => CallFault::Exhausted,
         }
     }
 }
 
-impl From<PolicyFault> for Denied {
+impl From<PolicyFault> for CallFault {
     ghost use Rattle.std.specs.Prelude.{◌≡◌, option_map};
     ghost use Rattle.mds_policy.specs.Fault.{policy_cause};
     ghost use Rattle.mds_machine.specs.Codes.{fault_code};
@@ -85,16 +85,16 @@ impl From<PolicyFault> for Denied {
 
     ghost from_gives = { λ fault e. denial e ≡ option_map fault_code (policy_cause fault) };
 
-    fn from(fault: PolicyFault) -> Denied {
+    fn from(fault: PolicyFault) -> CallFault {
         match fault {
-            PolicyFault::Text(fault) => Denied::from(fault),
-            PolicyFault::Decimal => Denied::Refused(Code::Decimal),
-            PolicyFault::TooManyRules => Denied::Refused(Code::TooManyRules),
+            PolicyFault::Text(fault) => CallFault::from(fault),
+            PolicyFault::Decimal => CallFault::Refused(Code::Decimal),
+            PolicyFault::TooManyRules => CallFault::Refused(Code::TooManyRules),
         }
     }
 }
 
-impl From<GeoFault> for Denied {
+impl From<GeoFault> for CallFault {
     ghost use Rattle.std.specs.Prelude.{◌≡◌, option_map};
     ghost use Rattle.mds_geography.specs.Fault.{geo_cause};
     ghost use Rattle.mds_machine.specs.Codes.{fault_code};
@@ -102,11 +102,11 @@ impl From<GeoFault> for Denied {
 
     ghost from_gives = { λ fault e. denial e ≡ option_map fault_code (geo_cause fault) };
 
-    fn from(fault: GeoFault) -> Denied {
+    fn from(fault: GeoFault) -> CallFault {
         match fault {
-            GeoFault::Text(fault) => Denied::from(fault),
-            GeoFault::Ring(fault) => Denied::Refused(ring_code(fault)),
-            GeoFault::TooManyPoints => Denied::Refused(Code::TooManyPoints),
+            GeoFault::Text(fault) => CallFault::from(fault),
+            GeoFault::Ring(fault) => CallFault::Refused(ring_code(fault)),
+            GeoFault::TooManyPoints => CallFault::Refused(Code::TooManyPoints),
         }
     }
 }
@@ -120,55 +120,55 @@ fn ring_code(fault: RingFault) -> Code
     }
 }
 
-impl From<BookFault> for Denied {
+impl From<BookFault> for CallFault {
     ghost use Rattle.std.specs.Prelude.{◌≡◌};
     ghost use Rattle.mds_machine.specs.Codes.{book_code};
     ghost use Rattle.mds_world.specs.Denied.{denial, unless_memory};
 
     ghost from_gives = { λ fault e. denial e ≡ unless_memory (book_code fault) };
 
-    fn from(fault: BookFault) -> Denied {
+    fn from(fault: BookFault) -> CallFault {
         match fault {
-            BookFault::Future => Denied::Refused(Code::Future),
-            BookFault::Stale => Denied::Refused(Code::Stale),
-            BookFault::FleetFull => Denied::Refused(Code::FleetFull),
-            BookFault::NoMemory => Denied::Exhausted,
+            BookFault::Future => CallFault::Refused(Code::Future),
+            BookFault::Stale => CallFault::Refused(Code::Stale),
+            BookFault::FleetFull => CallFault::Refused(Code::FleetFull),
+            BookFault::NoMemory => CallFault::Exhausted,
         }
     }
 }
 
-impl From<PutFault> for Denied {
+impl From<PutFault> for CallFault {
     ghost use Rattle.std.specs.Prelude.{◌≡◌};
     ghost use Rattle.mds_machine.specs.Codes.{put_code};
     ghost use Rattle.mds_world.specs.Denied.{denial, unless_memory};
 
     ghost from_gives = { λ fault e. denial e ≡ unless_memory (put_code fault) };
 
-    fn from(fault: PutFault) -> Denied {
+    fn from(fault: PutFault) -> CallFault {
         match fault {
-            PutFault::DraftsFull => Denied::Refused(Code::DraftsFull),
-            PutFault::NoMemory => Denied::Exhausted,
+            PutFault::DraftsFull => CallFault::Refused(Code::DraftsFull),
+            PutFault::NoMemory => CallFault::Exhausted,
         }
     }
 }
 
-impl From<PublishFault> for Denied {
+impl From<PublishFault> for CallFault {
     ghost use Rattle.std.specs.Prelude.{◌≡◌};
     ghost use Rattle.mds_machine.specs.Codes.{publish_code};
     ghost use Rattle.mds_world.specs.Denied.{denial, unless_memory};
 
     ghost from_gives = { λ fault e. denial e ≡ unless_memory (publish_code fault) };
 
-    fn from(fault: PublishFault) -> Denied {
+    fn from(fault: PublishFault) -> CallFault {
         match fault {
-            PublishFault::Empty => Denied::Refused(Code::Empty),
-            PublishFault::NoDraft(_) => Denied::Refused(Code::NoDraft),
-            PublishFault::Published(_) => Denied::Refused(Code::Published),
-            PublishFault::NoGeography(_) => Denied::Refused(Code::NoGeography),
-            PublishFault::NoPredecessor(_) => Denied::Refused(Code::NoPredecessor),
-            PublishFault::NotPublished(_) => Denied::Refused(Code::NotPublished),
-            PublishFault::CatalogFull => Denied::Refused(Code::CatalogFull),
-            PublishFault::NoMemory => Denied::Exhausted,
+            PublishFault::Empty => CallFault::Refused(Code::Empty),
+            PublishFault::NoDraft(_) => CallFault::Refused(Code::NoDraft),
+            PublishFault::Published(_) => CallFault::Refused(Code::Published),
+            PublishFault::NoGeography(_) => CallFault::Refused(Code::NoGeography),
+            PublishFault::NoPredecessor(_) => CallFault::Refused(Code::NoPredecessor),
+            PublishFault::NotPublished(_) => CallFault::Refused(Code::NotPublished),
+            PublishFault::CatalogFull => CallFault::Refused(Code::CatalogFull),
+            PublishFault::NoMemory => CallFault::Exhausted,
         }
     }
 }

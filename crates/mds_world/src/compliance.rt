@@ -17,7 +17,7 @@ ghost use Rattle.mds_world.specs.Denied.{Meets};
 ghost use Rattle.mds_world.specs.Lasting.{IsOfItsId, is_placed, lasting_in};
 
 use crate::bodies::compliance_reply;
-use crate::denied::Denied;
+use crate::call_fault::CallFault;
 use mds_catalog::{Catalogue, Published};
 use mds_fleet::Book;
 use mds_match::{Local, LocalMoment, Vehicle, Zone};
@@ -71,7 +71,7 @@ fn is_placed(catalogue: &Catalogue, policy: &Policy) -> bool
 
 /// The verdicts on a published policy's rules by the book's bitmap index. `None` where the book has no vehicles, where
 /// a geography of the policy isn't published, or where the index has no answer.
-fn kept_verdicts(
+fn index_verdicts(
     book: &mut Book,
     catalogue: &Catalogue,
     policy: &Policy,
@@ -114,7 +114,7 @@ fn policy_verdicts<E: Evaluator<Catalogue>>(
     ensures fits { Fits (lasting_in (publications_of catalogue.now)) book.new }
 {
     let (moment, local) = (at.moment, at.local);
-    if let Some(found) = kept_verdicts(book, catalogue, policy, local, moment) {
+    if let Some(found) = index_verdicts(book, catalogue, policy, local, moment) {
         return Ok(found);
     }
     let vehicles = fleet(book)?;
@@ -202,7 +202,7 @@ pub(crate) fn policy_compliance<E: Evaluator<Catalogue>>(
     catalogue: &Catalogue,
     asked: &OperatorRequest<'_>,
     id: Id,
-) -> Result<Reply, Denied>
+) -> Result<Reply, CallFault>
     requires ready { E.may_judge }
     requires fits { Fits (lasting_in (publications_of catalogue.now)) book.old }
     ensures answer { Meets (λ r. r) result
@@ -212,11 +212,11 @@ pub(crate) fn policy_compliance<E: Evaluator<Catalogue>>(
     ensures fits { Fits (lasting_in (publications_of catalogue.now)) book.new }
 {
     let Some(found) = catalogue.policy(id) else {
-        return Err(Denied::Refused(Code::NotFound));
+        return Err(CallFault::Refused(Code::NotFound));
     };
     let moment = asked.request.at;
     if !catalogue.is_in_force(asked.operator.id, moment, &found) {
-        return Err(Denied::Refused(Code::NotFound));
+        return Err(CallFault::Refused(Code::NotFound));
     }
     let local = asked.zone.local(moment)?;
     let at = LocalMoment { moment, local };

@@ -5,7 +5,7 @@
 mod author;
 mod bodies;
 mod compliance;
-mod denied;
+mod call_fault;
 mod operator;
 mod published;
 mod texts;

@@ -3,7 +3,7 @@ ghost use Rattle.std.specs.Prelude.{◌≡◌, ◌<◌, ◌≤◌, length, IfOk,
 ghost use Rattle.std.specs.FinMap as finite;
 ghost use Rattle.mds_text.specs.Printed.{printed};
 ghost use Rattle.mds_fleet.specs.Fleet.{Fits};
-ghost use Rattle.mds_kept.specs.Kept.{Published};
+ghost use Rattle.mds_kept.specs.Index.{Published};
 ghost use Rattle.mds_catalog.specs.Catalogue.{publications_of};
 ghost use Rattle.mds_catalog.specs.Laws.{AreLawful};
 ghost use Rattle.mds_request.specs.Configuration.{configuration, operator as operator_of, Operator as Configured};
@@ -14,11 +14,11 @@ ghost use Rattle.mds_machine.specs.Bodies.{result_json, vehicles_json};
 ghost use Rattle.mds_machine.specs.Operator.{taken_word, report, removal, operator_does};
 ghost use Rattle.mds_world.specs.Denied.{Meets};
 ghost use Rattle.mds_world.specs.Lasting.{lasting_in};
-ghost use Rattle.mds_world.specs.declared.bodies.TheConstants.{ROOM};
+ghost use Rattle.mds_world.specs.declared.bodies.TheConstants.{SHORT_BODY};
 
-use crate::bodies::{in_room, removed_reply, room, vehicles_reply};
+use crate::bodies::{success_in, removed_reply, body_buffer, vehicles_reply};
 use crate::compliance::{OperatorRequest, compliance, policy_compliance};
-use crate::denied::Denied;
+use crate::call_fault::CallFault;
 use crate::published::{geographies, geography, policies, policy};
 use mds_catalog::Catalogue;
 use mds_fleet::{Book, Taken};
@@ -28,9 +28,9 @@ use mds_verdict::Evaluator;
 use std::alloc::{AllocError, Global};
 
 /// The body of the reply to a report.
-fn taken_body(taken: Taken) -> &'static [u8]
+fn report_body(taken: Taken) -> &'static [u8]
     ensures body { result.now ≡ printed (result_json (taken_word taken)) }
-    ensures short { length result.now ≤ ROOM }
+    ensures short { length result.now ≤ SHORT_BODY }
     ensures line { IsTrue (is_line result.now) }
 {
     match taken {
@@ -41,7 +41,7 @@ fn taken_body(taken: Taken) -> &'static [u8]
 }
 
 /// Takes a report. Memory for the reply is allocated before the change.
-fn report(alloc: Global, book: &mut Book, request: &Request<'_>) -> Result<Reply, Denied>
+fn report(alloc: Global, book: &mut Book, request: &Request<'_>) -> Result<Reply, CallFault>
     ensures answer { (o : Configured) → o.limit ≡ book.old.limit
         → Meets (λ r. (r, book.new.rows)) result (report o book.old.rows (request_of request.now)) }
     ensures refused { OnErr result (book.new.rows ≡ book.old.rows) }
@@ -49,9 +49,9 @@ fn report(alloc: Global, book: &mut Book, request: &Request<'_>) -> Result<Reply
     ensures fits { (published : Published) → Fits published book.old → Fits published book.new }
 {
     let report = book.read_report(request.body)?;
-    let body = room(alloc)?;
+    let body = body_buffer(alloc)?;
     let taken = book.report(report, request.at)?;
-    Ok(in_room(body, taken_body(taken)))
+    Ok(success_in(body, report_body(taken)))
 }
 
 /// All vehicles, ascending by device id.
@@ -62,7 +62,7 @@ fn vehicles(alloc: Global, book: &Book) -> Result<Reply, AllocError>
 }
 
 /// Removes a vehicle. The reply is made before the change.
-fn remove(alloc: Global, book: &mut Book, device: Id) -> Result<Reply, Denied>
+fn remove(alloc: Global, book: &mut Book, device: Id) -> Result<Reply, CallFault>
     ensures answer { Meets (λ r. (r, book.new.rows)) result (removal book.old.rows device) }
     ensures refused { OnErr result (book.new.rows ≡ book.old.rows) }
     ensures limit { book.new.limit ≡ book.old.limit }
@@ -71,7 +71,7 @@ fn remove(alloc: Global, book: &mut Book, device: Id) -> Result<Reply, Denied>
     let reply = removed_reply(alloc, device)?;
     match book.remove(device) {
         Ok(_) => Ok(reply),
-        Err(_) => Err(Denied::Refused(Code::NotFound)),
+        Err(_) => Err(CallFault::Refused(Code::NotFound)),
     }
 }
 
@@ -83,7 +83,7 @@ fn carry_out<E: Evaluator<Catalogue>>(
     catalogue: &Catalogue,
     asked: &OperatorRequest<'_>,
     call: &OperatorCall,
-) -> Result<Reply, Denied>
+) -> Result<Reply, CallFault>
     requires ready { E.may_judge }
     requires limit { book.old.limit ≡ (operator_of asked.now.operator.now).limit }
     requires lawful { AreLawful (publications_of catalogue.now) }

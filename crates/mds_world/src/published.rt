@@ -5,7 +5,7 @@ ghost use Rattle.mds_catalog.specs.Catalogue.{publications_of, lent_policy};
 ghost use Rattle.mds_machine.specs.Published.{is_shown, policies_reply, policy_answer, geographies_reply, geography_answer};
 ghost use Rattle.mds_world.specs.Denied.{Meets};
 
-use crate::denied::Denied;
+use crate::call_fault::CallFault;
 use crate::texts::{list_body, text_body};
 use mds_catalog::{Catalogue, Published, is_meant_for};
 use mds_policy::Policy;
@@ -27,7 +27,7 @@ pub(crate) fn policies(
 }
 
 /// Whether a policy is visible to an operator; where none is given, which stands for the author, any policy is.
-fn is_shown(operator: Option<Id>, policy: &Published<'_, Policy>) -> bool
+fn is_visible_to(operator: Option<Id>, policy: &Published<'_, Policy>) -> bool
     ensures { result ≡ is_shown operator (lent_policy policy.now) }
 {
     match operator {
@@ -42,14 +42,14 @@ pub(crate) fn policy(
     catalogue: &Catalogue,
     operator: Option<Id>,
     id: Id,
-) -> Result<Reply, Denied>
+) -> Result<Reply, CallFault>
     ensures { Meets (λ r. r) result (policy_answer (publications_of catalogue.now) operator id) }
 {
     let (Some(found), Some(text)) = (catalogue.policy(id), catalogue.policy_text(id)) else {
-        return Err(Denied::Refused(Code::NotFound));
+        return Err(CallFault::Refused(Code::NotFound));
     };
-    if !is_shown(operator, &found) {
-        return Err(Denied::Refused(Code::NotFound));
+    if !is_visible_to(operator, &found) {
+        return Err(CallFault::Refused(Code::NotFound));
     }
     let body = text_body(alloc, "policy", text, catalogue.revision())?;
     Ok(Reply::ok(body))
@@ -65,11 +65,11 @@ pub(crate) fn geographies(alloc: Global, catalogue: &Catalogue) -> Result<Reply,
 }
 
 /// One published geography.
-pub(crate) fn geography(alloc: Global, catalogue: &Catalogue, id: Id) -> Result<Reply, Denied>
+pub(crate) fn geography(alloc: Global, catalogue: &Catalogue, id: Id) -> Result<Reply, CallFault>
     ensures { Meets (λ r. r) result (geography_answer (publications_of catalogue.now) id) }
 {
     let Some(text) = catalogue.geography_text(id) else {
-        return Err(Denied::Refused(Code::NotFound));
+        return Err(CallFault::Refused(Code::NotFound));
     };
     let body = text_body(alloc, "geography", text, catalogue.revision())?;
     Ok(Reply::ok(body))

@@ -27,7 +27,7 @@ pub(crate) fn list_body(
     ensures { IfOk result (λ v. v.items
         ≡ revised_text name.now (list_text (map (λ t. t.now) texts.now)) revision) }
 {
-    let mut body = opened(alloc, name, length_of(texts))?;
+    let mut body = body_start(alloc, name, length_of(texts))?;
     body.push(b'[')?;
     join(&mut body, texts)?;
     body.push(b']')?;
@@ -49,7 +49,7 @@ pub(crate) fn text_body(
     requires { flat_map escaped name.now ≡ name.now }
     ensures { IfOk result (λ v. v.items ≡ revised_text name.now text.now revision) }
 {
-    let mut body = opened(alloc, name, text.len())?;
+    let mut body = body_start(alloc, name, text.len())?;
     body.extend_from_slice(text)?;
     close(&mut body, revision)?;
     Ok(body)
@@ -66,7 +66,7 @@ fn length_of(texts: &[&[u8]]) -> usize {
 
 /// A body up to the value of its first member, with capacity for a value of this length and the
 /// rest.
-fn opened(alloc: Global, name: &str, length: usize) -> Result<Vec<u8>, AllocError>
+fn body_start(alloc: Global, name: &str, length: usize) -> Result<Vec<u8>, AllocError>
     requires { flat_map escaped name.now ≡ name.now }
     ensures { IfOk result (λ v. v.items ≡ 123 ∷ quoted name.now ++ 58 ∷ []) }
 {

@@ -1,8 +1,8 @@
 -- The footer of a TZif file (RFC 9636, section 3.3), and the rule in it: a TZ string of POSIX.
 use Rattle.std.specs.Prelude.{◌≡◌, ◌≢◌, ℕ, List, [], ◌∷◌, ◌++◌, Bool, true, false, not, ◌&&◌, ◌==◌, nat_le, nat_eq, length, slice_index, codes}
 use Rattle.std.specs.List.{list_all, starts_with}
-use Rattle.mds_zones.specs.declared.fault.ZoneFault.{ZoneFault}
-use Rattle.mds_zones.specs.declared.fault.ZoneFault.TheVariants.{Unreadable, NoTzif, FirstVersion, NoFooter, NoRule, NoText, NoMemory}
+use Rattle.mds_zones.specs.declared.fault.ZoneFileFault.{ZoneFileFault}
+use Rattle.mds_zones.specs.declared.fault.ZoneFileFault.TheVariants.{Unreadable, NoTzif, FirstVersion, NoFooter, NoRule, NoText, NoMemory}
 
 -- section 3.1: a header of 44 bytes, which begins with `TZif` and a byte for the version
 abbrev pub is_tzif : List ℕ → Bool
@@ -48,7 +48,7 @@ pub record HasRule (file rule : List ℕ) : Type 0 where
 
 -- why a file has no rule; `NoMemory` says nothing about the file, and `Unreadable` is never reported of a file that was
 -- read
-abbrev pub HasFault : List ℕ → ZoneFault → Type 0
+abbrev pub HasFault : List ℕ → ZoneFileFault → Type 0
 HasFault file Unreadable = ⊥
 HasFault file NoTzif = is_tzif file ≡ false
 HasFault file FirstVersion = (is_tzif file ≡ true) × (is_first_version file ≡ true)

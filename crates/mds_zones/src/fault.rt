@@ -4,7 +4,7 @@ use std::fmt;
 
 /// Why the file of a zone gives no rule.
 #[derive(Clone, Copy, Debug, PartialEq, Eq)]
-pub enum ZoneFault {
+pub enum ZoneFileFault {
     /// It isn't there, or can't be read: only the caller that reads the file reports this.
     Unreadable,
     /// It doesn't begin as a TZif file does (RFC 9636, section 3.1).
@@ -21,18 +21,18 @@ pub enum ZoneFault {
     NoMemory,
 }
 
-impl From<AllocError> for ZoneFault {
+impl From<AllocError> for ZoneFileFault {
     ghost use Rattle.std.specs.Prelude.{◌≡◌};
-    ghost use Rattle.mds_zones.specs.declared.fault.ZoneFault.TheVariants.{NoMemory};
+    ghost use Rattle.mds_zones.specs.declared.fault.ZoneFileFault.TheVariants.{NoMemory};
 
     ghost from_gives = { λ _ e. e ≡ NoMemory };
 
-    fn from(_refused: AllocError) -> ZoneFault {
-        ZoneFault::NoMemory
+    fn from(_refused: AllocError) -> ZoneFileFault {
+        ZoneFileFault::NoMemory
     }
 }
 
-impl fmt::Display for ZoneFault {
+impl fmt::Display for ZoneFileFault {
     ghost use Rattle.std.specs.Prelude.{Some};
     ghost use Rattle.mds_zones.specs.Wording.{fault_wording};
 
@@ -40,13 +40,13 @@ impl fmt::Display for ZoneFault {
 
     fn fmt<W: fmt::Write>(&self, f: &mut fmt::Formatter<W>) -> fmt::Result {
         f.write_str(match self {
-            ZoneFault::Unreadable => "can't be read",
-            ZoneFault::NoTzif => "is no TZif file (RFC 9636)",
-            ZoneFault::FirstVersion => "is a TZif file of version 1, which has no footer",
-            ZoneFault::NoFooter => "is a TZif file without a footer",
-            ZoneFault::NoRule => "has an empty footer, so no rule is in force",
-            ZoneFault::NoText => "has a footer that is no rule",
-            ZoneFault::NoMemory => "needs more memory than there is",
+            ZoneFileFault::Unreadable => "can't be read",
+            ZoneFileFault::NoTzif => "is no TZif file (RFC 9636)",
+            ZoneFileFault::FirstVersion => "is a TZif file of version 1, which has no footer",
+            ZoneFileFault::NoFooter => "is a TZif file without a footer",
+            ZoneFileFault::NoRule => "has an empty footer, so no rule is in force",
+            ZoneFileFault::NoText => "has a footer that is no rule",
+            ZoneFileFault::NoMemory => "needs more memory than there is",
         })
     }
 }

@@ -2,7 +2,7 @@
 ghost use Rattle.std.specs.Prelude.{◌≡◌, ℕ, List, true, MatchOption, MatchResult};
 ghost use Rattle.mds_zones.specs.Footer.{is_tzif, is_first_version, HasFault, HasRule, IsFooter, IsLastLine};
 
-use crate::fault::ZoneFault;
+use crate::fault::ZoneFileFault;
 use crate::rule::ZoneRule;
 use memchr::memrchr;
 use std::alloc::Global;
@@ -17,27 +17,27 @@ const HEADER: usize = 44;
 ///
 /// The first of these: `NoTzif`, `FirstVersion`, `NoFooter`, `NoRule` where the footer is empty, `NoText` where it isn't printable
 /// ASCII without quotes and backslashes; `NoMemory`.
-pub fn rule_in(alloc: Global, file: &[u8]) -> Result<ZoneRule, ZoneFault>
+pub fn rule_in(alloc: Global, file: &[u8]) -> Result<ZoneRule, ZoneFileFault>
     ensures { MatchResult result (HasRule file.now) (HasFault file.now) }
 {
     if !is_tzif(file) {
-        return Err(ZoneFault::NoTzif);
+        return Err(ZoneFileFault::NoTzif);
     }
     if is_first_version(file) {
-        return Err(ZoneFault::FirstVersion);
+        return Err(ZoneFileFault::FirstVersion);
     }
     let Some(line) = footer_of(file) else {
-        return Err(ZoneFault::NoFooter);
+        return Err(ZoneFileFault::NoFooter);
     };
     if line.is_empty() {
-        return Err(ZoneFault::NoRule);
+        return Err(ZoneFileFault::NoRule);
     }
     let Ok(text) = std::str::from_utf8(line) else {
-        return Err(ZoneFault::NoText);
+        return Err(ZoneFileFault::NoText);
     };
     match ZoneRule::read(alloc, text)? {
         Some(rule) => Ok(rule),
-        None => Err(ZoneFault::NoText),
+        None => Err(ZoneFileFault::NoText),
     }
 }
 

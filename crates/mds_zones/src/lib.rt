@@ -6,13 +6,13 @@ mod fault;
 mod footer;
 mod name;
 mod rule;
-mod told;
+mod messages;
 
-pub use fault::ZoneFault;
+pub use fault::ZoneFileFault;
 pub use footer::rule_in;
 pub use name::{MOST_NAME, ZoneName};
 pub use rule::ZoneRule;
-pub use told::zone_told;
+pub use messages::zone_message;
 
 #[cfg(test)]
 mod tests;

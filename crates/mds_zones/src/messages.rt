@@ -12,7 +12,7 @@ use std::alloc::{AllocError, Global};
 /// # Errors
 ///
 /// Out of memory.
-pub fn zone_told(alloc: Global, name: &ZoneName, rule: &ZoneRule) -> Result<String, AllocError>
+pub fn zone_message(alloc: Global, name: &ZoneName, rule: &ZoneRule) -> Result<String, AllocError>
     ensures { IfOk result (λ told. string_bytes told ≡ zone_wording name.now rule.now) }
 {
     let path = name.path(alloc)?;

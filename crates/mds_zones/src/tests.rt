@@ -1,5 +1,5 @@
 //! Tests of the names of zones, and of the footers of their files.
-use crate::{ZoneFault, ZoneName, ZoneRule, rule_in, zone_told};
+use crate::{ZoneFileFault, ZoneName, ZoneRule, rule_in, zone_message};
 use std::alloc::{AllocError, Global};
 use std::test::Fail;
 
@@ -29,7 +29,7 @@ fn has_rule(alloc: Global, file: &[u8], wanted: &str) -> bool {
 }
 
 /// Whether a file has no rule, for this reason.
-fn has_fault(alloc: Global, file: &[u8], wanted: ZoneFault) -> bool {
+fn has_fault(alloc: Global, file: &[u8], wanted: ZoneFileFault) -> bool {
     match rule_in(alloc, file) {
         Ok(_) => false,
         Err(fault) => fault == wanted,
@@ -90,38 +90,38 @@ fn reads_the_footer(rt: HostRuntime) -> Result<(), Fail> {
 #[test]
 fn says_why_there_is_no_rule(rt: HostRuntime) -> Result<(), Fail> {
     let alloc = rt.alloc();
-    assert!(rt; has_fault(alloc, b"# tzdb data\nEST5EDT\n", ZoneFault::NoTzif));
-    assert!(rt; has_fault(alloc, b"TZif2", ZoneFault::NoTzif));
+    assert!(rt; has_fault(alloc, b"# tzdb data\nEST5EDT\n", ZoneFileFault::NoTzif));
+    assert!(rt; has_fault(alloc, b"TZif2", ZoneFileFault::NoTzif));
     assert!(rt;
         has_fault(
             alloc,
             &file_of(alloc, 0, b"\nUTC0\n")?,
-            ZoneFault::FirstVersion
+            ZoneFileFault::FirstVersion
         )
     );
     assert!(rt;
         has_fault(
             alloc,
             &file_of(alloc, b'2', b"\nUTC0")?,
-            ZoneFault::NoFooter
+            ZoneFileFault::NoFooter
         )
     );
     assert!(rt;
         has_fault(
             alloc,
             &file_of(alloc, b'2', b"UTC0\n")?,
-            ZoneFault::NoFooter
+            ZoneFileFault::NoFooter
         )
     );
-    assert!(rt; has_fault(alloc, &file_of(alloc, b'2', b"\n\n")?, ZoneFault::NoRule));
+    assert!(rt; has_fault(alloc, &file_of(alloc, b'2', b"\n\n")?, ZoneFileFault::NoRule));
     assert!(rt;
         has_fault(
             alloc,
             &file_of(alloc, b'2', b"\n\xff\n")?,
-            ZoneFault::NoText
+            ZoneFileFault::NoText
         )
     );
-    assert!(rt; has_fault(alloc, &file_of(alloc, b'2', b"\nU\"\n")?, ZoneFault::NoText));
+    assert!(rt; has_fault(alloc, &file_of(alloc, b'2', b"\nU\"\n")?, ZoneFileFault::NoText));
     Ok(())
 }
 
@@ -130,11 +130,11 @@ fn tells_the_rule_of_a_name(rt: HostRuntime) -> Result<(), Fail> {
     let alloc = rt.alloc();
     let name = ZoneName::read(alloc, "America/New_York")?.ok_or(AllocError)?;
     let rule = ZoneRule::read(alloc, "EST5EDT,M3.2.0,M11.1.0")?.ok_or(AllocError)?;
-    let told = zone_told(alloc, &name, &rule)?;
+    let told = zone_message(alloc, &name, &rule)?;
     let wanted =
         "zone America/New_York is EST5EDT,M3.2.0,M11.1.0 by /usr/share/zoneinfo/America/New_York";
     assert!(rt; told.as_str() == wanted);
-    let fault = format!(in alloc; "{}", ZoneFault::FirstVersion)?;
+    let fault = format!(in alloc; "{}", ZoneFileFault::FirstVersion)?;
     assert!(rt; fault.as_str() == "is a TZif file of version 1, which has no footer");
     Ok(())
 }

@@ -2,7 +2,7 @@
 use Rattle.std.proofs.Common.{◌≡◌, ℕ, List, [], ◌∷◌, map, refl, sym, ap, subst, Result, Ok, Err, IfOk}
 use Rattle.mds_request.specs.Configuration.{Configuration}
 use Rattle.mds_entries.specs.Entries.{Entry, entry_of, entry_text}
-use Rattle.mds_entries.specs.declared.entry.Entry.{Entry as Lent}
+use Rattle.mds_entries.specs.declared.entry.JournalEntry.{JournalEntry as Lent}
 use Rattle.mds_folder.specs.Choosing.{without}
 use Rattle.mds_recovery.specs.Laws.{IsStartedAgain}
 use Rattle.mds_recovery.specs.Recovery.{Server}
@@ -17,7 +17,7 @@ pub texts_of : (entries : List Lent) → map entry_text (map entry_of entries) �
 texts_of [] = refl
 texts_of (e ∷ entries) = ap (λ texts. entry_text (entry_of e) ∷ texts) (texts_of entries)
 
-pub started_from : (configuration : Configuration) (dropped : List (List ℕ)) (texts rest : List (List ℕ)) (all kept : List Entry) (s : Server)
+pub started_from : (configuration : Configuration) (dropped : List (List ℕ)) (texts rest : List (List ℕ)) (all kept : List JournalEntry) (s : Server)
     → HasHead configuration dropped texts rest → map entry_text all ≡ rest → kept ≡ without dropped all → IsStartedAgain configuration kept s
     → IsStartedFrom configuration dropped texts s
 started_from configuration dropped texts rest all kept s head are left again = record {

@@ -1,6 +1,6 @@
 -- When it is reported that the disk is full.
 use Rattle.std.specs.Prelude.{ℕ, Bool, true, false, nat_le, if◌then◌else◌}
-use Rattle.ruffletuff.specs.declared.room.TheConstants.{PLENTY}
+use Rattle.ruffletuff.specs.declared.reporting_space.TheConstants.{PLENTY}
 
 -- the disk counts as full, after so many bytes were set aside or refused: once less than `PLENTY` was refused, until
 -- `PLENTY` is set aside

@@ -3,8 +3,8 @@ use Rattle.std.specs.Prelude.{◌≡◌, ℕ, Bool, true, false, List, ◌∷◌
 use Rattle.mds_request.specs.Configuration.{Configuration}
 use Rattle.mds_request.specs.declared.request.Verb.{Verb}
 use Rattle.mds_request.specs.declared.request.Verb.TheVariants.{Post}
-use Rattle.mds_entries.specs.declared.entry.Asker.{Asker}
-use Rattle.mds_entries.specs.declared.entry.Asker.TheVariants.{Author}
+use Rattle.mds_entries.specs.declared.entry.EntryClient.{EntryClient}
+use Rattle.mds_entries.specs.declared.entry.EntryClient.TheVariants.{Author}
 use Rattle.mds_entries.specs.Entries.{Entry, entry_text}
 use Rattle.mds_entries.specs.Heads.{Share, AreShares, head_text, unfit}
 use Rattle.mds_recovery.specs.Laws.{IsStartedAgain}
@@ -31,7 +31,7 @@ abbrev pub IsStartedFromLog : (List (List ℕ) → Type 0) → Configuration →
 IsStartedFromLog may_be configuration dropped s = (texts : List (List ℕ)) × may_be texts × IsStartedFrom configuration dropped texts s
 
 -- whether a client's request with this verb publishes: to publish is the author's only POST
-abbrev pub publishes : Asker → Verb → Bool
+abbrev pub publishes : EntryClient → Verb → Bool
 publishes Author Post = true
 publishes asker verb = false
 

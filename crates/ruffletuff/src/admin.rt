@@ -1,15 +1,15 @@
 //! The admin state of a server.
 
-use mds_connections::Closing;
+use mds_connections::ShutdownHandle;
 use mds_control::{Control, Counters};
 use std::sync::Arc;
 
 /// The admin state of a server: what its control port shows, what ends it, and the text of its
 /// configuration.
 #[derive(Clone, Copy)]
-pub struct Board<'a> {
+pub struct AdminState<'a> {
     /// Ends the server.
-    pub closing: &'a Closing,
+    pub closing: &'a ShutdownHandle,
     /// How far the server is.
     pub control: &'a Control,
     /// The server's counters.

@@ -1,13 +1,13 @@
 //! Compacts the journal of a city while the city is served.
 
-use crate::errand::Errand;
+use crate::thread_job::ThreadJob;
 use crate::folders::Folders;
-use crate::standing::{Filed, Table};
+use crate::journal_swap::{FileJournal, JournalHandoff};
 use cli_journal::moment;
 use mds_folder::{FolderFault, lock_file};
-use mds_records::{Journal, Seal, Stored};
-use mds_rolling::{CatchFault, Shorter, is_little};
-use mds_thinning::{Found, Front, ThinFault, emptied, thin_front};
+use mds_records::{Journal, LogEnd, FileStorage};
+use mds_rolling::{CatchUpFault, CompactedLog, is_small_lag};
+use mds_thinning::{AnswersAgree, JournalPrefix, CompactFault, check_empty, compact_prefix};
 use std::alloc::{AllocError, AllocGlobal, Global};
 use std::fs::File;
 use std::io::{Eprint, Read};
@@ -19,16 +19,16 @@ const MOST_ROUNDS: u32 = 16;
 
 /// Why no compacted journal is offered.
 #[derive(Clone, Copy)]
-enum Ceased {
+enum NotOffered {
     /// The server is to end.
     Closed,
     /// The journal can't be compacted.
-    Fault(ThinFault),
+    Fault(CompactFault),
 }
 
-impl From<ThinFault> for Ceased {
-    fn from(fault: ThinFault) -> Ceased {
-        Ceased::Fault(fault)
+impl From<CompactFault> for NotOffered {
+    fn from(fault: CompactFault) -> NotOffered {
+        NotOffered::Fault(fault)
     }
 }
 
@@ -36,7 +36,7 @@ impl From<ThinFault> for Ceased {
 /// is due, writes a shorter one next to it, as `mds_thinning` does, brings that up to what is appended meanwhile, and
 /// hands it to the flusher.
 #[derive(Drop)]
-pub struct Thinner<'a, R> {
+pub struct Compactor<'a, R> {
     /// The runtime, by which it waits for locks.
     pub rt: R,
     /// The city's folder.
@@ -44,7 +44,7 @@ pub struct Thinner<'a, R> {
     /// The text of the configuration.
     pub config: &'a [u8],
     /// Where the compacted journal is handed over.
-    pub meeting: &'a Table,
+    pub meeting: &'a JournalHandoff,
 }
 
 /// The next `count` bytes of a file.
@@ -52,48 +52,48 @@ pub struct Thinner<'a, R> {
 /// # Errors
 ///
 /// `NoMemory`, or `Folder` where they can't be read.
-fn next_bytes(alloc: Global, file: &mut File, count: u64) -> Result<Vec<u8>, ThinFault> {
+fn next_bytes(alloc: Global, file: &mut File, count: u64) -> Result<Vec<u8>, CompactFault> {
     let mut bytes = vec![in alloc; 0u8; count as usize]?;
     match file.read_exact(&mut bytes) {
         Ok(()) => Ok(bytes),
-        Err(_) => Err(ThinFault::Folder(FolderFault::Unusable)),
+        Err(_) => Err(CompactFault::Folder(FolderFault::Unusable)),
     }
 }
 
 /// Why a compacted journal that can't be brought up to date isn't offered.
-fn catching_fault(fault: CatchFault) -> ThinFault {
+fn catching_fault(fault: CatchUpFault) -> CompactFault {
     match fault {
-        CatchFault::Damaged => ThinFault::Folder(FolderFault::Unusable),
-        CatchFault::NoMemory => ThinFault::NoMemory,
-        CatchFault::NotWritten | CatchFault::NotKept => ThinFault::NotWritten,
+        CatchUpFault::Damaged => CompactFault::Folder(FolderFault::Unusable),
+        CatchUpFault::NoMemory => CompactFault::NoMemory,
+        CatchUpFault::NotWritten | CatchUpFault::NotKept => CompactFault::NotWritten,
     }
 }
 
-impl<R: Folders + Wait + Clock + AllocGlobal + Eprint + Copy> Thinner<'_, R> {
+impl<R: Folders + Wait + Clock + AllocGlobal + Eprint + Copy> Compactor<'_, R> {
     /// The path of a file in the folder.
     fn path(&self, name: &str) -> Result<String, AllocError> {
         format!(in self.rt.alloc(); "{}/{name}", self.folder)
     }
 
     /// Opens the journal's file.
-    fn journal(&self) -> Result<File, ThinFault> {
+    fn journal(&self) -> Result<File, CompactFault> {
         let path = self.path("journal")?;
         match self.rt.open(path.as_str()) {
             Ok(file) => Ok(file),
-            Err(_) => Err(ThinFault::Folder(FolderFault::Unusable)),
+            Err(_) => Err(CompactFault::Folder(FolderFault::Unusable)),
         }
     }
 
     /// Makes the compacted journal's file, empty. It is locked before it gets the journal's name, so that whoever opens
     /// the journal finds a locked file.
-    fn beside(&self) -> Result<File, ThinFault> {
+    fn create_compacted(&self) -> Result<File, CompactFault> {
         let path = self.path("journal.thinned")?;
         let Ok(file) = self.rt.make(path.as_str()) else {
-            return Err(ThinFault::NotWritten);
+            return Err(CompactFault::NotWritten);
         };
         match lock_file(&file) {
             Ok(()) => Ok(file),
-            Err(_) => Err(ThinFault::NotWritten),
+            Err(_) => Err(CompactFault::NotWritten),
         }
     }
 
@@ -105,20 +105,20 @@ impl<R: Folders + Wait + Clock + AllocGlobal + Eprint + Copy> Thinner<'_, R> {
     }
 
     /// A compacted journal of what a journal's file has up to a log end.
-    fn shorten(&self, file: &mut File, seal: Seal) -> Result<Shorter<Filed, Found>, ThinFault> {
+    fn shorten(&self, file: &mut File, seal: LogEnd) -> Result<CompactedLog<FileJournal, AnswersAgree>, CompactFault> {
         let alloc = self.rt.alloc();
         let bytes = next_bytes(alloc, file, seal.position)?;
-        let log = match Journal::open(alloc, Stored::new(self.beside()?)) {
-            Ok(log) => emptied(log)?,
-            Err(_) => return Err(ThinFault::NotWritten),
+        let log = match Journal::open(alloc, FileStorage::new(self.create_compacted()?)) {
+            Ok(log) => check_empty(log)?,
+            Err(_) => return Err(CompactFault::NotWritten),
         };
-        let front = Front {
+        let front = JournalPrefix {
             config: self.config,
             bytes: &bytes,
             seal,
             at: moment(&self.rt),
         };
-        thin_front(&self.rt, alloc, &front, log)
+        compact_prefix(&self.rt, alloc, &front, log)
     }
 
     /// Brings a compacted journal up to the log end at which the journal is synced next, and gives how many bytes it
@@ -126,31 +126,31 @@ impl<R: Folders + Wait + Clock + AllocGlobal + Eprint + Copy> Thinner<'_, R> {
     fn bring_up(
         &self,
         file: &mut File,
-        shorter: Shorter<Filed, Found>,
-    ) -> Result<(Shorter<Filed, Found>, u64), Ceased> {
+        shorter: CompactedLog<FileJournal, AnswersAgree>,
+    ) -> Result<(CompactedLog<FileJournal, AnswersAgree>, u64), NotOffered> {
         let alloc = self.rt.alloc();
-        self.meeting.want(&self.rt);
+        self.meeting.request_log_end(&self.rt);
         let Some(to) = self.meeting.next(&self.rt) else {
-            return Err(Ceased::Closed);
+            return Err(NotOffered::Closed);
         };
-        let lacking = to.position.saturating_sub(shorter.seal().position);
+        let lacking = to.position.saturating_sub(shorter.log_end().position);
         let bytes = next_bytes(alloc, file, lacking)?;
-        match shorter.caught_up(alloc, to, &bytes) {
+        match shorter.catch_up(alloc, to, &bytes) {
             Ok(shorter) => Ok((shorter, lacking)),
-            Err(fault) => Err(Ceased::Fault(catching_fault(fault))),
+            Err(fault) => Err(NotOffered::Fault(catching_fault(fault))),
         }
     }
 
     /// Makes a compacted journal of what the journal has up to a log end, brings it up to date until it lacks little,
     /// or often enough, and offers it. Gives the journal's file, which is to stay open until the compacted one has its
     /// place: whoever closes it last frees its room on the disk.
-    fn offer(&self, seal: Seal) -> Result<File, Ceased> {
+    fn offer(&self, seal: LogEnd) -> Result<File, NotOffered> {
         let mut file = self.journal()?;
         let mut shorter = self.shorten(&mut file, seal)?;
         for _ in 0..MOST_ROUNDS {
             let (further, lacked) = self.bring_up(&mut file, shorter)?;
             shorter = further;
-            if is_little(lacked) {
+            if is_small_lag(lacked) {
                 break;
             }
         }
@@ -159,9 +159,9 @@ impl<R: Folders + Wait + Clock + AllocGlobal + Eprint + Copy> Thinner<'_, R> {
     }
 
     /// Compacts what the journal has up to a log end. What can't be finished is removed, and the outcome is reported.
-    fn thin(&self, seal: Seal) {
+    fn compact_up_to(&self, seal: LogEnd) {
         match self.offer(seal) {
-            Ok(_file) => match self.meeting.settled(&self.rt) {
+            Ok(_file) => match self.meeting.wait_outcome(&self.rt) {
                 Some(true) => {
                     let _ = eprintln!(self.rt; "ruffletuff: the journal is thinned");
                 }
@@ -173,22 +173,22 @@ impl<R: Folders + Wait + Clock + AllocGlobal + Eprint + Copy> Thinner<'_, R> {
                 }
                 None => self.clear(),
             },
-            Err(Ceased::Closed) => self.clear(),
-            Err(Ceased::Fault(fault)) => {
+            Err(NotOffered::Closed) => self.clear(),
+            Err(NotOffered::Fault(fault)) => {
                 self.clear();
-                self.meeting.end(&self.rt, false, seal.position);
-                self.tell(&fault);
+                self.meeting.report_outcome(&self.rt, false, seal.position);
+                self.report_fault(&fault);
             }
         }
     }
 
     /// Reports why the journal can't be compacted.
-    fn tell(&self, fault: &ThinFault) {
+    fn report_fault(&self, fault: &CompactFault) {
         let _ = eprintln!(self.rt; "ruffletuff: the journal isn't thinned: {fault}");
     }
 }
 
-impl<R: Folders + Wait + Clock + AllocGlobal + Eprint + Copy + Drop> Errand for Thinner<'_, R> {
+impl<R: Folders + Wait + Clock + AllocGlobal + Eprint + Copy + Drop> ThreadJob for Compactor<'_, R> {
     type Outcome = ();
 
     fn run(self) {
@@ -196,7 +196,7 @@ impl<R: Folders + Wait + Clock + AllocGlobal + Eprint + Copy + Drop> Errand for 
             let Some(seal) = self.meeting.next(&self.rt) else {
                 return;
             };
-            self.thin(seal);
+            self.compact_up_to(seal);
         }
     }
 }

@@ -1,13 +1,13 @@
 //! Serves a city with a control port.
 
-use crate::board::Board;
-use crate::errand::{Errand, beside};
-use crate::host::Host;
-use crate::opening::{Given, serve_city};
-use cli_journal::Ending;
-use mds_command::Service;
-use mds_connections::Closing;
-use mds_control::{Port, PortWaker, Stop, serve_control};
+use crate::admin::AdminState;
+use crate::thread_job::{ThreadJob, run_concurrently};
+use crate::host::ThreadHost;
+use crate::opening::{ConfigWithText, serve_city};
+use cli_journal::ExitCause;
+use mds_command::ServeOptions;
+use mds_connections::ShutdownHandle;
+use mds_control::{Port, PortWaker, StopServer, serve_control};
 use std::alloc::AllocGlobal;
 use std::fs::{File, Files};
 use std::net::{Net, TcpListener, TcpStream};
@@ -17,11 +17,11 @@ use std::time::Clock;
 
 /// Stops a server by its shutdown handle.
 #[derive(Drop)]
-struct Stopping<'a> {
-    closing: &'a Closing,
+struct StopByHandle<'a> {
+    closing: &'a ShutdownHandle,
 }
 
-impl Stop for Stopping<'_> {
+impl StopServer for StopByHandle<'_> {
     fn stop(&self) {
         self.closing.close();
     }
@@ -29,19 +29,19 @@ impl Stop for Stopping<'_> {
 
 /// The thread of the control port, which answers until the server has ended.
 #[derive(Drop)]
-struct Controlling<'a, R> {
+struct ControlPortJob<'a, R> {
     rt: R,
     port: Port,
-    board: Board<'a>,
+    board: AdminState<'a>,
 }
 
-impl<R: Clock + AllocGlobal + Drop> Errand for Controlling<'_, R> {
+impl<R: Clock + AllocGlobal + Drop> ThreadJob for ControlPortJob<'_, R> {
     type Outcome = ();
 
     fn run(self) {
-        let Controlling { rt, port, board } = self;
+        let ControlPortJob { rt, port, board } = self;
         let mut port = port;
-        let stopping = Stopping {
+        let stopping = StopByHandle {
             closing: board.closing,
         };
         serve_control(&rt, &mut port, board.control, board.counters, &stopping);
@@ -50,21 +50,21 @@ impl<R: Clock + AllocGlobal + Drop> Errand for Controlling<'_, R> {
 
 /// A city that is served while its control port answers.
 #[derive(Drop)]
-struct Controlled<'a> {
-    service: &'a Service<'a>,
-    given: Given<'a>,
-    board: Board<'a>,
+struct ControlledCity<'a> {
+    service: &'a ServeOptions<'a>,
+    given: ConfigWithText<'a>,
+    board: AdminState<'a>,
     /// Wakes the control port, so that it ends.
     waker: PortWaker,
 }
 
 /// Serves a city, and ends the control port after it. Gives how the server ended, and the waker of the port: a waker
 /// that is closed before the port has woken wakes nobody.
-fn serve_and_end<R>(rt: &R, controlled: Controlled<'_>) -> (Result<(), Ending>, PortWaker)
+fn serve_and_end<R>(rt: &R, controlled: ControlledCity<'_>) -> (Result<(), ExitCause>, PortWaker)
 where
-    R: Host + Wait + Threads + Net + Files<File = File>,
+    R: ThreadHost + Wait + Threads + Net + Files<File = File>,
 {
-    let Controlled {
+    let ControlledCity {
         service,
         given,
         board,
@@ -83,31 +83,31 @@ where
 /// `NoControl` where nothing can be listened to there, or the fault with which the server ends.
 pub fn serve_controlled<R>(
     rt: &R,
-    service: &Service<'_>,
+    service: &ServeOptions<'_>,
     address: &str,
-    given: Given<'_>,
-    board: Board<'_>,
-) -> Result<(), Ending>
+    given: ConfigWithText<'_>,
+    board: AdminState<'_>,
+) -> Result<(), ExitCause>
 where
-    R: Host + Wait + Threads + Net<Listener = TcpListener, Stream = TcpStream> + Files<File = File>,
+    R: ThreadHost + Wait + Threads + Net<Listener = TcpListener, Stream = TcpStream> + Files<File = File>,
 {
     let Ok(port) = Port::bind(rt, address, service.control_host) else {
-        return Err(Ending::NoControl);
+        return Err(ExitCause::NoControl);
     };
     let Ok(waker) = port.waker() else {
-        return Err(Ending::NoControl);
+        return Err(ExitCause::NoControl);
     };
-    let controlling = Controlling {
+    let controlling = ControlPortJob {
         rt: *rt,
         port,
         board,
     };
-    let controlled = Controlled {
+    let controlled = ControlledCity {
         service,
         given,
         board,
         waker,
     };
-    let ((), (served, _waker)) = beside(rt, controlling, move || serve_and_end(rt, controlled));
+    let ((), (served, _waker)) = run_concurrently(rt, controlling, move || serve_and_end(rt, controlled));
     served
 }

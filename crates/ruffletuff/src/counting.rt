@@ -1,8 +1,8 @@
 //! Counters of a city's connections, and of its operators' vehicles.
 
-use mds_connections::Closing;
+use mds_connections::ShutdownHandle;
 use mds_control::{Counters, Fleet};
-use mds_hall::{Hall, Named};
+use mds_hall::{Hall, HallName};
 use mds_request::Config;
 use std::alloc::{AllocError, Global};
 use std::sync::Wait;
@@ -15,7 +15,7 @@ use std::sync::Wait;
 /// Memory ran out.
 pub fn counters_of(
     alloc: Global,
-    closing: &Closing,
+    closing: &ShutdownHandle,
     config: &Config,
 ) -> Result<Counters, AllocError> {
     let mut fleets = Vec::new(alloc);
@@ -31,7 +31,7 @@ pub fn counters_of(
 /// # Errors
 ///
 /// A number has too many references.
-pub fn count_vehicles<K: Named, R: Wait>(
+pub fn count_vehicles<K: HallName, R: Wait>(
     rt: &R,
     hall: &Hall<K>,
     counters: &Counters,

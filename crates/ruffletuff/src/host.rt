@@ -8,7 +8,7 @@ use std::time::Clock;
 
 /// The runtime of each thread of the program: the clock, random bytes, memory, file operations by path, standard output
 /// and standard error. Sockets, std's files, waiting and the starting of threads are asked for in addition.
-pub trait Host: Clock
+pub trait ThreadHost: Clock
     + RandomSource
     + AllocGlobal
     + Folders
@@ -19,4 +19,4 @@ pub trait Host: Clock
     + Copy
     + Drop {}
 
-impl Host for HostRuntime {}
+impl ThreadHost for HostRuntime {}

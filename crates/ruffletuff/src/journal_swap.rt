@@ -1,28 +1,28 @@
 //! Swaps the journal's file of a served city for compacted ones.
 
 use crate::folders::Folders;
-use cli_journal::Ending;
+use cli_journal::ExitCause;
 use mds_control::{Counters, Figure};
 use mds_folder::FolderFault;
-use mds_records::{Journal, Seal, Stored};
-use mds_rolling::{Beside, Meeting, NotReplaced, Shorter};
-use mds_thinning::Found;
+use mds_records::{Journal, LogEnd, FileStorage};
+use mds_rolling::{CompactionSource, Handoff, ReplaceFault, CompactedLog};
+use mds_thinning::AnswersAgree;
 use std::alloc::Global;
 use std::fs::File;
 use std::sync::{Arc, Wait};
 
 /// A journal in a file.
-pub type Filed = Journal<Stored<File>>;
+pub type FileJournal = Journal<FileStorage<File>>;
 
 /// Where the flusher and the compaction hand over.
-pub type Table = Meeting<Filed, Found>;
+pub type JournalHandoff = Handoff<FileJournal, AnswersAgree>;
 
 /// Swaps the journal's file in a city's folder: takes compacted journals from the compaction, and renames them over the
 /// journal. It also counts the journal's bytes and syncs.
 #[derive(Drop)]
-pub struct Standing<R> {
+pub struct JournalSwapper<R> {
     rt: R,
-    meeting: Arc<Table>,
+    meeting: Arc<JournalHandoff>,
     counters: Arc<Counters>,
     /// The folder, which is synced after a file in it is renamed.
     folder: File,
@@ -32,7 +32,7 @@ pub struct Standing<R> {
     thinned: String,
 }
 
-impl<R: Folders + Drop> Standing<R> {
+impl<R: Folders + Drop> JournalSwapper<R> {
     /// Swaps the file of this folder's journal.
     ///
     /// # Errors
@@ -42,15 +42,15 @@ impl<R: Folders + Drop> Standing<R> {
         rt: R,
         alloc: Global,
         folder: &str,
-        meeting: Arc<Table>,
+        meeting: Arc<JournalHandoff>,
         counters: Arc<Counters>,
-    ) -> Result<Standing<R>, Ending> {
+    ) -> Result<JournalSwapper<R>, ExitCause> {
         let journal = format!(in alloc; "{folder}/journal")?;
         let thinned = format!(in alloc; "{folder}/journal.thinned")?;
         let Ok(folder) = rt.open(folder) else {
-            return Err(Ending::Folder(FolderFault::Unusable));
+            return Err(ExitCause::Folder(FolderFault::Unusable));
         };
-        Ok(Standing {
+        Ok(JournalSwapper {
             rt,
             meeting,
             counters,
@@ -61,12 +61,12 @@ impl<R: Folders + Drop> Standing<R> {
     }
 }
 
-impl<R: Folders + Wait + Drop> Beside<Filed, Found> for Standing<R> {
-    fn ready(&mut self) -> Option<Shorter<Filed, Found>> {
+impl<R: Folders + Wait + Drop> CompactionSource<FileJournal, AnswersAgree> for JournalSwapper<R> {
+    fn take_ready(&mut self) -> Option<CompactedLog<FileJournal, AnswersAgree>> {
         self.meeting.take(&self.rt)
     }
 
-    fn replace(&mut self, log: &Filed) -> Result<(), NotReplaced> {
+    fn replace(&mut self, log: &FileJournal) -> Result<(), ReplaceFault> {
         let is_renamed = self
             .rt
             .rename(self.thinned.as_str(), self.journal.as_str())
@@ -74,17 +74,17 @@ impl<R: Folders + Wait + Drop> Beside<Filed, Found> for Standing<R> {
         if is_renamed && self.folder.sync_all().is_ok() {
             Ok(())
         } else {
-            Err(NotReplaced)
+            Err(ReplaceFault)
         }
     }
 
-    fn ended(&mut self, is_exchanged: bool, bytes: u64) {
-        self.meeting.end(&self.rt, is_exchanged, bytes);
+    fn on_swap_tried(&mut self, is_exchanged: bool, bytes: u64) {
+        self.meeting.report_outcome(&self.rt, is_exchanged, bytes);
     }
 
-    fn synced(&mut self, seal: Seal) -> bool {
+    fn on_synced(&mut self, seal: LogEnd) -> bool {
         self.counters.set(Figure::JournalBytes, seal.position);
         self.counters.add(Figure::Syncs, 1);
-        self.meeting.seal(&self.rt, seal)
+        self.meeting.report_synced(&self.rt, seal)
     }
 }

@@ -3,21 +3,21 @@
 #![tactic(auto)]
 
 mod arguments;
-mod board;
+mod admin;
 mod controlling;
 mod counting;
-mod errand;
+mod thread_job;
 mod folders;
 mod host;
 mod listening;
 mod opening;
 mod progress;
-mod room;
+mod reporting_space;
 mod running;
 mod serving;
-mod standing;
+mod journal_swap;
 mod starting;
-mod thinner;
+mod compactor;
 
 use running::run;
 use std::process::ExitCode;

@@ -5,31 +5,31 @@ ghost use Rattle.mds_snapshot.specs.Opening.{book_of};
 ghost use Rattle.mds_recovery.specs.Recovery.{server_of};
 ghost use Rattle.ruffletuff.specs.Starting.{IsStartedFromLog};
 
-use crate::board::Board;
-use crate::errand::beside;
+use crate::admin::AdminState;
+use crate::thread_job::run_concurrently;
 use crate::folders::Folders;
-use crate::host::Host;
-use crate::listening::{Listening, listen};
-use crate::room::ReportedRoom;
-use crate::serving::{Stage, keep_and_serve};
-use crate::standing::{Filed, Standing, Table};
-use crate::starting::{ids_left_out, start};
-use crate::thinner::Thinner;
-use cli_journal::{Ending, clear, journal_length};
-use mds_command::Service;
-use mds_commit::{Ballast, Opened, Space};
+use crate::host::ThreadHost;
+use crate::listening::{BoundListener, listen};
+use crate::reporting_space::ReportingSpace;
+use crate::serving::{ServingParts, persist_and_serve};
+use crate::journal_swap::{FileJournal, JournalSwapper, JournalHandoff};
+use crate::starting::{dropped_ids, start};
+use crate::compactor::Compactor;
+use cli_journal::{ExitCause, clear, journal_length};
+use mds_command::ServeOptions;
+use mds_commit::{Ballast, UnnamedHistory, Space};
 use mds_connections::Queues;
 use mds_control::{Counters, Figure};
 use mds_desk::{AuthorRoom, Desk};
-use mds_folder::{CutFiles, Folder, FolderFault, begun, open_folder};
-use mds_hall::{Hall, Named};
-use mds_records::{Cut, Journal, Log, Sealed, Stored};
+use mds_folder::{CutFiles, Folder, FolderFault, begin_journal, open_folder};
+use mds_hall::{Hall, HallName};
+use mds_records::{CutTail, Journal, Log, HasLogEnd, FileStorage};
 use mds_request::Config;
-use mds_rolling::{Beside, Meeting, Pace, Rolling};
+use mds_rolling::{CompactionSource, Handoff, CompactionSchedule, SwapLog};
 use mds_snapshot::{Blank, prepare};
 use mds_start::workers;
 use mds_text::Id;
-use mds_thinning::Found;
+use mds_thinning::AnswersAgree;
 use std::alloc::AllocGlobal;
 use std::fs::{File, Files};
 use std::io::Eprint;
@@ -46,8 +46,8 @@ fn count_bytes<R: Files<File = File> + AllocGlobal>(rt: &R, folder: &str, counte
 }
 
 /// Reports what was cut off a journal.
-fn tell_cut<R: Eprint>(rt: &R, cut: Option<Cut>) {
-    if let Some(Cut { from, count }) = cut {
+fn report_cut<R: Eprint>(rt: &R, cut: Option<CutTail>) {
+    if let Some(CutTail { from, count }) = cut {
         let _ = eprintln!(rt;
             "ruffletuff: {count} bytes that weren't synced, from byte {from} on, are cut off the journal, and kept in a new journal.cut"
         );
@@ -62,7 +62,7 @@ fn threads_for<R: Threads>(rt: &R, config: &Config) -> usize {
 
 /// A configuration with its text.
 #[derive(Drop)]
-pub struct Given<'a> {
+pub struct ConfigWithText<'a> {
     /// The configuration.
     pub config: Config,
     /// The text that it was read from.
@@ -71,34 +71,34 @@ pub struct Given<'a> {
 
 /// A city that is to be served, with the open files of its folder.
 #[derive(Drop)]
-struct Opening<'a> {
+struct CityOpening<'a> {
     /// The city's folder.
     folder: &'a str,
     /// The listener, and the threads that are to serve its connections.
-    listening: Listening,
+    listening: BoundListener,
     /// The operator whose entries are left out.
     dropped: Option<Id>,
     config: Config,
-    board: Board<'a>,
+    board: AdminState<'a>,
     /// Where the flusher and the compaction hand over.
-    meeting: &'a Arc<Table>,
+    meeting: &'a Arc<JournalHandoff>,
     journal: File,
     ballast: File,
 }
 
-impl Opening<'_> {
+impl CityOpening<'_> {
     /// What swaps the journal's file for compacted ones.
     ///
     /// # Errors
     ///
     /// As `Standing::new`.
-    fn standing<R: Folders + AllocGlobal + Copy + Drop>(
+    fn journal_swapper<R: Folders + AllocGlobal + Copy + Drop>(
         &self,
         rt: &R,
-    ) -> Result<Standing<R>, Ending> {
+    ) -> Result<JournalSwapper<R>, ExitCause> {
         let meeting = Arc::try_clone(self.meeting)?;
         let counters = Arc::try_clone(self.board.shared)?;
-        Standing::new(*rt, rt.alloc(), self.folder, meeting, counters)
+        JournalSwapper::new(*rt, rt.alloc(), self.folder, meeting, counters)
     }
 }
 
@@ -112,14 +112,14 @@ impl Opening<'_> {
 /// journal, what a server starts from; then what ended the server.
 pub fn serve_city<'a, R>(
     rt: &R,
-    service: &'a Service<'a>,
-    given: Given<'a>,
-    board: Board<'a>,
-) -> Result<(), Ending>
+    service: &'a ServeOptions<'a>,
+    given: ConfigWithText<'a>,
+    board: AdminState<'a>,
+) -> Result<(), ExitCause>
 where
-    R: Host + Wait + Threads + Net + Files<File = File>,
+    R: ThreadHost + Wait + Threads + Net + Files<File = File>,
 {
-    let Given { config, text } = given;
+    let ConfigWithText { config, text } = given;
     let Folder {
         lock: _lock,
         journal,
@@ -127,16 +127,16 @@ where
     } = open_folder(rt, rt.alloc(), service.state)?;
     let listening = listen(rt, service.listen, threads_for(rt, &config))?;
     clear(rt, service.state);
-    let Ok(meeting) = Arc::new(rt.alloc(), Meeting::new(Pace::new(service.thin_at))) else {
-        return Err(Ending::NoMemory);
+    let Ok(meeting) = Arc::new(rt.alloc(), Handoff::new(CompactionSchedule::new(service.thin_at))) else {
+        return Err(ExitCause::NoMemory);
     };
-    let thinner = Thinner {
+    let thinner = Compactor {
         rt: *rt,
         folder: service.state,
         config: text,
         meeting: &*meeting,
     };
-    let opening = Opening {
+    let opening = CityOpening {
         folder: service.state,
         listening,
         dropped: service.dropped,
@@ -146,7 +146,7 @@ where
         journal,
         ballast,
     };
-    let ((), served) = beside(rt, thinner, move || serve_and_close(rt, opening));
+    let ((), served) = run_concurrently(rt, thinner, move || serve_and_close(rt, opening));
     served
 }
 
@@ -155,10 +155,10 @@ where
 /// # Errors
 ///
 /// As `serve_city`.
-fn serve_and_close<R: Host + Wait + Threads + Files<File = File>>(
+fn serve_and_close<R: ThreadHost + Wait + Threads + Files<File = File>>(
     rt: &R,
-    opening: Opening<'_>,
-) -> Result<(), Ending> {
+    opening: CityOpening<'_>,
+) -> Result<(), ExitCause> {
     let meeting = opening.meeting;
     let served = open_and_serve(rt, opening);
     meeting.close(rt);
@@ -170,12 +170,12 @@ fn serve_and_close<R: Host + Wait + Threads + Files<File = File>>(
 /// # Errors
 ///
 /// As `serve_city`.
-fn open_and_serve<R: Host + Wait + Threads + Files<File = File>>(
+fn open_and_serve<R: ThreadHost + Wait + Threads + Files<File = File>>(
     rt: &R,
-    opening: Opening<'_>,
-) -> Result<(), Ending> {
-    match opening.standing(rt) {
-        Ok(standing) => serve_beside(rt, opening, standing),
+    opening: CityOpening<'_>,
+) -> Result<(), ExitCause> {
+    match opening.journal_swapper(rt) {
+        Ok(standing) => serve_with_swaps(rt, opening, standing),
         Err(ending) => Err(ending),
     }
 }
@@ -186,12 +186,12 @@ fn open_and_serve<R: Host + Wait + Threads + Files<File = File>>(
 /// # Errors
 ///
 /// As `serve_city`.
-fn serve_beside<B: Beside<Filed, Found> + Send, R: Host + Wait + Threads + Files<File = File>>(
+fn serve_with_swaps<B: CompactionSource<FileJournal, AnswersAgree> + Send, R: ThreadHost + Wait + Threads + Files<File = File>>(
     rt: &R,
-    opening: Opening<'_>,
+    opening: CityOpening<'_>,
     beside: B,
-) -> Result<(), Ending> {
-    let Opening {
+) -> Result<(), ExitCause> {
+    let CityOpening {
         folder,
         listening,
         dropped,
@@ -203,17 +203,17 @@ fn serve_beside<B: Beside<Filed, Found> + Send, R: Host + Wait + Threads + Files
     } = opening;
     // Ballast is given back first, so that on a full disk there is room to keep what is cut off the journal.
     let Ok(space) = Ballast::new(ballast) else {
-        return Err(Ending::Folder(FolderFault::Unusable));
+        return Err(ExitCause::Folder(FolderFault::Unusable));
     };
-    let dropped = ids_left_out(rt.alloc(), dropped)?;
-    let stage = Stage {
+    let dropped = dropped_ids(rt.alloc(), dropped)?;
+    let stage = ServingParts {
         folder,
         listening,
         dropped: &dropped,
         queues: Queues::new(rt.alloc(), &config)?,
         board,
     };
-    let space = ReportedRoom::new(*rt, space);
+    let space = ReportingSpace::new(*rt, space);
     serve_journal(rt, journal, beside, space, config, stage)
 }
 
@@ -222,26 +222,26 @@ fn serve_beside<B: Beside<Filed, Found> + Send, R: Host + Wait + Threads + Files
 /// # Errors
 ///
 /// As `serve_city`.
-fn serve_journal<B: Beside<Filed, Found> + Send, S: Space + Send, R>(
+fn serve_journal<B: CompactionSource<FileJournal, AnswersAgree> + Send, S: Space + Send, R>(
     rt: &R,
     journal: File,
     beside: B,
     space: S,
     config: Config,
-    stage: Stage<'_>,
-) -> Result<(), Ending>
+    stage: ServingParts<'_>,
+) -> Result<(), ExitCause>
 where
-    R: Host + Wait + Threads + Files<File = File>,
+    R: ThreadHost + Wait + Threads + Files<File = File>,
     requires { S.aside space ≡ 0 }
 {
     let mut aside = CutFiles::new(*rt, rt.alloc(), stage.folder)?;
-    let log = match Journal::recover(rt.alloc(), Stored::new(journal), &mut aside) {
+    let log = match Journal::recover(rt.alloc(), FileStorage::new(journal), &mut aside) {
         Ok(log) => log,
-        Err(fault) => return Err(Ending::Folder(FolderFault::from(fault))),
+        Err(fault) => return Err(ExitCause::Folder(FolderFault::from(fault))),
     };
-    tell_cut(rt, log.cut());
+    report_cut(rt, log.cut());
     count_bytes(rt, stage.folder, stage.board.counters);
-    serve_rolling(rt, log, beside, space, config, stage)
+    serve_swap_log(rt, log, beside, space, config, stage)
 }
 
 /// Starts a server from a log, whose file is swapped from now on for compacted ones by `beside`, and serves it.
@@ -249,21 +249,21 @@ where
 /// # Errors
 ///
 /// As `serve_opening`, and `NoMemory`.
-fn serve_rolling<L: Sealed + Send, B: Beside<L, Found> + Send, S: Space + Send, R>(
+fn serve_swap_log<L: HasLogEnd + Send, B: CompactionSource<L, AnswersAgree> + Send, S: Space + Send, R>(
     rt: &R,
     log: L,
     beside: B,
     space: S,
     config: Config,
-    stage: Stage<'_>,
-) -> Result<(), Ending>
+    stage: ServingParts<'_>,
+) -> Result<(), ExitCause>
 where
-    R: Host + Wait + Threads,
+    R: ThreadHost + Wait + Threads,
     requires listed { (first : List (List ℕ)) × L.may_be log first }
     requires space { S.aside space ≡ 0 }
 {
-    let log = Rolling::new(rt.alloc(), log, beside);
-    serve_log::<Rolling<L, Found, B>, S, R>(rt, log, space, config, stage)
+    let log = SwapLog::new(rt.alloc(), log, beside);
+    serve_log::<SwapLog<L, AnswersAgree, B>, S, R>(rt, log, space, config, stage)
 }
 
 /// Starts a server from a log and serves it.
@@ -276,10 +276,10 @@ fn serve_log<L: Log + Send, S: Space + Send, R>(
     log: L,
     space: S,
     config: Config,
-    stage: Stage<'_>,
-) -> Result<(), Ending>
+    stage: ServingParts<'_>,
+) -> Result<(), ExitCause>
 where
-    R: Host + Wait + Threads,
+    R: ThreadHost + Wait + Threads,
     requires listed { (first : List (List ℕ)) × L.may_be log first }
     requires space { S.aside space ≡ 0 }
 {
@@ -293,21 +293,21 @@ where
 /// # Errors
 ///
 /// `Folder` where the log couldn't be read or begun, or as `start`.
-fn resume<K: Named, L: Log, R: Wait + Eprint + AllocGlobal + Copy>(
+fn resume<K: HallName, L: Log, R: Wait + Eprint + AllocGlobal + Copy>(
     rt: &R,
     log: &mut L,
     config: Config,
     blank: Blank,
     dropped: &[Id],
     counters: &Counters,
-) -> Result<(AuthorRoom<K>, Vec<Desk<K>>), Ending>
+) -> Result<(AuthorRoom<K>, Vec<Desk<K>>), ExitCause>
     requires book { book_of blank ≡ K.book }
     requires listed { (first : List (List ℕ)) × L.may_be log.old first }
     ensures { IfOk result (λ r. IsStartedFromLog (L.may_be log.new) (configuration config) dropped.now (server_of r.0 r.1.items)) }
 {
-    let texts = match begun(rt.alloc(), log, &config) {
+    let texts = match begin_journal(rt.alloc(), log, &config) {
         Ok(texts) => texts,
-        Err(fault) => return Err(Ending::Folder(fault)),
+        Err(fault) => return Err(ExitCause::Folder(fault)),
     };
     start::<K, R>(rt, &texts, config, blank, dropped, counters)
 }
@@ -317,16 +317,16 @@ fn resume<K: Named, L: Log, R: Wait + Eprint + AllocGlobal + Copy>(
 /// # Errors
 ///
 /// As `resume`, `Folder` where the log couldn't be continued, or as `keep_and_serve`.
-fn serve_opening<K: Named + Send + Sync, L: Log + Send, S: Space + Send, R>(
+fn serve_opening<K: HallName + Send + Sync, L: Log + Send, S: Space + Send, R>(
     rt: &R,
     log: L,
     space: S,
     config: Config,
     blank: Blank,
-    stage: Stage<'_>,
-) -> Result<(), Ending>
+    stage: ServingParts<'_>,
+) -> Result<(), ExitCause>
 where
-    R: Host + Wait + Threads,
+    R: ThreadHost + Wait + Threads,
     requires book { book_of blank ≡ K.book }
     requires configured { configuration config ≡ K.configuration }
     requires listed { (first : List (List ℕ)) × L.may_be log first }
@@ -336,9 +336,9 @@ where
     let counters = stage.board.counters;
     let (room, desks) = resume::<K, L, R>(rt, &mut log, config, blank, stage.dropped, counters)?;
     let hall = Hall::<K>::of(rt, rt.alloc(), room, desks)?;
-    let Ok(history) = Opened::new(&mut log) else {
+    let Ok(history) = UnnamedHistory::new(&mut log) else {
         hall.finish(rt);
-        return Err(Ending::Folder(FolderFault::Unusable));
+        return Err(ExitCause::Folder(FolderFault::Unusable));
     };
-    keep_and_serve::<K, Brand, L, S, R>(rt, hall, history, log, space, stage)
+    persist_and_serve::<K, Brand, L, S, R>(rt, hall, history, log, space, stage)
 }

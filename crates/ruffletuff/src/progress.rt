@@ -9,7 +9,7 @@ use std::io::Eprint;
 const STEP: usize = 100_000;
 
 /// Whether progress is reported after this many entries.
-fn is_told(entries: usize) -> bool
+fn is_reported(entries: usize) -> bool
     ensures { result ≡ is_told entries }
 {
     entries % STEP == 0
@@ -17,11 +17,11 @@ fn is_told(entries: usize) -> bool
 
 /// Reports the progress of replaying the journal on standard error.
 #[derive(Drop)]
-pub struct Told<R>(pub R);
+pub struct ReplayProgress<R>(pub R);
 
-impl<R: Eprint> Progress for Told<R> {
-    fn answered(&mut self, entries: usize) {
-        if is_told(entries) {
+impl<R: Eprint> Progress for ReplayProgress<R> {
+    fn on_replayed(&mut self, entries: usize) {
+        if is_reported(entries) {
             let _ = eprintln!(self.0; "ruffletuff: {entries} entries answered again");
         }
     }

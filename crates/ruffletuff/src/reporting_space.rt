@@ -21,7 +21,7 @@ fn is_full(was_full: bool, bytes: u64, is_done: bool) -> bool
 }
 
 /// Whether it is reported that the disk is full: where it has just become so.
-fn is_told(was_full: bool, is_full: bool) -> bool
+fn is_reported(was_full: bool, is_full: bool) -> bool
     ensures { result ≡ is_told was_full is_full }
 {
     is_full && !was_full
@@ -29,19 +29,19 @@ fn is_told(was_full: bool, is_full: bool) -> bool
 
 /// Disk room that reports on standard error that the disk is full: once, until `PLENTY` is set aside again.
 #[derive(Drop)]
-pub struct ReportedRoom<R, S: Space> {
+pub struct ReportingSpace<R, S: Space> {
     rt: R,
     /// The disk room.
     pub space: S,
     is_full: bool,
 }
 
-impl<R: Eprint, S: Space> ReportedRoom<R, S> {
+impl<R: Eprint, S: Space> ReportingSpace<R, S> {
     /// This room, of which nothing was reported as yet.
-    pub fn new(rt: R, space: S) -> ReportedRoom<R, S>
+    pub fn new(rt: R, space: S) -> ReportingSpace<R, S>
         ensures { result.space ≡ space }
     {
-        ReportedRoom {
+        ReportingSpace {
             rt,
             space,
             is_full: false,
@@ -53,7 +53,7 @@ impl<R: Eprint, S: Space> ReportedRoom<R, S> {
         ensures { self.new.space ≡ self.old.space }
     {
         let is_full = is_full(self.is_full, bytes, is_done);
-        if is_told(self.is_full, is_full) {
+        if is_reported(self.is_full, is_full) {
             let _ = eprintln!(self.rt;
                 "ruffletuff: the disk has no room: changes are answered 503 until it has"
             );
@@ -62,7 +62,7 @@ impl<R: Eprint, S: Space> ReportedRoom<R, S> {
     }
 }
 
-impl<R: Eprint + Drop, S: Space> Space for ReportedRoom<R, S> {
+impl<R: Eprint + Drop, S: Space> Space for ReportingSpace<R, S> {
     ghost aside = { λ room. S.aside room.space };
 
     fn set_aside(&mut self, bytes: u64) -> Result<(), NoRoom> {

@@ -3,18 +3,18 @@ ghost use Rattle.std.specs.Prelude.{◌≡◌};
 ghost use Rattle.cli_journal.specs.Exit.{status_of};
 
 use crate::arguments::read_words;
-use crate::board::Board;
+use crate::admin::AdminState;
 use crate::controlling::serve_controlled;
 use crate::counting::counters_of;
-use crate::host::Host;
-use crate::opening::{Given, serve_city};
+use crate::host::ThreadHost;
+use crate::opening::{ConfigWithText, serve_city};
 use cli_journal::{
-    Ending, Source, audit, check, configuration_in, tell, tell_usage, thin, told_text,
+    ExitCause, ConfigFile, audit, check, configuration_in, report_exit, report_usage, compact, read_text_and_report,
 };
-use mds_command::{Asked, COMMIT, HELP, Service, VERSION, asked_by, version_line};
-use mds_connections::Closing;
+use mds_command::{CliCommand, COMMIT, HELP, ServeOptions, VERSION, parse_command, version_line};
+use mds_connections::ShutdownHandle;
 use mds_control::{Control, stop};
-use mds_errands::run_errand;
+use mds_errands::run_transfer;
 use std::alloc::AllocGlobal;
 use std::env::Env;
 use std::fs::{File, Files};
@@ -25,7 +25,7 @@ use std::sync::{Arc, Wait};
 use std::thread::Threads;
 
 /// The exit status of what was done.
-fn status_of(done: Result<u8, Ending>) -> u8
+fn status_of(done: Result<u8, ExitCause>) -> u8
     ensures { result ≡ status_of done }
 {
     match done {
@@ -37,7 +37,7 @@ fn status_of(done: Result<u8, Ending>) -> u8
 /// Runs what the arguments ask for, reports faults on standard error, and gives the exit status.
 pub fn run<R>(rt: &R) -> u8
 where
-    R: Host
+    R: ThreadHost
         + Wait
         + Threads
         + Net<Listener = TcpListener, Stream = TcpStream>
@@ -47,36 +47,36 @@ where
     let words = match read_words(rt) {
         Ok(words) => words,
         Err(ending) => {
-            tell_usage(rt, &ending);
+            report_usage(rt, &ending);
             return ending.status();
         }
     };
-    let Some(asked) = asked_by(&words) else {
-        tell_usage(rt, &Ending::Usage);
-        return Ending::Usage.status();
+    let Some(asked) = parse_command(&words) else {
+        report_usage(rt, &ExitCause::Usage);
+        return ExitCause::Usage.status();
     };
     let done = carry_out(rt, &asked);
     if let Err(ending) = &done {
-        tell(rt, &asked, ending);
+        report_exit(rt, &asked, ending);
     }
     status_of(done)
 }
 
 /// Runs what the arguments ask for, and gives the exit status.
-fn carry_out<R>(rt: &R, asked: &Asked<'_>) -> Result<u8, Ending>
+fn carry_out<R>(rt: &R, asked: &CliCommand<'_>) -> Result<u8, ExitCause>
 where
-    R: Host + Wait + Threads + Net<Listener = TcpListener, Stream = TcpStream> + Files<File = File>,
+    R: ThreadHost + Wait + Threads + Net<Listener = TcpListener, Stream = TcpStream> + Files<File = File>,
 {
     let done = match asked {
-        Asked::Help => print_text(rt, HELP),
-        Asked::Version => print_version(rt),
-        Asked::Serve(service) => serve(rt, service),
-        Asked::Check(folder) => check(rt, *folder),
-        Asked::CheckConfig(path) => check_configuration(rt, *path),
-        Asked::Audit(extract) => audit(rt, extract),
-        Asked::Thin(thinning) => thin(rt, thinning),
-        Asked::Stop(address) => stop_server(rt, *address),
-        Asked::Errand(errand) => return Ok(run_errand(rt, errand)),
+        CliCommand::Help => print_text(rt, HELP),
+        CliCommand::Version => print_version(rt),
+        CliCommand::Serve(service) => serve(rt, service),
+        CliCommand::Check(folder) => check(rt, *folder),
+        CliCommand::CheckConfig(path) => check_configuration(rt, *path),
+        CliCommand::Audit(extract) => audit(rt, extract),
+        CliCommand::Thin(thinning) => compact(rt, thinning),
+        CliCommand::Stop(address) => stop_server(rt, *address),
+        CliCommand::Errand(errand) => return Ok(run_transfer(rt, errand)),
     };
     match done {
         Ok(()) => Ok(0),
@@ -89,10 +89,10 @@ where
 /// # Errors
 ///
 /// `NotPrinted`.
-fn print_text<R: Print>(rt: &R, text: &str) -> Result<(), Ending> {
+fn print_text<R: Print>(rt: &R, text: &str) -> Result<(), ExitCause> {
     match print!(rt; "{text}") {
         Ok(()) => Ok(()),
-        Err(_) => Err(Ending::NotPrinted),
+        Err(_) => Err(ExitCause::NotPrinted),
     }
 }
 
@@ -101,11 +101,11 @@ fn print_text<R: Print>(rt: &R, text: &str) -> Result<(), Ending> {
 /// # Errors
 ///
 /// `NotPrinted`, `NoMemory`.
-fn print_version<R: Print + AllocGlobal>(rt: &R) -> Result<(), Ending> {
+fn print_version<R: Print + AllocGlobal>(rt: &R) -> Result<(), ExitCause> {
     let line = version_line(rt.alloc(), VERSION, COMMIT)?;
     match println!(rt; "{line}") {
         Ok(()) => Ok(()),
-        Err(_) => Err(Ending::NotPrinted),
+        Err(_) => Err(ExitCause::NotPrinted),
     }
 }
 
@@ -117,9 +117,9 @@ fn print_version<R: Print + AllocGlobal>(rt: &R) -> Result<(), Ending> {
 fn check_configuration<R: Files<File = File> + Print + Eprint + AllocGlobal>(
     rt: &R,
     path: &str,
-) -> Result<(), Ending> {
-    let source = Source::read(rt, path)?;
-    source.tell(rt, path, false)?;
+) -> Result<(), ExitCause> {
+    let source = ConfigFile::read(rt, path)?;
+    source.report_findings(rt, path, false)?;
     let text = source.resolve(rt.alloc())?;
     drop(configuration_in(rt.alloc(), &text)?);
     print_text(rt, "a configuration\n")
@@ -130,10 +130,10 @@ fn check_configuration<R: Files<File = File> + Print + Eprint + AllocGlobal>(
 /// # Errors
 ///
 /// `NotStopped` where no server there answers that it stops.
-fn stop_server<R: Net + AllocGlobal>(rt: &R, address: &str) -> Result<(), Ending> {
+fn stop_server<R: Net + AllocGlobal>(rt: &R, address: &str) -> Result<(), ExitCause> {
     match stop(rt, address) {
         Ok(true) => Ok(()),
-        Ok(false) | Err(_) => Err(Ending::NotStopped),
+        Ok(false) | Err(_) => Err(ExitCause::NotStopped),
     }
 }
 
@@ -142,26 +142,26 @@ fn stop_server<R: Net + AllocGlobal>(rt: &R, address: &str) -> Result<(), Ending
 /// # Errors
 ///
 /// The configuration's, the control port's, or the fault with which the city can't be opened or its server ends.
-fn serve<R>(rt: &R, service: &Service<'_>) -> Result<(), Ending>
+fn serve<R>(rt: &R, service: &ServeOptions<'_>) -> Result<(), ExitCause>
 where
-    R: Host + Wait + Threads + Net<Listener = TcpListener, Stream = TcpStream> + Files<File = File>,
+    R: ThreadHost + Wait + Threads + Net<Listener = TcpListener, Stream = TcpStream> + Files<File = File>,
 {
-    let text = told_text(rt, rt.alloc(), service.config)?;
+    let text = read_text_and_report(rt, rt.alloc(), service.config)?;
     let config = configuration_in(rt.alloc(), &text)?;
-    let closing = Closing::new(rt.alloc())?;
+    let closing = ShutdownHandle::new(rt.alloc())?;
     let control = Control::new();
     let counters = counters_of(rt.alloc(), &closing, &config)?;
     let Ok(shared) = Arc::new(rt.alloc(), counters) else {
-        return Err(Ending::NoMemory);
+        return Err(ExitCause::NoMemory);
     };
-    let board = Board {
+    let board = AdminState {
         closing: &closing,
         control: &control,
         counters: &*shared,
         shared: &shared,
         configuration: &text,
     };
-    let given = Given {
+    let given = ConfigWithText {
         config,
         text: &text,
     };

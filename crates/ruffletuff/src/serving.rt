@@ -1,19 +1,19 @@
 //! Serves an open city: one thread writes its journal, others answer.
 ghost use Rattle.std.specs.Prelude.{◌≡◌, ℕ, List, IfOk, Ok};
-ghost use Rattle.mds_app.specs.Badges.{badges_view, read_badges};
+ghost use Rattle.mds_app.specs.OperatorNames.{badges_view, read_badges};
 ghost use Rattle.ruffletuff.specs.Ends.{outcome_of};
 
-use crate::board::Board;
+use crate::admin::AdminState;
 use crate::counting::count_vehicles;
-use crate::errand::{Errand, beside};
-use crate::host::Host;
-use crate::listening::Listening;
-use cli_journal::Ending;
-use mds_app::Badges;
-use mds_city::City;
-use mds_commit::{FlushFault, Flusher, Keeper, Naming, Opened, Space, open};
-use mds_connections::{Closing, Ended, Queues, serve_by};
-use mds_hall::{Hall, Named};
+use crate::thread_job::{ThreadJob, run_concurrently};
+use crate::host::ThreadHost;
+use crate::listening::BoundListener;
+use cli_journal::ExitCause;
+use mds_app::OperatorNames;
+use mds_city::DurableHall;
+use mds_commit::{FlushFault, Flusher, CommitLog, LogName, UnnamedHistory, Space, open};
+use mds_connections::{ShutdownHandle, ServeOutcome, Queues, serve_by};
+use mds_hall::{Hall, HallName};
 use mds_parallel::Chunked;
 use mds_records::Log;
 use mds_site::Site;
@@ -25,30 +25,30 @@ use std::thread::Threads;
 
 /// What serving a city needs besides its state.
 #[derive(Drop)]
-pub struct Stage<'a> {
+pub struct ServingParts<'a> {
     /// The city's folder.
     pub folder: &'a str,
     /// The listener, and the threads that are to serve its connections.
-    pub listening: Listening,
+    pub listening: BoundListener,
     /// The operators whose entries are left out.
     pub dropped: &'a [Id],
     /// How many requests of each client may wait.
     pub queues: Queues,
     /// The server's admin state.
-    pub board: Board<'a>,
+    pub board: AdminState<'a>,
 }
 
 /// The thread that writes and syncs the journal, until the commit log is stopped. Where the journal can't be written
 /// any more, it ends the server.
 #[derive(Drop)]
-struct Flushing<'a, N: Naming, L: Log, S: Space, R> {
+struct FlusherJob<'a, N: LogName, L: Log, S: Space, R> {
     rt: R,
     flusher: Flusher<N, L>,
-    keeper: &'a Keeper<N, L, S>,
-    closing: &'a Closing,
+    keeper: &'a CommitLog<N, L, S>,
+    closing: &'a ShutdownHandle,
 }
 
-impl<N: Naming, L: Log, S: Space, R: Wait + Drop> Errand for Flushing<'_, N, L, S, R> {
+impl<N: LogName, L: Log, S: Space, R: Wait + Drop> ThreadJob for FlusherJob<'_, N, L, S, R> {
     type Outcome = Result<(), FlushFault>;
 
     fn run(self) -> Result<(), FlushFault> {
@@ -63,12 +63,12 @@ impl<N: Naming, L: Log, S: Space, R: Wait + Drop> Errand for Flushing<'_, N, L, 
 
 /// A site, and what answering its requests needs.
 #[derive(Drop)]
-struct Serving<'a, K: Named, N: Naming, L: Log, S: Space, R> {
-    listening: Listening,
+struct SiteServer<'a, K: HallName, N: LogName, L: Log, S: Space, R> {
+    listening: BoundListener,
     site: Site<'a, K, N, L, S, R, Chunked<R>>,
-    keeper: &'a Keeper<N, L, S>,
+    keeper: &'a CommitLog<N, L, S>,
     queues: Queues,
-    closing: &'a Closing,
+    closing: &'a ShutdownHandle,
 }
 
 /// Answers until the server is to end. Then it stops the commit log, so that the journal is written to its end.
@@ -78,23 +78,23 @@ struct Serving<'a, K: Named, N: Naming, L: Log, S: Space, R> {
 /// The server couldn't be started.
 fn serve_to_the_end<'a, K, N, L, S, R>(
     rt: &R,
-    serving: Serving<'a, K, N, L, S, R>,
-) -> io::Result<Ended<Site<'a, K, N, L, S, R, Chunked<R>>>>
+    serving: SiteServer<'a, K, N, L, S, R>,
+) -> io::Result<ServeOutcome<Site<'a, K, N, L, S, R, Chunked<R>>>>
 where
-    K: Named + Send + Sync,
-    N: Naming + Send + Sync,
+    K: HallName + Send + Sync,
+    N: LogName + Send + Sync,
     L: Log + Send,
     S: Space + Send,
-    R: Host + Wait + Threads,
+    R: ThreadHost + Wait + Threads,
 {
-    let Serving {
+    let SiteServer {
         listening,
         site,
         keeper,
         queues,
         closing,
     } = serving;
-    let Listening { runtime, listener } = listening;
+    let BoundListener { runtime, listener } = listening;
     let mut runtime = runtime;
     let ended = serve_by(rt, &mut runtime, listener, site, queues, closing);
     keeper.stop(rt);
@@ -106,12 +106,12 @@ where
 /// # Errors
 ///
 /// `NoMemory`.
-fn badges_in(alloc: Global, text: &[u8]) -> Result<Badges, Ending>
+fn operator_names_in(alloc: Global, text: &[u8]) -> Result<OperatorNames, ExitCause>
     ensures { IfOk result (λ badges. read_badges text.now ≡ Ok (badges_view badges)) }
 {
-    match Badges::read(alloc, text) {
+    match OperatorNames::read(alloc, text) {
         Ok(badges) => Ok(badges),
-        Err(_) => Err(Ending::NoMemory),
+        Err(_) => Err(ExitCause::NoMemory),
     }
 }
 
@@ -121,39 +121,39 @@ fn badges_in(alloc: Global, text: &[u8]) -> Result<Badges, Ending>
 ///
 /// `NoMemory`, `NoListener` where the polling of events failed, or `NotKept` where the log couldn't be written any
 /// more.
-pub fn keep_and_serve<K, N, L, S, R>(
+pub fn persist_and_serve<K, N, L, S, R>(
     rt: &R,
     hall: Hall<K>,
-    history: Opened<L>,
+    history: UnnamedHistory<L>,
     log: L,
     space: S,
-    stage: Stage<'_>,
-) -> Result<(), Ending>
+    stage: ServingParts<'_>,
+) -> Result<(), ExitCause>
 where
-    K: Named + Send + Sync,
-    N: Naming + Send + Sync,
+    K: HallName + Send + Sync,
+    N: LogName + Send + Sync,
     L: Log + Send,
     S: Space + Send,
-    R: Host + Wait + Threads,
+    R: ThreadHost + Wait + Threads,
     requires book { history.seen.book ≡ N.book }
     requires listed { (first : List (List ℕ)) × L.may_be log first }
     requires space { S.aside space ≡ 0 }
 {
     let alloc = rt.alloc();
     count_vehicles(rt, &hall, stage.board.counters)?;
-    let askers = stage.queues.askers();
+    let askers = stage.queues.clients();
     let (keeper, flusher, nothing) = open::<N, L, S>(alloc, history, log, space, askers)?;
     let Ok(keeper) = Arc::new(alloc, keeper) else {
-        return Err(Ending::NoMemory);
+        return Err(ExitCause::NoMemory);
     };
-    let badges = badges_in(alloc, stage.board.configuration)?;
-    let city = City::new(hall, badges, Arc::try_clone(&keeper)?, nothing);
-    serve_kept(rt, city, &*keeper, flusher, stage)
+    let badges = operator_names_in(alloc, stage.board.configuration)?;
+    let city = DurableHall::new(hall, badges, Arc::try_clone(&keeper)?, nothing);
+    serve_durable_hall(rt, city, &*keeper, flusher, stage)
 }
 
 /// Announces that a city is served, to the control port too, and whether everyone may read what is published.
-fn announce<R: Print>(rt: &R, board: Board<'_>, is_public: bool) {
-    board.control.serves();
+fn announce<R: Print>(rt: &R, board: AdminState<'_>, is_public: bool) {
+    board.control.set_serving();
     if is_public {
         let _ = println!(rt; "tells everyone at /mds/2.0");
     }
@@ -165,37 +165,37 @@ fn announce<R: Print>(rt: &R, board: Board<'_>, is_public: bool) {
 /// # Errors
 ///
 /// As `keep_and_serve`.
-fn serve_kept<'a, K, N, L, S, R>(
+fn serve_durable_hall<'a, K, N, L, S, R>(
     rt: &R,
-    city: City<K, N, L, S>,
-    keeper: &'a Keeper<N, L, S>,
+    city: DurableHall<K, N, L, S>,
+    keeper: &'a CommitLog<N, L, S>,
     flusher: Flusher<N, L>,
-    stage: Stage<'a>,
-) -> Result<(), Ending>
+    stage: ServingParts<'a>,
+) -> Result<(), ExitCause>
 where
-    K: Named + Send + Sync,
-    N: Naming + Send + Sync,
+    K: HallName + Send + Sync,
+    N: LogName + Send + Sync,
     L: Log + Send,
     S: Space + Send,
-    R: Host + Wait + Threads,
+    R: ThreadHost + Wait + Threads,
 {
     let board = stage.board;
     let site = Site::open(rt, city, Chunked(*rt), board.configuration, board.counters)?;
     announce(rt, board, site.window.is_some());
-    let flushing = Flushing {
+    let flushing = FlusherJob {
         rt: *rt,
         flusher,
         keeper,
         closing: board.closing,
     };
-    let serving = Serving {
+    let serving = SiteServer {
         listening: stage.listening,
         site,
         keeper,
         queues: stage.queues,
         closing: board.closing,
     };
-    let (flushed, ended) = beside(rt, flushing, move || serve_to_the_end(rt, serving));
+    let (flushed, ended) = run_concurrently(rt, flushing, move || serve_to_the_end(rt, serving));
     finish(rt, flushed, ended)
 }
 
@@ -204,13 +204,13 @@ where
 /// # Errors
 ///
 /// As `outcome_of`.
-fn finish<K: Named, N: Naming, L: Log, S: Space, R: Wait + Drop>(
+fn finish<K: HallName, N: LogName, L: Log, S: Space, R: Wait + Drop>(
     rt: &R,
     flushed: Result<(), FlushFault>,
-    ended: io::Result<Ended<Site<'_, K, N, L, S, R, Chunked<R>>>>,
-) -> Result<(), Ending> {
+    ended: io::Result<ServeOutcome<Site<'_, K, N, L, S, R, Chunked<R>>>>,
+) -> Result<(), ExitCause> {
     let is_served = match ended {
-        Ok(Ended { answers, outcome }) => {
+        Ok(ServeOutcome { answers, outcome }) => {
             if let Some(site) = answers {
                 let state = site.state;
                 state.city.finish(rt);
@@ -228,13 +228,13 @@ fn finish<K: Named, N: Naming, L: Log, S: Space, R: Wait + Drop>(
 ///
 /// `NotKept` where the journal wasn't; else `NoListener` where the server couldn't be started or the polling of events
 /// failed.
-fn outcome_of(is_kept: bool, is_served: bool) -> Result<(), Ending>
+fn outcome_of(is_kept: bool, is_served: bool) -> Result<(), ExitCause>
     ensures { result ≡ outcome_of is_kept is_served }
 {
     if !is_kept {
-        Err(Ending::NotKept)
+        Err(ExitCause::NotKept)
     } else if !is_served {
-        Err(Ending::NoListener)
+        Err(ExitCause::NoListener)
     } else {
         Ok(())
     }

@@ -7,16 +7,16 @@ ghost use Rattle.mds_recovery.specs.Laws.{IsStartedAgain};
 ghost use Rattle.mds_recovery.specs.Recovery.{server_of};
 ghost use Rattle.ruffletuff.specs.Starting.{HasHead, IsStartedFrom, is_publication};
 
-use crate::progress::Told;
-use cli_journal::Ending;
+use crate::progress::ReplayProgress;
+use cli_journal::ExitCause;
 use mds_configuration::Limits;
 use mds_control::{Counters, Figure};
 use mds_desk::{AuthorRoom, Desk};
-use mds_entries::{Asker, Entry};
-use mds_folder::{Damage, FolderFault, entries_in, suits, without};
+use mds_entries::{EntryClient, JournalEntry};
+use mds_folder::{Damage, FolderFault, entries_in, suits, without_operators};
 use mds_recovery::{Cause, StartFault, start_again};
 use mds_request::{Config, Verb};
-use mds_snapshot::{Blank, Naming};
+use mds_snapshot::{Blank, OpeningName};
 use mds_text::Id;
 use std::alloc::{AllocError, AllocGlobal, Global};
 use std::io::Eprint;
@@ -26,7 +26,7 @@ use std::sync::Wait;
 const CONFLICT: u16 = 409;
 
 /// The operators that are left out: the one that is given, or none.
-pub fn ids_left_out(alloc: Global, dropped: Option<Id>) -> Result<Vec<Id>, AllocError>
+pub fn dropped_ids(alloc: Global, dropped: Option<Id>) -> Result<Vec<Id>, AllocError>
     ensures { IfOk result (λ ids. ids.items ≡ option_to_list dropped) }
 {
     let mut ids = Vec::new(alloc);
@@ -47,27 +47,27 @@ fn fitting_texts<'a>(
     config: &Config,
     texts: &'a [Vec<u8>],
     dropped: &[Id],
-) -> Result<&'a [Vec<u8>], Ending>
+) -> Result<&'a [Vec<u8>], ExitCause>
     ensures { IfOk result (λ rest. HasHead (configuration config.now) dropped.now (map (λ t. t.items) texts.now) (map (λ t. t.items) rest.now)) }
 {
     let Some((head, rest)) = texts.split_first() else {
-        return Err(Ending::Folder(FolderFault::Damaged(Damage::NoHead)));
+        return Err(ExitCause::Folder(FolderFault::Damaged(Damage::NoHead)));
     };
     match suits(alloc, config, head, dropped) {
         Ok(()) => Ok(rest),
-        Err(fault) => Err(Ending::Folder(fault)),
+        Err(fault) => Err(ExitCause::Folder(fault)),
     }
 }
 
 /// Whether an entry is a publication: to publish is the author's only request with this verb.
-fn is_publication(entry: &Entry<'_>) -> bool
+fn is_publication(entry: &JournalEntry<'_>) -> bool
     ensures { result ≡ is_publication (entry_of entry.now) }
 {
-    matches!((entry.asker, entry.verb), (Asker::Author, Verb::Post))
+    matches!((entry.asker, entry.verb), (EntryClient::Author, Verb::Post))
 }
 
 /// How many of these entries are publications.
-fn publications(entries: &[Entry<'_>]) -> usize
+fn publications(entries: &[JournalEntry<'_>]) -> usize
     ensures { result ≡ count_by (λ entry. is_publication (entry_of entry)) entries.now }
 {
     entries
@@ -86,14 +86,14 @@ fn publications(entries: &[Entry<'_>]) -> usize
 ///
 /// `Folder` where the payloads aren't those of a journal of this configuration; `Refused` at the first entry that isn't
 /// answered with success; `NoMemory`.
-pub fn start<K: Naming, R: Wait + Eprint + AllocGlobal + Copy>(
+pub fn start<K: OpeningName, R: Wait + Eprint + AllocGlobal + Copy>(
     rt: &R,
     texts: &[Vec<u8>],
     config: Config,
     blank: Blank,
     dropped: &[Id],
     counters: &Counters,
-) -> Result<(AuthorRoom<K>, Vec<Desk<K>>), Ending>
+) -> Result<(AuthorRoom<K>, Vec<Desk<K>>), ExitCause>
     requires book { book_of blank ≡ K.book }
     ensures { IfOk result (λ r. IsStartedFrom (configuration config) dropped.now (map (λ t. t.items) texts.now) (server_of r.0 r.1.items)) }
 {
@@ -103,17 +103,17 @@ pub fn start<K: Naming, R: Wait + Eprint + AllocGlobal + Copy>(
     };
     let all = match entries_in(rt.alloc(), 1, rest) {
         Ok(all) => all,
-        Err(fault) => return Err(Ending::Folder(fault)),
+        Err(fault) => return Err(ExitCause::Folder(fault)),
     };
-    let entries = match without(rt.alloc(), &all, dropped) {
+    let entries = match without_operators(rt.alloc(), &all, dropped) {
         Ok(entries) => entries,
-        Err(_) => return Err(Ending::NoMemory),
+        Err(_) => return Err(ExitCause::NoMemory),
     };
-    answer_again(rt, config, blank, &entries, counters)
+    replay_entries(rt, config, blank, &entries, counters)
 }
 
 /// The operator whose report can't be replayed because its fleet is full, where that is the fault.
-fn full_fleet(entries: &[Entry<'_>], fault: &StartFault) -> Option<Id> {
+fn full_fleet(entries: &[JournalEntry<'_>], fault: &StartFault) -> Option<Id> {
     let StartFault::Stopped(stopped) = fault else {
         return None;
     };
@@ -121,13 +121,13 @@ fn full_fleet(entries: &[Entry<'_>], fault: &StartFault) -> Option<Id> {
         return None;
     }
     match entries.get(stopped.entry)?.asker {
-        Asker::Operator(id) => Some(id),
-        Asker::Author => None,
+        EntryClient::Operator(id) => Some(id),
+        EntryClient::Author => None,
     }
 }
 
 /// Reports that the limit of an operator is too low.
-fn tell_limit<R: Eprint + AllocGlobal>(rt: &R, limits: &Limits, id: Id) {
+fn report_limit<R: Eprint + AllocGlobal>(rt: &R, limits: &Limits, id: Id) {
     if let Ok(Some(told)) = limits.too_low(rt.alloc(), id) {
         let _ = eprintln!(rt; "{told}");
     }
@@ -138,26 +138,26 @@ fn tell_limit<R: Eprint + AllocGlobal>(rt: &R, limits: &Limits, id: Id) {
 /// # Errors
 ///
 /// `Refused` at the first entry that isn't answered with success, `NoMemory`.
-fn answer_again<K: Naming, R: Wait + Eprint + AllocGlobal + Copy>(
+fn replay_entries<K: OpeningName, R: Wait + Eprint + AllocGlobal + Copy>(
     rt: &R,
     config: Config,
     blank: Blank,
-    entries: &[Entry<'_>],
+    entries: &[JournalEntry<'_>],
     counters: &Counters,
-) -> Result<(AuthorRoom<K>, Vec<Desk<K>>), Ending>
+) -> Result<(AuthorRoom<K>, Vec<Desk<K>>), ExitCause>
     requires book { book_of blank ≡ K.book }
     ensures { IfOk result (λ r. IsStartedAgain (configuration config) (map entry_of entries.now) (server_of r.0 r.1.items)) }
 {
     counters.set(Figure::Revision, publications(entries) as u64);
     let limits = Limits::of(rt.alloc(), &config)?;
-    let mut progress = Told(*rt);
-    match start_again::<K, R, Told<R>>(rt, rt.alloc(), config, blank, entries, &mut progress) {
+    let mut progress = ReplayProgress(*rt);
+    match start_again::<K, R, ReplayProgress<R>>(rt, rt.alloc(), config, blank, entries, &mut progress) {
         Ok(started) => Ok(started),
         Err(fault) => {
             if let Some(id) = full_fleet(entries, &fault) {
-                tell_limit(rt, &limits, id);
+                report_limit(rt, &limits, id);
             }
-            Err(Ending::from(fault))
+            Err(ExitCause::from(fault))
         }
     }
 }

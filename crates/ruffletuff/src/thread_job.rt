@@ -3,7 +3,7 @@
 use std::thread::{Threads, join};
 
 /// A job that runs in a thread of its own.
-pub trait Errand {
+pub trait ThreadJob {
     /// The job's result.
     type Outcome;
 
@@ -12,7 +12,7 @@ pub trait Errand {
 }
 
 /// Runs a job in a thread of its own and `meanwhile` in this one, and gives both results.
-pub fn beside<R: Threads, E: Errand<Outcome = A> + Send + Drop, A: Send, B, F: FnOnce() -> B>(
+pub fn run_concurrently<R: Threads, E: ThreadJob<Outcome = A> + Send + Drop, A: Send, B, F: FnOnce() -> B>(
     rt: &R,
     errand: E,
     meanwhile: F,

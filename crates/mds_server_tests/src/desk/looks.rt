@@ -5,7 +5,7 @@ use mds_desk::Gate;
 
 pub(super) const EMPTY: &str = r#"{"policies":[],"revision":0}"#;
 
-pub(super) const POLICIES: &Exchange = &Exchange {
+pub(super) const POLICIES: &DeskExchange = &DeskExchange {
     at: 1000,
     token: "alfa",
     verb: Verb::Get,
@@ -16,28 +16,28 @@ pub(super) const POLICIES: &Exchange = &Exchange {
 
 /// A gate that counts the looks at which it is called.
 #[derive(Drop)]
-struct Counting {
+struct CountingGate {
     looks: u64,
 }
 
-impl Counting {
-    fn assert_counted(&self, rt: &impl Abort, looks: u64) {
+impl CountingGate {
+    fn assert_looks(&self, rt: &impl Abort, looks: u64) {
         assert!(rt; self.looks == looks);
     }
 }
 
-impl Gate for Counting {
+impl Gate for CountingGate {
     fn held(&mut self) {
         self.looks = self.looks.saturating_add(1);
     }
 }
 
-const ASKED: &[&Exchange; 2] = &[GEOGRAPHIES, POLICIES];
+const QUESTIONS: &[&DeskExchange; 2] = &[GEOGRAPHIES, POLICIES];
 
 struct EachLook;
 
-impl Scene for EachLook {
-    fn play<K: Naming, R: Wait + Abort>(
+impl DeskTest for EachLook {
+    fn run_test<K: OpeningName, R: Wait + Abort>(
         &self,
         rt: &R,
         _alloc: Global,
@@ -46,25 +46,25 @@ impl Scene for EachLook {
         _bravo: &mut Desk<K>,
     ) -> Result<bool, AllocError> {
         set_up_for(rt, room, alfa);
-        let requests = two_requests(rt, ASKED);
-        let mut gate = Counting { looks: 0 };
+        let requests = two_requests(rt, QUESTIONS);
+        let mut gate = CountingGate { looks: 0 };
         let replies = alfa.run(&requests, &mut gate, &Plain)?;
-        assert_successes(rt, &replies, ASKED);
-        gate.assert_counted(rt, 2);
+        assert_successes(rt, &replies, QUESTIONS);
+        gate.assert_looks(rt, 2);
         Ok(true)
     }
 }
 
 /// There is one look for each request.
 #[test]
-fn a_gate_is_told_of_each_look(rt: HostRuntime) -> Result<(), Fail> {
-    assert!(rt; stage(&rt, rt.alloc(), &EachLook)?);
+fn a_gate_is_called_at_each_look(rt: HostRuntime) -> Result<(), Fail> {
+    assert!(rt; furnish_and_run(&rt, rt.alloc(), &EachLook)?);
     Ok(())
 }
 
 /// The revision of a reply that lists the policies, which is checked to be the list at this
 /// revision.
-fn revision(rt: &impl Abort, reply: &Answer) -> u64 {
+fn revision(rt: &impl Abort, reply: &SharedReply) -> u64 {
     if is_reply(reply, 200, EMPTY) {
         0
     } else {
@@ -74,20 +74,20 @@ fn revision(rt: &impl Abort, reply: &Answer) -> u64 {
 }
 
 /// The revision at which a desk lists the policies now.
-fn revision_at<K: Naming>(rt: &impl Abort, desk: &mut Desk<K>) -> u64 {
-    revision(rt, &asked(rt, desk, POLICIES))
+fn revision_at<K: OpeningName>(rt: &impl Abort, desk: &mut Desk<K>) -> u64 {
+    revision(rt, &desk_reply(rt, desk, POLICIES))
 }
 
 /// Checks that a desk's revision doesn't go back.
-fn assert_goes_on<K: Naming>(rt: &impl Abort, desk: &mut Desk<K>) {
+fn assert_goes_on<K: OpeningName>(rt: &impl Abort, desk: &mut Desk<K>) {
     let before = revision_at(rt, desk);
     assert!(rt; before <= revision_at(rt, desk));
 }
 
 struct PublicationBetween;
 
-impl Scene for PublicationBetween {
-    fn play<K: Naming, R: Wait + Abort>(
+impl DeskTest for PublicationBetween {
+    fn run_test<K: OpeningName, R: Wait + Abort>(
         &self,
         rt: &R,
         _alloc: Global,
@@ -108,12 +108,12 @@ impl Scene for PublicationBetween {
 /// of which it has learnt.
 #[test]
 fn a_publication_between_looks(rt: HostRuntime) -> Result<(), Fail> {
-    assert!(rt; stage(&rt, rt.alloc(), &PublicationBetween)?);
+    assert!(rt; furnish_and_run(&rt, rt.alloc(), &PublicationBetween)?);
     Ok(())
 }
 
 /// A request whose target is no call's.
-const NOWHERE: &Exchange = &Exchange {
+const NOWHERE: &DeskExchange = &DeskExchange {
     at: 1000,
     token: "alfa",
     verb: Verb::Get,
@@ -124,8 +124,8 @@ const NOWHERE: &Exchange = &Exchange {
 
 struct WithoutALook;
 
-impl Scene for WithoutALook {
-    fn play<K: Naming, R: Wait + Abort>(
+impl DeskTest for WithoutALook {
+    fn run_test<K: OpeningName, R: Wait + Abort>(
         &self,
         rt: &R,
         _alloc: Global,
@@ -134,10 +134,10 @@ impl Scene for WithoutALook {
         _bravo: &mut Desk<K>,
     ) -> Result<bool, AllocError> {
         let nowhere = request(moment(rt, NOWHERE), NOWHERE);
-        let mut gate = Counting { looks: 0 };
+        let mut gate = CountingGate { looks: 0 };
         let reply = alfa.answer(&nowhere, &mut gate, &Plain);
         assert_refused(rt, &reply, 404, r#"{"error":"no_route"}"#);
-        gate.assert_counted(rt, 0);
+        gate.assert_looks(rt, 0);
         Ok(true)
     }
 }
@@ -145,6 +145,6 @@ impl Scene for WithoutALook {
 /// What the table of calls refuses needs no look at what is published.
 #[test]
 fn refuses_without_a_look(rt: HostRuntime) -> Result<(), Fail> {
-    assert!(rt; stage(&rt, rt.alloc(), &WithoutALook)?);
+    assert!(rt; furnish_and_run(&rt, rt.alloc(), &WithoutALook)?);
     Ok(())
 }

@@ -6,22 +6,22 @@ use mds_parallel::Chunked;
 use mds_verdict::Evaluator;
 
 /// Runs a test, a second time where the first ran out of memory.
-fn stage_at_last<S: Scene, R: Wait + Abort>(rt: &R, alloc: Global, scene: &S) -> Result<(), Fail>
+fn furnish_and_run_at_last<S: DeskTest, R: Wait + Abort>(rt: &R, alloc: Global, scene: &S) -> Result<(), Fail>
     requires { S.may_play }
 {
-    if !stage(rt, alloc, scene)? {
-        assert!(rt; stage(rt, alloc, scene)?);
+    if !furnish_and_run(rt, alloc, scene)? {
+        assert!(rt; furnish_and_run(rt, alloc, scene)?);
     }
     Ok(())
 }
 
 /// The room's reply to a request of the author, and its note; those of a second try where the first was refused out
 /// of memory, which gives no note.
-fn given_at_last<K: Naming, R: Wait + Abort>(
+fn room_turn_at_last<K: OpeningName, R: Wait + Abort>(
     rt: &R,
     room: &mut AuthorRoom<K>,
-    exchange: &Exchange,
-) -> (Answer, Option<Note<K>>) {
+    exchange: &DeskExchange,
+) -> (SharedReply, Option<Note<K>>) {
     let given = room_turn(rt, room, exchange);
     if given.0.status() != 503 {
         return given;
@@ -31,30 +31,30 @@ fn given_at_last<K: Naming, R: Wait + Abort>(
 }
 
 /// Checks that the room gives the exchange's reply, at the second try at the latest, and returns its note, if any.
-fn told<K: Naming, R: Wait + Abort>(
+fn room_answers_at_last<K: OpeningName, R: Wait + Abort>(
     rt: &R,
     room: &mut AuthorRoom<K>,
-    exchange: &Exchange,
+    exchange: &DeskExchange,
 ) -> Option<Note<K>> {
-    let (reply, note) = given_at_last(rt, room, exchange);
+    let (reply, note) = room_turn_at_last(rt, room, exchange);
     assert_success(rt, &reply, exchange);
     note
 }
 
 /// Puts both documents and publishes them, each at the second try at the latest.
-fn set_up_at_last<K: Naming, R: Wait + Abort>(rt: &R, room: &mut AuthorRoom<K>) -> Note<K> {
-    assert!(rt; told(rt, room, PUT_SQUARE).is_none());
-    assert!(rt; told(rt, room, PUT_CAP).is_none());
-    told(rt, room, PUBLISH).expect(rt, "a note")
+fn set_up_at_last<K: OpeningName, R: Wait + Abort>(rt: &R, room: &mut AuthorRoom<K>) -> Note<K> {
+    assert!(rt; room_answers_at_last(rt, room, PUT_SQUARE).is_none());
+    assert!(rt; room_answers_at_last(rt, room, PUT_CAP).is_none());
+    room_answers_at_last(rt, room, PUBLISH).expect(rt, "a note")
 }
 
 /// A desk's reply to a request; that of a second try where the first was refused out of memory.
-fn answer_at_last<K: Naming, E: Evaluator<Catalogue>>(
+fn answer_at_last<K: OpeningName, E: Evaluator<Catalogue>>(
     rt: &impl Abort,
     desk: &mut Desk<K>,
     request: &Request<'_>,
     evaluator: &E,
-) -> Answer
+) -> SharedReply
     requires { E.may_judge }
 {
     let reply = desk.answer(request, &mut OpenGate, evaluator);
@@ -66,10 +66,10 @@ fn answer_at_last<K: Naming, E: Evaluator<Catalogue>>(
 }
 
 /// Checks that a desk gives the exchange's reply, at the second try at the latest.
-fn assert_answers_at_last<K: Naming, E: Evaluator<Catalogue>>(
+fn assert_answers_at_last<K: OpeningName, E: Evaluator<Catalogue>>(
     rt: &impl Abort,
     desk: &mut Desk<K>,
-    exchange: &Exchange,
+    exchange: &DeskExchange,
     evaluator: &E,
 )
     requires { E.may_judge }
@@ -80,14 +80,14 @@ fn assert_answers_at_last<K: Naming, E: Evaluator<Catalogue>>(
 }
 
 #[derive(Clone, Copy)]
-struct Answering<'a, E> {
+struct AnswerTest<'a, E> {
     evaluator: &'a E,
 }
 
-impl<E: Evaluator<Catalogue>> Scene for Answering<'_, E> {
+impl<E: Evaluator<Catalogue>> DeskTest for AnswerTest<'_, E> {
     ghost may_play = { E.may_judge };
 
-    fn play<K: Naming, R: Wait + Abort>(
+    fn run_test<K: OpeningName, R: Wait + Abort>(
         &self,
         rt: &R,
         _alloc: Global,
@@ -110,19 +110,19 @@ impl<E: Evaluator<Catalogue>> Scene for Answering<'_, E> {
 
 /// Drafts, a publication, learning of it, reports and questions. Learning needs no memory.
 #[test]
-fn answers_or_wants_memory(rt: HostRuntime) -> Result<(), Fail> {
-    stage_at_last(&rt, rt.alloc(), &Answering { evaluator: &Plain })
+fn answers_or_runs_out_of_memory(rt: HostRuntime) -> Result<(), Fail> {
+    furnish_and_run_at_last(&rt, rt.alloc(), &AnswerTest { evaluator: &Plain })
 }
 
 /// The same, with evaluation by several threads.
 #[test]
-fn answers_by_threads_or_wants_memory(rt: HostRuntime) -> Result<(), Fail> {
+fn answers_by_threads_or_runs_out_of_memory(rt: HostRuntime) -> Result<(), Fail> {
     let evaluator = &Chunked(&rt);
-    stage_at_last(&rt, rt.alloc(), &Answering { evaluator })
+    furnish_and_run_at_last(&rt, rt.alloc(), &AnswerTest { evaluator })
 }
 
 /// The requests of four exchanges.
-fn four_requests<'a>(rt: &impl Abort, exchanges: &'a [&'a Exchange; 4]) -> [Request<'a>; 4] {
+fn four_requests<'a>(rt: &impl Abort, exchanges: &'a [&'a DeskExchange; 4]) -> [Request<'a>; 4] {
     let [first, second, third, fourth] = exchanges;
     [
         request(moment(rt, first), first),
@@ -133,7 +133,7 @@ fn four_requests<'a>(rt: &impl Abort, exchanges: &'a [&'a Exchange; 4]) -> [Requ
 }
 
 /// Whether all replies are successes; else one is 503 `no_memory`. Those before it are the exchanges' replies.
-fn are_successes(rt: &impl Abort, replies: &[Answer], exchanges: &[&Exchange]) -> bool {
+fn are_successes(rt: &impl Abort, replies: &[SharedReply], exchanges: &[&DeskExchange]) -> bool {
     assert!(rt; replies.len() == exchanges.len());
     for (reply, exchange) in replies.iter().zip(exchanges) {
         if reply.status() == 503 {
@@ -146,11 +146,11 @@ fn are_successes(rt: &impl Abort, replies: &[Answer], exchanges: &[&Exchange]) -
 }
 
 /// A desk's replies to a run of requests; those of a second call where the first ran out of memory.
-fn run_at_last<K: Naming, E: Evaluator<Catalogue>>(
+fn run_at_last<K: OpeningName, E: Evaluator<Catalogue>>(
     desk: &mut Desk<K>,
     requests: &[Request<'_>],
     evaluator: &E,
-) -> Result<Vec<Answer>, AllocError>
+) -> Result<Vec<SharedReply>, AllocError>
     requires { E.may_judge }
 {
     match desk.run(requests, &mut OpenGate, evaluator) {
@@ -160,14 +160,14 @@ fn run_at_last<K: Naming, E: Evaluator<Catalogue>>(
 }
 
 #[derive(Clone, Copy)]
-struct Running<'a, E> {
+struct RunTest<'a, E> {
     evaluator: &'a E,
 }
 
-impl<E: Evaluator<Catalogue>> Scene for Running<'_, E> {
+impl<E: Evaluator<Catalogue>> DeskTest for RunTest<'_, E> {
     ghost may_play = { E.may_judge };
 
-    fn play<K: Naming, R: Wait + Abort>(
+    fn run_test<K: OpeningName, R: Wait + Abort>(
         &self,
         rt: &R,
         _alloc: Global,
@@ -187,13 +187,13 @@ impl<E: Evaluator<Catalogue>> Scene for Running<'_, E> {
 /// All of an operator's requests in one call. Where the call runs out of memory, a second one answers them all; where
 /// one reply is 503 `no_memory`, those before it are as they should be.
 #[test]
-fn runs_or_wants_memory(rt: HostRuntime) -> Result<(), Fail> {
-    stage_at_last(&rt, rt.alloc(), &Running { evaluator: &Plain })
+fn a_run_ends_or_runs_out_of_memory(rt: HostRuntime) -> Result<(), Fail> {
+    furnish_and_run_at_last(&rt, rt.alloc(), &RunTest { evaluator: &Plain })
 }
 
 /// The same, with evaluation by several threads.
 #[test]
-fn runs_by_threads_or_wants_memory(rt: HostRuntime) -> Result<(), Fail> {
+fn a_run_by_threads_ends_or_runs_out_of_memory(rt: HostRuntime) -> Result<(), Fail> {
     let evaluator = &Chunked(&rt);
-    stage_at_last(&rt, rt.alloc(), &Running { evaluator })
+    furnish_and_run_at_last(&rt, rt.alloc(), &RunTest { evaluator })
 }

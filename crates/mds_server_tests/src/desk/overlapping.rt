@@ -28,14 +28,14 @@ impl Signals {
 }
 
 /// A job for a thread of its own.
-trait Errand {
+trait DeskJob {
     type Outcome;
 
     fn run(self) -> Self::Outcome;
 }
 
 /// Runs a job in a thread of its own, and something else concurrently.
-fn beside<R: Threads, E: Errand<Outcome = A> + Send + Drop, A: Send, B, F: FnOnce() -> B>(
+fn run_concurrently<R: Threads, E: DeskJob<Outcome = A> + Send + Drop, A: Send, B, F: FnOnce() -> B>(
     rt: &R,
     errand: E,
     meanwhile: F,
@@ -47,12 +47,12 @@ fn beside<R: Threads, E: Errand<Outcome = A> + Send + Drop, A: Send, B, F: FnOnc
 
 /// A gate that holds a look until the other desk has answered, and notes whether that was in time.
 #[derive(Drop)]
-struct Holding<'a> {
+struct HeldLookGate<'a> {
     signals: &'a Signals,
     in_time: bool,
 }
 
-impl Gate for Holding<'_> {
+impl Gate for HeldLookGate<'_> {
     fn held(&mut self) {
         self.signals.looked.store(true, Ordering::SeqCst);
         self.in_time = is_set_in_time(&self.signals.answered);
@@ -61,19 +61,19 @@ impl Gate for Holding<'_> {
 
 /// A desk whose look is held until another desk has answered.
 #[derive(Drop)]
-struct HeldDesk<'a, K: Naming> {
+struct HeldDesk<'a, K: OpeningName> {
     desk: &'a mut Desk<K>,
     signals: &'a Signals,
 }
 
-impl<K: Naming> Errand for HeldDesk<'_, K> {
-    type Outcome = Option<Answer>;
+impl<K: OpeningName> DeskJob for HeldDesk<'_, K> {
+    type Outcome = Option<SharedReply>;
 
     /// The reply, where the other desk answered while this one's look was held.
-    fn run(self) -> Option<Answer> {
+    fn run(self) -> Option<SharedReply> {
         let exchange = NONE_FOR_ALFA;
         let request = request(Moment::new(exchange.at)?, exchange);
-        let mut gate = Holding {
+        let mut gate = HeldLookGate {
             signals: self.signals,
             in_time: false,
         };
@@ -84,7 +84,7 @@ impl<K: Naming> Errand for HeldDesk<'_, K> {
 
 /// The reply to a question that comes once the other desk's look is held; `None` where that isn't
 /// in time.
-fn answered_meanwhile<K: Naming>(desk: &mut Desk<K>, signals: &Signals) -> Option<Answer> {
+fn answer_meanwhile<K: OpeningName>(desk: &mut Desk<K>, signals: &Signals) -> Option<SharedReply> {
     if !is_set_in_time(&signals.looked) {
         return None;
     }
@@ -96,7 +96,7 @@ fn answered_meanwhile<K: Naming>(desk: &mut Desk<K>, signals: &Signals) -> Optio
 }
 
 /// Puts both documents and publishes them, and has both desks learn of it.
-fn set_up_for_both<K: Naming, R: Wait + Abort>(
+fn set_up_for_both<K: OpeningName, R: Wait + Abort>(
     rt: &R,
     room: &mut AuthorRoom<K>,
     alfa: &mut Desk<K>,
@@ -107,7 +107,7 @@ fn set_up_for_both<K: Naming, R: Wait + Abort>(
     bravo.learn(&note);
 }
 
-fn two_desks<K: Naming + Send + Sync, R: Threads + Wait + Abort>(
+fn two_desks<K: OpeningName + Send + Sync, R: Threads + Wait + Abort>(
     rt: &R,
     room: &mut AuthorRoom<K>,
     alfa: &mut Desk<K>,
@@ -119,18 +119,18 @@ fn two_desks<K: Naming + Send + Sync, R: Threads + Wait + Abort>(
         desk: alfa,
         signals: &signals,
     };
-    let (first, second) = beside(rt, held, || answered_meanwhile(bravo, &signals));
+    let (first, second) = run_concurrently(rt, held, || answer_meanwhile(bravo, &signals));
     assert_success(rt, &first.expect(rt, "alfa in time"), NONE_FOR_ALFA);
     assert_success(rt, &second.expect(rt, "bravo in time"), NONE_FOR_BRAVO);
 }
 
 /// A gate that lets the author publish at its first call.
 #[derive(Drop)]
-struct Starting<'a> {
+struct StartingGate<'a> {
     signals: &'a Signals,
 }
 
-impl Gate for Starting<'_> {
+impl Gate for StartingGate<'_> {
     fn held(&mut self) {
         self.signals.looked.store(true, Ordering::SeqCst);
     }
@@ -138,12 +138,12 @@ impl Gate for Starting<'_> {
 
 /// A desk that answers three requests while the author publishes.
 #[derive(Drop)]
-struct RunningDesk<'a, K: Naming> {
+struct RunningDesk<'a, K: OpeningName> {
     desk: &'a mut Desk<K>,
     signals: &'a Signals,
 }
 
-impl<K: Naming> Errand for RunningDesk<'_, K> {
+impl<K: OpeningName> DeskJob for RunningDesk<'_, K> {
     type Outcome = Option<[u64; 3]>;
 
     /// The revisions of the replies, each of which has to list the policies at its revision.
@@ -154,7 +154,7 @@ impl<K: Naming> Errand for RunningDesk<'_, K> {
             request(moment, POLICIES),
             request(moment, POLICIES),
         ];
-        let mut gate = Starting {
+        let mut gate = StartingGate {
             signals: self.signals,
         };
         let replies = self.desk.run(&requests, &mut gate, &Plain).ok()?;
@@ -163,15 +163,15 @@ impl<K: Naming> Errand for RunningDesk<'_, K> {
 }
 
 /// The revisions of three replies, each of which has to list the policies at its revision.
-fn revisions(replies: &[Answer]) -> Option<[u64; 3]> {
+fn revisions(replies: &[SharedReply]) -> Option<[u64; 3]> {
     match replies {
-        [first, second, third] => Some([listed(first)?, listed(second)?, listed(third)?]),
+        [first, second, third] => Some([listed_revision(first)?, listed_revision(second)?, listed_revision(third)?]),
         _ => None,
     }
 }
 
 /// The revision of a reply that lists the policies at this revision; `None` of another reply.
-fn listed(reply: &Answer) -> Option<u64> {
+fn listed_revision(reply: &SharedReply) -> Option<u64> {
     match reply.body() {
         _ if reply.status() != 200 => None,
         body if body == EMPTY.as_bytes() => Some(0),
@@ -181,11 +181,11 @@ fn listed(reply: &Answer) -> Option<u64> {
 }
 
 /// Publishes once the desk has taken its first look.
-fn published_meanwhile<K: Naming, R: Wait>(
+fn publish_meanwhile<K: OpeningName, R: Wait>(
     rt: &R,
     room: &mut AuthorRoom<K>,
     signals: &Signals,
-) -> Option<(Answer, Note<K>)> {
+) -> Option<(SharedReply, Note<K>)> {
     if !is_set_in_time(&signals.looked) {
         return None;
     }
@@ -194,17 +194,17 @@ fn published_meanwhile<K: Naming, R: Wait>(
 }
 
 /// The revisions of a run, while the author publishes in this thread.
-fn published_beside<K: Naming + Send + Sync, R: Threads + Wait>(
+fn run_and_publish<K: OpeningName + Send + Sync, R: Threads + Wait>(
     rt: &R,
     room: &mut AuthorRoom<K>,
     desk: &mut Desk<K>,
-) -> (Option<[u64; 3]>, Option<(Answer, Note<K>)>) {
+) -> (Option<[u64; 3]>, Option<(SharedReply, Note<K>)>) {
     let signals = Signals::new();
     let running = RunningDesk {
         desk,
         signals: &signals,
     };
-    beside(rt, running, || published_meanwhile(rt, room, &signals))
+    run_concurrently(rt, running, || publish_meanwhile(rt, room, &signals))
 }
 
 /// Checks that the first reply lists nothing, and that the revisions don't go back.
@@ -214,13 +214,13 @@ fn assert_rise(rt: &impl Abort, revisions: [u64; 3]) {
     assert!(rt; second <= third);
 }
 
-fn publication_between<K: Naming + Send + Sync, R: Threads + Wait + Abort>(
+fn publication_between<K: OpeningName + Send + Sync, R: Threads + Wait + Abort>(
     rt: &R,
     room: &mut AuthorRoom<K>,
     alfa: &mut Desk<K>,
 ) {
     draft(rt, room);
-    let (revisions, published) = published_beside(rt, room, alfa);
+    let (revisions, published) = run_and_publish(rt, room, alfa);
     assert_rise(rt, revisions.expect(rt, "three replies"));
     let (reply, note) = published.expect(rt, "a publication in time");
     assert_success(rt, &reply, PUBLISH);
@@ -236,7 +236,7 @@ enum Overlap {
 }
 
 /// Runs it on a room and desks that are furnished for the configuration.
-fn overlapped<K: Naming + Send + Sync, R: Threads + Wait + Abort>(
+fn run_overlap<K: OpeningName + Send + Sync, R: Threads + Wait + Abort>(
     rt: &R,
     alloc: Global,
     config: Config,
@@ -258,20 +258,20 @@ fn overlapped<K: Naming + Send + Sync, R: Threads + Wait + Abort>(
 }
 
 /// Prepares a blank, and runs it on what is furnished with that.
-fn staged<R: Threads + Wait + Abort>(rt: &R, alloc: Global, overlap: Overlap) -> Result<(), Fail> {
+fn prepare_and_run<R: Threads + Wait + Abort>(rt: &R, alloc: Global, overlap: Overlap) -> Result<(), Fail> {
     let config = Config::read(alloc, CONFIGURATION)?;
     let blank = prepare(alloc)?;
-    overlapped::<Brand, R>(rt, alloc, config, blank, overlap)
+    run_overlap::<Brand, R>(rt, alloc, config, blank, overlap)
 }
 
 /// One desk answers while another's look is held.
 #[test]
-fn answers_beside_a_held_look(rt: HostRuntime) -> Result<(), Fail> {
-    staged(&rt, rt.alloc(), Overlap::TwoDesks)
+fn answers_during_a_held_look(rt: HostRuntime) -> Result<(), Fail> {
+    prepare_and_run(&rt, rt.alloc(), Overlap::TwoDesks)
 }
 
 /// The author publishes while a desk answers a run of requests.
 #[test]
 fn a_publication_between_the_looks_of_a_run(rt: HostRuntime) -> Result<(), Fail> {
-    staged(&rt, rt.alloc(), Overlap::PublicationBetweenLooks)
+    prepare_and_run(&rt, rt.alloc(), Overlap::PublicationBetweenLooks)
 }

@@ -1,11 +1,11 @@
 //! Worked scripts, one request after another.
 use super::*;
-use crate::counting::Counting;
+use crate::counting::CountingEvaluator;
 
 const TOKEN: &str = r#"{"error":"token"}"#;
 
 /// The other operator asks long afterwards, and has no vehicle of its own.
-const FAR: &Exchange = &Exchange {
+const FAR: &DeskExchange = &DeskExchange {
     at: 4000000000000,
     token: "bravo",
     verb: Verb::Get,
@@ -14,7 +14,7 @@ const FAR: &Exchange = &Exchange {
     success: r#"{"at":4000000000000,"policies":[{"policy_id":"00000000-0000-4000-8000-000000000201","rules":[{"measure":0,"rule_id":"00000000-0000-4000-8000-000000000301","status":"ok"}]}],"revision":1,"version":2}"#,
 };
 
-const TOO_EARLY: &Exchange = &Exchange {
+const TOO_EARLY: &DeskExchange = &DeskExchange {
     at: 999,
     token: "alfa",
     verb: Verb::Get,
@@ -25,8 +25,8 @@ const TOO_EARLY: &Exchange = &Exchange {
 
 struct AnotherToken;
 
-impl Scene for AnotherToken {
-    fn play<K: Naming, R: Wait + Abort>(
+impl DeskTest for AnotherToken {
+    fn run_test<K: OpeningName, R: Wait + Abort>(
         &self,
         rt: &R,
         _alloc: Global,
@@ -34,7 +34,7 @@ impl Scene for AnotherToken {
         alfa: &mut Desk<K>,
         _bravo: &mut Desk<K>,
     ) -> Result<bool, AllocError> {
-        assert_refused(rt, &asked(rt, alfa, NOTHING_FOR_BRAVO), 401, TOKEN);
+        assert_refused(rt, &desk_reply(rt, alfa, NOTHING_FOR_BRAVO), 401, TOKEN);
         assert_unnoted(rt, &room_turn(rt, room, NOTHING_FOR_ALFA), 401, TOKEN);
         assert_answers(rt, alfa, NOTHING_FOR_ALFA);
         Ok(true)
@@ -43,14 +43,14 @@ impl Scene for AnotherToken {
 
 #[test]
 fn another_token_is_refused(rt: HostRuntime) -> Result<(), Fail> {
-    assert!(rt; stage(&rt, rt.alloc(), &AnotherToken)?);
+    assert!(rt; furnish_and_run(&rt, rt.alloc(), &AnotherToken)?);
     Ok(())
 }
 
 struct FirstSession;
 
-impl Scene for FirstSession {
-    fn play<K: Naming, R: Wait + Abort>(
+impl DeskTest for FirstSession {
+    fn run_test<K: OpeningName, R: Wait + Abort>(
         &self,
         rt: &R,
         _alloc: Global,
@@ -66,14 +66,14 @@ impl Scene for FirstSession {
 
 #[test]
 fn answers_a_first_session(rt: HostRuntime) -> Result<(), Fail> {
-    assert!(rt; stage(&rt, rt.alloc(), &FirstSession)?);
+    assert!(rt; furnish_and_run(&rt, rt.alloc(), &FirstSession)?);
     Ok(())
 }
 
 struct MomentsGoBack;
 
-impl Scene for MomentsGoBack {
-    fn play<K: Naming, R: Wait + Abort>(
+impl DeskTest for MomentsGoBack {
+    fn run_test<K: OpeningName, R: Wait + Abort>(
         &self,
         rt: &R,
         _alloc: Global,
@@ -96,16 +96,16 @@ impl Scene for MomentsGoBack {
 /// one's.
 #[test]
 fn counts_its_own_vehicles_at_any_moment(rt: HostRuntime) -> Result<(), Fail> {
-    assert!(rt; stage(&rt, rt.alloc(), &MomentsGoBack)?);
+    assert!(rt; furnish_and_run(&rt, rt.alloc(), &MomentsGoBack)?);
     Ok(())
 }
 
-const SERVED: &[&Exchange; 2] = &[GEOGRAPHIES, POLICY];
+const SERVED: &[&DeskExchange; 2] = &[GEOGRAPHIES, POLICY];
 
-struct Served;
+struct ServedDocuments;
 
-impl Scene for Served {
-    fn play<K: Naming, R: Wait + Abort>(
+impl DeskTest for ServedDocuments {
+    fn run_test<K: OpeningName, R: Wait + Abort>(
         &self,
         rt: &R,
         _alloc: Global,
@@ -123,14 +123,14 @@ impl Scene for Served {
 
 #[test]
 fn serves_what_it_learnt(rt: HostRuntime) -> Result<(), Fail> {
-    assert!(rt; stage(&rt, rt.alloc(), &Served)?);
+    assert!(rt; furnish_and_run(&rt, rt.alloc(), &ServedDocuments)?);
     Ok(())
 }
 
-struct Judged;
+struct GivenEvaluator;
 
-impl Scene for Judged {
-    fn play<K: Naming, R: Wait + Abort>(
+impl DeskTest for GivenEvaluator {
+    fn run_test<K: OpeningName, R: Wait + Abort>(
         &self,
         rt: &R,
         _alloc: Global,
@@ -139,7 +139,7 @@ impl Scene for Judged {
         _bravo: &mut Desk<K>,
     ) -> Result<bool, AllocError> {
         set_up_for(rt, room, alfa);
-        let counting = Counting::new();
+        let counting = CountingEvaluator::new();
         let question = request(moment(rt, NONE_FOR_ALFA), NONE_FOR_ALFA);
         let reply = alfa.answer(&question, &mut OpenGate, &counting);
         assert_success(rt, &reply, NONE_FOR_ALFA);
@@ -150,7 +150,7 @@ impl Scene for Judged {
 
 /// A desk evaluates by the evaluator that it is given, and by no other.
 #[test]
-fn judges_by_its_evaluator(rt: HostRuntime) -> Result<(), Fail> {
-    assert!(rt; stage(&rt, rt.alloc(), &Judged)?);
+fn evaluates_by_the_given_evaluator(rt: HostRuntime) -> Result<(), Fail> {
+    assert!(rt; furnish_and_run(&rt, rt.alloc(), &GivenEvaluator)?);
     Ok(())
 }

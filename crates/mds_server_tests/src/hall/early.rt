@@ -2,22 +2,22 @@
 use super::*;
 use mds_request::{Actor, MOST_BODY};
 
-const TOO_LARGE: &Answer = &Answer {
+const TOO_LARGE: &ExpectedAnswer = &ExpectedAnswer {
     status: 413,
     body: r#"{"error":"too_large"}"#,
 };
 
-const BAD_BODY: &Answer = &Answer {
+const BAD_BODY: &ExpectedAnswer = &ExpectedAnswer {
     status: 400,
     body: r#"{"error":"bad_body"}"#,
 };
 
-const CLOCK: &Answer = &Answer {
+const CLOCK: &ExpectedAnswer = &ExpectedAnswer {
     status: 503,
     body: r#"{"error":"clock"}"#,
 };
 
-const NO_MEMORY: &Answer = &Answer {
+const NO_MEMORY: &ExpectedAnswer = &ExpectedAnswer {
     status: 503,
     body: r#"{"error":"no_memory"}"#,
 };
@@ -27,21 +27,21 @@ const NOWHERE: &str = "/nowhere";
 const NOBODY: &str = "Bearer nobody";
 
 /// Whether alfa's question with this body has this answer.
-fn tells_alfa<K: Named, R: Host + Sync>(
+fn answers_alfa<K: HallName, R: HallRuntime + Sync>(
     rt: &R,
     alloc: Global,
     hall: &Hall<K>,
     arrived: Arrived,
     at: Option<Moment>,
-    answer: &Answer,
+    answer: &ExpectedAnswer,
 ) -> bool {
     let parts = parts(alloc, Method::GET, COMPLIANCE, Some(ALFA));
     gives(rt, hall, parts, arrived, at, answer)
 }
 
-pub(super) fn each_arrival<K: Named, R: Host + Sync>(rt: &R, alloc: Global, hall: &Hall<K>) {
+pub(super) fn each_arrival<K: HallName, R: HallRuntime + Sync>(rt: &R, alloc: Global, hall: &Hall<K>) {
     assert!(rt;
-        tells_alfa(
+        answers_alfa(
             rt,
             alloc,
             hall,
@@ -50,9 +50,9 @@ pub(super) fn each_arrival<K: Named, R: Host + Sync>(rt: &R, alloc: Global, hall
             BAD_BODY
         )
     );
-    assert!(rt; tells_alfa(rt, alloc, hall, Arrived::Broken, None, CLOCK));
+    assert!(rt; answers_alfa(rt, alloc, hall, Arrived::Broken, None, CLOCK));
     assert!(rt;
-        tells_alfa(
+        answers_alfa(
             rt,
             alloc,
             hall,
@@ -62,7 +62,7 @@ pub(super) fn each_arrival<K: Named, R: Host + Sync>(rt: &R, alloc: Global, hall
         )
     );
     assert!(rt;
-        tells_alfa(
+        answers_alfa(
             rt,
             alloc,
             hall,
@@ -75,7 +75,7 @@ pub(super) fn each_arrival<K: Named, R: Host + Sync>(rt: &R, alloc: Global, hall
 
 #[test]
 fn each_arrival_has_its_answer(rt: HostRuntime) -> Result<(), Fail> {
-    visited(&rt, Visit::EachArrival)
+    run_hall_test(&rt, HallTest::EachArrival)
 }
 
 /// A body of so many spaces.
@@ -85,12 +85,12 @@ fn spaces(alloc: Global, length: usize) -> Result<Arrived, AllocError> {
 }
 
 /// Whether an anonymous request with a body of so many spaces has this answer.
-fn tells_nobody<K: Named, R: Host + Sync>(
+fn answers_nobody<K: HallName, R: HallRuntime + Sync>(
     rt: &R,
     alloc: Global,
     hall: &Hall<K>,
     length: usize,
-    answer: &Answer,
+    answer: &ExpectedAnswer,
 ) -> bool {
     let Ok(spaces) = spaces(alloc, length) else {
         return false;
@@ -99,23 +99,23 @@ fn tells_nobody<K: Named, R: Host + Sync>(
     gives(rt, hall, parts, spaces, Moment::new(2000), answer)
 }
 
-pub(super) fn large_and_unknown<K: Named, R: Host + Sync>(rt: &R, alloc: Global, hall: &Hall<K>) {
-    assert!(rt; tells_nobody(rt, alloc, hall, MOST_BODY, TOKEN));
-    assert!(rt; tells_nobody(rt, alloc, hall, MOST_BODY + 1, TOO_LARGE));
+pub(super) fn large_and_unknown<K: HallName, R: HallRuntime + Sync>(rt: &R, alloc: Global, hall: &Hall<K>) {
+    assert!(rt; answers_nobody(rt, alloc, hall, MOST_BODY, TOKEN));
+    assert!(rt; answers_nobody(rt, alloc, hall, MOST_BODY + 1, TOO_LARGE));
 }
 
 #[test]
 fn a_large_body_comes_before_the_token(rt: HostRuntime) -> Result<(), Fail> {
-    visited(&rt, Visit::LargeAndUnknown)
+    run_hall_test(&rt, HallTest::LargeAndUnknown)
 }
 
-const NO_ROUTE: &Answer = &Answer {
+const NO_ROUTE: &ExpectedAnswer = &ExpectedAnswer {
     status: 404,
     body: r#"{"error":"no_route"}"#,
 };
 
 /// Whether a request for a path of no call, with these credentials, is refused with `no_route`.
-fn finds_nowhere<K: Named, R: Host + Sync>(
+fn finds_nowhere<K: HallName, R: HallRuntime + Sync>(
     rt: &R,
     alloc: Global,
     hall: &Hall<K>,
@@ -126,7 +126,7 @@ fn finds_nowhere<K: Named, R: Host + Sync>(
 }
 
 /// Checks refusals while the locks of alfa's desk and of the author's room are held.
-pub(super) fn refused_beside_locks<K: Named, R: Host + Sync>(
+pub(super) fn refusals_under_locks<K: HallName, R: HallRuntime + Sync>(
     rt: &R,
     alloc: Global,
     hall: &Hall<K>,
@@ -145,5 +145,5 @@ pub(super) fn refused_beside_locks<K: Named, R: Host + Sync>(
 
 #[test]
 fn refuses_without_a_lock(rt: HostRuntime) -> Result<(), Fail> {
-    visited(&rt, Visit::RefusedBesideLocks)
+    run_hall_test(&rt, HallTest::RefusedBesideLocks)
 }

@@ -8,12 +8,12 @@ use std::sync::atomic::{AtomicBool, Ordering};
 use std::thread::join;
 
 /// The author's draft of a policy that supersedes the other.
-const DRAFT_OF_NEXT: &Exchange = &Exchange {
+const DRAFT_OF_NEXT: &HallExchange = &HallExchange {
     at: 2000,
     credentials: Some(CITY),
     target: "/drafts/policies/00000000-0000-4000-8000-000000000202",
     body: r#"{"policy_id":"00000000-0000-4000-8000-000000000202","name":"next","start_date":86401000,"prev_policies":["00000000-0000-4000-8000-000000000201"],"rules":[{"rule_id":"00000000-0000-4000-8000-000000000302","name":"cap","rule_type":"count","geographies":["00000000-0000-4000-8000-000000000101"],"maximum":1}]}"#,
-    answer: TAKEN,
+    answer: NEW_RESULT,
 };
 
 /// Flags between the threads: that the question is held, and that the others have their answers.
@@ -25,12 +25,12 @@ struct Signals {
 
 /// A gate that holds a question until the others have their answers, and notes whether that was in time.
 #[derive(Drop)]
-struct Holding<'a> {
+struct HeldQuestionGate<'a> {
     signals: &'a Signals,
     in_time: bool,
 }
 
-impl Gate for Holding<'_> {
+impl Gate for HeldQuestionGate<'_> {
     fn held(&mut self) {
         self.signals.held.store(true, Ordering::SeqCst);
         self.in_time = is_set_in_time(&self.signals.answered);
@@ -38,13 +38,13 @@ impl Gate for Holding<'_> {
 }
 
 /// A job for a thread of its own.
-trait Errand {
+trait HallJob {
     /// Runs the job, and returns whether it went as it should.
     fn run(self) -> bool;
 }
 
 /// Runs a job in a thread of its own, and something else concurrently. Returns the results of both.
-fn beside<R: Threads, E: Errand + Send + Drop, F: FnOnce() -> bool>(
+fn run_concurrently<R: Threads, E: HallJob + Send + Drop, F: FnOnce() -> bool>(
     rt: &R,
     errand: E,
     meanwhile: F,
@@ -56,20 +56,20 @@ fn beside<R: Threads, E: Errand + Send + Drop, F: FnOnce() -> bool>(
 
 /// Alfa's question, held until the others have their answers.
 #[derive(Drop)]
-struct HeldQuestion<'a, K: Named, R> {
+struct HeldQuestion<'a, K: HallName, R> {
     rt: &'a R,
     alloc: Global,
     hall: &'a Hall<K>,
     signals: &'a Signals,
 }
 
-impl<K: Named, R: Host> Errand for HeldQuestion<'_, K, R> {
+impl<K: HallName, R: HallRuntime> HallJob for HeldQuestion<'_, K, R> {
     /// Whether the question has its answer, and the others had theirs in time while it was held.
     fn run(self) -> bool {
         let Some(asked) = parts(self.alloc, Method::GET, COMPLIANCE, Some(ALFA)) else {
             return false;
         };
-        let mut gate = Holding {
+        let mut gate = HeldQuestionGate {
             signals: self.signals,
             in_time: false,
         };
@@ -84,7 +84,7 @@ impl<K: Named, R: Host> Errand for HeldQuestion<'_, K, R> {
 }
 
 /// Whether bravo's question and then the author's draft are answered while alfa's question is held.
-fn are_answered<K: Named, R: Host + Sync>(
+fn are_answered<K: HallName, R: HallRuntime + Sync>(
     rt: &R,
     alloc: Global,
     hall: &Hall<K>,
@@ -93,13 +93,13 @@ fn are_answered<K: Named, R: Host + Sync>(
     if !is_set_in_time(&signals.held) {
         return false;
     }
-    let all = answers(rt, alloc, hall, Method::GET, ASKED_BY_BRAVO)
+    let all = answers(rt, alloc, hall, Method::GET, QUESTION_OF_BRAVO)
         && answers(rt, alloc, hall, Method::PUT, DRAFT_OF_NEXT);
     signals.answered.store(all, Ordering::SeqCst);
     all
 }
 
-pub(super) fn beside_a_held_question<K: Named + Send + Sync, R: Host + Sync>(
+pub(super) fn during_a_held_question<K: HallName + Send + Sync, R: HallRuntime + Sync>(
     rt: &R,
     alloc: Global,
     hall: &Hall<K>,
@@ -115,12 +115,12 @@ pub(super) fn beside_a_held_question<K: Named + Send + Sync, R: Host + Sync>(
         hall,
         signals: &signals,
     };
-    let (held, answered) = beside(rt, question, || are_answered(rt, alloc, hall, &signals));
+    let (held, answered) = run_concurrently(rt, question, || are_answered(rt, alloc, hall, &signals));
     assert!(rt; answered);
     assert!(rt; held);
 }
 
 #[test]
-fn others_are_answered_beside_a_held_question(rt: HostRuntime) -> Result<(), Fail> {
-    visited(&rt, Visit::BesideAHeldQuestion)
+fn others_are_answered_during_a_held_question(rt: HostRuntime) -> Result<(), Fail> {
+    run_hall_test(&rt, HallTest::BesideAHeldQuestion)
 }

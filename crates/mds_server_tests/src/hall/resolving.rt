@@ -7,7 +7,7 @@ use mds_verdict::Plain;
 
 /// A head, its client, what its answer takes of the client's queue where there is no body, and the answer's status
 /// then.
-struct Head {
+struct HeadCase {
     verb: Verb,
     target: &'static str,
     credentials: Option<&'static str>,
@@ -21,8 +21,8 @@ const POLICIES: &str = "/policies";
 const EVENTS: &str = "/fleet/events";
 
 /// Calls of the author and of both operators.
-const CALLS: &[Head] = &[
-    Head {
+const CALLS: &[HeadCase] = &[
+    HeadCase {
         verb: Verb::Get,
         target: POLICIES,
         credentials: Some(CITY),
@@ -30,7 +30,7 @@ const CALLS: &[Head] = &[
         cost: Cost::Shared,
         status: 200,
     },
-    Head {
+    HeadCase {
         verb: Verb::Get,
         target: "/drafts/policies/00000000-0000-4000-8000-000000000201",
         credentials: Some(CITY),
@@ -38,7 +38,7 @@ const CALLS: &[Head] = &[
         cost: Cost::Exclusive,
         status: 404,
     },
-    Head {
+    HeadCase {
         verb: Verb::Get,
         target: POLICIES,
         credentials: Some(ALFA),
@@ -46,7 +46,7 @@ const CALLS: &[Head] = &[
         cost: Cost::Shared,
         status: 200,
     },
-    Head {
+    HeadCase {
         verb: Verb::Get,
         target: "/fleet/vehicles",
         credentials: Some(BRAVO),
@@ -54,7 +54,7 @@ const CALLS: &[Head] = &[
         cost: Cost::Exclusive,
         status: 200,
     },
-    Head {
+    HeadCase {
         verb: Verb::Post,
         target: EVENTS,
         credentials: Some(BRAVO),
@@ -66,8 +66,8 @@ const CALLS: &[Head] = &[
 
 /// Heads that the table of calls refuses: twice for the access token, for the path, for the method, twice for the
 /// role, and for the identifier.
-const REFUSALS: &[Head] = &[
-    Head {
+const REFUSALS: &[HeadCase] = &[
+    HeadCase {
         verb: Verb::Get,
         target: POLICIES,
         credentials: None,
@@ -75,7 +75,7 @@ const REFUSALS: &[Head] = &[
         cost: Cost::Free,
         status: 401,
     },
-    Head {
+    HeadCase {
         verb: Verb::Put,
         target: "/nowhere",
         credentials: Some("Bearer nobody"),
@@ -83,7 +83,7 @@ const REFUSALS: &[Head] = &[
         cost: Cost::Free,
         status: 401,
     },
-    Head {
+    HeadCase {
         verb: Verb::Get,
         target: "/nowhere",
         credentials: Some(BRAVO),
@@ -91,7 +91,7 @@ const REFUSALS: &[Head] = &[
         cost: Cost::Free,
         status: 404,
     },
-    Head {
+    HeadCase {
         verb: Verb::Post,
         target: POLICIES,
         credentials: Some(CITY),
@@ -99,7 +99,7 @@ const REFUSALS: &[Head] = &[
         cost: Cost::Free,
         status: 405,
     },
-    Head {
+    HeadCase {
         verb: Verb::Get,
         target: COMPLIANCE,
         credentials: Some(CITY),
@@ -107,7 +107,7 @@ const REFUSALS: &[Head] = &[
         cost: Cost::Free,
         status: 403,
     },
-    Head {
+    HeadCase {
         verb: Verb::Post,
         target: "/publish",
         credentials: Some(ALFA),
@@ -115,7 +115,7 @@ const REFUSALS: &[Head] = &[
         cost: Cost::Free,
         status: 403,
     },
-    Head {
+    HeadCase {
         verb: Verb::Get,
         target: "/policies/first",
         credentials: Some(ALFA),
@@ -137,13 +137,13 @@ fn method(verb: Verb) -> Method {
 }
 
 /// What a head is resolved to.
-fn resolved<K: Named>(alloc: Global, hall: &Hall<K>, head: &Head) -> Option<ResolvedCall<K>> {
+fn resolve_case<K: HallName>(alloc: Global, hall: &Hall<K>, head: &HeadCase) -> Option<ResolvedCall<K>> {
     let parts = parts(alloc, method(head.verb), head.target, head.credentials)?;
     Some(hall.resolve(parts))
 }
 
 /// The status of the answer to a head without a body, at 2000.
-fn status<K: Named, R: Host>(
+fn status<K: HallName, R: HallRuntime>(
     rt: &R,
     alloc: Global,
     hall: &Hall<K>,
@@ -162,10 +162,10 @@ fn status<K: Named, R: Host>(
 }
 
 /// Checks the client of each head, what its answer takes of the queue, and the answer's status.
-pub(super) fn each_head<K: Named, R: Host>(rt: &R, alloc: Global, hall: &Hall<K>) {
+pub(super) fn each_head<K: HallName, R: HallRuntime>(rt: &R, alloc: Global, hall: &Hall<K>) {
     for heads in [CALLS, REFUSALS] {
         for head in heads {
-            let call = resolved(alloc, hall, head).expect(rt, "a head");
+            let call = resolve_case(alloc, hall, head).expect(rt, "a head");
             assert!(rt; call.actor() == head.actor, "{}", head.target);
             assert!(rt; call.cost(0) == head.cost, "{}", head.target);
             let status = status(rt, alloc, hall, &call);
@@ -175,7 +175,7 @@ pub(super) fn each_head<K: Named, R: Host>(rt: &R, alloc: Global, hall: &Hall<K>
 }
 
 /// Checks that a report of more than 16 KiB takes a turn of its own.
-pub(super) fn large_report<K: Named, R: Host>(rt: &R, alloc: Global, hall: &Hall<K>) {
+pub(super) fn large_report<K: HallName, R: HallRuntime>(rt: &R, alloc: Global, hall: &Hall<K>) {
     let parts = parts(alloc, Method::POST, EVENTS, Some(ALFA)).expect(rt, "a head");
     let call = hall.resolve(parts);
     assert!(rt; call.cost(SMALL_BODY) == Cost::Shared);
@@ -185,10 +185,10 @@ pub(super) fn large_report<K: Named, R: Host>(rt: &R, alloc: Global, hall: &Hall
 
 #[test]
 fn resolves_each_head(rt: HostRuntime) -> Result<(), Fail> {
-    visited(&rt, Visit::EachHead)
+    run_hall_test(&rt, HallTest::EachHead)
 }
 
 #[test]
 fn counts_a_large_report_as_long(rt: HostRuntime) -> Result<(), Fail> {
-    visited(&rt, Visit::LargeReport)
+    run_hall_test(&rt, HallTest::LargeReport)
 }

@@ -3,41 +3,41 @@ ghost use Rattle.std.specs.Prelude.{◌≡◌};
 ghost use Rattle.mds_snapshot.specs.Opening.{book_of};
 
 use super::*;
-use crate::counting::Counting;
+use crate::counting::CountingEvaluator;
 use crate::desk;
 use mds_desk::{Desk, OpenGate, furnish};
 use mds_hall::desk_turn;
-use mds_snapshot::{Naming, Note};
+use mds_snapshot::{OpeningName, Note};
 
 /// A vehicle in the square.
 const VEHICLE: &str =
     r#"{"device_id":"00000000-0000-4000-8000-000000000401","vehicle_type":"scooter","vehicle_state":"available","timestamp":1500,"location":{"lat":5,"lng":5}}"#;
 
 /// The answer at 2000 where one vehicle is counted.
-const ONE_COUNTED: &Answer = &Answer {
+const ONE_COUNTED: &ExpectedAnswer = &ExpectedAnswer {
     status: 200,
     body: r#"{"at":2000,"policies":[{"policy_id":"00000000-0000-4000-8000-000000000201","rules":[{"measure":1,"rule_id":"00000000-0000-4000-8000-000000000301","status":"ok"}]}],"revision":1,"version":2}"#,
 };
 
-const REPORT: &Exchange = &Exchange {
+const REPORT: &HallExchange = &HallExchange {
     at: 2000,
     credentials: Some(ALFA),
     target: "/fleet/events",
     body: VEHICLE,
-    answer: TAKEN,
+    answer: NEW_RESULT,
 };
 
 /// A question by alfa, by bravo, and by an anonymous client.
-const QUESTIONS: &[&Exchange] = &[
-    &Exchange {
+const QUESTIONS: &[&HallExchange] = &[
+    &HallExchange {
         at: 2000,
         credentials: Some(ALFA),
         target: COMPLIANCE,
         body: "",
         answer: ONE_COUNTED,
     },
-    ASKED_BY_BRAVO,
-    &Exchange {
+    QUESTION_OF_BRAVO,
+    &HallExchange {
         at: 2000,
         credentials: None,
         target: COMPLIANCE,
@@ -47,7 +47,7 @@ const QUESTIONS: &[&Exchange] = &[
 ];
 
 /// Alfa has a vehicle in the square, and bravo has none.
-pub(super) fn own_questions<K: Named, R: Host + Sync>(rt: &R, alloc: Global, hall: &Hall<K>) {
+pub(super) fn own_questions<K: HallName, R: HallRuntime + Sync>(rt: &R, alloc: Global, hall: &Hall<K>) {
     set_up(rt, alloc, hall);
     assert_answers(rt, alloc, hall, Method::POST, REPORT);
     for question in QUESTIONS {
@@ -56,17 +56,17 @@ pub(super) fn own_questions<K: Named, R: Host + Sync>(rt: &R, alloc: Global, hal
 }
 
 #[test]
-fn counts_the_vehicles_of_who_asks(rt: HostRuntime) -> Result<(), Fail> {
-    visited(&rt, Visit::OwnQuestions)
+fn counts_the_vehicles_of_the_client(rt: HostRuntime) -> Result<(), Fail> {
+    run_hall_test(&rt, HallTest::OwnQuestions)
 }
 
 /// The policy is withdrawn at 3000, a further publication.
-const WITHDRAWN: &Exchange = &Exchange {
+const WITHDRAWAL: &HallExchange = &HallExchange {
     at: 3000,
     credentials: Some(CITY),
     target: "/publish",
     body: r#"{"withdraw":["00000000-0000-4000-8000-000000000201"]}"#,
-    answer: &Answer {
+    answer: &ExpectedAnswer {
         status: 200,
         body: r#"{"published_date":3000,"revision":2}"#,
     },
@@ -74,11 +74,11 @@ const WITHDRAWN: &Exchange = &Exchange {
 
 /// Checks that there is no note before the first publication and one after it, that a further publication's note
 /// covers more, and that a further call gives the same note.
-pub(super) fn latest_note<K: Named, R: Host + Sync>(rt: &R, alloc: Global, hall: &Hall<K>) {
+pub(super) fn latest_note<K: HallName, R: HallRuntime + Sync>(rt: &R, alloc: Global, hall: &Hall<K>) {
     assert!(rt; hall.note(rt).is_none());
     set_up(rt, alloc, hall);
     let first = hall.note(rt).expect(rt, "a note");
-    assert_answers(rt, alloc, hall, Method::POST, WITHDRAWN);
+    assert_answers(rt, alloc, hall, Method::POST, WITHDRAWAL);
     let second = hall.note(rt).expect(rt, "a later note");
     assert!(rt; second.covers(&first) && !first.covers(&second));
     let again = hall.note(rt).expect(rt, "the same note");
@@ -88,13 +88,13 @@ pub(super) fn latest_note<K: Named, R: Host + Sync>(rt: &R, alloc: Global, hall:
 /// A hall keeps the note of its latest publication.
 #[test]
 fn keeps_the_latest_note(rt: HostRuntime) -> Result<(), Fail> {
-    visited(&rt, Visit::LatestNote)
+    run_hall_test(&rt, HallTest::LatestNote)
 }
 
 /// Checks that bravo's question is evaluated by the given evaluator.
-pub(super) fn judged<K: Named, R: Host + Sync>(rt: &R, alloc: Global, hall: &Hall<K>) {
+pub(super) fn given_evaluator<K: HallName, R: HallRuntime + Sync>(rt: &R, alloc: Global, hall: &Hall<K>) {
     set_up(rt, alloc, hall);
-    let counting = Counting::new();
+    let counting = CountingEvaluator::new();
     let asked = parts(alloc, Method::GET, COMPLIANCE, Some(BRAVO)).expect(rt, "a head");
     let at = Moment::new(2000);
     let response = respond(rt, alloc, &asked, whole(""), at, hall, &counting);
@@ -104,8 +104,8 @@ pub(super) fn judged<K: Named, R: Host + Sync>(rt: &R, alloc: Global, hall: &Hal
 
 /// A hall evaluates by the evaluator that it is given, and by no other.
 #[test]
-fn judges_by_its_evaluator(rt: HostRuntime) -> Result<(), Fail> {
-    visited(&rt, Visit::Judged)
+fn evaluates_by_the_given_evaluator(rt: HostRuntime) -> Result<(), Fail> {
+    run_hall_test(&rt, HallTest::Judged)
 }
 
 const VEHICLES: &str = "/fleet/vehicles";
@@ -113,13 +113,13 @@ const VEHICLES: &str = "/fleet/vehicles";
 /// The target of alfa's vehicles, with a query. Alfa has none.
 const ALL_VEHICLES: &str = "/fleet/vehicles?all";
 
-const NO_VEHICLES: &Answer = &Answer {
+const NO_VEHICLES: &ExpectedAnswer = &ExpectedAnswer {
     status: 200,
     body: r#"{"vehicles":[]}"#,
 };
 
 /// Credentials, and the answers to them: they are alfa's, or not known.
-const CREDENTIALS: &[(&str, &Answer)] = &[
+const CREDENTIALS: &[(&str, &ExpectedAnswer)] = &[
     ("bearer alfa", NO_VEHICLES),
     ("BEARER alfa", NO_VEHICLES),
     ("Bearer  alfa", TOKEN),
@@ -131,19 +131,19 @@ const CREDENTIALS: &[(&str, &Answer)] = &[
 ];
 
 /// Whether a request for vehicles, with this head, has this answer.
-fn lists<K: Named, R: Host + Sync>(
+fn lists<K: HallName, R: HallRuntime + Sync>(
     rt: &R,
     alloc: Global,
     hall: &Hall<K>,
     parts: Option<Parts>,
-    answer: &Answer,
+    answer: &ExpectedAnswer,
 ) -> bool {
     let at = Moment::new(2000);
     gives(rt, hall, parts, whole(""), at, answer)
 }
 
 /// A head with alfa's credentials in each of two fields.
-fn signed_twice(alloc: Global) -> Option<Parts> {
+fn head_with_two_credentials(alloc: Global) -> Option<Parts> {
     let mut parts = parts(alloc, Method::GET, VEHICLES, Some(ALFA))?;
     let again = HeaderValue::from_static(ALFA);
     match parts.headers.append(AUTHORIZATION, again) {
@@ -153,18 +153,18 @@ fn signed_twice(alloc: Global) -> Option<Parts> {
 }
 
 /// Checks the answer to each of `CREDENTIALS`, and that two fields with credentials are nobody's.
-pub(super) fn each_form<K: Named, R: Host + Sync>(rt: &R, alloc: Global, hall: &Hall<K>) {
+pub(super) fn each_form<K: HallName, R: HallRuntime + Sync>(rt: &R, alloc: Global, hall: &Hall<K>) {
     for (credentials, answer) in CREDENTIALS {
         let asked = parts(alloc, Method::GET, ALL_VEHICLES, Some(credentials));
         let is_answered = lists(rt, alloc, hall, asked, answer);
         assert!(rt; is_answered, "{credentials}");
     }
-    assert!(rt; lists(rt, alloc, hall, signed_twice(alloc), TOKEN));
+    assert!(rt; lists(rt, alloc, hall, head_with_two_credentials(alloc), TOKEN));
 }
 
 #[test]
 fn reads_bearer_tokens_alone(rt: HostRuntime) -> Result<(), Fail> {
-    visited(&rt, Visit::EachForm)
+    run_hall_test(&rt, HallTest::EachForm)
 }
 
 /// `desk_turn` answers at a desk without a hall.
@@ -175,7 +175,7 @@ fn answers_at_a_desk(rt: HostRuntime) -> Result<(), Fail> {
     at_desk::<Brand, _>(&rt, alloc, config, prepare(alloc)?)
 }
 
-fn at_desk<K: Naming, R: Host + Sync>(
+fn at_desk<K: OpeningName, R: HallRuntime + Sync>(
     rt: &R,
     alloc: Global,
     config: Config,
@@ -194,13 +194,13 @@ fn at_desk<K: Naming, R: Host + Sync>(
 }
 
 /// Whether a desk that is given a note answers so to a question at 2000.
-fn tells<K: Naming, R: Host + Sync>(
+fn desk_answers<K: OpeningName, R: HallRuntime + Sync>(
     rt: &R,
     alloc: Global,
     credentials: Option<&str>,
     desk: &mut Desk<K>,
     note: &Note<K>,
-    answer: &Answer,
+    answer: &ExpectedAnswer,
 ) -> bool {
     let Some(at) = Moment::new(2000) else {
         return false;
@@ -223,12 +223,12 @@ fn tells<K: Naming, R: Host + Sync>(
 }
 
 /// Checks the answers to a question by alfa and to one by an anonymous client.
-fn two_questions<K: Naming, R: Host + Sync>(
+fn two_questions<K: OpeningName, R: HallRuntime + Sync>(
     rt: &R,
     alloc: Global,
     desk: &mut Desk<K>,
     note: &Note<K>,
 ) {
-    assert!(rt; tells(rt, alloc, Some(ALFA), desk, note, NONE_COUNTED));
-    assert!(rt; tells(rt, alloc, None, desk, note, TOKEN));
+    assert!(rt; desk_answers(rt, alloc, Some(ALFA), desk, note, NONE_COUNTED));
+    assert!(rt; desk_answers(rt, alloc, None, desk, note, TOKEN));
 }

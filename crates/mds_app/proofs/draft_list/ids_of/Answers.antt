@@ -1,8 +1,8 @@
 use Rattle.std.proofs.Common.{◌≡◌, ◌+◌, ◌-◌, ℕ, List, map, drop, sym, ap, ◌∙◌, arith}
 use Rattle.mds_drafts.specs.Entries.{drafts_in}
-use Rattle.mds_app.specs.Listed.{ids_of}
+use Rattle.mds_app.specs.DraftList.{ids_of}
 use Rattle.mds_app.proofs.Ordered.{all_placed, ids_are, ok_same, one_placed, own_ids}
-use Rattle.mds_app.proofs.listed.ids_of.Goals as goal
+use Rattle.mds_app.proofs.draft_list.ids_of.Goals as goal
 
 pub loop-left-preserved-in-Continue-1 : goal.loop-left-preserved-in-Continue-1
 loop-left-preserved-in-Continue-1 c =
@@ -13,7 +13,7 @@ loop-left-preserved-in-Continue-1 c =
     record {
       within = omega arith;
       placed =
-          one_placed kind items i c.index-drafts-left.result c.in-Some.id c.loop-left.ids.entries c.place.new.ids.entries (omega arith) c.index-drafts-left.is
+          one_placed kind items i c.index-drafts-left.result c.in-Some.id c.loop-left.ids.entries c.insert_id.new.ids.entries (omega arith) c.index-drafts-left.is
           (sym c.own_id.ensures ∙ c.in-Some.is) (c.loop-left.invariant.placed ∙ ap (λ (n : ℕ). all_placed (own_ids kind (drop n items))) back) c.in_ok-place.ensures;
     }
 
@@ -22,5 +22,5 @@ returns c =
     let items = c.args.drafts.now in
     let kind = c.args.kind in
     let none : c.loop-left.left ≡ 0 = omega arith in
-    ok_same (λ v. v.items) c.in_order.result (map (λ e. e.0) c.loop-left.ids.entries) (ids_of (drafts_in items) kind)
-    (c.loop-left.invariant.placed ∙ ap (λ (n : ℕ). all_placed (own_ids kind (drop n items))) none ∙ ids_are kind items) c.in_order.ensures
+    ok_same (λ v. v.items) c.ids_in_order.result (map (λ e. e.0) c.loop-left.ids.entries) (ids_of (drafts_in items) kind)
+    (c.loop-left.invariant.placed ∙ ap (λ (n : ℕ). all_placed (own_ids kind (drop n items))) none ∙ ids_are kind items) c.ids_in_order.ensures

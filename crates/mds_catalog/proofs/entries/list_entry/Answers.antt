@@ -1,7 +1,7 @@
 use Rattle.std.proofs.Common.{cond, ◌∷◌, [], subst, sym, ap, ◌∙◌, arith}
 use Rattle.std.specs.List.{insert}
 use Rattle.mds_catalog.specs.Listed.{Lists}
-use Rattle.mds_catalog.specs.Kept.{fresh}
+use Rattle.mds_catalog.specs.Index.{fresh}
 use Rattle.mds_catalog.proofs.Ordered.{inserted, lists_inserted, lists_known}
 use Rattle.mds_catalog.proofs.entries.list_entry.Goals as goal
 

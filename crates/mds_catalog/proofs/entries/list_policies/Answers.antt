@@ -4,9 +4,9 @@ use Rattle.mds_policy.specs.Policy.{policy_document}
 use Rattle.std.specs.declared.sync.Arc.{Arc}
 use Rattle.std.specs.declared.alloc.Global.{Global}
 use Rattle.mds_policy.specs.declared.policy.Policy as program
-use Rattle.mds_catalog.specs.declared.spots.Spot.{Spot}
+use Rattle.mds_catalog.specs.declared.spots.DocumentSpot.{DocumentSpot}
 use Rattle.mds_catalog.specs.Listed.{Lists, spots_from}
-use Rattle.mds_catalog.specs.Kept.{fresh}
+use Rattle.mds_catalog.specs.Index.{fresh}
 use Rattle.mds_catalog.proofs.Ordered.{lists_more}
 use Rattle.mds_catalog.proofs.Places.{length-spots_from, spots_more}
 use Rattle.mds_catalog.proofs.entries.list_policies.Goals as goal
@@ -20,7 +20,7 @@ list_entry-requires-clause-room c =
 pub loop-place-preserved : goal.loop-place-preserved
 loop-place-preserved c =
     let l = c.loop-place in
-    let spot : Spot = record { id = c.id-id.result; batch = c.args.batch; place = l.place } in
+    let spot : DocumentSpot = record { id = c.id-id.result; batch = c.args.batch; place = l.place } in
     let more = spots_more (λ (share : Arc program.Policy Global). (policy_document share.value).id) c.args.batch c.args.policies.now l.place c.index-policies-place.result c.id-id.result c.loop-place-test.true c.index-policies-place.is (c.id-id.ensures ∙ ap (λ d. (policy_document d).id) c.deref.ensures) in
     record {
       listed = subst (Lists (λ e. e.spot.id) c.args.entries.now.items c.list_entry.new.entries.items) (sym (ap (map fresh) more ∙ map-append fresh (spots_from c.args.batch 0 (map (λ (share : Arc program.Policy Global). (policy_document share.value).id) (take l.place c.args.policies.now))) (spot ∷ [])))

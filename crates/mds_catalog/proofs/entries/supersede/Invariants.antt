@@ -1,6 +1,6 @@
 use Rattle.std.proofs.Common.{◌≡◌, map, drop}
 use Rattle.mds_policy.specs.Policy.{policy_document}
-use Rattle.mds_catalog.specs.Kept.{after_successors}
+use Rattle.mds_catalog.specs.Index.{after_successors}
 use Rattle.mds_catalog.proofs.entries.supersede.Given as goal
 
 -- the policies from here on make of the entries what all make of the initial ones

@@ -1,5 +1,5 @@
 use Rattle.std.proofs.Common.{◌≡◌, ◌++◌, map, take, drop}
-use Rattle.mds_catalog.specs.Kept.{after_withdrawal}
+use Rattle.mds_catalog.specs.Index.{after_withdrawal}
 use Rattle.mds_catalog.proofs.entries.withdraw.Given as goal
 
 -- the entries before this one are marked, the others unchanged

@@ -2,7 +2,7 @@ use Rattle.std.proofs.Common.{◌≡◌, ◌++◌, map, take}
 use Rattle.mds_geography.specs.Geography.{geography_document}
 use Rattle.mds_catalog.specs.Publication.{publications_in, published_geographies, dated}
 use Rattle.mds_catalog.specs.Catalogue.{lent_geography}
-use Rattle.mds_catalog.proofs.lists.lend_geographies.Given as goal
+use Rattle.mds_catalog.proofs.lists.geography_refs.Given as goal
 
 -- those of the batches before this one, then those of this one up to here
 abbrev pub invariant-loop-geography : goal.invariant-loop-geography

@@ -6,7 +6,7 @@ use Rattle.mds_catalog.specs.declared.batch.Batch.{Batch}
 use Rattle.mds_catalog.specs.Publication.{publications_in, published_geographies}
 use Rattle.mds_catalog.specs.Catalogue.{served_geography}
 use Rattle.mds_catalog.proofs.Texts.{geographies_more}
-use Rattle.mds_catalog.proofs.lists.lend_geography_texts.Goals as goal
+use Rattle.mds_catalog.proofs.lists.geography_text_refs.Goals as goal
 
 pub loop-share-preserved : goal.loop-share-preserved
 loop-share-preserved c =

@@ -1,7 +1,7 @@
 use Rattle.std.proofs.Common.{◌≡◌, ◌++◌, map, take}
 use Rattle.mds_catalog.specs.Catalogue.{served_geography}
 use Rattle.mds_catalog.specs.Publication.{publications_in, published_geographies}
-use Rattle.mds_catalog.proofs.lists.lend_geography_texts.Given as goal
+use Rattle.mds_catalog.proofs.lists.geography_text_refs.Given as goal
 
 -- those of the batches before this one, then those of this one up to here
 abbrev pub invariant-loop-text : goal.invariant-loop-text

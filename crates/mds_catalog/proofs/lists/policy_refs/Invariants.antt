@@ -2,7 +2,7 @@ use Rattle.std.proofs.Common.{◌≡◌, ◌++◌, map, take}
 use Rattle.mds_policy.specs.Policy.{policy_document}
 use Rattle.mds_catalog.specs.Publication.{publications_in, published_policies, dated}
 use Rattle.mds_catalog.specs.Catalogue.{lent_policy}
-use Rattle.mds_catalog.proofs.lists.lend_policies.Given as goal
+use Rattle.mds_catalog.proofs.lists.policy_refs.Given as goal
 
 -- those of the batches before this one, then those of this one up to here
 abbrev pub invariant-loop-policy : goal.invariant-loop-policy

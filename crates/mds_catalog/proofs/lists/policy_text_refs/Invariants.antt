@@ -2,7 +2,7 @@ use Rattle.std.proofs.Common.{◌≡◌, ◌++◌, map, take}
 use Rattle.mds_policy.specs.Policy.{policy_document}
 use Rattle.mds_catalog.specs.Publication.{publications_in, published_policies, dated}
 use Rattle.mds_catalog.proofs.Texts.{shown_texts}
-use Rattle.mds_catalog.proofs.lists.lend_policy_texts.Given as goal
+use Rattle.mds_catalog.proofs.lists.policy_text_refs.Given as goal
 
 -- those of the batches before this one, then those of this one up to here
 abbrev pub invariant-loop-place : goal.invariant-loop-place

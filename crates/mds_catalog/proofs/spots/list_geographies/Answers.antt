@@ -4,7 +4,7 @@ use Rattle.mds_geography.specs.Geography.{geography_document}
 use Rattle.std.specs.declared.sync.Arc.{Arc}
 use Rattle.std.specs.declared.alloc.Global.{Global}
 use Rattle.mds_geography.specs.declared.geography.Geography as program
-use Rattle.mds_catalog.specs.declared.spots.Spot.{Spot}
+use Rattle.mds_catalog.specs.declared.spots.DocumentSpot.{DocumentSpot}
 use Rattle.mds_catalog.specs.Listed.{Lists, spots_from}
 use Rattle.mds_catalog.proofs.Ordered.{lists_more}
 use Rattle.mds_catalog.proofs.Places.{length-spots_from, spots_more}
@@ -19,7 +19,7 @@ list_spot-requires-clause-room c =
 pub loop-place-preserved : goal.loop-place-preserved
 loop-place-preserved c =
     let l = c.loop-place in
-    let spot : Spot = record { id = c.id-id.result; batch = c.args.batch; place = l.place } in
+    let spot : DocumentSpot = record { id = c.id-id.result; batch = c.args.batch; place = l.place } in
     let more = spots_more (λ (share : Arc program.Geography Global). (geography_document share.value).id) c.args.batch c.args.geographies.now l.place c.index-geographies-place.result c.id-id.result c.loop-place-test.true c.index-geographies-place.is (c.id-id.ensures ∙ ap (λ d. (geography_document d).id) c.deref.ensures) in
     record {
       listed = subst (Lists (λ s. s.id) c.args.spots.now.items c.list_spot.new.spots.items) (sym (more))

@@ -1,4 +1,4 @@
-use Rattle.mds_hall.specs.Asked.{request_in}
+use Rattle.mds_hall.specs.HttpRequest.{request_in}
 use Rattle.mds_hall.specs.Early.{early}
 use Rattle.mds_limits.specs.Arrival.{body_in}
 use Rattle.mds_city.proofs.Responses.{as_a_hall}

@@ -1,21 +1,21 @@
 use Rattle.std.proofs.Common.{◌≡◌}
-use Rattle.mds_app.specs.Badges.{badges_view}
+use Rattle.mds_app.specs.OperatorNames.{badges_view}
 use Rattle.mds_app.specs.Whoami.{who_reply}
 use Rattle.mds_request.specs.declared.config.Actor.TheVariants.{Author}
-use Rattle.mds_city.specs.Told.{TellsAuthor}
+use Rattle.mds_city.specs.People.{TellsAuthor}
 use Rattle.mds_routes.specs.declared.app.Question.TheVariants.{Whoami}
 use Rattle.mds_city.proofs.Responses.{waits_kind}
-use Rattle.mds_city.proofs.people.tell_the_author.Goals as goal
+use Rattle.mds_city.proofs.people.answer_author.Goals as goal
 
 pub returns-in-Whoami : goal.returns-in-Whoami
 returns-in-Whoami g c =
-    let own = g.K.Named.configuration in
+    let own = g.K.HallName.configuration in
     let badges = badges_view c.args.city.now.badges in
-    rw c.in-Whoami.is (waits_kind (λ reply. reply ≡ who_reply badges Author) (TellsAuthor own badges Whoami) (λ s. s.reply) c.who.result
-    (λ reply is drafts publications. is) c.who.ensures)
+    rw c.in-Whoami.is (waits_kind (λ reply. reply ≡ who_reply badges Author) (TellsAuthor own badges Whoami) (λ s. s.reply) c.answer_whoami.result
+    (λ reply is drafts publications. is) c.answer_whoami.ensures)
 
 pub returns-in-Withdrawals : goal.returns-in-Withdrawals
-returns-in-Withdrawals g c = rw c.in-Withdrawals.is c.of_room.ensures
+returns-in-Withdrawals g c = rw c.in-Withdrawals.is c.respond_of_room.ensures
 
 pub returns-in-Drafts : goal.returns-in-Drafts
-returns-in-Drafts g c = rw c.in-Drafts.is c.of_room-in-Drafts.ensures
+returns-in-Drafts g c = rw c.in-Drafts.is c.respond_of_room-in-Drafts.ensures

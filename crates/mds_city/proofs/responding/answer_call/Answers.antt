@@ -1,16 +1,16 @@
 use Rattle.std.proofs.Common.{inl}
 use Rattle.mds_request.specs.Configuration.{actor_of}
-use Rattle.mds_hall.specs.Heard.{request_heard}
+use Rattle.mds_hall.specs.WholeRequest.{request_heard}
 use Rattle.mds_city.proofs.Responses.{ok_more, waits_more, waits_turn}
 use Rattle.mds_city.proofs.responding.answer_call.Goals as goal
 
 pub returns-in-Err : goal.returns-in-Err
 returns-in-Err g c =
-    ok_more c.refuse_unheld.result (λ s. waits_more s.reply (λ response says. inl (c.in-Err.why, says))) c.refuse_unheld.ensures.says
+    ok_more c.refuse_unreserved.result (λ s. waits_more s.reply (λ response says. inl (c.in-Err.why, says))) c.refuse_unreserved.ensures.says
 
 pub returns-in-Ok-carry_out : goal.returns-in-Ok-carry_out
 returns-in-Ok-carry_out g c =
-    let own = g.K.Named.configuration in
+    let own = g.K.HallName.configuration in
     let request = request_heard c.args.heard in
     let answered = c.in-Ok-carry_out.answered in
     waits_turn (λ s. s.reply) (λ s. s.stamp) own (actor_of own request.token) request c.reply.result answered.answer answered.stamp c.in-Ok-carry_out.ensures

@@ -3,13 +3,13 @@ use Rattle.mds_request.specs.Call.{call_of}
 use Rattle.mds_request.specs.declared.call.Call.TheVariants as call
 use Rattle.mds_request.specs.declared.config.Actor.{Actor}
 use Rattle.mds_request.proofs.Callers.{call_of-caller}
-use Rattle.mds_hall.specs.Heard.{request_heard}
-use Rattle.mds_city.specs.City.{IsRecordedTurn}
+use Rattle.mds_hall.specs.WholeRequest.{request_heard}
+use Rattle.mds_city.specs.DurableResponse.{IsRecordedTurn}
 use Rattle.mds_city.proofs.responding.carry_out.Goals as goal
 
 pub returns-in-Author : goal.returns-in-Author
 returns-in-Author g c =
-    let own = g.K.Named.configuration in
+    let own = g.K.HallName.configuration in
     let request = request_heard c.args.heard in
     let resolved : call_of own request ≡ Ok (call.Author c.in-Author.call) = c.requires.resolved ∙ ap Ok c.in-Author.is in
     subst (λ (who : Actor). IfOk c.room_turn_of.result (λ answered. IsRecordedTurn own who request answered.answer answered.stamp))
@@ -17,7 +17,7 @@ returns-in-Author g c =
 
 pub returns-in-Operator : goal.returns-in-Operator
 returns-in-Operator g c =
-    let own = g.K.Named.configuration in
+    let own = g.K.HallName.configuration in
     let request = request_heard c.args.heard in
     let resolved : call_of own request ≡ Ok (call.Operator c.in-Operator.place c.in-Operator.call) = c.requires.resolved ∙ ap Ok c.in-Operator.is in
     subst (λ (who : Actor). IfOk c.desk_turn.result (λ answered. IsRecordedTurn own who request answered.answer answered.stamp))

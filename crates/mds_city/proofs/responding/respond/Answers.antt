@@ -1,14 +1,14 @@
 use Rattle.std.proofs.Common.{◌≡◌, ◌∙◌, Ok, Err, subst, rules}
 use Rattle.http.specs.declared.request.Parts.{Parts}
-use Rattle.mds_app.specs.Badges.{badges_view}
-use Rattle.mds_hall.specs.Heard.{IsHeard, request_heard}
+use Rattle.mds_app.specs.OperatorNames.{badges_view}
+use Rattle.mds_hall.specs.WholeRequest.{IsHeard, request_heard}
 use Rattle.mds_routes.specs.declared.state.StateCall.TheVariants.{Call as OfProtocol, Reports, AuthorAsks, OperatorAsks}
 use Rattle.mds_city.proofs.Ways.{answered, asker_within, called_is, reporter_is, resolved}
 use Rattle.mds_city.proofs.responding.respond.Goals as goal
 
 pub answer_call-requires-clause-resolved : goal.answer_call-requires-clause-resolved
 answer_call-requires-clause-resolved g c =
-    let own = g.K.Named.configuration in
+    let own = g.K.HallName.configuration in
     let head = c.args.head.now in
     let heard = c.in-Ok.heard in
     let known = resolved own heard head.parts head.actor c.call.result (c.in-Ok.ensures.head ∙ c.parts.ensures) head.asks (c.call.ensures ∙ head.calls) in
@@ -17,16 +17,16 @@ answer_call-requires-clause-resolved g c =
 
 pub many_reports-requires-clause-asker : goal.many_reports-requires-clause-asker
 many_reports-requires-clause-asker g c =
-    let own = g.K.Named.configuration in
+    let own = g.K.HallName.configuration in
     let head = c.args.head.now in
     let heard = c.in-Ok.heard in
     let known = resolved own heard head.parts head.actor c.call.result (c.in-Ok.ensures.head ∙ c.parts.ensures) head.asks (c.call.ensures ∙ head.calls) in
     let found : c.call.result ≡ Ok (Reports c.in-Ok-Reports.place) = search rules in
     reporter_is own (request_heard heard) c.call.result known c.in-Ok-Reports.place found
 
-pub tell_an_operator-requires : goal.tell_an_operator-requires
-tell_an_operator-requires g c =
-    let own = g.K.Named.configuration in
+pub answer_operator-requires : goal.answer_operator-requires
+answer_operator-requires g c =
+    let own = g.K.HallName.configuration in
     let head = c.args.head.now in
     let heard = c.in-Ok.heard in
     let known = resolved own heard head.parts head.actor c.call.result (c.in-Ok.ensures.head ∙ c.parts.ensures) head.asks (c.call.ensures ∙ head.calls) in
@@ -35,7 +35,7 @@ tell_an_operator-requires g c =
 
 pub returns-in-Ok-Call : goal.returns-in-Ok-Call
 returns-in-Ok-Call g c =
-    let own = g.K.Named.configuration in
+    let own = g.K.HallName.configuration in
     let head = c.args.head.now in
     let heard = c.in-Ok.heard in
     let found : Ok (OfProtocol c.in-Ok-Call.call) ≡ head.call = search rules in
@@ -45,7 +45,7 @@ returns-in-Ok-Call g c =
 
 pub returns-in-Ok-Reports : goal.returns-in-Ok-Reports
 returns-in-Ok-Reports g c =
-    let own = g.K.Named.configuration in
+    let own = g.K.HallName.configuration in
     let head = c.args.head.now in
     let heard = c.in-Ok.heard in
     let found : Ok (Reports c.in-Ok-Reports.place) ≡ head.call = search rules in
@@ -55,27 +55,27 @@ returns-in-Ok-Reports g c =
 
 pub returns-in-Ok-AuthorAsks : goal.returns-in-Ok-AuthorAsks
 returns-in-Ok-AuthorAsks g c =
-    let own = g.K.Named.configuration in
+    let own = g.K.HallName.configuration in
     let head = c.args.head.now in
     let heard = c.in-Ok.heard in
     let found : Ok (AuthorAsks c.in-Ok-AuthorAsks.question) ≡ head.call = search rules in
     let known = resolved own heard head.parts head.actor (Ok (AuthorAsks c.in-Ok-AuthorAsks.question)) (c.in-Ok.ensures.head ∙ c.parts.ensures) head.asks (found ∙ head.calls) in
-    answered (λ s. s.reply) (λ s. s.stamp) own (badges_view c.args.city.now.badges) head.parts c.args.arrived.now c.args.at c.tell_the_author.result (request_heard heard) (Ok (AuthorAsks c.in-Ok-AuthorAsks.question))
-    (subst (λ (p : Parts). IsHeard p c.args.arrived.now c.args.at (request_heard heard)) c.parts.ensures c.in-Ok.ensures.heard) known c.tell_the_author.ensures
+    answered (λ s. s.reply) (λ s. s.stamp) own (badges_view c.args.city.now.badges) head.parts c.args.arrived.now c.args.at c.answer_author.result (request_heard heard) (Ok (AuthorAsks c.in-Ok-AuthorAsks.question))
+    (subst (λ (p : Parts). IsHeard p c.args.arrived.now c.args.at (request_heard heard)) c.parts.ensures c.in-Ok.ensures.heard) known c.answer_author.ensures
 
 pub returns-in-Ok-OperatorAsks : goal.returns-in-Ok-OperatorAsks
 returns-in-Ok-OperatorAsks g c =
-    let own = g.K.Named.configuration in
+    let own = g.K.HallName.configuration in
     let head = c.args.head.now in
     let heard = c.in-Ok.heard in
     let found : Ok (OperatorAsks c.in-Ok-OperatorAsks.place c.in-Ok-OperatorAsks.question) ≡ head.call = search rules in
     let known = resolved own heard head.parts head.actor (Ok (OperatorAsks c.in-Ok-OperatorAsks.place c.in-Ok-OperatorAsks.question)) (c.in-Ok.ensures.head ∙ c.parts.ensures) head.asks (found ∙ head.calls) in
-    answered (λ s. s.reply) (λ s. s.stamp) own (badges_view c.args.city.now.badges) head.parts c.args.arrived.now c.args.at c.tell_an_operator.result (request_heard heard) (Ok (OperatorAsks c.in-Ok-OperatorAsks.place c.in-Ok-OperatorAsks.question))
-    (subst (λ (p : Parts). IsHeard p c.args.arrived.now c.args.at (request_heard heard)) c.parts.ensures c.in-Ok.ensures.heard) known c.tell_an_operator.ensures
+    answered (λ s. s.reply) (λ s. s.stamp) own (badges_view c.args.city.now.badges) head.parts c.args.arrived.now c.args.at c.answer_operator.result (request_heard heard) (Ok (OperatorAsks c.in-Ok-OperatorAsks.place c.in-Ok-OperatorAsks.question))
+    (subst (λ (p : Parts). IsHeard p c.args.arrived.now c.args.at (request_heard heard)) c.parts.ensures c.in-Ok.ensures.heard) known c.answer_operator.ensures
 
 pub returns-in-Err-call : goal.returns-in-Err-call
 returns-in-Err-call g c =
-    let own = g.K.Named.configuration in
+    let own = g.K.HallName.configuration in
     let head = c.args.head.now in
     let heard = c.in-Ok.heard in
     let found : Err c.in-Err-call.code ≡ head.call = search rules in

@@ -1,5 +1,5 @@
 use Rattle.std.proofs.Common.{◌≤◌}
-use Rattle.mds_commit.specs.declared.room.TheConstants.{STEP}
+use Rattle.mds_commit.specs.declared.reserved_space.TheConstants.{STEP}
 use Rattle.mds_commit.proofs.backlog.bytes_of_all.Given as goal
 
 -- the sum so far is within what is reserved on the disk at once

@@ -1,6 +1,6 @@
 use Rattle.std.proofs.Common.{◌≡◌, ◌++◌, map, drop}
 use Rattle.mds_configuration.specs.Findings.{found_from, told}
-use Rattle.mds_configuration.specs.Spots.{seen}
+use Rattle.mds_configuration.specs.LocatedMembers.{seen}
 use Rattle.mds_configuration.proofs.gathering.add_each.Given as goal
 
 -- the findings so far, and those for the members that are left

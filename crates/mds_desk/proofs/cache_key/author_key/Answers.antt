@@ -1,10 +1,10 @@
 use Rattle.std.proofs.Common.{◌≡◌, sym, subst, ◌∙◌}
 use Rattle.mds_catalog.specs.Catalogue.{publications_of}
 use Rattle.mds_request.specs.declared.call.AuthorCall.TheVariants as author
-use Rattle.mds_desk.specs.Ready.{AnswersAuthor}
-use Rattle.mds_desk.specs.declared.ready.Ready.TheVariants as ready
+use Rattle.mds_desk.specs.CacheKey.{AnswersAuthor}
+use Rattle.mds_desk.specs.declared.cache_key.CacheKey.TheVariants as ready
 use Rattle.mds_desk.proofs.Answering.{authors_policies, authors_policy, authors_geographies, authors_geography}
-use Rattle.mds_desk.proofs.ready.ready_for_author.Goals as goal
+use Rattle.mds_desk.proofs.cache_key.author_key.Goals as goal
 
 pub returns-in-Policies : goal.returns-in-Policies
 returns-in-Policies c =
@@ -16,7 +16,7 @@ returns-in-Policy c =
     let ps = publications_of c.args.catalogue.now in
     let is : c.args.call.now ≡ author.Policy c.in-Policy.id = cc in
     subst (λ call. AnswersAuthor ps call (ready.Policy c.in-Policy.id)) (sym is)
-    (authors_policy ps c.in-Policy.id (sym c.is_policy_shown.ensures ∙ c.if-is_policy_shown.true))
+    (authors_policy ps c.in-Policy.id (sym c.is_policy_visible.ensures ∙ c.if-is_policy_shown.true))
 
 pub returns-in-Geographies : goal.returns-in-Geographies
 returns-in-Geographies c =
@@ -28,4 +28,4 @@ returns-in-Geography c =
     let ps = publications_of c.args.catalogue.now in
     let is : c.args.call.now ≡ author.Geography c.in-Geography.id = cc in
     subst (λ call. AnswersAuthor ps call (ready.Geography c.in-Geography.id)) (sym is)
-    (authors_geography ps c.in-Geography.id (sym c.is_geography_shown.ensures ∙ c.if-is_geography_shown.true))
+    (authors_geography ps c.in-Geography.id (sym c.has_geography.ensures ∙ c.if-is_geography_shown.true))

@@ -1,17 +1,17 @@
 use Rattle.std.proofs.Common.{◌≡◌, sym, subst, ◌∙◌}
 use Rattle.mds_catalog.specs.Catalogue.{publications_of}
 use Rattle.mds_request.specs.declared.call.OperatorCall.TheVariants as operator
-use Rattle.mds_desk.specs.Ready.{AnswersOperator}
-use Rattle.mds_desk.specs.declared.ready.Ready.TheVariants as ready
+use Rattle.mds_desk.specs.CacheKey.{AnswersOperator}
+use Rattle.mds_desk.specs.declared.cache_key.CacheKey.TheVariants as ready
 use Rattle.mds_desk.proofs.Answering.{policy, geographies, geography}
-use Rattle.mds_desk.proofs.ready.ready_for_operator.Goals as goal
+use Rattle.mds_desk.proofs.cache_key.operator_key.Goals as goal
 
 pub returns-in-Policy : goal.returns-in-Policy
 returns-in-Policy c =
     let ps = publications_of c.args.catalogue.now in
     let is : c.args.call.now ≡ operator.Policy c.in-Policy.id = cc in
     subst (λ call. AnswersOperator ps c.args.operator call (ready.Policy c.in-Policy.id)) (sym is)
-    (policy ps c.args.operator c.in-Policy.id (sym c.is_policy_shown.ensures ∙ c.if-is_policy_shown.true))
+    (policy ps c.args.operator c.in-Policy.id (sym c.is_policy_visible.ensures ∙ c.if-is_policy_shown.true))
 
 pub returns-in-Geographies : goal.returns-in-Geographies
 returns-in-Geographies c =
@@ -23,4 +23,4 @@ returns-in-Geography c =
     let ps = publications_of c.args.catalogue.now in
     let is : c.args.call.now ≡ operator.Geography c.in-Geography.id = cc in
     subst (λ call. AnswersOperator ps c.args.operator call (ready.Geography c.in-Geography.id)) (sym is)
-    (geography ps c.args.operator c.in-Geography.id (sym c.is_geography_shown.ensures ∙ c.if-is_geography_shown.true))
+    (geography ps c.args.operator c.in-Geography.id (sym c.has_geography.ensures ∙ c.if-is_geography_shown.true))

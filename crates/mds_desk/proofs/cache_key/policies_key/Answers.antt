@@ -2,9 +2,9 @@ use Rattle.std.proofs.Common.{sym, ap, ◌∙◌}
 use Rattle.std.specs.List.{list_all}
 use Rattle.std.proofs.lemmas.List.Folds.{list_all-map}
 use Rattle.mds_catalog.specs.Catalogue.{publications_of, lent_policy}
-use Rattle.mds_desk.specs.Ready.{is_everyones}
+use Rattle.mds_desk.specs.CacheKey.{is_everyones}
 use Rattle.mds_desk.proofs.Answering.{everyones, named}
-use Rattle.mds_desk.proofs.ready.policies_for.Goals as goal
+use Rattle.mds_desk.proofs.cache_key.policies_key.Goals as goal
 
 pub returns-then-are_everyones : goal.returns-then-are_everyones
 returns-then-are_everyones c =

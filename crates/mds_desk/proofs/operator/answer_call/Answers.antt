@@ -7,7 +7,7 @@ use Rattle.mds_request.specs.Request.{request_of}
 use Rattle.mds_request.specs.declared.config.Config.{Config}
 use Rattle.mds_machine.specs.Answer.{Gives}
 use Rattle.mds_machine.specs.Operator.{operator_does}
-use Rattle.mds_desk.specs.Ready.{AnswersOperator, IsFound, IsReplyTo}
+use Rattle.mds_desk.specs.CacheKey.{AnswersOperator, IsFound, IsReplyTo}
 use Rattle.mds_world.specs.Lasting.{lasting_in}
 use Rattle.mds_desk.proofs.Shelving.{operator_found, operator_laid, operator_told}
 use Rattle.mds_desk.proofs.operator.answer_call.Goals as goal
@@ -15,11 +15,11 @@ use Rattle.mds_desk.proofs.operator.answer_call.Goals as goal
 pub returns-in-Some : goal.returns-in-Some
 returns-in-Some g c =
     let configured = configuration c.args.seat.now.config.value in
-    let asked = c.ready_for_operator-asked.result in
+    let asked = c.operator_key-asked.result in
     record {
       answer = operator_found configured.zone c.args.look.now c.operator.result c.args.call.now c.args.book.now.rows (request_of c.args.request.now)
           (slice_get configured.operators c.args.seat.now.place) asked c.in-Some.body c.ready.result c.operator.ensures
-          (subst (λ ps. IfSome asked (AnswersOperator ps c.operator.result c.args.call.now)) c.catalogue-catalogue.ensures.publications c.ready_for_operator-asked.ensures)
+          (subst (λ ps. IfSome asked (AnswersOperator ps c.operator.result c.args.call.now)) c.catalogue-catalogue.ensures.publications c.operator_key-asked.ensures)
           (subst (λ ps. IsFound ps asked c.in-Some.body) c.note-note.ensures c.in-Some.ensures) c.ready.ensures;
       limit = cc;
       fits = c.requires.fits;
@@ -36,7 +36,7 @@ operator_step-reply-requires-clause-fits g c =
 pub answer-requires : goal.answer-requires
 answer-requires g c =
     let configured = configuration c.args.seat.now.config.value in
-    let asked = c.ready_for_operator-asked.result in
+    let asked = c.operator_key-asked.result in
     let call = c.args.call.now in
     let place = c.args.seat.now.place in
     let rows = c.args.book.now.rows in
@@ -51,12 +51,12 @@ answer-requires g c =
     subst (λ ps. IfSome (slice_get configured.operators place) (λ o. Gives (Unit {0}) rows (operator_does configured.zone o ps rows call request) reply after)) c.catalogue-catalogue.ensures.publications made in
     subst (λ ps. IfSome asked (λ key. IsReplyTo ps key reply)) (sym c.note-note.ensures)
     (operator_told configured.zone c.args.look.now c.operator.result call rows request (slice_get configured.operators place) asked reply after c.operator.ensures
-    (subst (λ ps. IfSome asked (AnswersOperator ps c.operator.result call)) c.catalogue-catalogue.ensures.publications c.ready_for_operator-asked.ensures) gives)
+    (subst (λ ps. IfSome asked (AnswersOperator ps c.operator.result call)) c.catalogue-catalogue.ensures.publications c.operator_key-asked.ensures) gives)
 
 pub returns : goal.returns
 returns g c =
     let configured = configuration c.args.seat.now.config.value in
-    let asked = c.ready_for_operator-asked.result in
+    let asked = c.operator_key-asked.result in
     let call = c.args.call.now in
     let place = c.args.seat.now.place in
     let rows = c.args.book.now.rows in
@@ -71,7 +71,7 @@ returns g c =
     subst (λ ps. IfSome (slice_get configured.operators place) (λ o. Gives (Unit {0}) rows (operator_does configured.zone o ps rows call request) reply after)) c.catalogue-catalogue.ensures.publications made in
     record {
       answer = operator_laid configured.zone c.args.look.now c.operator.result call rows request (slice_get configured.operators place) asked reply c.answer.result after c.operator.ensures
-          (subst (λ ps. IfSome asked (AnswersOperator ps c.operator.result call)) c.catalogue-catalogue.ensures.publications c.ready_for_operator-asked.ensures) gives c.answer.ensures;
+          (subst (λ ps. IfSome asked (AnswersOperator ps c.operator.result call)) c.catalogue-catalogue.ensures.publications c.operator_key-asked.ensures) gives c.answer.ensures;
       limit = c.operator_step-reply.ensures.limit;
       fits = subst (λ ps. Fits (lasting_in ps) c.operator_step-reply.new.book) c.catalogue-catalogue.ensures.publications c.operator_step-reply.ensures.fits;
     }

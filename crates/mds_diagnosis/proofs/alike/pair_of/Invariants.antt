@@ -1,6 +1,6 @@
 use Rattle.std.proofs.Common.{◌≡◌, map, drop}
 use Rattle.mds_diagnosis.specs.Diagnosis.{key_of, pair_from, pair_of}
-use Rattle.mds_diagnosis.specs.Telling.{operator}
+use Rattle.mds_diagnosis.specs.Relations.{operator}
 use Rattle.mds_diagnosis.proofs.alike.pair_of.Given as goal
 
 -- no pair begins before this place

@@ -1,7 +1,7 @@
 use Rattle.std.proofs.Common.{◌≡◌, ◌+◌, map, drop, bytes_eq}
 use Rattle.std.specs.List.{position_from}
 use Rattle.mds_diagnosis.specs.Diagnosis.{key_of}
-use Rattle.mds_diagnosis.specs.Telling.{operator}
+use Rattle.mds_diagnosis.specs.Relations.{operator}
 use Rattle.mds_diagnosis.proofs.alike.place_behind.Given as goal
 
 -- a search from here on finds what the whole search finds

@@ -1,7 +1,7 @@
 use Rattle.std.proofs.Common.{◌≡◌, ◌∙◌, Ok, arith, subst}
 use Rattle.mds_reading.specs.Node.{node_view}
 use Rattle.mds_diagnosis.specs.Diagnosis.{says_at, operator_of}
-use Rattle.mds_diagnosis.specs.Telling.{operator}
+use Rattle.mds_diagnosis.specs.Relations.{operator}
 use Rattle.mds_diagnosis.proofs.Turns.{map_push, read_on}
 use Rattle.mds_diagnosis.proofs.operators.operators_of.Goals as goal
 

@@ -1,7 +1,7 @@
 use Rattle.std.proofs.Common.{◌≡◌, map, drop, vec_len}
 use Rattle.mds_reading.specs.Node.{node_view}
 use Rattle.mds_diagnosis.specs.Diagnosis.{each_from}
-use Rattle.mds_diagnosis.specs.Telling.{operator}
+use Rattle.mds_diagnosis.specs.Relations.{operator}
 use Rattle.mds_diagnosis.proofs.Turns.{with_front}
 use Rattle.mds_diagnosis.proofs.operators.operators_of.Given as goal
 

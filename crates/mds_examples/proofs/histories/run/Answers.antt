@@ -16,7 +16,7 @@ use Rattle.mds_examples.specs.Machine.{done, error, start, after_square, after_c
 use Rattle.mds_examples.specs.Policies.{cap, cap_text}
 use Rattle.mds_examples.specs.Requests.{configuration, request}
 use Rattle.mds_examples.specs.Vehicles.{second_device, first_report, second_report, one_row, in_the_square}
-use Rattle.mds_examples.proofs.Drafted.{no_cap, policy_count, the_square, the_cap, square_out, cap_out}
+use Rattle.mds_examples.proofs.DraftCounts.{no_cap, policy_count, the_square, the_cap, square_out, cap_out}
 use Rattle.mds_examples.proofs.Rows.{no_rows, none_first, none_count, one_entry}
 use Rattle.mds_examples.proofs.Session.{report_call, cap_call, square_put}
 use Rattle.mds_examples.proofs.histories.run.Goals as goal

@@ -1,6 +1,6 @@
 use Rattle.std.proofs.Common.{refl}
 use Rattle.mds_examples.specs.Computed.{documents}
-use Rattle.mds_examples.proofs.Drafted.{the_square, the_cap, square_out, cap_out}
+use Rattle.mds_examples.proofs.DraftCounts.{the_square, the_cap, square_out, cap_out}
 use Rattle.mds_examples.proofs.Session.{square_put, cap_put, cap_again}
 use Rattle.mds_examples.specs.Geographies.{square_text}
 use Rattle.mds_examples.specs.Machine.{square_path, cap_path}

@@ -1,10 +1,10 @@
 use Rattle.std.proofs.Common.{codes, refl}
 use Rattle.mds_examples.specs.Computed.{documents}
 use Rattle.mds_examples.specs.Vehicles.{in_the_square}
-use Rattle.mds_examples.proofs.Drafted.{the_cap}
+use Rattle.mds_examples.proofs.DraftCounts.{the_cap}
 use Rattle.mds_examples.proofs.Rows.{none_first}
 use Rattle.mds_examples.proofs.Session.{third_reported}
-use Rattle.mds_examples.proofs.machine.refused.Goals as goal
+use Rattle.mds_examples.proofs.machine.refusals.Goals as goal
 
 pub returns-clause-no_geography : goal.returns-clause-no_geography
 unfolding documents

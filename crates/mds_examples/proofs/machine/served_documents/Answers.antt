@@ -1,8 +1,8 @@
 use Rattle.std.proofs.Common.{refl}
 use Rattle.mds_examples.specs.Computed.{documents}
-use Rattle.mds_examples.proofs.Drafted.{the_cap}
+use Rattle.mds_examples.proofs.DraftCounts.{the_cap}
 use Rattle.mds_examples.proofs.Rows.{one_first, one_entry, first_out}
-use Rattle.mds_examples.proofs.machine.served.Goals as goal
+use Rattle.mds_examples.proofs.machine.served_documents.Goals as goal
 
 pub returns-clause-draft : goal.returns-clause-draft
 unfolding documents

@@ -8,8 +8,8 @@ pub returns : goal.returns
 unfolding feature_text
 returns c =
     let shaped = behind (or_null bare) (codes "{\"geometry\":") c.in_ok-push_bare_member.ensures c.new-text.ensures.items c.shape_of.ensures in
-    let named = behind (or_null printed) (codes ",\"id\":") c.in_ok-push_member.ensures shaped c.named.ensures in
-    let described = behind (or_null printed) (codes ",\"properties\":{\"description\":") c.in_ok-push_member-2.ensures named c.named-2.ensures in
-    let again = behind (or_null printed) (codes ",\"geography_id\":") c.in_ok-push_member-3.ensures described c.named-3.ensures in
-    let called = behind (or_null printed) (codes ",\"name\":") c.in_ok-push_member-4.ensures again c.named-4.ensures in
+    let named = behind (or_null printed) (codes ",\"id\":") c.in_ok-push_member.ensures shaped c.member_of.ensures in
+    let described = behind (or_null printed) (codes ",\"properties\":{\"description\":") c.in_ok-push_member-2.ensures named c.member_of-2.ensures in
+    let again = behind (or_null printed) (codes ",\"geography_id\":") c.in_ok-push_member-3.ensures described c.member_of-3.ensures in
+    let called = behind (or_null printed) (codes ",\"name\":") c.in_ok-push_member-4.ensures again c.member_of-4.ensures in
     c.in_ok-extend_from_slice.ensures.items ∙ ap (λ (t : List ℕ). t ++ codes "},\"type\":\"Feature\"}") called

@@ -2,7 +2,7 @@ use Rattle.std.proofs.Common.{rules, tests}
 use Rattle.std.proofs.lemmas.Iterator.{YieldsList-from_map_by}
 use Rattle.std.proofs.lemmas.Iterator.Consumers.{map_from_collect, YieldsList-from_rest}
 use Rattle.std.specs.BTreeMap.{values}
-use Rattle.mds_fleet.proofs.book.lent.Goals as goal
+use Rattle.mds_fleet.proofs.book.vehicle_refs.Goals as goal
 
 -- the closure borrows from the box
 pub returns-clause-whole : goal.returns-clause-whole

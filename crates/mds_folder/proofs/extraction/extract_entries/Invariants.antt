@@ -2,7 +2,7 @@ use Rattle.std.proofs.Common.{◌≡◌, ◌++◌, map, drop}
 use Rattle.std.specs.List.{filter}
 use Rattle.mds_entries.specs.Entries.{entry_of}
 use Rattle.mds_folder.specs.Choosing.{concerns}
-use Rattle.mds_folder.proofs.choosing.told.Given as goal
+use Rattle.mds_folder.proofs.extraction.extract_entries.Given as goal
 
 -- those extracted so far and those left are all
 abbrev pub invariant-loop-entry : goal.invariant-loop-entry

@@ -2,7 +2,7 @@ use Rattle.std.proofs.Common.{◌≡◌, Bool, true, false, IsTrue, refl, sym, s
 use Rattle.mds_geometry.specs.Bounds.{AreBanded}
 use Rattle.mds_geometry.specs.Inside.{edges_of_ring, touches, crossings, is_odd}
 use Rattle.mds_geometry.proofs.Banded.{banded_more, seen_block, seen_touched}
-use Rattle.mds_geometry.proofs.blocks.sight_by_blocks.Goals as goal
+use Rattle.mds_geometry.proofs.blocks.ray_test_by_blocks.Goals as goal
 
 -- a test that can't succeed
 not_true : (b : Bool) → (IsTrue b → true ≡ false) → b ≡ false

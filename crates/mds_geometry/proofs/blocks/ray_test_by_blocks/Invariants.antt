@@ -1,7 +1,7 @@
 use Rattle.std.proofs.Common.{drop}
 use Rattle.mds_geometry.specs.Bounds.{AreBanded}
 use Rattle.mds_geometry.proofs.Banded.{IsSeenFrom}
-use Rattle.mds_geometry.proofs.blocks.sight_by_blocks.Given as goal
+use Rattle.mds_geometry.proofs.blocks.ray_test_by_blocks.Given as goal
 
 abbrev pub invariant-loop-band : goal.invariant-loop-band
 invariant-loop-band l = record {

@@ -1,7 +1,7 @@
 use Rattle.std.proofs.Common.{◌≡◌, false, sym, ◌∙◌}
 use Rattle.mds_geometry.specs.Bounds.{lies_in}
 use Rattle.mds_geometry.proofs.Banded.{barren_block}
-use Rattle.mds_geometry.proofs.blocks.sight_of_block.Goals as goal
+use Rattle.mds_geometry.proofs.blocks.ray_test_of_block.Goals as goal
 
 pub returns-else-holds-clause-border : goal.returns-else-holds-clause-border
 returns-else-holds-clause-border c =

@@ -2,7 +2,7 @@ use Rattle.std.proofs.Common.{arith, ◌≡◌, ◌∙◌, below_more, true, fal
 use Rattle.std.specs.Char.{is_ascii_digit}
 use Rattle.std.proofs.lemmas.Bool.Decides.{nat_tests}
 use Rattle.mds_geometry.proofs.Decimals.{digits_end, digit_turn, value_end}
-use Rattle.mds_geometry.proofs.decimal.front_digits.Goals as goal
+use Rattle.mds_geometry.proofs.decimal.leading_digits.Goals as goal
 
 pub returns-then-not-is_ascii_digit-clause-value : goal.returns-then-not-is_ascii_digit-clause-value
 returns-then-not-is_ascii_digit-clause-value c =

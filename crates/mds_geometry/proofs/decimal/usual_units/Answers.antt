@@ -13,9 +13,9 @@ returns c =
     let long : length t ≡ 8 = omega (arith, ap length cases.1, length-drop (length rest - 8) rest, cases.2) in
     let few = c.in_ok-degrees.ensures in
     let seven = c.in_ok-decimals.ensures in
-    usual_is c.args.text.now rest w t c.sign_of-negative.result.0 c.in_ok-degrees.degrees c.in_ok-decimals.decimals c.signed.result
+    usual_is c.args.text.now rest w t c.sign_of-negative.result.0 c.in_ok-degrees.degrees c.in_ok-decimals.decimals c.with_sign.result
     c.sign_of-negative.ensures.negative c.sign_of-negative.ensures.number joined long
     (record { whole = few.whole; count = few.count; few = few.few; value = few.value; small = few.small })
     seven.point
     (record { count = seven.count; value = seven.value; all = seven.all; small = seven.small })
-    c.signed.ensures
+    c.with_sign.ensures

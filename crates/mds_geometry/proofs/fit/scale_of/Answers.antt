@@ -30,9 +30,9 @@ one_place scale is (e ∷ es) =
 
 pub returns-then-is_spare : goal.returns-then-is_spare
 returns-then-is_spare c =
-    let known = c.is_spare.ensures.known c.if-is_spare.true in
+    let known = c.is_sparse.ensures.known c.if-is_spare.true in
     few_places c.between-scale.result c.args.edges.now c.args.extents.now.rows.reach c.loop-shift.shift
-    c.between-scale.ensures (c.requires known) (c.is_spare.ensures.spare c.if-is_spare.true)
+    c.between-scale.ensures (c.requires known) (c.is_sparse.ensures.spare c.if-is_spare.true)
 
 pub returns : goal.returns
 returns c = one_place c.one_strip.result c.one_strip.ensures c.args.edges.now

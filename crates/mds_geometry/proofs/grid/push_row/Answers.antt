@@ -1,5 +1,5 @@
 use Rattle.std.proofs.Common.{arith, inl, ◌+◌, sym, subst}
-use Rattle.mds_geometry.proofs.Told.{AreRun, IsCorner, IsRun, begins, goes_on, row_more}
+use Rattle.mds_geometry.proofs.Runs.{AreRun, IsCorner, IsRun, begins, goes_on, row_more}
 use Rattle.mds_geometry.proofs.grid.push_row.Goals as goal
 use Rattle.mds_geometry.proofs.grid.push_row.Goals.{then-marked, else-marked+then-matches, else-marked+else-matches}
 

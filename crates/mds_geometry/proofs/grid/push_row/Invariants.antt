@@ -1,4 +1,4 @@
-use Rattle.mds_geometry.proofs.Told.{AreRun}
+use Rattle.mds_geometry.proofs.Runs.{AreRun}
 use Rattle.mds_geometry.proofs.grid.push_row.Given as goal
 
 abbrev pub invariant-loop-column : goal.invariant-loop-column

@@ -1,6 +1,6 @@
 use Rattle.std.proofs.Common.{◌≡◌, ◌⊎◌, inl, inr, sym, ◌∙◌, length}
 use Rattle.mds_geometry.proofs.Seen.{seen_all}
-use Rattle.mds_geometry.proofs.sight.sight.Goals as goal
+use Rattle.mds_geometry.proofs.ray.ray_test.Goals as goal
 
 pub returns-clause-border : goal.returns-clause-border
 returns-clause-border c =

@@ -1,6 +1,6 @@
 use Rattle.std.proofs.Common.{◌≡◌, ◌++◌, ◌+◌, ◌<◌, ◌≤◌, ℕ, length, get_or, [], ◌∷◌, cond, ◌&&◌}
 use Rattle.std.specs.Prelude.{nat_le, nat_lt}
-use Rattle.mds_geometry.proofs.strips.file_between.Given as goal
+use Rattle.mds_geometry.proofs.strips.add_between.Given as goal
 
 abbrev pub invariant-loop-place : goal.invariant-loop-place
 invariant-loop-place l = record {

@@ -1,9 +1,9 @@
 use Rattle.std.proofs.Common.{◌≡◌, Ok, ap, subst, ◌∙◌}
 use Rattle.mds_request.specs.Call.{call_of}
 use Rattle.mds_request.specs.Configuration.{configuration}
-use Rattle.mds_hall.specs.Heard.{request_heard}
+use Rattle.mds_hall.specs.WholeRequest.{request_heard}
 use Rattle.mds_hall.specs.Turn.{DeskReplies, RoomReplies}
-use Rattle.mds_hall.proofs.Askers.{caller_within}
+use Rattle.mds_hall.proofs.Clients.{caller_within}
 use Rattle.mds_hall.proofs.Outcomes.{desk_answered, refusal_answered, room_answered}
 use Rattle.mds_hall.proofs.Turns.{of_ok}
 use Rattle.mds_hall.proofs.answering.carry_out.Goals as goal
@@ -21,20 +21,20 @@ returns-in-Ok-Author g c =
     let arm = c.in-Ok-Author in
     let replies = subst (λ served. RoomReplies served (request_heard c.args.heard) c.answer_author-answer.result) hall.configured c.answer_author-answer.ensures in
     of_ok c.response.result (λ response says.
-    room_answered g.K.Named.configuration (request_heard c.args.heard) c.answer_author-answer.result response says arm.call (c.requires.resolved ∙ arm.is ∙ ap Ok arm.field-0-is) replies)
+    room_answered g.K.HallName.configuration (request_heard c.args.heard) c.answer_author-answer.result response says arm.call (c.requires.resolved ∙ arm.is ∙ ap Ok arm.field-0-is) replies)
     c.response.ensures
 
 pub returns-in-Some : goal.returns-in-Some
 returns-in-Some g c =
     let arm = c.in-Ok-Operator in
     let placed : c.deref_mut.result.now.place ≡ arm.place = ap (λ d. d.place) c.deref_mut.ensures.value ∙ c.in-Some.ensures in
-    let replies = subst (λ place. DeskReplies g.K.Named.configuration place (request_heard c.args.heard) c.carry_out-answer.result) placed c.carry_out-answer.ensures.replies in
+    let replies = subst (λ place. DeskReplies g.K.HallName.configuration place (request_heard c.args.heard) c.carry_out-answer.result) placed c.carry_out-answer.ensures.replies in
     of_ok c.response-in-Ok-Operator.result (λ response says.
-    desk_answered g.K.Named.configuration (request_heard c.args.heard) c.carry_out-answer.result response says arm.place arm.call (c.requires.resolved ∙ arm.is ∙ ap Ok arm.field-0-is) replies)
+    desk_answered g.K.HallName.configuration (request_heard c.args.heard) c.carry_out-answer.result response says arm.place arm.call (c.requires.resolved ∙ arm.is ∙ ap Ok arm.field-0-is) replies)
     c.response-in-Ok-Operator.ensures
 
 pub returns-in-Err : goal.returns-in-Err
 returns-in-Err g c =
     of_ok c.response-in-Err.result (λ response says.
-    refusal_answered g.K.Named.configuration (request_heard c.args.heard) c.from.result response says c.in-Err.code c.args.heard.within (c.requires.resolved ∙ c.in-Err.is) c.from.ensures)
+    refusal_answered g.K.HallName.configuration (request_heard c.args.heard) c.from.result response says c.in-Err.code c.args.heard.within (c.requires.resolved ∙ c.in-Err.is) c.from.ensures)
     c.response-in-Err.ensures

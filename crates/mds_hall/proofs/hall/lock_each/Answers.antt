@@ -3,12 +3,12 @@ use Rattle.std.specs.List.{range_with_len}
 use Rattle.std.specs.Vec.Iter.{into_iter_items}
 use Rattle.mds_desk.specs.Desk.{state_of}
 use Rattle.mds_hall.proofs.Placing.{as_many, at_its_place, one_each, one_more}
-use Rattle.mds_hall.proofs.hall.locked.Goals as goal
+use Rattle.mds_hall.proofs.hall.lock_each.Goals as goal
 
 pub new-requires : goal.new-requires
 new-requires g c =
     let inv = c.loop-desk.invariant in
-    at_its_place state_of g.K.Named.configuration c.args.desks.items c.loop-desk.yielded c.in-Some.desk (into_iter_items c.next.new.self) c.requires
+    at_its_place state_of g.K.HallName.configuration c.args.desks.items c.loop-desk.yielded c.in-Some.desk (into_iter_items c.next.new.self) c.requires
     (ap (λ rest. c.loop-desk.yielded ++ rest) (sym c.in-Some.ensures.steps.0) ∙ inv.all)
     c.len-place.result (omega (arith, c.len-place.ensures, c.loop-desk.locked.ok.0, as_many _ c.loop-desk.locked.items (length c.loop-desk.yielded) inv.in_order))
 
@@ -28,6 +28,6 @@ pub returns : goal.returns
 returns g c =
     let inv = c.loop-desk.invariant in
     let none : length (into_iter_items c.loop-desk.desk-iterator) ≡ 0 = sym c.loop-desk.desk-iterator.rest.ok.0 ∙ c.in-None.ensures.steps.0 in
-    let all : length c.loop-desk.yielded ≡ length g.K.Named.configuration.operators =
-    omega (arith, none, ap length inv.all, length-append c.loop-desk.yielded (into_iter_items c.loop-desk.desk-iterator), one_each state_of g.K.Named.configuration c.args.desks.items c.requires) in
+    let all : length c.loop-desk.yielded ≡ length g.K.HallName.configuration.operators =
+    omega (arith, none, ap length inv.all, length-append c.loop-desk.yielded (into_iter_items c.loop-desk.desk-iterator), one_each state_of g.K.HallName.configuration c.args.desks.items c.requires) in
     inv.in_order ∙ ap (range_with_len 0) all

@@ -2,10 +2,10 @@ use Rattle.mds_hall.proofs.turn.desk_turn.Goals as goal
 
 pub returns : goal.returns
 returns g c =
-    let takes = c.told_turn-reply.ensures.turn in
+    let takes = c.take_turn-reply.ensures.turn in
     record {
       told = takes.told;
-      reply = c.told_turn-reply.result;
+      reply = c.take_turn-reply.result;
       learns = takes.learns;
       turn = rw c.request-request.ensures at takes.turn;
       says = c.response.ensures;

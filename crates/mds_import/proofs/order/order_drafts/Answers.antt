@@ -2,12 +2,12 @@ use Rattle.std.proofs.Common.{◌≡◌, List, [], ◌∷◌, ◌++◌, length, 
 use Rattle.std.proofs.lemmas.List.{append-nil}
 use Rattle.std.proofs.lemmas.Bool.Decides.{nat_tests}
 use Rattle.std.specs.List.{remove, slice_get}
-use Rattle.mds_import.specs.declared.drafting.Draft.{Draft}
+use Rattle.mds_import.specs.declared.drafting.ImportDraft.{ImportDraft}
 use Rattle.mds_import.specs.Order.{IsInTurn, next_place}
-use Rattle.mds_import.proofs.order.ordered.Goals as goal
+use Rattle.mds_import.proofs.order.order_drafts.Goals as goal
 
 -- one more of those that are left
-turned : (all left sent : List Draft) (draft : Draft) (later : List Draft) → ((more : List Draft) → IsInTurn left more → IsInTurn all (sent ++ more)) → slice_get left (next_place left) ≡ Some draft → IsInTurn (remove left (next_place left)) later → IsInTurn all ((sent ++ draft ∷ []) ++ later)
+turned : (all left sent : List ImportDraft) (draft : ImportDraft) (later : List ImportDraft) → ((more : List ImportDraft) → IsInTurn left more → IsInTurn all (sent ++ more)) → slice_get left (next_place left) ≡ Some draft → IsInTurn (remove left (next_place left)) later → IsInTurn all ((sent ++ draft ∷ []) ++ later)
 turned all left sent draft later goes_on taken rest = subst (IsInTurn all) (sym (append_assoc sent (draft ∷ []) later)) (goes_on (draft ∷ later) (taken, rest))
 
 pub turns-init : goal.turns-init
@@ -19,7 +19,7 @@ turns-preserved c = λ later h.
     (turned c.args.drafts.items c.turns.left.items c.turns.ordered.items c.take_next-draft.result later c.turns.invariant c.take_next-draft.ensures.taken
     (subst (λ left. IsInTurn left later) c.take_next-draft.ensures.rest h))
 
-none : (left : List Draft) → length left ≡ 0 → left ≡ []
+none : (left : List ImportDraft) → length left ≡ 0 → left ≡ []
 none [] h = refl
 none (draft ∷ left) h = grind arith
 

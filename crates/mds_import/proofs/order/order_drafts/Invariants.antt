@@ -1,11 +1,11 @@
 use Rattle.std.proofs.Common.{List, ◌++◌, length}
-use Rattle.mds_import.specs.declared.drafting.Draft.{Draft}
+use Rattle.mds_import.specs.declared.drafting.ImportDraft.{ImportDraft}
 use Rattle.mds_import.specs.Order.{IsInTurn}
-use Rattle.mds_import.proofs.order.ordered.Given as goal
+use Rattle.mds_import.proofs.order.order_drafts.Given as goal
 
 -- what is in turn of those that are left is so behind those that were taken
 abbrev pub invariant-turns : goal.invariant-turns
-invariant-turns l = (later : List Draft) → IsInTurn l.left.items later → IsInTurn l.fn.drafts.items (l.ordered.items ++ later)
+invariant-turns l = (later : List ImportDraft) → IsInTurn l.left.items later → IsInTurn l.fn.drafts.items (l.ordered.items ++ later)
 
 abbrev pub decreases-turns : goal.decreases-turns
 decreases-turns l = length l.left.items

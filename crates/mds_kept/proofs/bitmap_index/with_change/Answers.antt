@@ -1,15 +1,15 @@
 use Rattle.std.proofs.Common.{◌≡◌, ◌++◌, ◌∷◌, [], sym, ◌∙◌, rules, arith}
 use Rattle.std.proofs.lemmas.List.{length_push}
-use Rattle.mds_kept.specs.Kept.{IsSince}
+use Rattle.mds_kept.specs.Index.{IsSince}
 use Rattle.mds_kept.proofs.Keeping.{noted, noted_columns}
-use Rattle.mds_kept.proofs.kept.noted.Goals as goal
+use Rattle.mds_kept.proofs.bitmap_index.with_change.Goals as goal
 
 pub returns : goal.returns
 returns c published before after changes is =
     let listed = c.args.listed in
     let devices = listed.devices.items in
     let changed = listed.changed.items in
-    let more : c.logged.new.changed.items ≡ changed ++ c.args.device ∷ [] = search rules in
+    let more : c.log_change.new.changed.items ≡ changed ++ c.args.device ∷ [] = search rules in
     record {
       devices = is.devices ∙ sym changes.0;
       seen = rw more (omega (arith, is.seen, length_push changed c.args.device));

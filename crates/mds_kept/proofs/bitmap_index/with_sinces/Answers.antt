@@ -2,12 +2,12 @@ use Rattle.std.proofs.Common.{◌≡◌, ◌-◌, ℕ, List, [], Some, get_or, l
 use Rattle.std.specs.BTreeMap.{get}
 use Rattle.std.specs.List.{Contains}
 use Rattle.std.proofs.lemmas.List.{length-drop, take_all}
-use Rattle.mds_kept.specs.Kept.{IsSince, device_cmp}
+use Rattle.mds_kept.specs.Index.{IsSince, device_cmp}
 use Rattle.mds_kept.proofs.Walking.{kept_when_read}
-use Rattle.mds_kept.proofs.kept.with_sinces.Goals as goal
+use Rattle.mds_kept.proofs.bitmap_index.with_sinces.Goals as goal
 
-pub fresh-requires-clause-kept : goal.fresh-requires-clause-kept
-fresh-requires-clause-kept c k v less found out =
+pub refresh_words-requires-clause-kept : goal.refresh_words-requires-clause-kept
+refresh_words-requires-clause-kept c k v less found out =
     let seen = c.args.listed.seen in
     let changed : List (List ℕ) = c.args.listed.changed.items in
     let devices : List (List ℕ) = c.args.listed.devices.items in

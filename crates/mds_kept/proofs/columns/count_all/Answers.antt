@@ -8,8 +8,8 @@ use Rattle.mds_verdict.proofs.Counting.{number_within, values-uncaught}
 use Rattle.mds_verdict.proofs.Measures.{gathered_at_most, gathered_of_none, length_held, measures_fit}
 use Rattle.mds_verdict.proofs.Numbered.{written_back}
 use Rattle.mds_kept.proofs.Counted.{device_at, since_at, some_in}
-use Rattle.mds_kept.proofs.columns.counted.Goals.{in-Some+in_ok-count, in_default}
-use Rattle.mds_kept.proofs.columns.counted.Goals as goal
+use Rattle.mds_kept.proofs.columns.count_all.Goals.{in-Some+in_ok-count, in_default}
+use Rattle.mds_kept.proofs.columns.count_all.Goals as goal
 
 pub loop-place-init : goal.loop-place-init
 loop-place-init c polygons rows are =
@@ -37,7 +37,7 @@ count-requires-clause-within c =
     let rows = c.requires.columns.1 in
     let short : c.loop-place.place < length rows = omega (arith, c.loop-place-test.true, c.requires.columns.2.long) in
     let row = get_or rows c.loop-place.place (some_in rows c.loop-place.place short) in
-    let is = c.first_of.ensures.first policy c.requires.columns.0 row c.args.local c.requires.few c.open_mask-active.ensures (c.requires.columns.2.each c.loop-place.place _ short) in
+    let is = c.first_of.ensures.first policy c.requires.columns.0 row c.args.local c.requires.few c.open_bitmap-active.ensures (c.requires.columns.2.each c.loop-place.place _ short) in
     number_within policy c.requires.columns.0 row c.args.local (Some c.in-Some.number) (sym c.in-Some.is ∙ is)
 
 pub loop-place-preserved : goal.loop-place-preserved
@@ -51,7 +51,7 @@ loop-place-preserved c polygons rows are =
     let short : k < length rows = omega (arith, c.loop-place-test.true, are.long) in
     let d = some_in rows k short in
     let row = get_or rows k d in
-    let is = c.first_of.ensures.first policy polygons row c.args.local c.requires.few c.open_mask-active.ensures (are.each k d short) in
+    let is = c.first_of.ensures.first policy polygons row c.args.local c.requires.few c.open_bitmap-active.ensures (are.each k d short) in
     let more : take k rows ++ row ∷ [] ≡ take (k + 1) rows = sym (take_more rows k d short) in
     let so_far = c.loop-place.invariant polygons rows are in
     elim c.match-first_of.branch [

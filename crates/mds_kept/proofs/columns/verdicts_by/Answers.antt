@@ -9,9 +9,9 @@ use Rattle.mds_kept.proofs.columns.verdicts_by.Goals as goal
 
 pub returns-clause-exact : goal.returns-clause-exact
 returns-clause-exact c polygons rows are =
-    let long : c.in_ok-held.held.len ≡ length c.show.new.held = omega arith in
-    ap (map verdict_document) (written_back c.in_ok-held.held.len c.in_ok-held.held.items c.show.new.held long)
-    ∙ c.show.ensures ∙ ap (λ vs. map shown (map verdict_document vs)) c.deref_mut.ensures.value ∙ ap (map shown) (c.in_ok-held.ensures polygons rows are)
+    let long : c.in_ok-held.held.len ≡ length c.trim_verdicts.new.held = omega arith in
+    ap (map verdict_document) (written_back c.in_ok-held.held.len c.in_ok-held.held.items c.trim_verdicts.new.held long)
+    ∙ c.trim_verdicts.ensures ∙ ap (λ vs. map shown (map verdict_document vs)) c.deref_mut.ensures.value ∙ ap (map shown) (c.in_ok-held.ensures polygons rows are)
     ∙ verdicts_shown (policy_document c.args.policy.now) polygons rows c.args.local c.args.moment
 
 pub returns-clause-fits : goal.returns-clause-fits

@@ -4,7 +4,7 @@ use Rattle.mds_policy.specs.Policy.{Rule, rule_document}
 use Rattle.mds_policy.specs.declared.rule.Rule as program
 use Rattle.mds_kept.specs.Masks.{HasBits, is_open_at}
 use Rattle.mds_kept.proofs.Split.{map-map}
-use Rattle.mds_kept.proofs.opening.open_mask.Goals as goal
+use Rattle.mds_kept.proofs.open_rules.open_bitmap.Goals as goal
 
 pub returns : goal.returns
 returns c =

@@ -8,7 +8,7 @@ use Rattle.std.proofs.lemmas.List.{length_push, map-append}
 use Rattle.mds_match.specs.Row.{Row, row_of}
 use Rattle.mds_match.specs.declared.vehicle.Vehicle.{Vehicle}
 use Rattle.mds_kept.proofs.Walking.{next, all_taken, read_more}
-use Rattle.mds_kept.proofs.words.made.Goals as goal
+use Rattle.mds_kept.proofs.words.all_words.Goals as goal
 
 pub loop-vehicle-preserved : goal.loop-vehicle-preserved
 loop-vehicle-preserved g c =
@@ -22,7 +22,7 @@ loop-vehicle-preserved g c =
     let rows : map row (take (suc n) all) ≡ map row (take n all) ++ row c.in-Some.vehicle.now ∷ [] = ap (map row) at.before ∙ map-append row (take n all) (c.in-Some.vehicle.now ∷ []) in
     rw more (record {
       rest = sym at.behind;
-      read = rw (rows, pushed) (read_more (g.W.Word.is c.args.word.now) (map row (take n all)) c.loop-vehicle.words.items (row c.in-Some.vehicle.now) c.of.result (subst (λ (v : Vehicle). g.W.Word.is c.args.word.now (row_of v) c.of.result) c.deref.ensures c.of.ensures) c.loop-vehicle.invariant.read);
+      read = rw (rows, pushed) (read_more (g.W.VehicleWord.is c.args.word.now) (map row (take n all)) c.loop-vehicle.words.items (row c.in-Some.vehicle.now) c.of.result (subst (λ (v : Vehicle). g.W.VehicleWord.is c.args.word.now (row_of v) c.of.result) c.deref.ensures c.of.ensures) c.loop-vehicle.invariant.read);
     })
 
 pub returns : goal.returns

@@ -1,12 +1,12 @@
 use Rattle.std.proofs.Common.{◌≡◌, length, map, take, drop}
 use Rattle.std.specs.BTreeMap.{values}
 use Rattle.mds_match.specs.Row.{row_of}
-use Rattle.mds_kept.specs.Kept.{AreRead}
-use Rattle.mds_kept.proofs.words.made.Given as goal
+use Rattle.mds_kept.specs.Index.{AreRead}
+use Rattle.mds_kept.proofs.words.all_words.Given as goal
 
 -- the words so far
 abbrev pub invariant-loop-vehicle : goal.invariant-loop-vehicle
 invariant-loop-vehicle g l = record {
   rest : l.vehicle-iterator ≡ drop (length l.words.items) (values l.vehicles);
-  read : AreRead (g.W.Word.is l.word) (map (λ v. row_of v.value) (take (length l.words.items) (values l.vehicles))) l.words.items;
+  read : AreRead (g.W.VehicleWord.is l.word) (map (λ v. row_of v.value) (take (length l.words.items) (values l.vehicles))) l.words.items;
 }

@@ -5,13 +5,13 @@ use Rattle.std.specs.BTreeMap.{values}
 use Rattle.std.proofs.lemmas.List.{length-map}
 use Rattle.mds_verdict.proofs.Numbered.{written_back}
 use Rattle.mds_match.specs.declared.vehicle.Vehicle.{Vehicle}
-use Rattle.mds_kept.specs.Kept.{AreRead, rows_in}
+use Rattle.mds_kept.specs.Index.{AreRead, rows_in}
 use Rattle.mds_kept.proofs.Walking.{read_when_kept}
-use Rattle.mds_kept.proofs.words.fresh.Goals as goal
+use Rattle.mds_kept.proofs.words.refresh_words.Goals as goal
 
 pub returns : goal.returns
 returns g c =
-    let Is = g.W.Word.is c.args.word.now in
+    let Is = g.W.VehicleWord.is c.args.word.now in
     let words = c.renew.new.words in
     let vehicles = c.args.vehicles.now in
     let long : c.args.kept.len ≡ length words = omega arith in

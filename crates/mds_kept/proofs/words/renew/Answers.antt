@@ -4,14 +4,14 @@ use Rattle.std.proofs.lemmas.List.{get_or_default, length-set}
 use Rattle.std.proofs.lemmas.Map.Lookups.{exact_bytes}
 use Rattle.mds_match.specs.Row.{row_of}
 use Rattle.mds_match.specs.declared.vehicle.Vehicle.{Vehicle}
-use Rattle.mds_kept.specs.Kept.{device_cmp}
+use Rattle.mds_kept.specs.Index.{device_cmp}
 use Rattle.mds_kept.proofs.Walking.{put, beyond, not_held}
 use Rattle.mds_kept.proofs.words.renew.Goals.{then-at-words, else-at-words}
 use Rattle.mds_kept.proofs.words.renew.Goals as goal
 
 pub loop-device-preserved : goal.loop-device-preserved
 loop-device-preserved g c =
-    let Is = g.W.Word.is c.args.word.now in
+    let Is = g.W.VehicleWord.is c.args.word.now in
     let i = c.loop-device.device-index in
     let devices : List (List ℕ) = c.args.devices.now in
     let changed : List (List ℕ) = c.args.changed.now in
@@ -46,5 +46,5 @@ loop-device-preserved-in_default g c =
     let absent : get device_cmp c.args.vehicles.now c.device-item.result ≡ None = search rules in
     record {
       long = c.loop-device.invariant.long;
-      kept = not_held (g.W.Word.is c.args.word.now) c.args.vehicles.now c.args.devices.now changed c.loop-device.words i c.loop-device-test.true (ap (get device_cmp c.args.vehicles.now) (sym item) ∙ absent) c.loop-device.invariant.kept;
+      kept = not_held (g.W.VehicleWord.is c.args.word.now) c.args.vehicles.now c.args.devices.now changed c.loop-device.words i c.loop-device-test.true (ap (get device_cmp c.args.vehicles.now) (sym item) ∙ absent) c.loop-device.invariant.kept;
     }

@@ -1,5 +1,5 @@
 use Rattle.mds_machine.proofs.Successes.{refused_leaves}
-use Rattle.mds_machine.proofs.laws.refused_leaves.Goals as goal
+use Rattle.mds_machine.proofs.laws.refusal_keeps_state.Goals as goal
 
 pub returns : goal.returns
 returns c = refused_leaves

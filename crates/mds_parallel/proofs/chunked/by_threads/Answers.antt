@@ -15,8 +15,8 @@ row v = row_of v.now
 pub tallies-requires-clause-resolved : goal.tallies-requires-clause-resolved
 tallies-requires-clause-resolved g c κs inside = (g.P.Places.polygons c.args.places.now, c.in_ok-resolved.ensures)
 
-pub joined-requires : goal.joined-requires
-joined-requires g c =
+pub join_tallies-requires : goal.join_tallies-requires
+join_tallies-requires g c =
     let polygons = g.P.Places.polygons c.args.places.now in
     let policy = policy_document c.args.policy.now in
     let made = c.in_ok-parts.ensures in

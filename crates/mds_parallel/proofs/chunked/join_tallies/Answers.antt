@@ -4,7 +4,7 @@ use Rattle.mds_policy.specs.Policy.{policy_document}
 use Rattle.mds_verdict.specs.Gathered.{IsTally}
 use Rattle.mds_parallel.proofs.Pieces.{AllZip-lengths, first_at_most, piece_at_most, whole, whole_more}
 use Rattle.mds_parallel.proofs.Tallies.{part_at}
-use Rattle.mds_parallel.proofs.chunked.joined.Goals as goal
+use Rattle.mds_parallel.proofs.chunked.join_tallies.Goals as goal
 
 pub join-requires : goal.join-requires
 join-requires c =

@@ -4,7 +4,7 @@ use Rattle.mds_policy.specs.Policy.{policy_document}
 use Rattle.mds_match.specs.Row.{Row}
 use Rattle.mds_verdict.specs.Gathered.{IsTally}
 use Rattle.mds_parallel.specs.Chunks.{AreTallies}
-use Rattle.mds_parallel.proofs.chunked.joined.Given as goal
+use Rattle.mds_parallel.proofs.chunked.join_tallies.Given as goal
 
 -- the chunks so far are joined
 abbrev pub invariant-loop-part : goal.invariant-loop-part

@@ -3,7 +3,7 @@ use Rattle.std.proofs.lemmas.List.{take_all}
 use Rattle.std.specs.Cmp.Lexicographic.{slice_cmp}
 use Rattle.std.specs.Ordering.{nat_cmp}
 use Rattle.mds_policy.proofs.Placing.{HasPlace-Less, HasPlace-Equal, HasPlace-end, passed_more}
-use Rattle.mds_policy.proofs.served.around.Goals as goal
+use Rattle.mds_policy.proofs.dated_tree.split_around.Goals as goal
 
 pub returns-in-Less : goal.returns-in-Less
 returns-in-Less c =

@@ -3,7 +3,7 @@ use Rattle.mds_text.specs.Tree.{object, int, members_of}
 use Rattle.mds_text.specs.View.{view, member_view}
 use Rattle.mds_text.proofs.Views.{view-Object}
 use Rattle.mds_policy.specs.Served.{dated, with_member}
-use Rattle.mds_policy.proofs.served.dated.Goals as goal
+use Rattle.mds_policy.proofs.dated_tree.with_published_date.Goals as goal
 
 pub returns-in_ok-dated_members-in-Object : goal.returns-in_ok-dated_members-in-Object
 returns-in_ok-dated_members-in-Object c =

@@ -2,7 +2,7 @@ use Rattle.std.proofs.Common.{map, filter, ap, ◌∙◌, rules}
 use Rattle.std.proofs.lemmas.Fn.{filter_same}
 use Rattle.mds_catalog.specs.Catalogue.{lent_policy}
 use Rattle.mds_catalog.proofs.Lent.{map-filter}
-use Rattle.mds_public.specs.Face.{is_public}
+use Rattle.mds_public.specs.Documents.{is_public}
 use Rattle.mds_public.proofs.making.public_policies.Goals as goal
 
 pub returns : goal.returns

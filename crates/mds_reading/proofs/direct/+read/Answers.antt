@@ -54,7 +54,7 @@ read_entry-returns-clause-ok t c =
 pub read_list-returns-then-take_end_array-clause-ok : goal.read_list-returns-then-take_end_array-clause-ok
 read_list-returns-then-take_end_array-clause-ok t c =
     let p = value c.args.depth in
-    let ts = c.read_front.new.reader in
+    let ts = c.read_prefix.new.reader in
     let r = c.take_end_array.new.self in
     let before = items_before (gathered c.in_ok-front.front) in
     let ended : after_end_array ts ≡ Some r = grind arith in
@@ -65,7 +65,7 @@ read_list-returns-then-take_end_array-clause-ok t c =
 pub read_list-returns-clause-ok : goal.read_list-returns-clause-ok
 read_list-returns-clause-ok t c =
     let r = c.take_end_array.new.self in
-    let same : c.read_front.new.reader ≡ r = grind arith in
+    let same : c.read_prefix.new.reader ≡ r = grind arith in
     let all = items (value c.args.depth) (length r) r in
     let front = c.in_ok-front.ensures.ok c.args.depth ∙ ap (λ ts. parse_map (items_before (gathered c.in_ok-front.front)) (converted tree_items (items (value c.args.depth) (length ts) ts))) same in
     let made = ap (λ vs. parse_map (items_before vs) (converted tree_items all)) (sym c.in_ok-found.ensures) in

@@ -4,7 +4,7 @@ use Rattle.serde_json.specs.Read.{converted}
 use Rattle.mds_reading.specs.Direct.{tree_items, tree_value}
 use Rattle.mds_reading.specs.Gathered.{items_before, scalar_view}
 use Rattle.mds_reading.proofs.Turns.{front_read, one_more_item}
-use Rattle.mds_reading.proofs.direct.read_front.Goals as goal
+use Rattle.mds_reading.proofs.direct.read_prefix.Goals as goal
 
 pub returns-in_default-2-clause-ok : goal.returns-in_default-2-clause-ok
 returns-in_default-2-clause-ok c = λ depth.

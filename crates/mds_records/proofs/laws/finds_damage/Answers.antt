@@ -2,7 +2,7 @@ use Rattle.std.proofs.Common.{◌≡◌, ℕ, ◌^◌, ◌<◌, ◌≤◌, List,
 use Rattle.std.proofs.lemmas.List.{length-append}
 use Rattle.mds_records.specs.Marks.{mark_of, first_moved}
 use Rattle.mds_records.specs.Endings.{ending_of, ending_by}
-use Rattle.mds_records.specs.declared.ending.Ending.TheVariants.{Damaged}
+use Rattle.mds_records.specs.declared.ending.JournalEnding.TheVariants.{Damaged}
 use Rattle.mds_records.proofs.Marked.{mark_claims, mark_length, said_within}
 use Rattle.mds_records.proofs.Endings.{told_by_marks, damaged_by}
 use Rattle.mds_records.proofs.laws.finds_damage.Goals as goal

@@ -3,9 +3,9 @@ use Rattle.std.proofs.lemmas.List.{length-map}
 use Rattle.mds_records.specs.Sum.{sums_over}
 use Rattle.mds_records.specs.Records.{extent}
 use Rattle.mds_records.specs.Groups.{listed}
-use Rattle.mds_records.specs.Seals.{IsSealed}
+use Rattle.mds_records.specs.LogEnds.{IsSealed}
 use Rattle.mds_records.proofs.Seals.{sealed_behind}
-use Rattle.mds_records.proofs.seal.texts_between.Goals as goal
+use Rattle.mds_records.proofs.log_end.texts_between.Goals as goal
 
 pub returns : goal.returns
 returns c = λ list s.

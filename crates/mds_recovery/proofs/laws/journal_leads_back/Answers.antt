@@ -2,7 +2,7 @@ use mathlib.Core.List.{IsPrefix}
 use Rattle.std.proofs.Common.{List, [], ap, subst, sym, ◌∙◌}
 use Rattle.std.specs.FinMap.{empty}
 use Rattle.mds_catalog.specs.Publication.{Publication}
-use Rattle.mds_restarts.specs.Kept.{AreSuccesses, requests_in}
+use Rattle.mds_restarts.specs.Persisted.{AreSuccesses, requests_in}
 use Rattle.mds_desk.specs.Desk.{new_desk}
 use Rattle.mds_recovery.specs.Laws.{new_server}
 use Rattle.mds_recovery.proofs.Lists.{both}
@@ -12,7 +12,7 @@ use Rattle.mds_recovery.proofs.laws.journal_leads_back.Goals as goal
 
 pub returns : goal.returns
 returns c = λ configuration entries next are told before told_turns served journal.
-    let all = c.answered_are_turns.ensures configuration entries (new_server configuration) next (new_is configuration) are in
+    let all = c.replayed_are_turns.ensures configuration entries (new_server configuration) next (new_is configuration) are in
     let room = all.1 in
     let back = c.room_is_recovered.ensures configuration told room.history served.drafts next.room.drafts before next.room.publications served.room room.turns
     (subst AreSuccesses (sym room.own) room.served, ap requests_in room.own ∙ room.asked ∙ journal.author) in (

@@ -5,4 +5,4 @@ use Rattle.mds_restarts.proofs.laws.is_one_history.Goals as goal
 
 pub returns : goal.returns
 returns c = λ state left recovered last told again later r s is t.
-    run_on state left last told later r (subst (λ v. Run v later last) (c.answered_again_leads_there.ensures state left recovered told again r s is).1 t)
+    run_on state left last told later r (subst (λ v. Run v later last) (c.replay_leads_there.ensures state left recovered told again r s is).1 t)

@@ -1,5 +1,5 @@
 use Rattle.mds_restarts.proofs.Kept.{stops}
-use Rattle.mds_restarts.proofs.laws.fronts_are_fronts.Goals as goal
+use Rattle.mds_restarts.proofs.laws.prefixes_are_prefixes.Goals as goal
 
 pub returns : goal.returns
 returns c = stops

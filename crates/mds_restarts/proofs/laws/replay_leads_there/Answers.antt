@@ -1,8 +1,8 @@
-use Rattle.mds_restarts.specs.Kept.{kept}
+use Rattle.mds_restarts.specs.Persisted.{kept}
 use Rattle.mds_restarts.proofs.Kept.{kept_runs, same_runs, all_kept}
-use Rattle.mds_restarts.proofs.laws.answered_again_leads_there.Goals as goal
+use Rattle.mds_restarts.proofs.laws.replay_leads_there.Goals as goal
 
 pub returns : goal.returns
 returns c = λ state after recovered history again r s is.
     same_runs c.is_determined.ensures state after recovered (kept state.configuration history) again
-    (kept_runs c.refused_leaves.ensures state after history r) s (all_kept state.configuration history) is.0 is.1
+    (kept_runs c.refusal_keeps_state.ensures state after history r) s (all_kept state.configuration history) is.0 is.1

@@ -1,6 +1,6 @@
 use Rattle.mds_request.specs.Configuration.{configuration}
 use Rattle.mds_snapshot.specs.Opening.{book_of}
-use Rattle.mds_serve.proofs.running.prepared.Given as goal
+use Rattle.mds_serve.proofs.running.prepare_and_serve.Given as goal
 
 -- the book of what was just prepared
 abbrev pub ghosts-open-K-Naming : goal.ghosts-open-K-Naming

@@ -9,7 +9,7 @@ use Rattle.mds_machine.proofs.Views.{both_true}
 use Rattle.mds_examples.specs.Computed.{documents}
 use Rattle.mds_examples.specs.Requests.{configuration}
 use Rattle.mds_server_examples.specs.Turns.{whole}
-use Rattle.mds_server_examples.proofs.histories.put_in.Goals as goal
+use Rattle.mds_server_examples.proofs.histories.insertion.Goals as goal
 
 -- no reply of the history is 503
 abbrev is_available : Exchange → Bool

@@ -12,7 +12,7 @@ use Rattle.mds_examples.specs.Vehicles.{one_row}
 use Rattle.mds_server_examples.specs.Turns.{first_front, turns_of}
 use Rattle.mds_server_examples.proofs.AtDesk.{two}
 use Rattle.mds_server_examples.proofs.AtRoom.{room_turns}
-use Rattle.mds_server_examples.proofs.histories.served.Goals as goal
+use Rattle.mds_server_examples.proofs.histories.served_history.Goals as goal
 
 abbrev HasTurned : ℕ → Operator → Type 0
 HasTurned place operator =

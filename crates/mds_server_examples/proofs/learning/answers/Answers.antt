@@ -1,7 +1,7 @@
 use Rattle.std.proofs.Common.{refl}
 use Rattle.mds_examples.specs.Histories.{answer}
 use Rattle.mds_examples.specs.Vehicles.{one_row}
-use Rattle.mds_server_examples.specs.Held.{desk}
+use Rattle.mds_server_examples.specs.DeskStates.{desk}
 use Rattle.mds_server_examples.specs.Turns.{first_front}
 use Rattle.mds_server_examples.proofs.AtHall.{takes_known, learns_first}
 use Rattle.mds_server_examples.proofs.learning.answers.Goals as goal

@@ -5,7 +5,7 @@ use Rattle.std.proofs.lemmas.Bool.{false≢true}
 use Rattle.mds_request.specs.declared.code.Code.TheVariants.{NoMemory}
 use Rattle.mds_machine.specs.Answer.{settled}
 use Rattle.mds_machine.proofs.Runs.{not_unavailable}
-use Rattle.mds_examples.proofs.Drafted.{no_square, the_square}
+use Rattle.mds_examples.proofs.DraftCounts.{no_square, the_square}
 use Rattle.mds_examples.specs.Histories.{no_drafts}
 use Rattle.mds_examples.specs.Ids.{square_id}
 use Rattle.mds_server_examples.proofs.AtRoom.{puts_square}

@@ -1,5 +1,5 @@
 use Rattle.std.proofs.Common.{ap, ◌∙◌, [], ◌∷◌, ◌++◌}
-use Rattle.mds_snapshot.specs.declared.shown.Operation.TheVariants.{Rest}
+use Rattle.mds_snapshot.specs.declared.snapshot_copy.CopyOperation.TheVariants.{Rest}
 use Rattle.mds_snapshot.proofs.Sharing.{stays}
 use Rattle.mds_snapshot.proofs.publisher.rest.Goals as goal
 

@@ -1,7 +1,7 @@
 use Rattle.std.proofs.Common.{ap, sym, ◌∙◌, [], ◌∷◌, ◌++◌}
 use Rattle.mds_catalog.specs.Catalogue.{publications_of}
 use Rattle.mds_catalog.specs.Publication.{publication_of}
-use Rattle.mds_snapshot.specs.declared.shown.Operation.TheVariants.{Publish}
+use Rattle.mds_snapshot.specs.declared.snapshot_copy.CopyOperation.TheVariants.{Publish}
 use Rattle.mds_snapshot.proofs.Sharing.{publishes}
 use Rattle.mds_snapshot.proofs.publisher.show.Goals as goal
 

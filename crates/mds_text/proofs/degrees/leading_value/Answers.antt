@@ -1,6 +1,6 @@
 use Rattle.std.proofs.Common.{◌++◌, ◌+◌, ◌∙◌, sym, arith}
 use Rattle.mds_text.proofs.Leading.{leading-turn, leading-zero, up_to_limit-over}
-use Rattle.mds_text.proofs.degrees.leading.Goals as goal
+use Rattle.mds_text.proofs.degrees.leading_value.Goals as goal
 
 pub loop-place-init : goal.loop-place-init
 loop-place-init c = (sym (leading-zero (c.args.whole.now ++ c.args.fraction.now)), omega arith)

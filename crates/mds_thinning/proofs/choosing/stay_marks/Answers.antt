@@ -3,7 +3,7 @@ use Rattle.std.specs.BTreeMap.{get}
 use Rattle.mds_thinning.specs.declared.kind.Device.{Device}
 use Rattle.mds_thinning.specs.Passes.{device_cmp, ahead_of, stays_at}
 use Rattle.mds_thinning.proofs.Loops.{length_beginnings, beginning_at, stays_more, drop_one_more}
-use Rattle.mds_thinning.proofs.choosing.chosen.Goals as goal
+use Rattle.mds_thinning.proofs.choosing.stay_marks.Goals as goal
 
 pub index-requires : goal.index-requires
 index-requires c =

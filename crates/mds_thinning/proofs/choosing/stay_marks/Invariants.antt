@@ -3,7 +3,7 @@ use Rattle.std.specs.BTreeMap.{get}
 use Rattle.mds_thinning.specs.declared.kind.Device.{Device}
 use Rattle.mds_thinning.specs.Staying.{staying}
 use Rattle.mds_thinning.specs.Passes.{device_cmp, ahead_of}
-use Rattle.mds_thinning.proofs.choosing.chosen.Given as goal
+use Rattle.mds_thinning.proofs.choosing.stay_marks.Given as goal
 
 -- what was found of those after this one
 abbrev pub invariant-loop-place : goal.invariant-loop-place

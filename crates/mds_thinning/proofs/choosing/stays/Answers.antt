@@ -1,7 +1,7 @@
 use Rattle.std.proofs.Common.{◌≡◌, cond, Some, sym, ap, subst, ◌∷◌, ◌∙◌}
 use Rattle.std.specs.BTreeMap.{get, is_at}
 use Rattle.mds_thinning.specs.declared.kind.Device.{Device}
-use Rattle.mds_thinning.specs.declared.kind.Ahead.TheVariants.{Settled}
+use Rattle.mds_thinning.specs.declared.kind.LaterEntries.TheVariants.{Settled}
 use Rattle.mds_thinning.specs.Passes.{device_cmp, ahead_of, joined}
 use Rattle.mds_thinning.proofs.Known.{updated, joins}
 use Rattle.mds_thinning.proofs.choosing.stays.Goals as goal
@@ -10,7 +10,7 @@ pub returns-in_ok-insert-in-Report-clause-known : goal.returns-in_ok-insert-in-R
 returns-in_ok-insert-in-Report-clause-known c = λ kinds h.
     let device = c.in-Report.device in
     let state = c.in-Report.state in
-    let next = c.joined-next.ensures ∙ ap (joined state) (c.get-ahead.ensures.value ∙ h device) in
+    let next = c.with_report-next.ensures ∙ ap (joined state) (c.get-ahead.ensures.value ∙ h device) in
     subst (λ kind. (q : Device) → get device_cmp c.insert.new.self q ≡ ahead_of q (kind ∷ kinds)) (sym c.in-Report.is)
     (λ q. updated (λ q. ahead_of q kinds) c.args.behind.now c.insert.new.self device (Some (joined state (ahead_of device kinds)))
     (subst (λ a. (q : Device) → get device_cmp c.insert.new.self q ≡ cond (is_at (device_cmp device) q) (Some a) (get device_cmp c.args.behind.now q)) next

@@ -5,10 +5,10 @@ use Rattle.mds_entries.specs.Entries.{entry_of}
 use Rattle.mds_thinning.specs.Kinds.{kind_of}
 use Rattle.mds_thinning.specs.Staying.{staying}
 use Rattle.mds_thinning.proofs.Loops.{length_staying}
-use Rattle.mds_thinning.proofs.thinned.thinned_entries.Goals as goal
+use Rattle.mds_thinning.proofs.compacting.compact_entries.Goals as goal
 
-pub picked-requires : goal.picked-requires
-picked-requires c =
+pub marked_entries-requires : goal.marked_entries-requires
+marked_entries-requires c =
     let entries = map entry_of c.args.entries.now in
     let kinds = map (kind_of (configuration c.args.config.now)) entries in
     ap length (c.deref-2.ensures.value ∙ c.in_ok-marks.ensures ∙ ap (staying []) (c.deref.ensures.value ∙ c.in_ok-kinds.ensures))

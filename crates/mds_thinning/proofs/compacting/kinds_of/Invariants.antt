@@ -2,7 +2,7 @@ use Rattle.std.proofs.Common.{◌≡◌, map, take}
 use Rattle.mds_request.specs.Configuration.{configuration}
 use Rattle.mds_entries.specs.Entries.{entry_of}
 use Rattle.mds_thinning.specs.Kinds.{kind_of}
-use Rattle.mds_thinning.proofs.thinned.kinds_of.Given as goal
+use Rattle.mds_thinning.proofs.compacting.kinds_of.Given as goal
 
 -- the kinds of the entries so far
 abbrev pub invariant-loop-entry : goal.invariant-loop-entry

@@ -3,10 +3,10 @@ use Rattle.std.proofs.lemmas.List.{length-map}
 use Rattle.mds_request.specs.Configuration.{configuration}
 use Rattle.mds_entries.specs.Entries.{entry_of, entry_text}
 use Rattle.mds_thinning.specs.Questions.{questions}
-use Rattle.mds_thinning.specs.Thinned.{thinned}
-use Rattle.mds_thinning.specs.Thinning.{AreAlike}
+use Rattle.mds_thinning.specs.Compacting.{thinned}
+use Rattle.mds_thinning.specs.Compaction.{AreAlike}
 use Rattle.mds_thinning.proofs.Journals.{map_map}
-use Rattle.mds_thinning.proofs.thinning.thin.Goals as goal
+use Rattle.mds_thinning.proofs.compaction.compact.Goals as goal
 
 pub returns-clause-thinned : goal.returns-clause-thinned
 returns-clause-thinned g c =
@@ -25,7 +25,7 @@ returns-clause-thinned g c =
       head = head;
       entries = map entry_of entries;
       journal = c.in-Ok-parts.ensures;
-      written = subst (λ (rest : List (List ℕ)). g.L.Log.may_be c.written.new.log (head ∷ rest))
+      written = subst (λ (rest : List (List ℕ)). g.L.Log.may_be c.write_synced.new.log (head ∷ rest))
           (ap (map (λ e. entry_text (entry_of e))) c.deref-2.ensures.value ∙ sym (map_map entry_of entry_text c.in_ok-kept.kept.items) ∙ ap (map entry_text) kept)
           c.in_ok-texts.ensures.written;
       read_back = texts;

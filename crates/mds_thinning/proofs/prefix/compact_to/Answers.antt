@@ -1,4 +1,4 @@
-use Rattle.mds_thinning.proofs.front.shortened.Goals as goal
+use Rattle.mds_thinning.proofs.prefix.compact_to.Goals as goal
 
 pub new-requires : goal.new-requires
 new-requires g c =

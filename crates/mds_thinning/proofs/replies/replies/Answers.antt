@@ -10,7 +10,7 @@ pub returns-in-Ok-told : goal.returns-in-Ok-told
 returns-in-Ok-told g c =
     let room = c.in-Ok.started.0 in
     let desks = c.in-Ok.started.1.items in
-    let next = server_of c.all_told-told.new.room c.all_told-told.new.desks in (
+    let next = server_of c.answer_questions-told.new.room c.answer_questions-told.new.desks in (
       server_of room desks,
       next,
       subst (λ k. IsStartedAgain k (map entry_of c.args.entries.now) (server_of room desks)) c.requires.same c.in-Ok.ensures.started,

@@ -5,7 +5,7 @@ use Rattle.mds_match.specs.Row.{row_of}
 use Rattle.mds_match.specs.declared.vehicle.Vehicle.{Vehicle}
 use Rattle.mds_verdict.specs.Verdict.{verdicts}
 use Rattle.mds_verdict.proofs.Measures.{measures_fit, verdicts_at_most}
-use Rattle.mds_verdict.proofs.judge.of_all.Goals as goal
+use Rattle.mds_verdict.proofs.judge.evaluate_all.Goals as goal
 
 pub returns-clause-exact : goal.returns-clause-exact
 returns-clause-exact g c =

@@ -1,5 +1,5 @@
 use Rattle.mds_verdict.proofs.Measures.{length-verdicts, verdicts_at_most, few_devices}
-use Rattle.mds_verdict.proofs.laws.bounded.Goals as goal
+use Rattle.mds_verdict.proofs.laws.verdicts_are_bounded.Goals as goal
 
 pub returns-clause-each : goal.returns-clause-each
 returns-clause-each c = λ policy polygons rows local t. length-verdicts policy polygons rows rows local t

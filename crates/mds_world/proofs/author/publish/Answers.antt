@@ -1,7 +1,7 @@
 use Rattle.std.proofs.Common.{ap}
 use Rattle.mds_catalog.specs.Catalogue.{publications_of}
 use Rattle.mds_catalog.specs.Publication.{publication_of}
-use Rattle.mds_drafts.specs.Shelf.{drafts_of}
+use Rattle.mds_drafts.specs.Values.{drafts_of}
 use Rattle.mds_request.specs.Request.{request_of}
 use Rattle.mds_world.proofs.Replies.{published}
 use Rattle.mds_world.proofs.author.publish.Goals as goal

@@ -3,7 +3,7 @@ use Rattle.mds_policy.specs.Policy.{policy_document}
 use Rattle.mds_catalog.specs.Catalogue.{publications_of}
 use Rattle.mds_world.specs.Lasting.{lasting_in}
 use Rattle.mds_world.proofs.Lasting.{is_published}
-use Rattle.mds_world.proofs.compliance.kept_verdicts.Goals as goal
+use Rattle.mds_world.proofs.compliance.index_verdicts.Goals as goal
 
 pub verdicts-requires : goal.verdicts-requires
 verdicts-requires c =

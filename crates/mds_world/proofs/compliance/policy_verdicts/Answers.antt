@@ -11,6 +11,6 @@ use Rattle.mds_world.proofs.compliance.policy_verdicts.Goals as goal
 pub returns-clause-exact : goal.returns-clause-exact
 returns-clause-exact g c =
     let rows : map (λ v. row_of v.now) c.deref.result.now ≡ values c.args.book.now.rows =
-    ap (λ vehicles. map (λ v. row_of v.now) vehicles) c.deref.ensures.value ∙ c.in_ok-vehicles.ensures.whole ∙ ap values c.kept_verdicts.ensures.rows in
+    ap (λ vehicles. map (λ v. row_of v.now) vehicles) c.deref.ensures.value ∙ c.in_ok-vehicles.ensures.whole ∙ ap values c.index_verdicts.ensures.rows in
     subst (λ rs. IfOk c.verdicts.result (λ found. map verdict_document found.items ≡ verdicts (policy_document c.args.policy.now) (published_area (publications_of c.args.catalogue.now)) rs c.args.at.now.local c.args.at.now.moment)) rows
     c.verdicts.ensures.exact

@@ -12,7 +12,7 @@ of-requires-clause-desks g c =
     subst (λ k. AreDesksOf k server.desks) c.requires.configured
     (desks_of_server (configuration c.args.config) server from.started.placed)
 
-pub keep_and_serve-requires-clause-listed : goal.keep_and_serve-requires-clause-listed
-keep_and_serve-requires-clause-listed g c κs within =
+pub persist_and_serve-requires-clause-listed : goal.persist_and_serve-requires-clause-listed
+persist_and_serve-requires-clause-listed g c κs within =
     let texts = c.in_ok-room.ensures.0 in
     (texts, c.new.ensures.unchanged texts c.in_ok-room.ensures.1)

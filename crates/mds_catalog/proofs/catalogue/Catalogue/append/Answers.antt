@@ -7,7 +7,7 @@ use Rattle.mds_policy.specs.declared.policy.Policy as policy
 use Rattle.mds_geography.specs.Geography.{geography_document}
 use Rattle.mds_geography.specs.declared.geography.Geography as geography
 use Rattle.mds_catalog.specs.declared.batch.Batch.{Batch}
-use Rattle.mds_catalog.specs.Kept.{after_successors, after_withdrawal}
+use Rattle.mds_catalog.specs.Index.{after_successors, after_withdrawal}
 use Rattle.mds_catalog.specs.Publication.{publication_of}
 use Rattle.mds_catalog.specs.Catalogue.{publications_of}
 use Rattle.mds_catalog.proofs.Found.{fits_all, lawful_fits, lawful_room}

@@ -6,7 +6,7 @@ use Rattle.std.specs.declared.alloc.Global.{Global}
 use Rattle.mds_geography.specs.declared.geography.Geography as program
 use Rattle.mds_geography.specs.Geography.{Geography, geography_document}
 use Rattle.mds_catalog.specs.declared.batch.Batch.{Batch}
-use Rattle.mds_catalog.specs.declared.spots.Spot.{Spot}
+use Rattle.mds_catalog.specs.declared.spots.DocumentSpot.{DocumentSpot}
 use Rattle.mds_catalog.specs.Publication.{Publication, dated, geography_ids}
 use Rattle.mds_catalog.specs.Catalogue.{publications_of}
 use Rattle.mds_catalog.specs.Listed.{has, spots_in}
@@ -16,26 +16,26 @@ use Rattle.mds_catalog.proofs.catalogue.Catalogue.geography.Goals as goal
 pub returns-in_err-spot : goal.returns-in_err-spot
 returns-in_err-spot c =
     let kept = c.args.self.now.kept in
-    let none : find (has (λ (s : Spot). s.id) c.args.id) (spots_in geography_ids 0 (publications_of c.args.self.now)) ≡ None = sym (kept.geographies_found c.args.id) ∙ ap (find (has (λ (s : Spot). s.id) c.args.id)) (sym c.deref.ensures.value) ∙ sym c.spot_of.ensures ∙ c.in_err-spot.was in
+    let none : find (has (λ (s : DocumentSpot). s.id) c.args.id) (spots_in geography_ids 0 (publications_of c.args.self.now)) ≡ None = sym (kept.geographies_found c.args.id) ∙ ap (find (has (λ (s : DocumentSpot). s.id) c.args.id)) (sym c.deref.ensures.value) ∙ sym c.spot_of.ensures ∙ c.in_err-spot.was in
     ap (option_map _) c.from_residual.ensures ∙ sym (nowhere_in (λ (d : Geography). d.id) c.args.id (λ (p : Publication). p.geographies) 0 (publications_of c.args.self.now) none)
 
 pub index-requires : goal.index-requires
 index-requires c =
     let kept = c.args.self.now.kept in
-    let found : find (has (λ (s : Spot). s.id) c.args.id) (spots_in geography_ids 0 (publications_of c.args.self.now)) ≡ Some c.in_ok-spot.spot = sym (kept.geographies_found c.args.id) ∙ ap (find (has (λ (s : Spot). s.id) c.args.id)) (sym c.deref.ensures.value) ∙ sym c.spot_of.ensures ∙ c.in_ok-spot.was in
+    let found : find (has (λ (s : DocumentSpot). s.id) c.args.id) (spots_in geography_ids 0 (publications_of c.args.self.now)) ≡ Some c.in_ok-spot.spot = sym (kept.geographies_found c.args.id) ∙ ap (find (has (λ (s : DocumentSpot). s.id) c.args.id)) (sym c.deref.ensures.value) ∙ sym c.spot_of.ensures ∙ c.in_ok-spot.was in
     omega (arith, within (λ (d : Geography). d.id) c.args.id (λ (p : Publication). p.geographies) c.args.self.now.batches.items c.in_ok-spot.spot found, c.args.self.now.batches.ok.0)
 
 pub index-requires-2 : goal.index-requires-2
 index-requires-2 c =
     let kept = c.args.self.now.kept in
-    let found : find (has (λ (s : Spot). s.id) c.args.id) (spots_in geography_ids 0 (publications_of c.args.self.now)) ≡ Some c.in_ok-spot.spot = sym (kept.geographies_found c.args.id) ∙ ap (find (has (λ (s : Spot). s.id) c.args.id)) (sym c.deref.ensures.value) ∙ sym c.spot_of.ensures ∙ c.in_ok-spot.was in
+    let found : find (has (λ (s : DocumentSpot). s.id) c.args.id) (spots_in geography_ids 0 (publications_of c.args.self.now)) ≡ Some c.in_ok-spot.spot = sym (kept.geographies_found c.args.id) ∙ ap (find (has (λ (s : DocumentSpot). s.id) c.args.id)) (sym c.deref.ensures.value) ∙ sym c.spot_of.ensures ∙ c.in_ok-spot.was in
     let at = placed (λ (d : Geography). d.id) c.args.id (λ (p : Publication). p.geographies) c.args.self.now.batches.items c.in_ok-spot.spot c.index.result.now c.index.ensures found in
     omega (arith, at.place, length-map c.index.result.now.value.geographies.items (λ (s : Arc program.Geography Global). geography_document s.value), c.index.result.now.value.geographies.ok.0, ap (λ (b : Batch). b.geographies.len) c.deref-batch.ensures)
 
 pub returns : goal.returns
 returns c =
     let kept = c.args.self.now.kept in
-    let found : find (has (λ (s : Spot). s.id) c.args.id) (spots_in geography_ids 0 (publications_of c.args.self.now)) ≡ Some c.in_ok-spot.spot = sym (kept.geographies_found c.args.id) ∙ ap (find (has (λ (s : Spot). s.id) c.args.id)) (sym c.deref.ensures.value) ∙ sym c.spot_of.ensures ∙ c.in_ok-spot.was in
+    let found : find (has (λ (s : DocumentSpot). s.id) c.args.id) (spots_in geography_ids 0 (publications_of c.args.self.now)) ≡ Some c.in_ok-spot.spot = sym (kept.geographies_found c.args.id) ∙ ap (find (has (λ (s : DocumentSpot). s.id) c.args.id)) (sym c.deref.ensures.value) ∙ sym c.spot_of.ensures ∙ c.in_ok-spot.was in
     let at = placed (λ (d : Geography). d.id) c.args.id (λ (p : Publication). p.geographies) c.args.self.now.batches.items c.in_ok-spot.spot c.index.result.now c.index.ensures found in
     let document : Arc program.Geography Global → Geography = λ s. geography_document s.value in
     let share = c.index-2.result.now in

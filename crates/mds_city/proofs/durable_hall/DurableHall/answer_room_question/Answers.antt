@@ -1,10 +1,10 @@
 use Rattle.std.proofs.Common.{◌≡◌}
-use Rattle.mds_hall.specs.Told.{RoomTells}
-use Rattle.mds_city.specs.Told.{room_told}
+use Rattle.mds_hall.specs.Query.{RoomTells}
+use Rattle.mds_city.specs.People.{room_told}
 use Rattle.mds_city.proofs.Own.{by_memory}
-use Rattle.mds_city.proofs.city.City.answer_of.Goals as goal
+use Rattle.mds_city.proofs.durable_hall.DurableHall.answer_room_question.Goals as goal
 
 pub returns : goal.returns
 returns g c =
-    by_memory (RoomTells g.K.Named.configuration (λ drafts publications told. told ≡ room_told c.args.asked drafts publications)) c.told.result c.or_no_memory-answer.result
+    by_memory (RoomTells g.K.HallName.configuration (λ drafts publications told. told ≡ room_told c.args.asked drafts publications)) c.told.result c.or_no_memory-answer.result
     c.or_no_memory-answer.ensures.told c.or_no_memory-answer.ensures.refused c.told.ensures.tells

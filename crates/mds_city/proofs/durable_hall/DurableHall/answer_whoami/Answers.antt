@@ -1,9 +1,9 @@
 use Rattle.std.proofs.Common.{◌≡◌}
-use Rattle.mds_app.specs.Badges.{badges_view}
+use Rattle.mds_app.specs.OperatorNames.{badges_view}
 use Rattle.mds_app.specs.Whoami.{who_reply}
 use Rattle.mds_city.proofs.Own.{by_memory}
 use Rattle.mds_city.proofs.Responses.{waits_told}
-use Rattle.mds_city.proofs.city.City.who.Goals as goal
+use Rattle.mds_city.proofs.durable_hall.DurableHall.answer_whoami.Goals as goal
 
 pub returns : goal.returns
 returns g c =

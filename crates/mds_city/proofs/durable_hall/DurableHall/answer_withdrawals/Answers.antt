@@ -1,10 +1,10 @@
-use Rattle.mds_app.specs.Badges.{badges_view}
-use Rattle.mds_city.specs.Told.{TellsOperator}
+use Rattle.mds_app.specs.OperatorNames.{badges_view}
+use Rattle.mds_city.specs.People.{TellsOperator}
 use Rattle.mds_routes.specs.declared.app.Question.TheVariants.{Withdrawals}
 use Rattle.mds_city.proofs.Responses.{waits_told}
-use Rattle.mds_city.proofs.city.City.of_desk.Goals as goal
+use Rattle.mds_city.proofs.durable_hall.DurableHall.answer_withdrawals.Goals as goal
 
 pub returns-in-Ok : goal.returns-in-Ok
 returns-in-Ok g c =
-    waits_told (TellsOperator g.K.Named.configuration (badges_view c.args.self.now.badges) c.args.place Withdrawals) (λ s. s.reply) c.reply.result
+    waits_told (TellsOperator g.K.HallName.configuration (badges_view c.args.self.now.badges) c.args.place Withdrawals) (λ s. s.reply) c.reply.result
     c.in-Ok.answered.answer c.reply.ensures.says c.in-Ok.ensures

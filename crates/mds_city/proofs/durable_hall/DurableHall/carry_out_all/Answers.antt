@@ -7,14 +7,14 @@ use Rattle.mds_desk.specs.Desk.{state_of}
 use Rattle.mds_city.specs.Many.{IsAnsweredInPart}
 use Rattle.mds_city.proofs.Askers.{front_asked, rest_asked}
 use Rattle.mds_city.proofs.Reports.{Reached, all_answered, reached_more, reached_none, rest_is, some_answered_of}
-use Rattle.mds_city.proofs.city.City.carry_out_all.Goals as goal
+use Rattle.mds_city.proofs.durable_hall.DurableHall.carry_out_all.Goals as goal
 
 pub chunks-init : goal.chunks-init
 chunks-init g c =
     let desk = state_of c.args.desk.now.desk in
     record {
-      reached = subst (λ (replies : List Reply). Reached g.K.Named.configuration c.args.place [] replies c.again.result desk) (sym c.in_ok-with_capacity.ensures.items)
-          (reached_none g.K.Named.configuration c.args.place c.again.result desk
+      reached = subst (λ (replies : List Reply). Reached g.K.HallName.configuration c.args.place [] replies c.again.result desk) (sym c.in_ok-with_capacity.ensures.items)
+          (reached_none g.K.HallName.configuration c.args.place c.again.result desk
           (record { configured = c.args.desk.now.configured; placed = c.args.desk.now.placed ∙ c.requires.place }));
       place = c.requires.place;
       within = omega arith;
@@ -25,9 +25,9 @@ carry_out_chunk-requires-clause-asked g c =
     let requests = c.args.requests.now in
     let done = c.chunks.done in
     let rest = take (length requests - done) (drop done requests) in
-    front_asked g.K.Named.configuration c.args.place request_of c.chunk_length-length.result rest
-    (front_asked g.K.Named.configuration c.args.place request_of (length requests - done) (drop done requests)
-    (rest_asked g.K.Named.configuration c.args.place request_of done requests c.requires.asked))
+    front_asked g.K.HallName.configuration c.args.place request_of c.chunk_length-length.result rest
+    (front_asked g.K.HallName.configuration c.args.place request_of (length requests - done) (drop done requests)
+    (rest_asked g.K.HallName.configuration c.args.place request_of done requests c.requires.asked))
 
 pub returns-in-Err : goal.returns-in-Err
 returns-in-Err g c =
@@ -37,12 +37,12 @@ returns-in-Err g c =
     let cut : map request_of requests ≡ map request_of (take done requests) ++ map request_of rest =
     ap (map request_of) (sym (take-append-drop done requests)) ∙ map-append request_of (take done requests) (drop done requests)
     ∙ ap (λ xs. map request_of (take done requests) ++ map request_of xs) (sym (rest_is done requests)) in
-    some_answered_of (λ all. all.answers.items) (λ all. all.stamp) g.K.Named.configuration c.args.place (map request_of (take done requests)) (map request_of rest)
+    some_answered_of (λ all. all.answers.items) (λ all. all.stamp) g.K.HallName.configuration c.args.place (map request_of (take done requests)) (map request_of rest)
     (map request_of requests) c.chunks.replies.answers.items c.chunks.replies.stamp (state_of c.chunks.desk.desk) c.with_refused.result cut c.chunks.invariant.reached c.with_refused.ensures
 
 pub chunks-preserved : goal.chunks-preserved
 chunks-preserved g c =
-    let own = g.K.Named.configuration in
+    let own = g.K.HallName.configuration in
     let place = c.args.place in
     let requests = c.args.requests.now in
     let done = c.chunks.done in
@@ -74,6 +74,6 @@ returns g c =
     let requests = c.args.requests.now in
     let end : c.chunks.done ≡ length requests = omega (arith, c.chunks.invariant.within) in
     let all : take c.chunks.done requests ≡ requests = ap (λ n. take n requests) end ∙ take-length requests in
-    subst (λ rs. IsAnsweredInPart g.K.Named.configuration c.args.place (map request_of rs) c.chunks.replies.answers.items c.chunks.replies.stamp) all
-    (all_answered g.K.Named.configuration c.args.place (map request_of (take c.chunks.done requests)) c.chunks.replies.answers.items c.chunks.replies.stamp
+    subst (λ rs. IsAnsweredInPart g.K.HallName.configuration c.args.place (map request_of rs) c.chunks.replies.answers.items c.chunks.replies.stamp) all
+    (all_answered g.K.HallName.configuration c.args.place (map request_of (take c.chunks.done requests)) c.chunks.replies.answers.items c.chunks.replies.stamp
     (state_of c.chunks.desk.desk) c.chunks.invariant.reached)

@@ -2,12 +2,12 @@ use Rattle.std.proofs.Common.{◌≡◌, ◌≤◌, ◌-◌, length, map, take}
 use Rattle.mds_request.specs.Request.{request_of}
 use Rattle.mds_desk.specs.Desk.{state_of}
 use Rattle.mds_city.proofs.Reports.{Reached}
-use Rattle.mds_city.proofs.city.City.carry_out_all.Given as goal
+use Rattle.mds_city.proofs.durable_hall.DurableHall.carry_out_all.Given as goal
 
 -- the requests so far are answered, at this operator's desk
 abbrev pub invariant-chunks : goal.invariant-chunks
 invariant-chunks g l = record {
-  reached : Reached g.K.Named.configuration l.fn.place (map request_of (take l.done l.requests)) l.replies.answers.items l.replies.stamp (state_of l.desk.desk);
+  reached : Reached g.K.HallName.configuration l.fn.place (map request_of (take l.done l.requests)) l.replies.answers.items l.replies.stamp (state_of l.desk.desk);
   place : l.desk.place ≡ l.fn.place;
   within : l.done ≤ length l.requests;
 }

@@ -5,7 +5,7 @@ use Rattle.mds_request.specs.Request.{request_of}
 use Rattle.mds_request.specs.Reply.{Reply}
 use Rattle.mds_machine.proofs.Views.{prefix_self}
 use Rattle.mds_city.proofs.Reports.{refused_are_recorded}
-use Rattle.mds_city.proofs.city.City.carry_out_refused.Goals as goal
+use Rattle.mds_city.proofs.durable_hall.DurableHall.carry_out_refused.Goals as goal
 
 pub returns-clause-continues : goal.returns-clause-continues
 returns-clause-continues g c =
@@ -16,7 +16,7 @@ returns-clause-continues g c =
     record {
       note = _;
       run = c.in_ok-answers.ensures.run;
-      recorded = refused_are_recorded g.K.Named.configuration requests replies c.again-stamp.result
+      recorded = refused_are_recorded g.K.HallName.configuration requests replies c.again-stamp.result
           (sym (ap refuses c.deref.ensures.value) ∙ sym c.are_refused.ensures ∙ held);
       longer = subst (IsPrefix c.args.known.now) (sym c.again-stamp.ensures) (prefix_self c.args.known.now);
     }

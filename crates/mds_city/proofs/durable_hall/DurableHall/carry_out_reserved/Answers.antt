@@ -4,7 +4,7 @@ use Rattle.mds_request.specs.Request.{request_of}
 use Rattle.mds_request.specs.Reply.{Reply}
 use Rattle.mds_desk.specs.Desk.{state_of}
 use Rattle.mds_city.proofs.Reports.{as_many_told, settled_are_recorded}
-use Rattle.mds_city.proofs.city.City.carry_out_held.Goals as goal
+use Rattle.mds_city.proofs.durable_hall.DurableHall.carry_out_reserved.Goals as goal
 
 pub note_accepted-requires-clause-room : goal.note_accepted-requires-clause-room
 note_accepted-requires-clause-room g c =
@@ -25,7 +25,7 @@ returns-clause-continues g c =
     record {
       note = _;
       run = c.in-Ok-run.ensures.run;
-      recorded = settled_are_recorded g.K.Named.configuration requests replies (map (λ text. text.items) c.args.places.texts.items) c.in_ok-stamp.stamp
+      recorded = settled_are_recorded g.K.HallName.configuration requests replies (map (λ text. text.items) c.args.places.texts.items) c.in_ok-stamp.stamp
           c.deref-4.result.now c.requires.places noted c.in_ok-stamp.ensures.last;
       longer = c.in_ok-stamp.ensures.known;
     }

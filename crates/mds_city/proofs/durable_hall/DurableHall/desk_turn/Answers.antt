@@ -3,28 +3,28 @@ use Rattle.mds_request.specs.Call.{call_of}
 use Rattle.mds_request.specs.Configuration.{Configuration}
 use Rattle.mds_request.specs.declared.call.Call.TheVariants.{Operator as OperatorAt}
 use Rattle.mds_request.specs.declared.config.Actor.TheVariants.{Operator}
-use Rattle.mds_hall.proofs.Askers.{caller_within}
-use Rattle.mds_hall.specs.Heard.{request_heard}
+use Rattle.mds_hall.proofs.Clients.{caller_within}
+use Rattle.mds_hall.specs.WholeRequest.{request_heard}
 use Rattle.mds_hall.specs.Turn.{DeskReplies}
 use Rattle.mds_city.specs.Records.{IsSettled}
 use Rattle.mds_city.proofs.Turns.{recorded}
-use Rattle.mds_city.proofs.city.City.desk_turn.Goals as goal
+use Rattle.mds_city.proofs.durable_hall.DurableHall.desk_turn.Goals as goal
 
 pub desk_at-requires : goal.desk_at-requires
 desk_at-requires g c =
     subst (λ (own : Configuration). c.args.place < length own.operators) (sym c.args.self.now.hall.configured)
-    (caller_within g.K.Named.configuration (request_heard c.args.heard) c.args.place c.args.call c.requires.resolved)
+    (caller_within g.K.HallName.configuration (request_heard c.args.heard) c.args.place c.args.call c.requires.resolved)
 
 pub carry_out-answer-requires-clause-resolved : goal.carry_out-answer-requires-clause-resolved
 carry_out-answer-requires-clause-resolved g c =
     let here : c.deref_mut.result.now.place ≡ c.args.place = ap (λ desk. desk.place) c.deref_mut.ensures.value ∙ c.in-Some.ensures in
-    subst (λ (place : ℕ). call_of g.K.Named.configuration (request_heard c.args.heard) ≡ Ok (OperatorAt place c.args.call)) (sym here) c.requires.resolved
+    subst (λ (place : ℕ). call_of g.K.HallName.configuration (request_heard c.args.heard) ≡ Ok (OperatorAt place c.args.call)) (sym here) c.requires.resolved
 
 pub returns-in-Ok : goal.returns-in-Ok
 returns-in-Ok g c =
     let request = request_heard c.args.heard in
     let reply = c.carry_out-answer.result in
     let here : c.deref_mut.result.now.place ≡ c.args.place = ap (λ desk. desk.place) c.deref_mut.ensures.value ∙ c.in-Some.ensures in
-    let turn = subst (λ (place : ℕ). DeskReplies g.K.Named.configuration place request reply) here c.carry_out-answer.ensures.replies in
+    let turn = subst (λ (place : ℕ). DeskReplies g.K.HallName.configuration place request reply) here c.carry_out-answer.ensures.replies in
     let settled = subst (λ (status : ℕ). IsSettled c.args.reserved status c.in-Ok.stamp) c.status-status.ensures c.in-Ok.ensures in
-    recorded g.K.Named.configuration (Operator c.args.place) request reply c.args.reserved c.in-Ok.stamp turn c.requires.reserved settled
+    recorded g.K.HallName.configuration (Operator c.args.place) request reply c.args.reserved c.in-Ok.stamp turn c.requires.reserved settled

@@ -1,24 +1,24 @@
 use Rattle.std.proofs.Common.{◌≡◌, length, Some, sym, ap, subst, ◌∙◌}
 use Rattle.mds_entries.specs.Requests.{asker_at}
 use Rattle.mds_request.specs.Configuration.{Configuration, configuration}
-use Rattle.mds_hall.specs.Asker.{IsWithin}
-use Rattle.mds_hall.specs.Heard.{request_heard}
+use Rattle.mds_hall.specs.Client.{IsWithin}
+use Rattle.mds_hall.specs.WholeRequest.{request_heard}
 use Rattle.mds_city.specs.Records.{caller_of, record_by}
 use Rattle.mds_city.proofs.Askers.{caller_within, record_of_call}
-use Rattle.mds_city.proofs.city.City.room_for.Goals as goal
+use Rattle.mds_city.proofs.durable_hall.DurableHall.reserve_for.Goals as goal
 
-pub asker_of-asker-requires : goal.asker_of-asker-requires
-asker_of-asker-requires g c =
-    let shared : configuration c.deref.result.now ≡ g.K.Named.configuration = ap configuration c.deref.ensures ∙ c.in_ok-config.ensures ∙ c.args.self.now.hall.configured in
+pub client_of-asker-requires : goal.client_of-asker-requires
+client_of-asker-requires g c =
+    let shared : configuration c.deref.result.now ≡ g.K.HallName.configuration = ap configuration c.deref.ensures ∙ c.in_ok-config.ensures ∙ c.args.self.now.hall.configured in
     subst (λ (own : Configuration). IsWithin (length own.operators) (caller_of c.args.call.now)) (sym shared)
-    (caller_within g.K.Named.configuration (request_heard c.args.heard.now) c.args.call.now c.requires)
+    (caller_within g.K.HallName.configuration (request_heard c.args.heard.now) c.args.call.now c.requires)
 
 pub returns-in-Ok : goal.returns-in-Ok
 returns-in-Ok g c =
-    let own = g.K.Named.configuration in
+    let own = g.K.HallName.configuration in
     let request = request_heard c.args.heard.now in
-    let asker = c.asker_of-asker.result in
+    let asker = c.client_of-asker.result in
     let shared : configuration c.deref.result.now ≡ own = ap configuration c.deref.ensures ∙ c.in_ok-config.ensures ∙ c.args.self.now.hall.configured in
     record_of_call own request c.args.call.now asker c.in-Ok.place.text.items c.requires
-    (subst (λ (cfg : Configuration). asker_at cfg (caller_of c.args.call.now) ≡ Some asker) shared c.asker_of-asker.ensures)
+    (subst (λ (cfg : Configuration). asker_at cfg (caller_of c.args.call.now) ≡ Some asker) shared c.client_of-asker.ensures)
     (ap (λ text. text.items) c.in-Ok.ensures ∙ c.in_ok-text.ensures ∙ ap (record_by asker) c.request-request.ensures)

@@ -5,16 +5,16 @@ use Rattle.mds_request.specs.Request.{request_of}
 use Rattle.mds_request.specs.declared.config.Actor.TheVariants.{Operator}
 use Rattle.mds_city.specs.Many.{AreRecordsOf}
 use Rattle.mds_city.proofs.Askers.{records_of}
-use Rattle.mds_city.proofs.city.City.room_for_all.Goals as goal
+use Rattle.mds_city.proofs.durable_hall.DurableHall.reserve_for_all.Goals as goal
 
 pub operator_asker-asker-requires : goal.operator_asker-asker-requires
 operator_asker-asker-requires g c =
-    let shared : configuration c.deref.result.now ≡ g.K.Named.configuration = ap configuration c.deref.ensures ∙ c.in_ok-config.ensures ∙ c.args.self.now.hall.configured in
+    let shared : configuration c.deref.result.now ≡ g.K.HallName.configuration = ap configuration c.deref.ensures ∙ c.in_ok-config.ensures ∙ c.args.self.now.hall.configured in
     subst (λ (own : Configuration). c.args.place < length own.operators) (sym shared) c.requires.place
 
 pub returns-in-Ok : goal.returns-in-Ok
 returns-in-Ok g c =
-    let own = g.K.Named.configuration in
+    let own = g.K.HallName.configuration in
     let requests = map request_of c.args.requests.now in
     let asker = c.operator_asker-asker.result in
     let shared : configuration c.deref.result.now ≡ own = ap configuration c.deref.ensures ∙ c.in_ok-config.ensures ∙ c.args.self.now.hall.configured in

@@ -1,9 +1,9 @@
 use Rattle.std.proofs.Common.{◌≡◌, ℕ, option_map, inl, inr, ap, subst, ◌∙◌, arith}
 use Rattle.mds_request.specs.declared.config.Actor.TheVariants.{Author}
-use Rattle.mds_hall.specs.Heard.{request_heard}
+use Rattle.mds_hall.specs.WholeRequest.{request_heard}
 use Rattle.mds_city.specs.Records.{IsSettled}
 use Rattle.mds_city.proofs.Turns.{of_some, recorded, settled_refused, settled_shown, settled_unasked}
-use Rattle.mds_city.proofs.city.City.room_turn.Goals as goal
+use Rattle.mds_city.proofs.durable_hall.DurableHall.room_turn.Goals as goal
 
 pub returns-in-Ok : goal.returns-in-Ok
 returns-in-Ok g c =
@@ -12,7 +12,7 @@ returns-in-Ok g c =
     let reply = answered.result.0 in
     let reserved = c.args.reserved in
     let stamp = c.in-Ok.stamp in
-    let text = g.T.Titled.text in
+    let text = g.T.RecordPayload.text in
     let leave = answered.new.leave in
     let status = c.status.result in
     let settled : IsSettled reserved status stamp = elim answered.ensures.asked [
@@ -28,5 +28,5 @@ returns-in-Ok g c =
             settled_refused reserved status stamp (λ success. omega (arith, success, c.status.ensures, failed))
       ]
     ] in
-    recorded g.K.Named.configuration Author request reply reserved stamp answered.ensures.replies c.requires.reserved
+    recorded g.K.HallName.configuration Author request reply reserved stamp answered.ensures.replies c.requires.reserved
     (subst (λ (n : ℕ). IsSettled reserved n stamp) c.status.ensures settled)

@@ -1,19 +1,19 @@
 use Rattle.std.proofs.Common.{◌≡◌, List, Some, option_map, sym, ap, ◌∙◌}
 use Rattle.std.specs.List.{slice_get}
-use Rattle.mds_app.specs.Badges.{badges_view}
+use Rattle.mds_app.specs.OperatorNames.{badges_view}
 use Rattle.mds_app.specs.Withdrawals.{withdrawals_reply}
 use Rattle.mds_catalog.specs.Publication.{Publication}
 use Rattle.mds_request.specs.Configuration.{Configuration, configuration}
 use Rattle.mds_request.specs.Reply.{Reply}
-use Rattle.mds_hall.specs.Told.{DeskTells}
-use Rattle.mds_city.specs.Told.{TellsOperator, own_withdrawals}
+use Rattle.mds_hall.specs.Query.{DeskTells}
+use Rattle.mds_city.specs.People.{TellsOperator, own_withdrawals}
 use Rattle.mds_routes.specs.declared.app.Question.TheVariants.{Withdrawals}
 use Rattle.mds_city.proofs.Own.{by_refusal, desk_tells, ok_kind, own_is}
-use Rattle.mds_city.proofs.city.City.withdrawals_at.Goals as goal
+use Rattle.mds_city.proofs.durable_hall.DurableHall.withdrawals_at.Goals as goal
 
 pub returns : goal.returns
 returns g c =
-    let own = g.K.Named.configuration in
+    let own = g.K.HallName.configuration in
     let badges = badges_view c.args.self.now.badges in
     let id = c.id_at.result in
     let here : c.deref_mut.result.now.place ≡ c.args.place = ap (λ desk. desk.place) c.deref_mut.ensures.value ∙ c.in-Some.ensures in

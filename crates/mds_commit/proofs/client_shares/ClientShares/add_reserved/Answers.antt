@@ -1,16 +1,16 @@
 use Rattle.std.proofs.Common.{ap, arith}
-use Rattle.mds_commit.specs.declared.shares.Share.{Share}
+use Rattle.mds_commit.specs.declared.client_shares.ClientShare.{ClientShare}
 use Rattle.mds_commit.proofs.Sharing.{held_fits, share_read}
-use Rattle.mds_commit.proofs.shares.Shares.hold.Goals as goal
+use Rattle.mds_commit.proofs.client_shares.ClientShares.add_reserved.Goals as goal
 
 pub overflow_add-share : goal.overflow_add-share
 overflow_add-share c =
     let there = share_read c.args.self.now.each.items c.args.asker c.index_mut-share.result.now c.requires.known c.index_mut-share.ensures.value in
     let fits = held_fits c.args.self.now.each.items c.args.asker c.args.more c.requires.known c.requires.shared in
-    omega (arith, ap (λ (s : Share). s.held.texts) there, fits.0)
+    omega (arith, ap (λ (s : ClientShare). s.reserved_count.texts) there, fits.0)
 
 pub overflow_add-share-2 : goal.overflow_add-share-2
 overflow_add-share-2 c =
     let there = share_read c.args.self.now.each.items c.args.asker c.index_mut-share.result.now c.requires.known c.index_mut-share.ensures.value in
     let fits = held_fits c.args.self.now.each.items c.args.asker c.args.more c.requires.known c.requires.shared in
-    omega (arith, ap (λ (s : Share). s.held.bytes) there, fits.1)
+    omega (arith, ap (λ (s : ClientShare). s.reserved_count.bytes) there, fits.1)

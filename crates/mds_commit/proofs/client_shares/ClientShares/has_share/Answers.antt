@@ -1,9 +1,9 @@
 use Rattle.std.proofs.Common.{◌+◌, ◌<◌, length, ap, ◌∙◌, arith}
-use Rattle.mds_commit.specs.declared.deciding.Usage.{Usage}
-use Rattle.mds_commit.specs.declared.shares.Share.{Share}
+use Rattle.mds_commit.specs.declared.decisions.Usage.{Usage}
+use Rattle.mds_commit.specs.declared.client_shares.ClientShare.{ClientShare}
 use Rattle.mds_commit.specs.Tables.{usage_of}
 use Rattle.mds_commit.proofs.Sharing.{front_shared, rest_shared, texts_fit, bytes_fit, share_read, parts_fit, rest_all, more_shared, nobody}
-use Rattle.mds_commit.proofs.shares.Shares.has_share.Goals as goal
+use Rattle.mds_commit.proofs.client_shares.ClientShares.has_share.Goals as goal
 
 pub usage-own-requires-clause-texts : goal.usage-own-requires-clause-texts
 usage-own-requires-clause-texts c =
@@ -11,7 +11,7 @@ usage-own-requires-clause-texts c =
     let i = c.args.asker in
     let there : i < length each = omega arith in
     let read = share_read each i c.index.result.now there c.index.ensures in
-    omega (arith, ap (λ (s : Share). (usage_of s).texts) read, texts_fit each i nobody there c.args.self.now.shared)
+    omega (arith, ap (λ (s : ClientShare). (usage_of s).texts) read, texts_fit each i nobody there c.args.self.now.shared)
 
 pub usage-own-requires-clause-bytes : goal.usage-own-requires-clause-bytes
 usage-own-requires-clause-bytes c =
@@ -19,14 +19,14 @@ usage-own-requires-clause-bytes c =
     let i = c.args.asker in
     let there : i < length each = omega arith in
     let read = share_read each i c.index.result.now there c.index.ensures in
-    omega (arith, ap (λ (s : Share). (usage_of s).bytes) read, bytes_fit each i nobody there c.args.self.now.shared)
+    omega (arith, ap (λ (s : ClientShare). (usage_of s).bytes) read, bytes_fit each i nobody there c.args.self.now.shared)
 
-pub counted-before_without-requires : goal.counted-before_without-requires
-counted-before_without-requires c =
+pub count_usage-before_without-requires : goal.count_usage-before_without-requires
+count_usage-before_without-requires c =
     rw c.deref.ensures.value (front_shared c.args.self.now.each.items c.args.asker c.args.self.now.shared)
 
-pub counted-after_without-requires : goal.counted-after_without-requires
-counted-after_without-requires c =
+pub count_usage-after_without-requires : goal.count_usage-after_without-requires
+count_usage-after_without-requires c =
     let each = c.args.self.now.each.items in
     rw (c.deref-2.ensures.value, rest_all each (c.args.asker + 1)) (rest_shared each (c.args.asker + 1) c.args.self.now.shared)
 
@@ -36,9 +36,9 @@ overflow_add-all c =
     let i = c.args.asker in
     let there : i < length each = omega arith in
     let read = share_read each i c.index.result.now there c.index.ensures in
-    let own = ap (λ (u : Usage). u.texts) c.usage-own.ensures ∙ ap (λ (s : Share). (usage_of s).texts) read in
-    let before = rw c.deref.ensures.value at c.counted-before_without.ensures.texts in
-    let after = rw (c.deref-2.ensures.value, rest_all each (i + 1)) at c.counted-after_without.ensures.texts in
+    let own = ap (λ (u : Usage). u.texts) c.usage-own.ensures ∙ ap (λ (s : ClientShare). (usage_of s).texts) read in
+    let before = rw c.deref.ensures.value at c.count_usage-before_without.ensures.texts in
+    let after = rw (c.deref-2.ensures.value, rest_all each (i + 1)) at c.count_usage-after_without.ensures.texts in
     let fits = parts_fit each i there c.args.self.now.shared in
     omega (arith, own, before, after, fits.0)
 
@@ -48,9 +48,9 @@ overflow_add-all-2 c =
     let i = c.args.asker in
     let there : i < length each = omega arith in
     let read = share_read each i c.index.result.now there c.index.ensures in
-    let own = ap (λ (u : Usage). u.texts) c.usage-own.ensures ∙ ap (λ (s : Share). (usage_of s).texts) read in
-    let before = rw c.deref.ensures.value at c.counted-before_without.ensures.texts in
-    let after = rw (c.deref-2.ensures.value, rest_all each (i + 1)) at c.counted-after_without.ensures.texts in
+    let own = ap (λ (u : Usage). u.texts) c.usage-own.ensures ∙ ap (λ (s : ClientShare). (usage_of s).texts) read in
+    let before = rw c.deref.ensures.value at c.count_usage-before_without.ensures.texts in
+    let after = rw (c.deref-2.ensures.value, rest_all each (i + 1)) at c.count_usage-after_without.ensures.texts in
     let fits = parts_fit each i there c.args.self.now.shared in
     omega (arith, own, before, after, fits.0)
 
@@ -60,9 +60,9 @@ overflow_add-all-3 c =
     let i = c.args.asker in
     let there : i < length each = omega arith in
     let read = share_read each i c.index.result.now there c.index.ensures in
-    let own = ap (λ (u : Usage). u.bytes) c.usage-own.ensures ∙ ap (λ (s : Share). (usage_of s).bytes) read in
-    let before = rw c.deref.ensures.value at c.counted-before_without.ensures.bytes in
-    let after = rw (c.deref-2.ensures.value, rest_all each (i + 1)) at c.counted-after_without.ensures.bytes in
+    let own = ap (λ (u : Usage). u.bytes) c.usage-own.ensures ∙ ap (λ (s : ClientShare). (usage_of s).bytes) read in
+    let before = rw c.deref.ensures.value at c.count_usage-before_without.ensures.bytes in
+    let after = rw (c.deref-2.ensures.value, rest_all each (i + 1)) at c.count_usage-after_without.ensures.bytes in
     let fits = parts_fit each i there c.args.self.now.shared in
     omega (arith, own, before, after, fits.1)
 
@@ -72,9 +72,9 @@ overflow_add-all-4 c =
     let i = c.args.asker in
     let there : i < length each = omega arith in
     let read = share_read each i c.index.result.now there c.index.ensures in
-    let own = ap (λ (u : Usage). u.bytes) c.usage-own.ensures ∙ ap (λ (s : Share). (usage_of s).bytes) read in
-    let before = rw c.deref.ensures.value at c.counted-before_without.ensures.bytes in
-    let after = rw (c.deref-2.ensures.value, rest_all each (i + 1)) at c.counted-after_without.ensures.bytes in
+    let own = ap (λ (u : Usage). u.bytes) c.usage-own.ensures ∙ ap (λ (s : ClientShare). (usage_of s).bytes) read in
+    let before = rw c.deref.ensures.value at c.count_usage-before_without.ensures.bytes in
+    let after = rw (c.deref-2.ensures.value, rest_all each (i + 1)) at c.count_usage-after_without.ensures.bytes in
     let fits = parts_fit each i there c.args.self.now.shared in
     omega (arith, own, before, after, fits.1)
 
@@ -84,9 +84,9 @@ overflow_add-before_without c =
     let i = c.args.asker in
     let there : i < length each = omega arith in
     let read = share_read each i c.index.result.now there c.index.ensures in
-    let own = ap (λ (u : Usage). u.texts) c.usage-own.ensures ∙ ap (λ (s : Share). (usage_of s).texts) read in
-    let before = rw c.deref.ensures.value at c.counted-before_without.ensures.texts in
-    let after = rw (c.deref-2.ensures.value, rest_all each (i + 1)) at c.counted-after_without.ensures.texts in
+    let own = ap (λ (u : Usage). u.texts) c.usage-own.ensures ∙ ap (λ (s : ClientShare). (usage_of s).texts) read in
+    let before = rw c.deref.ensures.value at c.count_usage-before_without.ensures.texts in
+    let after = rw (c.deref-2.ensures.value, rest_all each (i + 1)) at c.count_usage-after_without.ensures.texts in
     let fits = parts_fit each i there c.args.self.now.shared in
     omega (arith, own, before, after, fits.0)
 
@@ -96,12 +96,12 @@ returns-clause-shared c = λ is.
     let i = c.args.asker in
     let there : i < length each = omega arith in
     let read = share_read each i c.index.result.now there c.index.ensures in
-    let own_texts = ap (λ (u : Usage). u.texts) c.usage-own.ensures ∙ ap (λ (s : Share). (usage_of s).texts) read in
-    let before_texts = rw c.deref.ensures.value at c.counted-before_without.ensures.texts in
-    let after_texts = rw (c.deref-2.ensures.value, rest_all each (i + 1)) at c.counted-after_without.ensures.texts in
-    let own_bytes = ap (λ (u : Usage). u.bytes) c.usage-own.ensures ∙ ap (λ (s : Share). (usage_of s).bytes) read in
-    let before_bytes = rw c.deref.ensures.value at c.counted-before_without.ensures.bytes in
-    let after_bytes = rw (c.deref-2.ensures.value, rest_all each (i + 1)) at c.counted-after_without.ensures.bytes in
+    let own_texts = ap (λ (u : Usage). u.texts) c.usage-own.ensures ∙ ap (λ (s : ClientShare). (usage_of s).texts) read in
+    let before_texts = rw c.deref.ensures.value at c.count_usage-before_without.ensures.texts in
+    let after_texts = rw (c.deref-2.ensures.value, rest_all each (i + 1)) at c.count_usage-after_without.ensures.texts in
+    let own_bytes = ap (λ (u : Usage). u.bytes) c.usage-own.ensures ∙ ap (λ (s : ClientShare). (usage_of s).bytes) read in
+    let before_bytes = rw c.deref.ensures.value at c.count_usage-before_without.ensures.bytes in
+    let after_bytes = rw (c.deref-2.ensures.value, rest_all each (i + 1)) at c.count_usage-after_without.ensures.bytes in
     let may = c.may_reserve.ensures.0 is in
     more_shared each i c.args.more there c.args.self.now.shared
     (omega (arith, own_texts, before_texts, after_texts, may.2))

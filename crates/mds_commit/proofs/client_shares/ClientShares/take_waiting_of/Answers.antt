@@ -1,16 +1,16 @@
 use Rattle.std.proofs.Common.{ap, arith}
-use Rattle.mds_commit.specs.declared.shares.Share.{Share}
+use Rattle.mds_commit.specs.declared.client_shares.ClientShare.{ClientShare}
 use Rattle.mds_commit.proofs.Sharing.{less_shared, share_read, nobody}
-use Rattle.mds_commit.proofs.shares.Shares.take_of.Goals as goal
+use Rattle.mds_commit.proofs.client_shares.ClientShares.take_waiting_of.Goals as goal
 
 pub invariant_of-self : goal.invariant_of-self
 invariant_of-self c =
     let each = c.args.self.now.each.items in
     let there = share_read each c.args.asker c.index_mut-share.result.now c.requires c.index_mut-share.ensures.value in
-    let held_texts = ap (λ (s : Share). s.held.texts) there in
-    let held_bytes = ap (λ (s : Share). s.held.bytes) there in
-    let texts = ap (λ (s : Share). s.waiting.texts) there in
-    let bytes = ap (λ (s : Share). s.waiting.bytes) there in
+    let held_texts = ap (λ (s : ClientShare). s.reserved_count.texts) there in
+    let held_bytes = ap (λ (s : ClientShare). s.reserved_count.bytes) there in
+    let texts = ap (λ (s : ClientShare). s.waiting.texts) there in
+    let bytes = ap (λ (s : ClientShare). s.waiting.bytes) there in
     record {
       shared =
           less_shared each c.args.asker _ nobody c.requires (omega (arith, held_texts, texts)) (omega (arith, held_bytes, bytes)) c.args.self.now.shared;

@@ -1,9 +1,9 @@
 use Rattle.std.proofs.Common.{IfSome, sym, subst}
-use Rattle.mds_drafts.specs.Shelf.{drafts_of}
+use Rattle.mds_drafts.specs.Values.{drafts_of}
 use Rattle.mds_request.specs.Request.{request_of}
 use Rattle.mds_machine.specs.Answer.{Gives}
 use Rattle.mds_machine.specs.Author.{author_does}
-use Rattle.mds_desk.specs.Ready.{IsReplyTo}
+use Rattle.mds_desk.specs.CacheKey.{IsReplyTo}
 use Rattle.mds_desk.proofs.Shelving.{author_laid, author_told}
 use Rattle.mds_desk.proofs.author.AuthorRoom.perform.Goals as goal
 

@@ -4,7 +4,7 @@ use Rattle.mds_request.specs.Configuration.{configuration}
 use Rattle.mds_request.specs.Request.{request_of}
 use Rattle.mds_request.specs.declared.call.Call.TheVariants.{Author, Operator}
 use Rattle.mds_desk.proofs.Resolved.{author_elsewhere, operator_elsewhere}
-use Rattle.mds_desk.proofs.seat.Seat.call.Goals as goal
+use Rattle.mds_desk.proofs.context.DeskContext.call.Goals as goal
 
 pub returns-else-asker-self-clause-refused : goal.returns-else-asker-self-clause-refused
 returns-else-asker-self-clause-refused g c =

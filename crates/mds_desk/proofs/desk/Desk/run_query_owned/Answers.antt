@@ -2,7 +2,7 @@ use mathlib.Core.List.{IsPrefix}
 use Rattle.std.proofs.Common.{◌≡◌, inr, refl, sym, subst}
 use Rattle.mds_machine.proofs.Views.{prefix_self}
 use Rattle.mds_world.proofs.Lasting.{fits_front}
-use Rattle.mds_desk.proofs.desk.Desk.telling.Goals as goal
+use Rattle.mds_desk.proofs.desk.Desk.run_query_owned.Goals as goal
 
 -- the book's index stays right for a front that has all that is known as a prefix
 pub invariant_of-desk : goal.invariant_of-desk

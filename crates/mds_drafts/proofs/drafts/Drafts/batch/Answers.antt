@@ -11,7 +11,7 @@ use Rattle.mds_policy.specs.declared.policy.Policy as policy
 use Rattle.mds_geography.specs.Geography.{geography_document}
 use Rattle.mds_geography.specs.declared.geography.Geography as geography
 use Rattle.mds_drafts.specs.Entries.{drafts_in}
-use Rattle.mds_drafts.specs.Shelf.{named_of}
+use Rattle.mds_drafts.specs.Values.{named_of}
 use Rattle.mds_drafts.proofs.Lawful.{lawful_drafts}
 use Rattle.mds_drafts.proofs.drafts.Drafts.batch.Goals as goal
 

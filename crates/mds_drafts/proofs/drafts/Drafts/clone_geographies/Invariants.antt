@@ -3,7 +3,7 @@ use Rattle.std.specs.List.{filter_map}
 use Rattle.std.specs.FinMap.{get}
 use Rattle.mds_geography.specs.Geography.{geography_document}
 use Rattle.mds_drafts.specs.Entries.{drafts_in}
-use Rattle.mds_drafts.proofs.drafts.Drafts.shared_geographies.Given as goal
+use Rattle.mds_drafts.proofs.drafts.Drafts.clone_geographies.Given as goal
 
 -- the references so far and those of the rest are those of the whole list
 abbrev pub invariant-loop-id : goal.invariant-loop-id

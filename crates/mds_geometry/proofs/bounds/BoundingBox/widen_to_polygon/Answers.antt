@@ -2,7 +2,7 @@ use Rattle.std.proofs.Common.{arith, sym}
 use Rattle.std.proofs.lemmas.List.Elements.{All-same}
 use Rattle.mds_geometry.specs.Bounds.{IsBounded}
 use Rattle.mds_geometry.proofs.Wide.{all_more, all_taken, bounded_wider}
-use Rattle.mds_geometry.proofs.bounds.Bounds.widen_to_polygon.Goals as goal
+use Rattle.mds_geometry.proofs.bounds.BoundingBox.widen_to_polygon.Goals as goal
 
 pub loop-ring-preserved : goal.loop-ring-preserved
 loop-ring-preserved c = record {

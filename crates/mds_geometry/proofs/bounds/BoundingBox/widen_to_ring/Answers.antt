@@ -1,7 +1,7 @@
 use Rattle.std.proofs.Common.{arith, ◌≡◌, true}
 use Rattle.mds_geometry.specs.Bounds.{is_within}
 use Rattle.mds_geometry.proofs.Wide.{all_more, all_taken}
-use Rattle.mds_geometry.proofs.bounds.Bounds.widen_to_ring.Goals as goal
+use Rattle.mds_geometry.proofs.bounds.BoundingBox.widen_to_ring.Goals as goal
 
 pub loop-position-preserved : goal.loop-position-preserved
 loop-position-preserved c = record {

@@ -2,7 +2,7 @@ use Rattle.std.proofs.Common.{◌≡◌, false, ap, sym, ◌∙◌}
 use Rattle.mds_geometry.specs.Area.{area_holds}
 use Rattle.mds_geometry.specs.Bounds.{is_within}
 use Rattle.mds_geometry.proofs.Outside.{holds_outside}
-use Rattle.mds_geometry.proofs.striped.Striped.excludes.Goals as goal
+use Rattle.mds_geometry.proofs.strip_index.StripIndex.excludes.Goals as goal
 
 pub returns : goal.returns
 returns c = λ excluded.

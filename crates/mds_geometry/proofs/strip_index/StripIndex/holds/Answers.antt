@@ -2,7 +2,7 @@ use Rattle.std.proofs.Common.{false, ap, sym, ◌∙◌}
 use Rattle.mds_geometry.specs.Area.{area_holds}
 use Rattle.mds_geometry.specs.Strips.{any_holds, edges_at, strip_of}
 use Rattle.mds_geometry.proofs.Indexed.{strip_at, strip_tells, strip_within}
-use Rattle.mds_geometry.proofs.striped.Striped.holds.Goals as goal
+use Rattle.mds_geometry.proofs.strip_index.StripIndex.holds.Goals as goal
 
 pub returns : goal.returns
 returns c =

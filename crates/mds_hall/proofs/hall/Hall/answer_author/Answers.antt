@@ -1,6 +1,6 @@
 use Rattle.std.proofs.Common.{sym, subst, ap, ◌∙◌}
 use Rattle.mds_request.specs.Call.{call_of}
-use Rattle.mds_hall.specs.Heard.{request_heard}
+use Rattle.mds_hall.specs.WholeRequest.{request_heard}
 use Rattle.mds_hall.specs.Turn.{RoomReplies}
 use Rattle.mds_hall.proofs.hall.Hall.answer_author.Goals as goal
 

@@ -5,4 +5,4 @@ use Rattle.mds_hall.proofs.hall.Hall.new.Goals as goal
 
 pub of-requires-clause-desks : goal.of-requires-clause-desks
 of-requires-clause-desks g c =
-    new_are_its g.K.Named.configuration _ (c.in_ok-room.ensures.1 ∙ ap new_desks c.requires.configured)
+    new_are_its g.K.HallName.configuration _ (c.in_ok-room.ensures.1 ∙ ap new_desks c.requires.configured)

@@ -2,10 +2,10 @@ use Rattle.std.specs.Prelude.{map, option_copied}
 use Rattle.mds_request.specs.Request.{request_of}
 use Rattle.mds_desk.specs.Desk.{state_of}
 use Rattle.mds_hall.proofs.Turns.{desk_runs}
-use Rattle.mds_hall.proofs.places.HallDesk.answered_all.Goals as goal
+use Rattle.mds_hall.proofs.locks.HallDesk.answer_all.Goals as goal
 
 pub returns-clause-replies : goal.returns-clause-replies
 returns-clause-replies g c =
     let d = c.args.self.now in
-    desk_runs (λ replies. replies.items) g.K.Named.configuration d.place (state_of d.desk) (option_copied c.args.note) (map request_of c.args.requests.now)
-    c.told_run-replies.result (state_of c.told_run-replies.new.desk) (record { configured = d.configured; placed = d.placed }) c.told_run-replies.ensures.run
+    desk_runs (λ replies. replies.items) g.K.HallName.configuration d.place (state_of d.desk) (option_copied c.args.note) (map request_of c.args.requests.now)
+    c.take_run-replies.result (state_of c.take_run-replies.new.desk) (record { configured = d.configured; placed = d.placed }) c.take_run-replies.ensures.run

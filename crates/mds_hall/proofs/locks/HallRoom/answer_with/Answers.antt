@@ -1,6 +1,6 @@
 use Rattle.std.proofs.Common.{◌≡◌, sym, subst}
 use Rattle.mds_desk.specs.Room.{room_of}
-use Rattle.mds_hall.proofs.places.HallRoom.answer_with.Goals as goal
+use Rattle.mds_hall.proofs.locks.HallRoom.answer_with.Goals as goal
 
 pub returns-clause-replies : goal.returns-clause-replies
 returns-clause-replies g c =
@@ -10,6 +10,6 @@ returns-clause-replies g c =
       before = room_of c.deref_mut.result.now;
       after = room_of c.answer_with.new.self;
       note = c.answer_with.result.1;
-      is_its = subst (λ room. (room_of room).configuration ≡ g.K.Named.configuration) (sym same) own;
+      is_its = subst (λ room. (room_of room).configuration ≡ g.K.HallName.configuration) (sym same) own;
       turn = rw c.request-request.ensures at c.answer_with.ensures.turn;
     }

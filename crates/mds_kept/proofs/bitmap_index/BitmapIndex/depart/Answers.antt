@@ -1,10 +1,10 @@
 use Rattle.std.proofs.Common.{Option, subst, sym, ◌∙◌}
 use Rattle.std.specs.Option.{IfSome}
-use Rattle.mds_kept.specs.Kept.{IsListed}
-use Rattle.mds_kept.specs.declared.kept.Listed.{Listed}
-use Rattle.mds_kept.proofs.kept.Kept.depart.Goals as goal
+use Rattle.mds_kept.specs.Index.{IsListed}
+use Rattle.mds_kept.specs.declared.bitmap_index.IndexedFleet.{IndexedFleet}
+use Rattle.mds_kept.proofs.bitmap_index.BitmapIndex.depart.Goals as goal
 
 pub returns-in-Some-departed : goal.returns-in-Some-departed
 returns-in-Some-departed c published before after ordered departs fits =
-    let is : IsListed published before c.in-Some.listed = subst (λ (o : Option Listed). IfSome o (IsListed published before)) (sym c.take.ensures.value ∙ c.in-Some.is) fits in
+    let is : IsListed published before c.in-Some.listed = subst (λ (o : Option IndexedFleet). IfSome o (IsListed published before)) (sym c.take.ensures.value ∙ c.in-Some.is) fits in
     c.in-Some-departed.ensures published before after ordered departs is

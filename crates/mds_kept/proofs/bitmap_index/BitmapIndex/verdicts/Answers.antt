@@ -9,33 +9,33 @@ use Rattle.mds_kept.specs.Masks.{IsMask}
 use Rattle.mds_verdict.specs.Verdict.{verdict_document, verdicts}
 use Rattle.mds_verdict.specs.declared.verdict.RuleVerdict.{RuleVerdict}
 use Rattle.mds_kept.specs.Columns.{AreOf}
-use Rattle.mds_kept.specs.Kept.{AreRead, IsListed, IsSince, rows_in}
-use Rattle.mds_kept.specs.declared.kept.Listed.{Listed}
+use Rattle.mds_kept.specs.Index.{AreRead, IsListed, IsSince, rows_in}
+use Rattle.mds_kept.specs.declared.bitmap_index.IndexedFleet.{IndexedFleet}
 use Rattle.mds_kept.proofs.Keeping.{asked_column, columns_of, fresh_column, if_ok_as, lasts}
-use Rattle.mds_kept.proofs.kept.Kept.verdicts.Goals as goal
+use Rattle.mds_kept.proofs.bitmap_index.BitmapIndex.verdicts.Goals as goal
 
-pub refreshed-requires-clause-seen : goal.refreshed-requires-clause-seen
-refreshed-requires-clause-seen g c =
+pub refresh_column-requires-clause-seen : goal.refresh_column-requires-clause-seen
+refresh_column-requires-clause-seen g c =
     let policy = policy_document c.args.policy.now in
     let polygons = g.P.Places.polygons c.args.places.now in
     let vehicles = c.args.vehicles.now in
     let published = c.requires.asked.0 in
     let listed = c.in_ok-listed-2.listed in
-    let kept = subst (λ (o : Option Listed). IfSome o (IsListed published vehicles)) (sym c.take.ensures.value) c.requires.asked.1 in
+    let kept = subst (λ (o : Option IndexedFleet). IfSome o (IsListed published vehicles)) (sym c.take.ensures.value) c.requires.asked.1 in
     let is : IsListed published vehicles listed = c.in_ok-listed-2.ensures.kept published (c.in_ok-listed.ensures.kept published kept) in
-    (c.taken_out-column.ensures.kept published vehicles listed.devices.items listed.changed.items (omega (arith, c.len-2.ensures)) (lasts published policy polygons c.requires.asked.2 c.id-2.result c.id-2.ensures) is.columns).1.seen
+    (c.take_column-column.ensures.kept published vehicles listed.devices.items listed.changed.items (omega (arith, c.len-2.ensures)) (lasts published policy polygons c.requires.asked.2 c.id-2.result c.id-2.ensures) is.columns).1.seen
 
-pub refreshed-requires-clause-kept : goal.refreshed-requires-clause-kept
-refreshed-requires-clause-kept g c =
+pub refresh_column-requires-clause-kept : goal.refresh_column-requires-clause-kept
+refresh_column-requires-clause-kept g c =
     let policy = policy_document c.args.policy.now in
     let polygons = g.P.Places.polygons c.args.places.now in
     let vehicles = c.args.vehicles.now in
     let published = c.requires.asked.0 in
     let listed = c.in_ok-listed-2.listed in
-    let kept = subst (λ (o : Option Listed). IfSome o (IsListed published vehicles)) (sym c.take.ensures.value) c.requires.asked.1 in
+    let kept = subst (λ (o : Option IndexedFleet). IfSome o (IsListed published vehicles)) (sym c.take.ensures.value) c.requires.asked.1 in
     let is : IsListed published vehicles listed = c.in_ok-listed-2.ensures.kept published (c.in_ok-listed.ensures.kept published kept) in
-    let parts = c.taken_out-column.ensures.kept published vehicles listed.devices.items listed.changed.items (omega (arith, c.len-2.ensures)) (lasts published policy polygons c.requires.asked.2 c.id-2.result c.id-2.ensures) is.columns in
-    asked_column published policy polygons c.requires.asked.2 vehicles listed.devices.items listed.changed.items c.taken_out-column.result (c.taken_out-column.ensures.policy ∙ c.id-2.ensures) parts.1
+    let parts = c.take_column-column.ensures.kept published vehicles listed.devices.items listed.changed.items (omega (arith, c.len-2.ensures)) (lasts published policy polygons c.requires.asked.2 c.id-2.result c.id-2.ensures) is.columns in
+    asked_column published policy polygons c.requires.asked.2 vehicles listed.devices.items listed.changed.items c.take_column-column.result (c.take_column-column.ensures.policy ∙ c.id-2.ensures) parts.1
 
 pub verdicts_by-found-requires-clause-columns : goal.verdicts_by-found-requires-clause-columns
 verdicts_by-found-requires-clause-columns g c =
@@ -68,8 +68,8 @@ returns-clause-kept g c published fits asked =
     let polygons = g.P.Places.polygons c.args.places.now in
     let vehicles = c.args.vehicles.now in
     let listed = c.in_ok-listed-2.listed in
-    let kept = subst (λ (o : Option Listed). IfSome o (IsListed published vehicles)) (sym c.take.ensures.value) fits in
+    let kept = subst (λ (o : Option IndexedFleet). IfSome o (IsListed published vehicles)) (sym c.take.ensures.value) fits in
     let is : IsListed published vehicles listed = c.in_ok-listed-2.ensures.kept published (c.in_ok-listed.ensures.kept published kept) in
-    let parts = c.taken_out-column.ensures.kept published vehicles listed.devices.items listed.changed.items (omega (arith, c.len-2.ensures)) (lasts published policy polygons asked c.id-2.result c.id-2.ensures) is.columns in
-    let column = fresh_column published policy polygons asked vehicles c.len.ensures.ordered listed.devices.items listed.changed.items is.devices c.in_ok-column.column (c.in_ok-column.ensures.policy ∙ c.taken_out-column.ensures.policy ∙ c.id-2.ensures) c.in_ok-column.ensures.seen c.in_ok-column.ensures.masks in
+    let parts = c.take_column-column.ensures.kept published vehicles listed.devices.items listed.changed.items (omega (arith, c.len-2.ensures)) (lasts published policy polygons asked c.id-2.result c.id-2.ensures) is.columns in
+    let column = fresh_column published policy polygons asked vehicles c.len.ensures.ordered listed.devices.items listed.changed.items is.devices c.in_ok-column.column (c.in_ok-column.ensures.policy ∙ c.take_column-column.ensures.policy ∙ c.id-2.ensures) c.in_ok-column.ensures.seen c.in_ok-column.ensures.masks in
     c.put_back.ensures published vehicles (record { devices = is.devices; seen = is.seen; sinces = is.sinces; columns = parts.0 }) column

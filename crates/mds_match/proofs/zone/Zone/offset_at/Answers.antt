@@ -2,20 +2,20 @@ use Rattle.std.proofs.Common.{◌≡◌, ◌∙◌, ◌≤ℤ◌, ℕ, ℤ, pos,
 use Rattle.std.proofs.lemmas.Int.{ints}
 use Rattle.jiff.specs.Words.{plain_zone, offset_at}
 use Rattle.jiff.specs.declared.tz.timezone.TimeZone.{TimeZone}
-use Rattle.mds_match.specs.Kept.{zone_kind, IsKept}
+use Rattle.mds_match.specs.ValidZone.{zone_kind, IsKept}
 use Rattle.mds_match.specs.Zone.{ZoneKind, instant_of, offset_in}
-use Rattle.mds_match.specs.declared.zone.Kind.{Kind}
-use Rattle.mds_match.specs.declared.zone.Kind.TheVariants.{Fixed, Rule}
+use Rattle.mds_match.specs.declared.zone.ZoneForm.{ZoneForm}
+use Rattle.mds_match.specs.declared.zone.ZoneForm.TheVariants.{Fixed, Rule}
 use Rattle.mds_match.proofs.Offsets.{offset_in-is}
 use Rattle.mds_match.proofs.zone.Zone.offset_at.Goals as goal
 
 -- the stored offset is that of the zone
-of_fixed : (offset : ℤ) (kind : Kind) (zone : ZoneKind) (moment : ℕ) → kind ≡ Fixed offset → zone_kind kind ≡ zone → offset ≡ offset_in zone moment
+of_fixed : (offset : ℤ) (kind : ZoneForm) (zone : ZoneKind) (moment : ℕ) → kind ≡ Fixed offset → zone_kind kind ≡ zone → offset ≡ offset_in zone moment
 unfolding offset_in
 of_fixed offset kind zone moment is view_is = rw (← view_is, is) refl
 
 -- and so is the offset of the stored rule
-of_rule : (rule : TimeZone) (kind : Kind) (zone : ZoneKind) (moment : ℕ) → kind ≡ Rule rule → IsKept kind → zone_kind kind ≡ zone → offset_at (plain_zone rule) (instant_of moment) ≡ offset_in zone moment
+of_rule : (rule : TimeZone) (kind : ZoneForm) (zone : ZoneKind) (moment : ℕ) → kind ≡ Rule rule → IsKept kind → zone_kind kind ≡ zone → offset_at (plain_zone rule) (instant_of moment) ≡ offset_in zone moment
 of_rule rule kind zone moment is kept view_is = rw (← view_is, is) (offset_in-is (plain_zone rule) moment (subst IsKept is kept))
 
 pub returns-in-Fixed-clause-value : goal.returns-in-Fixed-clause-value

@@ -4,7 +4,7 @@ use Rattle.mds_public.specs.Body.{body_text}
 use Rattle.mds_public.specs.Period.{period_in}
 use Rattle.mds_public.specs.View.{face}
 use Rattle.mds_public.proofs.Whole.{all_in, no_query, texts_seen}
-use Rattle.mds_public.proofs.face.Face.found.Goals as goal
+use Rattle.mds_public.proofs.public_documents.PublicDocuments.body_for.Goals as goal
 
 pub returns-in_ok-clone-in-Geographies : goal.returns-in_ok-clone-in-Geographies
 returns-in_ok-clone-in-Geographies c =

@@ -2,7 +2,7 @@ use Rattle.std.proofs.Common.{◌≡◌, true, ℕ, List, take, drop, sym, subst
 use Rattle.std.specs.Prelude.{Option}
 use Rattle.mds_records.specs.Records.{Reads, extent}
 use Rattle.mds_records.specs.Endings.{ending_of, is_opened, IsCut}
-use Rattle.mds_records.specs.declared.ending.Cut.{Cut}
+use Rattle.mds_records.specs.declared.ending.CutTail.{CutTail}
 use Rattle.mds_records.proofs.Endings.{opened_unless}
 use Rattle.mds_records.proofs.Listed.{may_be_cut}
 use Rattle.mds_records.proofs.journal.Journal.recover.Goals as goal
@@ -14,16 +14,16 @@ returns-clause-list g c =
     let f = c.in_ok-front.ensures in
     let texts = f.0 in
     let reads : Reads 0 bytes texts = subst (λ (b : List ℕ). Reads 0 b texts) c.deref.ensures.value f.1 in
-    let cut = subst (λ (n : ℕ). g.M.Medium.holds c.cut_tail.new.medium (take n bytes)) f.2 (subst (λ (b : List ℕ). g.M.Medium.holds c.cut_tail.new.medium (take whole b)) c.deref-2.ensures.value c.in_ok-cut.ensures.cut) in
-    let held = subst (λ m. g.M.Medium.holds m (take (extent texts) bytes)) (sym c.of.ensures.medium) (c.in_ok-sync.ensures.unchanged (take (extent texts) bytes) cut) in
+    let cut = subst (λ (n : ℕ). g.M.Storage.holds c.cut_tail.new.medium (take n bytes)) f.2 (subst (λ (b : List ℕ). g.M.Storage.holds c.cut_tail.new.medium (take whole b)) c.deref-2.ensures.value c.in_ok-cut.ensures.cut) in
+    let held = subst (λ m. g.M.Storage.holds m (take (extent texts) bytes)) (sym c.of.ensures.medium) (c.in_ok-sync.ensures.unchanged (take (extent texts) bytes) cut) in
     let opened = subst (λ (n : ℕ). is_opened (ending_of n (drop n bytes)) ≡ true) f.2 (subst (λ (b : List ℕ). is_opened (ending_of whole (drop whole b)) ≡ true) c.deref-2.ensures.value (opened_unless _ c.in_ok-cut.ensures.opened)) in
-    let told = subst (λ (n : ℕ). IsCut (g.A.Aside.has_kept c.cut_tail.new.aside) c.in_ok-cut.cut n (drop n bytes)) f.2 (subst (λ (b : List ℕ). IsCut (g.A.Aside.has_kept c.cut_tail.new.aside) c.in_ok-cut.cut whole (drop whole b)) c.deref-2.ensures.value c.in_ok-cut.ensures.told) in
+    let told = subst (λ (n : ℕ). IsCut (g.A.TailStore.has_kept c.cut_tail.new.aside) c.in_ok-cut.cut n (drop n bytes)) f.2 (subst (λ (b : List ℕ). IsCut (g.A.TailStore.has_kept c.cut_tail.new.aside) c.in_ok-cut.cut whole (drop whole b)) c.deref-2.ensures.value c.in_ok-cut.ensures.told) in
     let j = c.of.result in (
       bytes,
       texts,
       c.in_ok-bytes.ensures.before,
       reads,
       opened,
-      subst (λ (o : Option Cut). IsCut (g.A.Aside.has_kept c.cut_tail.new.aside) o (extent texts) (drop (extent texts) bytes)) (sym c.of.ensures.cut) told,
+      subst (λ (o : Option CutTail). IsCut (g.A.TailStore.has_kept c.cut_tail.new.aside) o (extent texts) (drop (extent texts) bytes)) (sym c.of.ensures.cut) told,
       may_be_cut j.is_broken j.position j.sum j.count bytes texts held reads (c.of.ensures.front.0 ∙ f.2) (c.of.ensures.front.1 ∙ f.3) (c.of.ensures.front.2 ∙ f.4),
     )

@@ -5,7 +5,7 @@ use denote.Ref.{NamedLft}
 use denote.Param.Send.{IsSend, sendable, param_send, arg_send}
 use denote.Param.SendFields.{declared_send}
 use Rattle.std.proofs.Crossing.{crosses}
-use Rattle.mds_snapshot.specs.declared.history.Naming.{Ghosts}
+use Rattle.mds_snapshot.specs.declared.history.OpeningName.{Ghosts}
 use Rattle.mds_desk.proofs.Desks.{desk_send}
 use Rattle.mds_server_tests.specs.contracts.desk.overlapping.HeldDesk as HeldDesk
 use Rattle.mds_server_tests.proofs.desk.overlapping.two_desks.Goals as goal
@@ -14,5 +14,5 @@ use Rattle.mds_server_tests.proofs.desk.overlapping.two_desks.Goals as goal
 held_send : (a : NamedLft) (K : RattleType) (g : Ghosts K.Denot) → IsSend (HeldDesk.the_row a K g)
 held_send a K g = let d = desk_send K g in declared_send (HeldDesk.the_type a K g) (search (sendable, crosses) depth 20, (search (sendable, crosses) depth 20, tt))
 
-pub beside-first-requires-send-E : goal.beside-first-requires-send-E
-beside-first-requires-send-E g c κs within = param_send _ _ (arg_send _ no _ (held_send _ (param 0 g.row.K) g.K.Naming))
+pub run_concurrently-first-requires-send-E : goal.run_concurrently-first-requires-send-E
+run_concurrently-first-requires-send-E g c κs within = param_send _ _ (arg_send _ no _ (held_send _ (param 0 g.row.K) g.K.OpeningName))

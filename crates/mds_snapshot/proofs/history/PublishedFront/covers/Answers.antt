@@ -2,7 +2,7 @@ use Rattle.std.proofs.Common.{ap, refl, subst, List}
 use mathlib.Core.List.{IsPrefix}
 use Rattle.mds_catalog.specs.Publication.{Publication}
 use Rattle.mds_snapshot.proofs.Fronts.{covers}
-use Rattle.mds_snapshot.proofs.history.Front.covers.Goals as goal
+use Rattle.mds_snapshot.proofs.history.PublishedFront.covers.Goals as goal
 
 pub returns : goal.returns
 returns g c =

@@ -1,7 +1,7 @@
 use Rattle.std.proofs.Common.{sym, ◌∙◌, ap}
 use Rattle.mds_catalog.specs.Publication.{publication_of}
 use Rattle.mds_snapshot.proofs.Adding.{adds_moves}
-use Rattle.mds_snapshot.proofs.history.Front.extend.Goals as goal
+use Rattle.mds_snapshot.proofs.history.PublishedFront.extend.Goals as goal
 
 pub compare_exchange-found-requires : goal.compare_exchange-found-requires
 compare_exchange-found-requires g c =

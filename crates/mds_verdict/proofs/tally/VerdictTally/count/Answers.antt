@@ -5,7 +5,7 @@ use Rattle.mds_verdict.specs.Verdict.{verdict_document}
 use Rattle.mds_verdict.proofs.Counting.{number_within}
 use Rattle.mds_verdict.proofs.Measures.{gathered_at_most, length_held, measures_fit}
 use Rattle.mds_verdict.proofs.Numbered.{written_back}
-use Rattle.mds_verdict.proofs.tally.Tally.count.Goals as goal
+use Rattle.mds_verdict.proofs.tally.VerdictTally.count.Goals as goal
 
 pub count-requires-clause-whole : goal.count-requires-clause-whole
 count-requires-clause-whole c =

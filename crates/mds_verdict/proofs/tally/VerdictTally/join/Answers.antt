@@ -5,7 +5,7 @@ use Rattle.mds_verdict.specs.Verdict.{verdict_document}
 use Rattle.mds_verdict.proofs.Joining.{gathered_joined}
 use Rattle.mds_verdict.proofs.Measures.{gathered_at_most, length_held, measures_fit}
 use Rattle.mds_verdict.proofs.Numbered.{written_back}
-use Rattle.mds_verdict.proofs.tally.Tally.join.Goals as goal
+use Rattle.mds_verdict.proofs.tally.VerdictTally.join.Goals as goal
 
 pub join-requires-clause-rules : goal.join-requires-clause-rules
 join-requires-clause-rules c =

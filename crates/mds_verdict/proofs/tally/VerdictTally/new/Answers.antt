@@ -1,6 +1,6 @@
 use Rattle.mds_policy.specs.Policy.{policy_document, rule_document}
 use Rattle.mds_verdict.proofs.Measures.{gathered_of_none}
-use Rattle.mds_verdict.proofs.tally.Tally.new.Goals as goal
+use Rattle.mds_verdict.proofs.tally.VerdictTally.new.Goals as goal
 
 pub returns : goal.returns
 returns c polygons moment =

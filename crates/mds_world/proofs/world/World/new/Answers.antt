@@ -2,7 +2,7 @@ use Rattle.std.proofs.Common.{map, ap, subst, sym, ◌∙◌}
 use Rattle.std.specs.FinMap.{empty}
 use Rattle.mds_catalog.specs.Catalogue.{publications_of}
 use Rattle.mds_catalog.specs.Laws.{AreLawful}
-use Rattle.mds_drafts.specs.Shelf.{drafts_of}
+use Rattle.mds_drafts.specs.Values.{drafts_of}
 use Rattle.mds_request.specs.Configuration.{configuration}
 use Rattle.mds_world.specs.Lasting.{lasting_in}
 use Rattle.mds_world.proofs.Books.{new_is}

@@ -2,7 +2,7 @@ use Rattle.std.proofs.Common.{arith, subst, sym}
 use Rattle.std.proofs.lemmas.List.Elements.{All-get_or, All-set}
 use Rattle.mds_fleet.specs.Fleet.{Fits}
 use Rattle.mds_catalog.specs.Catalogue.{publications_of}
-use Rattle.mds_drafts.specs.Shelf.{drafts_of}
+use Rattle.mds_drafts.specs.Values.{drafts_of}
 use Rattle.mds_request.specs.Configuration.{configuration}
 use Rattle.mds_request.specs.Request.{request_of}
 use Rattle.mds_world.specs.Lasting.{lasting_in}
