@@ -70,7 +70,7 @@ pub fn moment<R: Clock + Copy>(rt: &R) -> Moment {
 ///
 /// # Errors
 ///
-/// As `Ending::from` says.
+/// As `ExitCause::from` says.
 fn compact_or_clear<R: Wait + Files<File = File> + Clock + AllocGlobal + Copy>(
     rt: &R,
     folder: &str,

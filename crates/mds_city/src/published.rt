@@ -13,7 +13,7 @@ use mds_snapshot::Note;
 use std::alloc::{AllocError, Global};
 use std::sync::Wait;
 
-/// A `Telling` of the publications of the author's room, whatever its drafts are.
+/// A `DeskQuery` of the publications of the author's room, whatever its drafts are.
 #[derive(Drop)]
 struct RoomPublications<'a, T> {
     telling: &'a T,
@@ -40,7 +40,7 @@ impl<K: HallName, N: LogName, L: Log, S: Space> DurableHall<K, N, L, S> {
         self.hall.note(rt)
     }
 
-    /// What a `Telling` makes of what is published, under the room's lock. It waits for no sync: a publication was
+    /// What a `DeskQuery` makes of what is published, under the room's lock. It waits for no sync: a publication was
     /// synced before the room shows it. Nothing changes.
     ///
     /// # Errors

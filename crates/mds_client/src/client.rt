@@ -140,7 +140,7 @@ impl<'a, D: Dial> Client<'a, D> {
         Ok(read.reply)
     }
 
-    /// Sends a request, and sends it again a few times after a passing fault (`ReplyFault::is_passing`) or a status of
+    /// Sends a request, and sends it again a few times after a passing fault (`ResponseFault::is_passing`) or a status of
     /// 503.
     ///
     /// # Errors

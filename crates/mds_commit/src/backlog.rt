@@ -411,7 +411,7 @@ impl<K: LogName, L: Log, S: Space> CommitBacklog<K, L, S> {
         next_round(self.queue.len(), self.shares.reserved_count(), self.is_stopping)
     }
 
-    /// Moves all that waits into a group: see [`Queue::take`]. Its reserved disk space is released, since it is written
+    /// Moves all that waits into a group: see [`CommitQueue::take`]. Its reserved disk space is released, since it is written
     /// now.
     pub(crate) fn take(
         &mut self,

@@ -73,7 +73,7 @@ fn count_reserved(shares: &[ClientShare]) -> usize
 }
 
 impl ClientShares {
-    /// No client has anything. Each of so many has a share, and at most [`MOST_ASKERS`] of them.
+    /// No client has anything. Each of so many has a share, and at most [`MOST_CLIENTS`] of them.
     ///
     /// # Errors
     ///

@@ -47,7 +47,7 @@ pub struct CommitLog<K: LogName, L: Log, S: Space> {
 }
 
 /// Begins to serve over a log, after what it has: returns the commit log, the flusher, and the log position at which
-/// nothing is appended. A client is a number below `askers`, and at most [`MOST_ASKERS`](crate::MOST_ASKERS) of so many
+/// nothing is appended. A client is a number below `askers`, and at most [`MOST_CLIENTS`](crate::MOST_ASKERS) of so many
 /// have a share of what may wait.
 ///
 /// # Errors
@@ -81,7 +81,7 @@ pub fn open<K: LogName, L: Log, S: Space>(
 
 impl<K: LogName, L: Log, S: Space> CommitLog<K, L, S> {
     /// Makes a reservation for the payload of this client's request, before the request is carried out. The reservation
-    /// goes to [`Keeper::append`] where the request is to be persisted, and to [`Keeper::release`] otherwise.
+    /// goes to [`CommitLog::append`] where the request is to be persisted, and to [`CommitLog::release`] otherwise.
     ///
     /// # Errors
     ///
@@ -129,7 +129,7 @@ impl<K: LogName, L: Log, S: Space> CommitLog<K, L, S> {
     }
 
     /// Makes a reservation for each of these payloads of one client, before their requests are carried out. The
-    /// reservations go to [`Keeper::settle`], or to [`Keeper::release_all`] where none of the requests is carried out.
+    /// reservations go to [`CommitLog::append_chosen`], or to [`CommitLog::release_all`] where none of the requests is carried out.
     ///
     /// # Errors
     ///

@@ -187,7 +187,7 @@ fn begin_of(alloc: Global, is_json: bool, text: &[u8], marks: &[LexemeAt]) -> Re
 /// and a warning for each member that nobody reads, or whose value isn't read as it is written. In a text that is no
 /// JSON, errors are at the position where it stops being JSON, and there are no warnings.
 ///
-/// `zoned` says what the zone's text is: what `named_zone` finds, with what `mds_zones::rule_in` makes of its file.
+/// `zoned` says what the zone's text is: what `zone_name_in` finds, with what `mds_zones::rule_in` makes of its file.
 ///
 /// # Errors
 ///

@@ -12,7 +12,7 @@ pub struct ReactorNudge {
 }
 
 /// The reactor's keep-alive task: it does nothing when it is woken, and ends once there is no
-/// `Bell`. The thread that wakes for it then waits for events.
+/// `ReactorNudge`. The thread that wakes for it then waits for events.
 #[derive(Drop)]
 pub struct ReactorKeepalive {
     calls: Receiver<()>,

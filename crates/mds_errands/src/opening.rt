@@ -37,7 +37,7 @@ fn is_opened(path: &str, is_regular: bool) -> bool
 ///
 /// # Errors
 ///
-/// As `OpenFault` says.
+/// As `FileOpenFault` says.
 pub(crate) fn open_source<R: Files<File = File>>(rt: &R, path: &str) -> Result<File, FileOpenFault> {
     match fs::metadata(rt, path) {
         Ok(metadata) if !is_opened(path, metadata.is_file()) => Err(FileOpenFault::NotRegular),

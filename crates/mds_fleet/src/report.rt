@@ -45,7 +45,7 @@ impl Report {
         report_of(alloc, &tree)
     }
 
-    /// Reads a report as `read` does; a text of at most `KeptScratch::MOST_BYTES` bytes with scratch memory that is
+    /// Reads a report as `read` does; a text of at most `ReusableScratch::MOST_BYTES` bytes with scratch memory that is
     /// reused.
     ///
     /// # Errors

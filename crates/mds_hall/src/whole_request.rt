@@ -9,7 +9,7 @@ use mds_request::Request;
 use mds_text::Moment;
 
 /// A request whose body has arrived, at its moment. Its head and its body, which is within its
-/// limit, are borrowed. `hear` alone makes one. It can't be copied, and the turn that answers it
+/// limit, are borrowed. `read_whole` alone makes one. It can't be copied, and the turn that answers it
 /// consumes it, so that no request takes two turns.
 #[derive(Drop)]
 pub struct WholeRequest<'a> {

@@ -257,7 +257,7 @@ fn policy<'t>(
 }
 
 /// What a document becomes: a draft with the document's text, or a refusal with the member at fault. `decimals` says
-/// whether its file has numbers that aren't plain (`mds_reading::read_counted` counts them). Such a number goes as the
+/// whether its file has numbers that aren't plain (`mds_reading::read_and_count` counts them). Such a number goes as the
 /// text of its characters, but for a bound of an evaluated rule, for which a policy is refused.
 pub fn prepare<'t>(
     alloc: Global,

@@ -10,7 +10,7 @@ ghost use Rattle.mds_kept.specs.Masks.{HasBits, IsMask, IsOpenMask};
 pub const MOST_RULES: usize = 64;
 
 /// The index of the first rule that is both in `active`, the bitmap of the open rules, and in
-/// `mask`, that of a vehicle, if there is one (MDS 2.0 Policy, order of operations).
+/// `bitmap`, that of a vehicle, if there is one (MDS 2.0 Policy, order of operations).
 pub fn first_of(active: u64, mask: u64) -> Option<usize>
     ensures within { IfSome result (λ n. n < 64) }
     ensures first { (policy : Policy) (polygons : List ℕ → List (List (List Position))) (row : Row) (local : Time) →

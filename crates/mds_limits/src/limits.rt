@@ -29,7 +29,7 @@ pub const IDLE_SECONDS: u64 = 60;
 /// then.
 pub const STALL_SECONDS: u64 = 30;
 
-/// How long after a response first had to wait for its socket it has to be written at `LEAST_TAKEN`
+/// How long after a response first had to wait for its socket it has to be written at `LEAST_RATE`
 /// on average.
 pub const SLOW_SECONDS: u32 = 120;
 

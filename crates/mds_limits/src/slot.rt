@@ -16,7 +16,7 @@ pub enum Decision {
 
 /// What to do for a connection of the client at this index, which is counted already: `counts` has
 /// those of anonymous, of the author and of each operator, and `all` is their number. Anonymous
-/// have at most half of all slots and any other client at most `MOST_OF_ASKER`: beyond that, one of
+/// have at most half of all slots and any other client at most `MOST_OF_CLIENT`: beyond that, one of
 /// its own is closed. One slot is reserved for each client that has none: where all others are
 /// taken, a connection of the client with the most is closed.
 pub fn slot_for(counts: &[usize], all: usize, asker: usize) -> Decision

@@ -113,12 +113,12 @@ impl ReusableScratch {
         }
     }
 
-    /// Reads a text as `Source::read_counted` does, into a tree that borrows from the buffer and,
+    /// Reads a text as `NodeBuffer::read_and_count` does, into a tree that borrows from the buffer and,
     /// where the text is unusual, from `tree`.
     ///
     /// # Errors
     ///
-    /// Those of `Source::read`.
+    /// Those of `NodeBuffer::read`.
     pub fn read_and_count<'a>(
         &'a mut self,
         alloc: Global,

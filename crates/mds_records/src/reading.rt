@@ -59,7 +59,7 @@ fn first(before: u64, bytes: &[u8]) -> Option<(&[u8], &[u8])>
 }
 
 /// Reads the records at the start of the bytes, which follow data with the checksum `before`: 0, where the bytes are a
-/// whole file. To continue a read, pass the bytes from [`Reading::whole`] on, and [`Reading::sum`].
+/// whole file. To continue a read, pass the bytes from [`RecordScan::whole`] on, and [`RecordScan::sum`].
 ///
 /// # Errors
 ///

@@ -16,7 +16,7 @@ pub trait TailStore {
         ensures { OnOk result (has_kept self.new from bytes.now) };
 }
 
-/// An `Aside` in memory, for tests.
+/// An `TailStore` in memory, for tests.
 #[derive(Debug, Drop)]
 pub struct MemoryTailStore {
     /// The position in the journal from which the bytes stood.

@@ -3,7 +3,7 @@ use Rattle.std.specs.Prelude.{◌≡◌, ℕ, List, [], ◌∷◌, reverse, Some
 use Rattle.mds_fleet.specs.Books.{Report}
 use Rattle.mds_restarts.specs.Persisted.{thinned}
 
--- Of these reports, earliest first, compaction keeps those at these indices. (`thinned` has the latest first.)
+-- Of these reports, earliest first, compaction keeps those at these indices. (`reports_to_keep` has the latest first.)
 pub record ThinsTo (reports : List Report) (begun last : ℕ) : Type 0 where
   pub first_kept : Report
   pub last_kept : Report

@@ -23,7 +23,7 @@ fn is_same_state(report: &Report, other: &Report) -> bool
 
 /// Which of a device's accepted reports compaction keeps, given in the order in which they were accepted, since the
 /// device was last removed: the last one, and the one that began the run of its state. They lead to the same row as all
-/// of them (`crate::laws::thinned_is_the_same`). `None` where there is no report.
+/// of them (`crate::laws::compacted_row_is_the_same`). `None` where there is no report.
 pub fn reports_to_keep(reports: &[Report]) -> Option<KeptReports>
     ensures { MatchOption result (reports.now ≡ []) (λ kept. ThinsTo (map report_document reports.now) kept.begun kept.last) }
 {

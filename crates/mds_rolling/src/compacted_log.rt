@@ -102,7 +102,7 @@ impl<L: HasLogEnd, P: Equivalence> CompactedLog<L, P> {
     ///
     /// # Errors
     ///
-    /// See [`CatchFault`]. The compacted log can't be used then.
+    /// See [`CatchUpFault`]. The compacted log can't be used then.
     pub fn catch_up(
         self,
         alloc: Global,

@@ -70,7 +70,7 @@ impl<L: HasLogEnd, P: Equivalence> Handoff<L, P> {
         }
     }
 
-    /// Asks for the next log end up to which the log is synced, which [`Meeting::next`] returns.
+    /// Asks for the next log end up to which the log is synced, which [`Handoff::next`] returns.
     pub fn request_log_end<R: Wait>(&self, rt: &R) {
         self.seen.lock(rt).stage = HandoffStage::Wanted;
     }

@@ -52,7 +52,7 @@ fn so_many_requests_wait(rt: HostRuntime) -> Result<(), Fail> {
     Ok(())
 }
 
-/// A client has at most `MOST_OF_ASKER` connections where none of them is idle.
+/// A client has at most `MOST_OF_CLIENT` connections where none of them is idle.
 #[test]
 fn a_client_has_so_many_slots(rt: HostRuntime) -> Result<(), Fail> {
     let alloc = rt.alloc();

@@ -118,7 +118,7 @@ where
 
     ghost may_answer = { E.may_judge };
 
-    /// Public documents have paths only where there is a `Window`.
+    /// Public documents have paths only where there is a `PublicCache`.
     fn resolve(&self, parts: Parts) -> ResolvedHead<K>
         ensures { elim result [
           | Asset own file ↦ (own ≡ parts) × AsksFile parts file

@@ -89,7 +89,7 @@ fn texts_in<R: Files<File = File>>(
 ///
 /// # Errors
 ///
-/// Those of `thin`, and `Folder` where the folder can't be used or another program has it. The journal stays as it was,
+/// Those of `compact`, and `Folder` where the folder can't be used or another program has it. The journal stays as it was,
 /// except where renaming it or syncing the folder failed: then it isn't known whether it did.
 pub fn compact_folder<R: Wait + Files<File = File>>(
     rt: &R,

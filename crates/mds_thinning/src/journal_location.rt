@@ -74,7 +74,7 @@ fn compact_named<P: JournalLocation<L>, K: OpeningName, L: Log, R: Wait>(
 ///
 /// # Errors
 ///
-/// Those of `thin`, and `Folder` where the place can't be used. The old journal stays in its place, unless the last
+/// Those of `compact`, and `Folder` where the place can't be used. The old journal stays in its place, unless the last
 /// step failed: then it is only known that one of the two journals is there.
 pub fn compact_at<P: JournalLocation<L>, L: Log, R: Wait>(
     rt: &R,

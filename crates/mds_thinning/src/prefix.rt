@@ -111,12 +111,12 @@ fn compact_to_named<K: OpeningName, L: HasLogEnd, R: Wait>(
     compact_to::<K, Brand, L, R>(rt, alloc, whole, log, (one, other))
 }
 
-/// Compacts the prefix of a journal to an empty log, as `thin` does: the shorter log may take the journal's place once
+/// Compacts the prefix of a journal to an empty log, as `compact` does: the shorter log may take the journal's place once
 /// it has what was appended since.
 ///
 /// # Errors
 ///
-/// Those of `thin`, and `Folder` where the bytes aren't those up to the log end.
+/// Those of `compact`, and `Folder` where the bytes aren't those up to the log end.
 pub fn compact_prefix<L: HasLogEnd, R: Wait>(
     rt: &R,
     alloc: Global,

@@ -91,7 +91,7 @@ impl CityOpening<'_> {
     ///
     /// # Errors
     ///
-    /// As `Standing::new`.
+    /// As `JournalSwapper::new`.
     fn journal_swapper<R: Folders + AllocGlobal + Copy + Drop>(
         &self,
         rt: &R,
@@ -180,7 +180,7 @@ fn open_and_serve<R: ThreadHost + Wait + Threads + Files<File = File>>(
     }
 }
 
-/// Opens the journal of a city whose folder is open, and serves the city until it is to end. `beside` swaps the
+/// Opens the journal of a city whose folder is open, and serves the city until it is to end. `run_concurrently` swaps the
 /// journal's file for compacted ones.
 ///
 /// # Errors
@@ -244,7 +244,7 @@ where
     serve_swap_log(rt, log, beside, space, config, stage)
 }
 
-/// Starts a server from a log, whose file is swapped from now on for compacted ones by `beside`, and serves it.
+/// Starts a server from a log, whose file is swapped from now on for compacted ones by `run_concurrently`, and serves it.
 ///
 /// # Errors
 ///
@@ -316,7 +316,7 @@ fn resume<K: HallName, L: Log, R: Wait + Eprint + AllocGlobal + Copy>(
 ///
 /// # Errors
 ///
-/// As `resume`, `Folder` where the log couldn't be continued, or as `keep_and_serve`.
+/// As `resume`, `Folder` where the log couldn't be continued, or as `persist_and_serve`.
 fn serve_opening<K: HallName + Send + Sync, L: Log + Send, S: Space + Send, R>(
     rt: &R,
     log: L,

@@ -101,7 +101,7 @@ where
     ended
 }
 
-/// Reads the operators' names for people in a configuration's text: see `mds_app::laws::configurations_are_badged`.
+/// Reads the operators' names for people in a configuration's text: see `mds_app::laws::configurations_have_names`.
 ///
 /// # Errors
 ///
@@ -164,7 +164,7 @@ fn announce<R: Print>(rt: &R, board: AdminState<'_>, is_public: bool) {
 ///
 /// # Errors
 ///
-/// As `keep_and_serve`.
+/// As `persist_and_serve`.
 fn serve_durable_hall<'a, K, N, L, S, R>(
     rt: &R,
     city: DurableHall<K, N, L, S>,

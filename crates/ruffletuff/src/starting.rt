@@ -84,7 +84,7 @@ fn publications(entries: &[JournalEntry<'_>]) -> usize
 ///
 /// # Errors
 ///
-/// `Folder` where the payloads aren't those of a journal of this configuration; `Refused` at the first entry that isn't
+/// `Folder` where the payloads aren't those of a journal of this configuration; `RefusedDocument` at the first entry that isn't
 /// answered with success; `NoMemory`.
 pub fn start<K: OpeningName, R: Wait + Eprint + AllocGlobal + Copy>(
     rt: &R,
@@ -137,7 +137,7 @@ fn report_limit<R: Eprint + AllocGlobal>(rt: &R, limits: &Limits, id: Id) {
 ///
 /// # Errors
 ///
-/// `Refused` at the first entry that isn't answered with success, `NoMemory`.
+/// `RefusedDocument` at the first entry that isn't answered with success, `NoMemory`.
 fn replay_entries<K: OpeningName, R: Wait + Eprint + AllocGlobal + Copy>(
     rt: &R,
     config: Config,
