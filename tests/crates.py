@@ -20,19 +20,20 @@ PAGE = ROOT / "docs" / "ARCHITECTURE.md"
 BEGIN, END = "<!-- crates: begin (tests/crates.py --write) -->", "<!-- crates: end -->"
 HEAD = ["| Crate | What it says it is | Stands on |", "|---|---|---|"]
 LAYERS = (
-    ("Core", "the protocol and its state", """
-        mds_text mds_reading mds_geometry mds_geography mds_policy mds_match mds_verdict mds_kept mds_fleet mds_parallel mds_catalog
-        mds_drafts mds_snapshot mds_request mds_diagnosis mds_zones mds_configuration mds_machine mds_world mds_desk mds_lines"""),
-    ("Journal", "what a disk keeps", """
-        mds_restarts mds_records mds_rolling mds_entries mds_commit mds_recovery mds_folder mds_thinning"""),
-    ("Server", "from a socket to the core", """
-        mds_limits mds_public mds_app mds_responses mds_hall mds_connections mds_routes mds_control mds_city mds_page mds_site"""),
-    ("Command line", "what a shell asks for", """
-        mds_start mds_command mds_client mds_import mds_feeds mds_errands cli_journal"""),
+    ("Core", "`mds_`: the protocol and its state, in memory", """
+        mds_text mds_json mds_geometry mds_geography mds_policy mds_match mds_verdict mds_bitmaps mds_fleet mds_parallel mds_catalog
+        mds_drafts mds_snapshot mds_request mds_config_error mds_machine mds_world mds_desk mds_script"""),
+    ("Journal", "`journal_`: what a disk keeps", """
+        journal_laws journal_file journal_swap journal_entry journal_commit journal_recovery journal_folder journal_compaction"""),
+    ("Server", "`server_`: from a socket to the core", """
+        server_admission server_responses server_app server_state server_public server_http server_start server_page server_routes
+        server_control server_durable server_site"""),
+    ("Command line", "`cli_`: what a shell asks for", """
+        cli_args cli_timezone cli_config cli_client cli_documents cli_vehicles cli_transfer cli_journal"""),
     ("Programs", "what is run", """
         mds_replay mds_serve ruffletuff"""),
-    ("Tests", "tests and worked examples", """
-        mds_exchanges mds_core_tests mds_examples mds_server_tests mds_server_examples mds_thinning_tests"""),
+    ("Tests", "`tests_`: tests and worked examples", """
+        tests_fixtures tests_core tests_examples_core tests_server tests_examples_server tests_journal"""),
 )
 
 

@@ -46,7 +46,7 @@ CITIES = "2"  # whose questions are asked once and again
 SHARES = ("4", "--told")  # seconds of each load beside which others ask for changes
 DAY = ("--vehicles", "1", "--kills", "2")  # of a journal that is thinned
 # The crates whose tests for want of memory bear a refused growth in their set-up too.
-SWEPT = ("mds_core_tests", "mds_server_tests", "mds_thinning_tests")
+SWEPT = ("tests_core", "tests_server", "tests_journal")
 SLOW = "8"  # how many times as long a part waits for a program that isn't proved
 TESTS = re.compile(r"^test result: \w+\. (\d+) passed; (\d+) failed;", re.M)
 

@@ -1,10 +1,10 @@
 #!/usr/bin/env python3
-"""The files of web/ as they lie in the program: crates/mds_page/src/texts, a constant for each.
+"""The files of web/ as they lie in the program: crates/server_page/src/texts, a constant for each.
 
-    texts.py write     writes them anew from web/; run rt fmt in crates/mds_page after it
+    texts.py write     writes them anew from web/; run rt fmt in crates/server_page after it
     texts.py check     says where they differ from web/, byte for byte, and ends with 1 then
 
-A new file of web/ needs a line of crates/mds_page/src/file.rt and specs/File.antt too.
+A new file of web/ needs a line of crates/server_page/src/file.rt and specs/File.antt too.
 """
 
 import os
@@ -13,7 +13,7 @@ import sys
 
 TOP = os.path.dirname(os.path.dirname(os.path.dirname(os.path.abspath(__file__))))
 WEB = f"{TOP}/web"
-CRATE = f"{TOP}/crates/mds_page/src"
+CRATE = f"{TOP}/crates/server_page/src"
 LITERAL = re.compile(r'r(#+)"(.*)"\1;\n', re.DOTALL)
 
 
@@ -73,9 +73,9 @@ def check():
     wrong = [name for name, text in found.items() if kept(name) != text]
     strange = {f"{module(it)}.rt" for it in found} ^ set(os.listdir(f"{CRATE}/texts"))
     for name in wrong:
-        print(f"crates/mds_page: {name} isn't web/{name}")
+        print(f"crates/server_page: {name} isn't web/{name}")
     for name in sorted(strange):
-        print(f"crates/mds_page: {name} is the text of no file, or is missing")
+        print(f"crates/server_page: {name} is the text of no file, or is missing")
     if not wrong and not strange:
         print(f"page: {len(found)} files in the program are those of web/")
     return 1 if wrong or strange else 0

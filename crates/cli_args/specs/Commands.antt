@@ -1,11 +1,11 @@
 -- What the arguments behind the program's name ask for.
 use Rattle.std.specs.Prelude.{ℕ, Bool, true, false, not, ◌&&◌, List, [], ◌∷◌, bytes_eq, codes, option_map, unwrap_or, if◌then◌else◌, Option, Some, None}
 use Rattle.uuid.specs.Text.{parsed}
-use Rattle.mds_command.specs.Options.{value_of, are_options, moment_in, count_in}
-use Rattle.mds_command.specs.Transfers.{Job, errand_of, errand_view}
-use Rattle.mds_command.specs.declared.command.TheConstants.{THIN_AT}
-use Rattle.mds_command.specs.declared.command.CliCommand.{CliCommand}
-use Rattle.mds_command.specs.declared.command.CliCommand.TheVariants.{Help, Version, Serve, Check, CheckConfig, Audit, Thin, Stop, Errand}
+use Rattle.cli_args.specs.Options.{value_of, are_options, moment_in, count_in}
+use Rattle.cli_args.specs.Transfers.{Job, errand_of, errand_view}
+use Rattle.cli_args.specs.declared.command.TheConstants.{THIN_AT}
+use Rattle.cli_args.specs.declared.command.CliCommand.{CliCommand}
+use Rattle.cli_args.specs.declared.command.CliCommand.TheVariants.{Help, Version, Serve, Check, CheckConfig, Audit, Thin, Stop, Errand}
 
 -- what the program is asked to do
 pub data Request : Type 0 where

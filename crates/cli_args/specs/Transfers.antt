@@ -1,12 +1,12 @@
 -- What `import` and `export` ask for.
 use Rattle.std.specs.Prelude.{ℕ, ◌+◌, ◌-◌, ◌==◌, ◌&&◌, Bool, false, List, [], ◌∷◌, length, take, drop, map, bytes_eq, codes, string_bytes, option_map, if◌then◌else◌, Option, Some, None}
-use Rattle.mds_command.specs.Options.{value_of, are_options}
-use Rattle.mds_command.specs.declared.transfers.TokenSource.{TokenSource}
-use Rattle.mds_command.specs.declared.transfers.TokenSource.TheVariants.{Argument, File}
-use Rattle.mds_command.specs.declared.transfers.Destination.{Destination}
-use Rattle.mds_command.specs.declared.transfers.Import.{Import}
-use Rattle.mds_command.specs.declared.transfers.Transfer.{Transfer}
-use Rattle.mds_command.specs.declared.transfers.Transfer.TheVariants.{Policies, Status, Published}
+use Rattle.cli_args.specs.Options.{value_of, are_options}
+use Rattle.cli_args.specs.declared.transfers.TokenSource.{TokenSource}
+use Rattle.cli_args.specs.declared.transfers.TokenSource.TheVariants.{Argument, File}
+use Rattle.cli_args.specs.declared.transfers.Destination.{Destination}
+use Rattle.cli_args.specs.declared.transfers.Import.{Import}
+use Rattle.cli_args.specs.declared.transfers.Transfer.{Transfer}
+use Rattle.cli_args.specs.declared.transfers.Transfer.TheVariants.{Policies, Status, Published}
 
 -- an access token: an argument itself, or in the file of this path
 pub data Token : Type 0 where

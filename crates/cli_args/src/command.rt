@@ -1,12 +1,12 @@
 //! What the program's arguments ask for.
 ghost use Rattle.std.specs.Prelude.{◌≡◌, ◌∷◌, map, string_bytes, option_map};
 ghost use Rattle.uuid.specs.Text.{parsed};
-ghost use Rattle.mds_command.specs.Options.{moment_in, count_in};
-ghost use Rattle.mds_command.specs.Commands.{read_if, asked_to_serve, asked_to_audit, asked_to_thin, asked_to_check, asked_alone, asked_with, asked_of, asked_errand, asked_by, asked_view};
+ghost use Rattle.cli_args.specs.Options.{moment_in, count_in};
+ghost use Rattle.cli_args.specs.Commands.{read_if, asked_to_serve, asked_to_audit, asked_to_thin, asked_to_check, asked_alone, asked_with, asked_of, asked_errand, asked_by, asked_view};
 
-use crate::transfers::{Transfer, transfer_of};
 use crate::moment::{count_of, moment_of};
 use crate::options::{are_options, value_of};
+use crate::transfers::{Transfer, transfer_of};
 use mds_text::{Id, Moment};
 
 /// The least growth of a journal, in bytes, before it is compacted, where `--thin-at` isn't given: 64 MiB.

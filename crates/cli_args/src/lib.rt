@@ -3,17 +3,17 @@
 
 mod command;
 mod commit;
-mod transfers;
 mod moment;
 mod options;
 mod text;
+mod transfers;
 mod version;
 
-pub use command::{CliCommand, AuditOptions, ServeOptions, ThinOptions, parse_command};
+pub use command::{AuditOptions, CliCommand, ServeOptions, ThinOptions, parse_command};
 pub use commit::COMMIT;
-pub use transfers::{Destination, Transfer, Export, Import, TokenSource};
 pub use moment::moment_of;
 pub use text::{HELP, USAGE, VERSION};
+pub use transfers::{Destination, Export, Import, TokenSource, Transfer};
 pub use version::version_line;
 
 #[cfg(test)]

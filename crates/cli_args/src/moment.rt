@@ -1,6 +1,6 @@
 //! Moments and counts among the arguments.
 ghost use Rattle.std.specs.Prelude.{◌≡◌, ◌≤◌, ◌<◌, ◌^◌, length, Some, None, if◌then◌else◌, IfSome};
-ghost use Rattle.mds_command.specs.Options.{are_digits, decimal, moment_in, count_in};
+ghost use Rattle.cli_args.specs.Options.{are_digits, decimal, moment_in, count_in};
 
 use mds_text::Moment;
 

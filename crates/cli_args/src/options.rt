@@ -1,7 +1,7 @@
 //! Options: each is a name, with a value behind it.
 ghost use Rattle.std.specs.Prelude.{◌≡◌, map, string_bytes, bytes_eq, option_map};
 ghost use Rattle.std.specs.List.{list_any};
-ghost use Rattle.mds_command.specs.Options.{value_of, is_new, are_options};
+ghost use Rattle.cli_args.specs.Options.{value_of, is_new, are_options};
 
 /// The value behind the first option of this name.
 pub(crate) fn value_of<'a>(name: &str, words: &'a [String]) -> Option<&'a str>

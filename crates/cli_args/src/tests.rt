@@ -1,5 +1,5 @@
 //! Tests of what arguments ask for, and of the version line.
-use crate::{CliCommand, Transfer, TokenSource, parse_command, version_line};
+use crate::{CliCommand, TokenSource, Transfer, parse_command, version_line};
 use std::alloc::{AllocError, AllocGlobal};
 use std::test::Fail;
 
@@ -51,7 +51,12 @@ fn takes_a_name_of_the_control_port(rt: HostRuntime) -> Result<(), Fail> {
 #[test]
 fn checks_a_configuration(rt: HostRuntime) -> Result<(), Fail> {
     let words = words_in(&rt, "check --config city.json")?;
-    assert!(rt; matches!(parse_command(&words), Some(CliCommand::CheckConfig("city.json"))));
+    assert!(rt;
+        matches!(
+            parse_command(&words),
+            Some(CliCommand::CheckConfig("city.json"))
+        )
+    );
     let words = words_in(&rt, "check city")?;
     assert!(rt; matches!(parse_command(&words), Some(CliCommand::Check("city"))));
     for line in ["check --config", "check city more", "check --config a b"] {

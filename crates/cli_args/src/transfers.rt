@@ -1,6 +1,6 @@
 //! What `import` and `export` ask for.
 ghost use Rattle.std.specs.Prelude.{◌≡◌, ◌≤◌, ◌<◌, ◌∷◌, [], length, map, codes, string_bytes, option_map, IsTrue, if◌then◌else◌, Some, None};
-ghost use Rattle.mds_command.specs.Transfers.{policies, status, begins_option, file_count, is_dry, token_source, place_in, dry_with, destination_in, sent_by, import_of, export_of, errand_of, token_view, place_view, import_view, errand_view};
+ghost use Rattle.cli_args.specs.Transfers.{policies, status, begins_option, file_count, is_dry, token_source, place_in, dry_with, destination_in, sent_by, import_of, export_of, errand_of, token_view, place_view, import_view, errand_view};
 
 use crate::options::{are_options, value_of};
 
@@ -186,7 +186,11 @@ fn export_of<'a>(folder: &'a str, words: &'a [String]) -> Option<Transfer<'a>>
 
 /// What a verb asks for, with its first argument and those behind it; `None` for any that is neither `import` nor
 /// `export`.
-pub(crate) fn transfer_of<'a>(verb: &str, name: &'a str, words: &'a [String]) -> Option<Transfer<'a>>
+pub(crate) fn transfer_of<'a>(
+    verb: &str,
+    name: &'a str,
+    words: &'a [String],
+) -> Option<Transfer<'a>>
     ensures { option_map errand_view result ≡ errand_of verb.now name.now (map string_bytes words.now) }
 {
     if verb == "import" {

@@ -1,6 +1,6 @@
 //! The line that `--version` prints.
 ghost use Rattle.std.specs.Prelude.{◌≡◌, ◌++◌, IfOk, OnOk, string_bytes};
-ghost use Rattle.mds_command.specs.Versions.{commit_part, version_line};
+ghost use Rattle.cli_args.specs.Versions.{commit_part, version_line};
 
 use std::alloc::{AllocError, Global};
 

@@ -6,9 +6,9 @@ use Rattle.http1.specs.Decoder.{Completes, Continues}
 use Rattle.http1.specs.declared.decode.Decoder.{Decoder}
 use Rattle.http1.specs.declared.framing.Framing.{Framing}
 use Rattle.http1.specs.declared.framing.Framing.TheVariants.{NoBody, Length, Chunked, UntilClose}
-use Rattle.mds_client.specs.declared.body.ChunkProgress.{ChunkProgress}
-use Rattle.mds_client.specs.declared.body.ChunkProgress.TheVariants.{Part, Whole}
-use Rattle.mds_client.specs.declared.fault.ResponseFault.{ResponseFault}
+use Rattle.cli_client.specs.declared.body.ChunkProgress.{ChunkProgress}
+use Rattle.cli_client.specs.declared.body.ChunkProgress.TheVariants.{Part, Whole}
+use Rattle.cli_client.specs.declared.fault.ResponseFault.{ResponseFault}
 
 -- the first `size` bytes, all of which have been received
 abbrev pub IsSized : (size : ℕ) → (bytes body : List ℕ) → Type 0

@@ -4,8 +4,8 @@ use Rattle.std_io.specs.declared.io.kind.ErrorKind.{ErrorKind}
 use Rattle.std_io.specs.declared.io.kind.ErrorKind.TheVariants.{OutOfMemory, UnexpectedEof}
 use Rattle.http1.specs.declared.framing.FramingError.{FramingError}
 use Rattle.http1.specs.declared.framing.FramingError.TheVariants.{InvalidContentLength, LengthAndEncoding}
-use Rattle.mds_client.specs.declared.fault.ResponseFault.{ResponseFault}
-use Rattle.mds_client.specs.declared.fault.ResponseFault.TheVariants.{NoMemory, NoConnection, Incomplete, InvalidHead, InvalidLength, LengthAndCoding, UnknownCoding}
+use Rattle.cli_client.specs.declared.fault.ResponseFault.{ResponseFault}
+use Rattle.cli_client.specs.declared.fault.ResponseFault.TheVariants.{NoMemory, NoConnection, Incomplete, InvalidHead, InvalidLength, LengthAndCoding, UnknownCoding}
 
 -- another attempt may get a response: the connection failed, or no head came over it
 abbrev pub is_passing : ResponseFault → Bool

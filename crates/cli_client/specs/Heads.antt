@@ -10,13 +10,13 @@ use Rattle.http1.specs.declared.framing.Framing.{Framing}
 use Rattle.http1.specs.declared.framing.Framing.TheVariants.{NoBody, Length, Chunked, UntilClose}
 use Rattle.http1.specs.declared.framing.FramingError.{FramingError}
 use Rattle.http1.specs.declared.framing.MethodKind.TheVariants.{Other}
-use Rattle.mds_client.specs.Faults.{fault_of_framing}
-use Rattle.mds_client.specs.declared.fault.ResponseFault.{ResponseFault}
-use Rattle.mds_client.specs.declared.fault.ResponseFault.TheVariants.{UnknownCoding}
-use Rattle.mds_client.specs.declared.head.ParsedHead.{ParsedHead}
-use Rattle.mds_client.specs.declared.head.HeadProgress.{HeadProgress}
-use Rattle.mds_client.specs.declared.head.HeadProgress.TheVariants.{Whole, Partial, Broken}
-use Rattle.mds_client.specs.declared.head.TheConstants.{MOST_FIELDS}
+use Rattle.cli_client.specs.Faults.{fault_of_framing}
+use Rattle.cli_client.specs.declared.fault.ResponseFault.{ResponseFault}
+use Rattle.cli_client.specs.declared.fault.ResponseFault.TheVariants.{UnknownCoding}
+use Rattle.cli_client.specs.declared.head.ParsedHead.{ParsedHead}
+use Rattle.cli_client.specs.declared.head.HeadProgress.{HeadProgress}
+use Rattle.cli_client.specs.declared.head.HeadProgress.TheVariants.{Whole, Partial, Broken}
+use Rattle.cli_client.specs.declared.head.TheConstants.{MOST_FIELDS}
 
 -- a body in a coding other than `chunked` isn't read, even where it is known how it ends
 abbrev pub uncoded : (is_coded : Bool) → Result Framing FramingError → Result Framing ResponseFault

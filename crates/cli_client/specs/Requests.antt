@@ -1,8 +1,8 @@
 -- The text of a request (RFC 9112, sections 2 and 3).
 use Rattle.std.specs.Prelude.{ℕ, List, ◌++◌, length, codes}
 use Rattle.std.specs.Fmt.{decimal}
-use Rattle.mds_client.specs.declared.request.RemoteServer.{RemoteServer}
-use Rattle.mds_client.specs.declared.request.ClientRequest.{ClientRequest}
+use Rattle.cli_client.specs.declared.request.RemoteServer.{RemoteServer}
+use Rattle.cli_client.specs.declared.request.ClientRequest.{ClientRequest}
 
 -- the end of a line of a head
 abbrev pub line_end : List ℕ

@@ -1,6 +1,6 @@
 //! Bodies of responses.
 ghost use Rattle.std.specs.Prelude.{◌≡◌, ◌≤◌, length, take, IfOk, IfErr, OnErr, vec_len};
-ghost use Rattle.mds_client.specs.Bodies.{IsSized, Takes, IsBody};
+ghost use Rattle.cli_client.specs.Bodies.{IsSized, Takes, IsBody};
 
 use crate::fault::ResponseFault;
 use crate::head::ParsedHead;
@@ -89,7 +89,11 @@ fn read_sized<S: Read>(stream: &mut S, size: u64, came: &mut Vec<u8>) -> Result<
 /// # Errors
 ///
 /// `InvalidChunk`, `NoMemory`.
-fn take_chunk(decoder: &mut Decoder, bytes: &[u8], body: &mut Vec<u8>) -> Result<ChunkProgress, ResponseFault>
+fn take_chunk(
+    decoder: &mut Decoder,
+    bytes: &[u8],
+    body: &mut Vec<u8>,
+) -> Result<ChunkProgress, ResponseFault>
     ensures { IfOk result (Takes decoder.old bytes.now body.old.items decoder.new body.new.items) }
 {
     let mut trailers = [EMPTY_HEADER_SPAN; MOST_TRAILERS];

@@ -2,7 +2,7 @@
 
 use crate::body::{CompleteBody, read_body, read_more};
 use crate::fault::ResponseFault;
-use crate::head::{ParsedHead, HeadProgress, parse_head};
+use crate::head::{HeadProgress, ParsedHead, parse_head};
 use crate::request::{ClientRequest, RemoteServer, request_text};
 use std::alloc::Global;
 use std::io::{self, Read, Write};
@@ -78,7 +78,10 @@ fn read_head<S: Read>(stream: &mut S, came: &mut Vec<u8>) -> Result<ParsedHead, 
 /// # Errors
 ///
 /// As `read_head`.
-fn read_final_head<S: Read>(alloc: Global, stream: &mut S) -> Result<(ParsedHead, Vec<u8>), ResponseFault> {
+fn read_final_head<S: Read>(
+    alloc: Global,
+    stream: &mut S,
+) -> Result<(ParsedHead, Vec<u8>), ResponseFault> {
     let mut came = Vec::new(alloc);
     for _ in 0..MOST_INTERIM {
         let head = read_head(stream, &mut came)?;
@@ -146,7 +149,11 @@ impl<'a, D: Dial> Client<'a, D> {
     /// # Errors
     ///
     /// Why there is no response: the fault of the last attempt.
-    pub fn ask(&mut self, alloc: Global, call: &ClientRequest<'_>) -> Result<HttpResponse, ResponseFault> {
+    pub fn ask(
+        &mut self,
+        alloc: Global,
+        call: &ClientRequest<'_>,
+    ) -> Result<HttpResponse, ResponseFault> {
         let request = request_text(alloc, &self.server, call)?;
         for _ in 1..TRIES {
             match self.ask_once(alloc, &request) {

@@ -1,6 +1,6 @@
 //! Why there is no response.
 ghost use Rattle.std.specs.Prelude.{◌≡◌};
-ghost use Rattle.mds_client.specs.Faults.{is_passing};
+ghost use Rattle.cli_client.specs.Faults.{is_passing};
 
 use http1::ReadError;
 use http1::framing::FramingError;
@@ -39,7 +39,8 @@ impl ResponseFault {
         ensures { result ≡ is_passing self }
     {
         match self {
-            ResponseFault::NoConnection | ResponseFault::Incomplete | ResponseFault::InvalidHead => true,
+            ResponseFault::NoConnection | ResponseFault::Incomplete | ResponseFault::InvalidHead =>
+                true,
             ResponseFault::NoMemory
             | ResponseFault::InvalidLength
             | ResponseFault::LengthAndCoding
@@ -73,7 +74,7 @@ impl ResponseFault {
 
 impl From<AllocError> for ResponseFault {
     ghost use Rattle.std.specs.Prelude.{◌≡◌};
-    ghost use Rattle.mds_client.specs.declared.fault.ResponseFault.TheVariants.{NoMemory};
+    ghost use Rattle.cli_client.specs.declared.fault.ResponseFault.TheVariants.{NoMemory};
 
     ghost from_gives = { λ _ fault. fault ≡ NoMemory };
 
@@ -85,7 +86,7 @@ impl From<AllocError> for ResponseFault {
 impl From<io::Error> for ResponseFault {
     ghost use Rattle.std.specs.Prelude.{◌≡◌};
     ghost use Rattle.std_io.specs.IoError.{error_kind};
-    ghost use Rattle.mds_client.specs.Faults.{fault_of_kind};
+    ghost use Rattle.cli_client.specs.Faults.{fault_of_kind};
 
     ghost from_gives = { λ error fault. fault ≡ fault_of_kind (error_kind error) };
 
@@ -100,7 +101,7 @@ impl From<io::Error> for ResponseFault {
 
 impl From<FramingError> for ResponseFault {
     ghost use Rattle.std.specs.Prelude.{◌≡◌};
-    ghost use Rattle.mds_client.specs.Faults.{fault_of_framing};
+    ghost use Rattle.cli_client.specs.Faults.{fault_of_framing};
 
     ghost from_gives = { λ error fault. fault ≡ fault_of_framing error };
 
@@ -117,7 +118,7 @@ impl From<FramingError> for ResponseFault {
 
 impl From<ReadError> for ResponseFault {
     ghost use Rattle.std.specs.Prelude.{◌≡◌};
-    ghost use Rattle.mds_client.specs.declared.fault.ResponseFault.TheVariants.{InvalidChunk};
+    ghost use Rattle.cli_client.specs.declared.fault.ResponseFault.TheVariants.{InvalidChunk};
 
     ghost from_gives = { λ _ fault. fault ≡ InvalidChunk };
 

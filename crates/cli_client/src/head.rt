@@ -2,7 +2,7 @@
 ghost use Rattle.std.specs.Prelude.{◌≡◌, not};
 ghost use Rattle.httparse.specs.Grammar.{HasNoResponse};
 ghost use Rattle.http1.specs.Conn.{keeps_alive};
-ghost use Rattle.mds_client.specs.Heads.{framing_of, HeadingOf};
+ghost use Rattle.cli_client.specs.Heads.{framing_of, HeadingOf};
 
 use crate::fault::ResponseFault;
 use http1::fields::{KnownFields, TransferEncoding};

@@ -10,7 +10,7 @@ mod request;
 pub use body::body_of;
 pub use client::{Client, Dial, HttpResponse};
 pub use fault::ResponseFault;
-pub use head::{ParsedHead, HeadProgress, parse_head};
+pub use head::{HeadProgress, ParsedHead, parse_head};
 pub use request::{ClientRequest, RemoteServer, request_text};
 
 #[cfg(test)]

@@ -1,6 +1,6 @@
 //! Requests as text.
 ghost use Rattle.std.specs.Prelude.{◌≡◌, ◌++◌, IfOk, OnOk};
-ghost use Rattle.mds_client.specs.Requests.{target_part, request_line, host_field, token_field, length_field, request_text};
+ghost use Rattle.cli_client.specs.Requests.{target_part, request_line, host_field, token_field, length_field, request_text};
 
 use std::alloc::{AllocError, Global};
 

@@ -1,12 +1,16 @@
 //! Tests of requests over connections that answer with fixed bytes.
-use crate::{ClientRequest, Client, Dial, HeadProgress, ResponseFault, RemoteServer, body_of, parse_head, request_text};
+use crate::{
+    Client, ClientRequest, Dial, HeadProgress, RemoteServer, ResponseFault, body_of, parse_head,
+    request_text,
+};
 use http1::framing::Framing;
 use std::cell::Cell;
 use std::io::{self, Read, Write};
 use std::test::Fail;
 
 /// A response of 503 that closes its connection.
-const UNAVAILABLE_RESPONSE: &[u8] = b"HTTP/1.1 503 \r\nConnection: close\r\ncontent-length: 2\r\n\r\n{}";
+const UNAVAILABLE_RESPONSE: &[u8] =
+    b"HTTP/1.1 503 \r\nConnection: close\r\ncontent-length: 2\r\n\r\n{}";
 
 /// A final response.
 const OK_RESPONSE: &[u8] = b"HTTP/1.1 200 OK\r\ncontent-length: 3\r\n\r\nall";
@@ -41,7 +45,11 @@ impl Dial for RetryDialer {
     fn dial(&self) -> io::Result<FixedStream> {
         let count = self.0.get();
         self.0.set(1);
-        Ok(FixedStream(if count == 0 { UNAVAILABLE_RESPONSE } else { OK_RESPONSE }))
+        Ok(FixedStream(if count == 0 {
+            UNAVAILABLE_RESPONSE
+        } else {
+            OK_RESPONSE
+        }))
     }
 
     fn pause(&self) {}

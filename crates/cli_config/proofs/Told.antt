@@ -1,9 +1,9 @@
 -- The message about a limit.
 use Rattle.std.proofs.Common.{◌≡◌, ℕ, List, Some, option_map, ap, ◌∙◌}
 use Rattle.uuid.specs.Text.{hyphenated_text, lower}
-use Rattle.mds_configuration.specs.declared.limits.Bound.{Bound}
-use Rattle.mds_configuration.specs.declared.limits.Low.{Low}
-use Rattle.mds_configuration.specs.Limits.{low_from, low_limit, low_wording}
+use Rattle.cli_config.specs.declared.limits.Bound.{Bound}
+use Rattle.cli_config.specs.declared.limits.Low.{Low}
+use Rattle.cli_config.specs.Limits.{low_from, low_limit, low_wording}
 
 pub low_told : (bounds : List Bound) (id written text : List ℕ) (low : Low)
     → Some low ≡ low_from 0 id bounds

@@ -1,11 +1,11 @@
 -- One step of a loop.
 use Rattle.std.proofs.Common.{◌≡◌, ℕ, ◌+◌, ◌-◌, ◌<◌, List, ◌∷◌, ◌++◌, length, drop, take, get_or, Option, Some, option_to_list, refl, sym, ap, ◌∙◌, subst, append_assoc}
 use Rattle.std.proofs.lemmas.List.{drop_more, take_rest}
-use Rattle.mds_configuration.specs.declared.lexemes.LexemeAt.{LexemeAt}
-use Rattle.mds_configuration.specs.declared.lexemes.LexemeKind.TheVariants.{OpenObject}
-use Rattle.mds_configuration.specs.declared.walk.Walk.{Walk}
-use Rattle.mds_configuration.specs.Grammar.{Standing, fault_after, fault_from, step}
-use Rattle.mds_configuration.specs.LocatedMembers.{Seen, spot_in, spots_from, walk_after}
+use Rattle.cli_config.specs.declared.lexemes.LexemeAt.{LexemeAt}
+use Rattle.cli_config.specs.declared.lexemes.LexemeKind.TheVariants.{OpenObject}
+use Rattle.cli_config.specs.declared.walk.Walk.{Walk}
+use Rattle.cli_config.specs.Grammar.{Standing, fault_after, fault_from, step}
+use Rattle.cli_config.specs.LocatedMembers.{Seen, spot_in, spots_from, walk_after}
 
 -- the member or operator at a lexeme, before those after it
 walk_one : (bytes : List ℕ) (walk : Walk) (m : LexemeAt) (rest ms : List LexemeAt) → ms ≡ m ∷ rest

@@ -1,7 +1,7 @@
 -- A member that the server reads, by its name.
 use Rattle.std.specs.Prelude.{ℕ, List, Option, bytes_eq, find}
-use Rattle.mds_configuration.specs.declared.members.KnownMember.{KnownMember}
-use Rattle.mds_configuration.specs.Names.{name_of}
+use Rattle.cli_config.specs.declared.members.KnownMember.{KnownMember}
+use Rattle.cli_config.specs.Names.{name_of}
 
 -- the one of these with this name
 abbrev pub find_known : List ℕ → List KnownMember → Option KnownMember

@@ -1,27 +1,27 @@
 -- The findings in a configuration's text, in the order of the text.
 use Rattle.std.specs.Prelude.{ℕ, List, [], ◌∷◌, ◌++◌, Bool, true, false, ◌==◌, if◌then◌else◌, Option, Some, None, option_to_list, option_map, string_bytes}
-use Rattle.mds_diagnosis.specs.Diagnosis.{wrong_in}
-use Rattle.mds_diagnosis.specs.declared.wrong.Wrong.{Wrong}
-use Rattle.mds_diagnosis.specs.declared.wrong.Wrong.TheVariants as wrong
-use Rattle.mds_configuration.specs.declared.finding.ConfigFinding.{ConfigFinding}
-use Rattle.mds_configuration.specs.declared.finding.FindingKind.{FindingKind}
-use Rattle.mds_configuration.specs.declared.finding.FindingKind.TheVariants as what
-use Rattle.mds_configuration.specs.declared.lexemes.LexemeAt.{LexemeAt}
-use Rattle.mds_configuration.specs.declared.members.KnownMember.TheVariants.{Zone}
-use Rattle.mds_configuration.specs.declared.paths.Path.{Path}
-use Rattle.mds_configuration.specs.declared.paths.Path.TheVariants.{Member}
-use Rattle.mds_configuration.specs.declared.position.TextPosition.{TextPosition}
-use Rattle.mds_configuration.specs.declared.gathering.LocatedError.{LocatedError}
-use Rattle.mds_configuration.specs.declared.located_members.Value.{Value}
-use Rattle.mds_configuration.specs.declared.zoning.ResolvedZone.{ResolvedZone}
-use Rattle.mds_configuration.specs.declared.zoning.ResolvedZone.TheVariants.{Fault}
-use Rattle.mds_configuration.specs.Grammar.{fault_from, fresh}
-use Rattle.mds_configuration.specs.Lexemes.{marks_of}
-use Rattle.mds_configuration.specs.Members.{warning}
-use Rattle.mds_configuration.specs.Paths.{last_meant, path_text, spot_text, wrong_path}
-use Rattle.mds_configuration.specs.Positions.{place_at}
-use Rattle.mds_configuration.specs.LocatedMembers.{Seen, spots_from, start}
-use Rattle.mds_configuration.specs.Zoning.{stand_in}
+use Rattle.mds_config_error.specs.Diagnosis.{wrong_in}
+use Rattle.mds_config_error.specs.declared.wrong.Wrong.{Wrong}
+use Rattle.mds_config_error.specs.declared.wrong.Wrong.TheVariants as wrong
+use Rattle.cli_config.specs.declared.finding.ConfigFinding.{ConfigFinding}
+use Rattle.cli_config.specs.declared.finding.FindingKind.{FindingKind}
+use Rattle.cli_config.specs.declared.finding.FindingKind.TheVariants as what
+use Rattle.cli_config.specs.declared.lexemes.LexemeAt.{LexemeAt}
+use Rattle.cli_config.specs.declared.members.KnownMember.TheVariants.{Zone}
+use Rattle.cli_config.specs.declared.paths.Path.{Path}
+use Rattle.cli_config.specs.declared.paths.Path.TheVariants.{Member}
+use Rattle.cli_config.specs.declared.position.TextPosition.{TextPosition}
+use Rattle.cli_config.specs.declared.gathering.LocatedError.{LocatedError}
+use Rattle.cli_config.specs.declared.located_members.Value.{Value}
+use Rattle.cli_config.specs.declared.zoning.ResolvedZone.{ResolvedZone}
+use Rattle.cli_config.specs.declared.zoning.ResolvedZone.TheVariants.{Fault}
+use Rattle.cli_config.specs.Grammar.{fault_from, fresh}
+use Rattle.cli_config.specs.Lexemes.{marks_of}
+use Rattle.cli_config.specs.Members.{warning}
+use Rattle.cli_config.specs.Paths.{last_meant, path_text, spot_text, wrong_path}
+use Rattle.cli_config.specs.Positions.{place_at}
+use Rattle.cli_config.specs.LocatedMembers.{Seen, spots_from, start}
+use Rattle.cli_config.specs.Zoning.{stand_in}
 
 -- the definition's value of a `ConfigFinding`
 pub record Told : Type 0 where

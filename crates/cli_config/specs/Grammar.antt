@@ -2,20 +2,20 @@
 use Rattle.std.specs.Prelude.{ℕ, List, [], ◌∷◌, Bool, true, nat_lt, length, if◌then◌else◌, Option, Some, None}
 use Rattle.std.specs.Result.{is_ok}
 use Rattle.mds_text.specs.Reading.{read_text}
-use Rattle.mds_configuration.specs.declared.grammar.Action.{Action}
-use Rattle.mds_configuration.specs.declared.grammar.Action.TheVariants as act
-use Rattle.mds_configuration.specs.declared.grammar.Bracket.{Bracket}
-use Rattle.mds_configuration.specs.declared.grammar.Bracket.TheVariants as bracket
-use Rattle.mds_configuration.specs.declared.grammar.Next.{Next}
-use Rattle.mds_configuration.specs.declared.grammar.Next.TheVariants as next
-use Rattle.mds_configuration.specs.declared.grammar.GrammarState.{GrammarState}
-use Rattle.mds_configuration.specs.declared.grammar.TheConstants.{MOST_LEVELS}
-use Rattle.mds_configuration.specs.declared.lexemes.LexemeAt.{LexemeAt}
-use Rattle.mds_configuration.specs.declared.lexemes.LexemeKind.{LexemeKind}
-use Rattle.mds_configuration.specs.declared.lexemes.LexemeKind.TheVariants as sign
-use Rattle.mds_configuration.specs.Lexemes.{marks_of}
-use Rattle.mds_configuration.specs.Pieces.{piece}
-use Rattle.mds_configuration.specs.LocatedMembers.{next_at}
+use Rattle.cli_config.specs.declared.grammar.Action.{Action}
+use Rattle.cli_config.specs.declared.grammar.Action.TheVariants as act
+use Rattle.cli_config.specs.declared.grammar.Bracket.{Bracket}
+use Rattle.cli_config.specs.declared.grammar.Bracket.TheVariants as bracket
+use Rattle.cli_config.specs.declared.grammar.Next.{Next}
+use Rattle.cli_config.specs.declared.grammar.Next.TheVariants as next
+use Rattle.cli_config.specs.declared.grammar.GrammarState.{GrammarState}
+use Rattle.cli_config.specs.declared.grammar.TheConstants.{MOST_LEVELS}
+use Rattle.cli_config.specs.declared.lexemes.LexemeAt.{LexemeAt}
+use Rattle.cli_config.specs.declared.lexemes.LexemeKind.{LexemeKind}
+use Rattle.cli_config.specs.declared.lexemes.LexemeKind.TheVariants as sign
+use Rattle.cli_config.specs.Lexemes.{marks_of}
+use Rattle.cli_config.specs.Pieces.{piece}
+use Rattle.cli_config.specs.LocatedMembers.{next_at}
 
 -- a value (section 3)
 abbrev pub value_action : LexemeKind → Option Action

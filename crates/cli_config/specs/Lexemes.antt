@@ -1,10 +1,10 @@
 -- Where the lexemes of a JSON text begin (RFC 8259, section 2): structural characters, strings, and literal names and numbers.
 use Rattle.std.specs.Prelude.{ℕ, ◌+◌, List, [], ◌∷◌, ◌++◌, Bool, true, false, ◌||◌, ◌==◌, if◌then◌else◌, Option, Some, None}
-use Rattle.mds_configuration.specs.declared.lexemes.LexemeAt.{LexemeAt}
-use Rattle.mds_configuration.specs.declared.lexemes.Mode.{Mode}
-use Rattle.mds_configuration.specs.declared.lexemes.Mode.TheVariants.{Between, Word, Quoted, Escaped}
-use Rattle.mds_configuration.specs.declared.lexemes.LexemeKind.{LexemeKind}
-use Rattle.mds_configuration.specs.declared.lexemes.LexemeKind.TheVariants as sign
+use Rattle.cli_config.specs.declared.lexemes.LexemeAt.{LexemeAt}
+use Rattle.cli_config.specs.declared.lexemes.Mode.{Mode}
+use Rattle.cli_config.specs.declared.lexemes.Mode.TheVariants.{Between, Word, Quoted, Escaped}
+use Rattle.cli_config.specs.declared.lexemes.LexemeKind.{LexemeKind}
+use Rattle.cli_config.specs.declared.lexemes.LexemeKind.TheVariants as sign
 
 abbrev pub is_space : ℕ → Bool
 is_space b = (b == 32) || (b == 9) || (b == 10) || (b == 13)

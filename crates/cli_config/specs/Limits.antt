@@ -2,10 +2,10 @@
 use Rattle.std.specs.Prelude.{ℕ, ◌+◌, List, [], ◌∷◌, ◌++◌, bytes_eq, codes, decimal, if◌then◌else◌, Option, Some, None, map, option_map}
 use Rattle.uuid.specs.Text.{hyphenated_text, lower}
 use Rattle.mds_request.specs.Configuration.{Operator}
-use Rattle.mds_configuration.specs.declared.limits.Bound.{Bound}
-use Rattle.mds_configuration.specs.declared.limits.Limits.{Limits}
-use Rattle.mds_configuration.specs.declared.limits.Low.{Low}
-use Rattle.mds_configuration.specs.Paths.{operator_text}
+use Rattle.cli_config.specs.declared.limits.Bound.{Bound}
+use Rattle.cli_config.specs.declared.limits.Limits.{Limits}
+use Rattle.cli_config.specs.declared.limits.Low.{Low}
+use Rattle.cli_config.specs.Paths.{operator_text}
 
 -- each operator's identifier and limit, in the configuration's order
 abbrev pub bounds_in : List Operator → List Bound

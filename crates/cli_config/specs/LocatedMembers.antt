@@ -1,16 +1,16 @@
 -- The members of a configuration and of its operators, and the operators themselves, in the order of the text. For a
 -- text that is no JSON they mean nothing.
 use Rattle.std.specs.Prelude.{ℕ, ◌+◌, ◌-◌, List, [], ◌∷◌, ◌++◌, Bool, true, false, ◌&&◌, ◌==◌, nat_lt, length, bytes_eq, codes, if◌then◌else◌, Option, Some, None, option_map, option_to_list, string_bytes}
-use Rattle.mds_configuration.specs.declared.lexemes.LexemeAt.{LexemeAt}
-use Rattle.mds_configuration.specs.declared.lexemes.LexemeKind.{LexemeKind}
-use Rattle.mds_configuration.specs.declared.lexemes.LexemeKind.TheVariants as sign
-use Rattle.mds_configuration.specs.declared.located_members.MemberOwner.{MemberOwner}
-use Rattle.mds_configuration.specs.declared.located_members.MemberOwner.TheVariants.{Document, Operator}
-use Rattle.mds_configuration.specs.declared.located_members.LocatedMember.{LocatedMember}
-use Rattle.mds_configuration.specs.declared.located_members.Value.{Value}
-use Rattle.mds_configuration.specs.declared.walk.Walk.{Walk}
-use Rattle.mds_configuration.specs.Lexemes.{marks_of}
-use Rattle.mds_configuration.specs.Pieces.{piece, unquoted}
+use Rattle.cli_config.specs.declared.lexemes.LexemeAt.{LexemeAt}
+use Rattle.cli_config.specs.declared.lexemes.LexemeKind.{LexemeKind}
+use Rattle.cli_config.specs.declared.lexemes.LexemeKind.TheVariants as sign
+use Rattle.cli_config.specs.declared.located_members.MemberOwner.{MemberOwner}
+use Rattle.cli_config.specs.declared.located_members.MemberOwner.TheVariants.{Document, Operator}
+use Rattle.cli_config.specs.declared.located_members.LocatedMember.{LocatedMember}
+use Rattle.cli_config.specs.declared.located_members.Value.{Value}
+use Rattle.cli_config.specs.declared.walk.Walk.{Walk}
+use Rattle.cli_config.specs.Lexemes.{marks_of}
+use Rattle.cli_config.specs.Pieces.{piece, unquoted}
 
 -- a member, or an operator, which has no name; the offset of its name, or else of its value; and its value, with the
 -- kind of its first lexeme

@@ -1,21 +1,21 @@
 -- Which members of a configuration are read, by which crate, and the warnings about the others.
---   author, operators, zone: mds_request (configuration), mds_app (answers), mds_diagnosis; public: mds_public
---   id, limit, token of an operator: mds_request and mds_diagnosis; name of an operator: mds_app
+--   author, operators, zone: mds_request (configuration), server_app (answers), mds_config_error; public: server_public
+--   id, limit, token of an operator: mds_request and mds_config_error; name of an operator: server_app
 use Rattle.std.specs.Prelude.{ℕ, List, Bool, true, false, nat_le, length, if◌then◌else◌, Option, Some, None}
-use Rattle.mds_configuration.specs.declared.finding.FindingKind.{FindingKind}
-use Rattle.mds_configuration.specs.declared.finding.FindingKind.TheVariants.{Unread, NoTruth, NoName}
-use Rattle.mds_configuration.specs.declared.lexemes.LexemeKind.{LexemeKind}
-use Rattle.mds_configuration.specs.declared.lexemes.LexemeKind.TheVariants as sign
-use Rattle.mds_configuration.specs.declared.members.KnownMember.{KnownMember}
-use Rattle.mds_configuration.specs.declared.members.KnownMember.TheVariants.{Public, Name}
-use Rattle.mds_configuration.specs.declared.members.TheConstants.{MOST_NAME}
-use Rattle.mds_configuration.specs.declared.located_members.MemberOwner.{MemberOwner}
-use Rattle.mds_configuration.specs.declared.located_members.Value.{Value}
-use Rattle.mds_configuration.specs.Nearest.{hint}
-use Rattle.mds_configuration.specs.Names.{known_of}
-use Rattle.mds_configuration.specs.FindKnown.{find_known}
-use Rattle.mds_configuration.specs.Pieces.{piece, unquoted}
-use Rattle.mds_configuration.specs.LocatedMembers.{Seen}
+use Rattle.cli_config.specs.declared.finding.FindingKind.{FindingKind}
+use Rattle.cli_config.specs.declared.finding.FindingKind.TheVariants.{Unread, NoTruth, NoName}
+use Rattle.cli_config.specs.declared.lexemes.LexemeKind.{LexemeKind}
+use Rattle.cli_config.specs.declared.lexemes.LexemeKind.TheVariants as sign
+use Rattle.cli_config.specs.declared.members.KnownMember.{KnownMember}
+use Rattle.cli_config.specs.declared.members.KnownMember.TheVariants.{Public, Name}
+use Rattle.cli_config.specs.declared.members.TheConstants.{MOST_NAME}
+use Rattle.cli_config.specs.declared.located_members.MemberOwner.{MemberOwner}
+use Rattle.cli_config.specs.declared.located_members.Value.{Value}
+use Rattle.cli_config.specs.Nearest.{hint}
+use Rattle.cli_config.specs.Names.{known_of}
+use Rattle.cli_config.specs.FindKnown.{find_known}
+use Rattle.cli_config.specs.Pieces.{piece, unquoted}
+use Rattle.cli_config.specs.LocatedMembers.{Seen}
 
 -- null counts as absent
 abbrev pub is_truth : LexemeKind → Bool

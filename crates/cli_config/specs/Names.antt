@@ -1,9 +1,9 @@
 -- The names of the members that are read.
 use Rattle.std.specs.Prelude.{ℕ, List, [], ◌∷◌, codes}
-use Rattle.mds_configuration.specs.declared.members.KnownMember.{KnownMember}
-use Rattle.mds_configuration.specs.declared.members.KnownMember.TheVariants.{Author, Operators, Public, Zone, Id, Limit, Name, Token}
-use Rattle.mds_configuration.specs.declared.located_members.MemberOwner.{MemberOwner}
-use Rattle.mds_configuration.specs.declared.located_members.MemberOwner.TheVariants.{Document, Operator}
+use Rattle.cli_config.specs.declared.members.KnownMember.{KnownMember}
+use Rattle.cli_config.specs.declared.members.KnownMember.TheVariants.{Author, Operators, Public, Zone, Id, Limit, Name, Token}
+use Rattle.cli_config.specs.declared.located_members.MemberOwner.{MemberOwner}
+use Rattle.cli_config.specs.declared.located_members.MemberOwner.TheVariants.{Document, Operator}
 
 abbrev pub name_of : KnownMember → List ℕ
 name_of Author = codes "author"

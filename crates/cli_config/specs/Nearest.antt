@@ -2,13 +2,13 @@
 use Rattle.std.specs.Prelude.{ℕ, ◌/◌, List, [], ◌∷◌, Bool, true, ◌&&◌, nat_le, nat_lt, max, length, if◌then◌else◌, Option, Some, None, option_map}
 use Rattle.std.specs.Str.{chars}
 use Rattle.strsim.specs.Edits.{osa_table}
-use Rattle.mds_configuration.specs.declared.members.KnownMember.{KnownMember}
-use Rattle.mds_configuration.specs.declared.nearest.Hint.{Hint}
-use Rattle.mds_configuration.specs.declared.nearest.Hint.TheVariants.{Nothing, Here, Elsewhere}
-use Rattle.mds_configuration.specs.declared.nearest.Near.{Near}
-use Rattle.mds_configuration.specs.declared.nearest.TheConstants.{MOST_COMPARED}
-use Rattle.mds_configuration.specs.declared.located_members.MemberOwner.{MemberOwner}
-use Rattle.mds_configuration.specs.Names.{name_of, known_of, others_of}
+use Rattle.cli_config.specs.declared.members.KnownMember.{KnownMember}
+use Rattle.cli_config.specs.declared.nearest.Hint.{Hint}
+use Rattle.cli_config.specs.declared.nearest.Hint.TheVariants.{Nothing, Here, Elsewhere}
+use Rattle.cli_config.specs.declared.nearest.Near.{Near}
+use Rattle.cli_config.specs.declared.nearest.TheConstants.{MOST_COMPARED}
+use Rattle.cli_config.specs.declared.located_members.MemberOwner.{MemberOwner}
+use Rattle.cli_config.specs.Names.{name_of, known_of, others_of}
 
 -- the edit distance from a name to a known one: characters that are inserted, deleted, replaced by another or swapped
 -- with the next (the restricted Damerau-Levenshtein distance)

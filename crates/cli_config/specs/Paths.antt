@@ -1,20 +1,20 @@
 -- The path of the member that an error is in, and its value in the text.
 use Rattle.std.specs.Prelude.{ℕ, List, [], ◌∷◌, ◌++◌, Bool, true, false, ◌&&◌, ◌==◌, nat_le, bytes_eq, codes, decimal, map, if◌then◌else◌, Option, Some, None}
-use Rattle.mds_diagnosis.specs.declared.wrong.OperatorFlaw.TheVariants as flaw
-use Rattle.mds_diagnosis.specs.declared.wrong.OperatorFlaw.{OperatorFlaw}
-use Rattle.mds_diagnosis.specs.declared.wrong.Key.{Key}
-use Rattle.mds_diagnosis.specs.declared.wrong.Key.TheVariants as key
-use Rattle.mds_diagnosis.specs.declared.wrong.Wrong.{Wrong}
-use Rattle.mds_diagnosis.specs.declared.wrong.Wrong.TheVariants as wrong
-use Rattle.mds_configuration.specs.declared.members.KnownMember.{KnownMember}
-use Rattle.mds_configuration.specs.declared.members.KnownMember.TheVariants.{Author, Operators, Zone, Id, Limit, Token}
-use Rattle.mds_configuration.specs.declared.paths.Path.{Path}
-use Rattle.mds_configuration.specs.declared.paths.Path.TheVariants as path
-use Rattle.mds_configuration.specs.declared.located_members.MemberOwner.{MemberOwner}
-use Rattle.mds_configuration.specs.declared.located_members.MemberOwner.TheVariants.{Document, Operator}
-use Rattle.mds_configuration.specs.declared.located_members.Value.{Value}
-use Rattle.mds_configuration.specs.Names.{name_of}
-use Rattle.mds_configuration.specs.LocatedMembers.{Seen, has_name}
+use Rattle.mds_config_error.specs.declared.wrong.OperatorFlaw.TheVariants as flaw
+use Rattle.mds_config_error.specs.declared.wrong.OperatorFlaw.{OperatorFlaw}
+use Rattle.mds_config_error.specs.declared.wrong.Key.{Key}
+use Rattle.mds_config_error.specs.declared.wrong.Key.TheVariants as key
+use Rattle.mds_config_error.specs.declared.wrong.Wrong.{Wrong}
+use Rattle.mds_config_error.specs.declared.wrong.Wrong.TheVariants as wrong
+use Rattle.cli_config.specs.declared.members.KnownMember.{KnownMember}
+use Rattle.cli_config.specs.declared.members.KnownMember.TheVariants.{Author, Operators, Zone, Id, Limit, Token}
+use Rattle.cli_config.specs.declared.paths.Path.{Path}
+use Rattle.cli_config.specs.declared.paths.Path.TheVariants as path
+use Rattle.cli_config.specs.declared.located_members.MemberOwner.{MemberOwner}
+use Rattle.cli_config.specs.declared.located_members.MemberOwner.TheVariants.{Document, Operator}
+use Rattle.cli_config.specs.declared.located_members.Value.{Value}
+use Rattle.cli_config.specs.Names.{name_of}
+use Rattle.cli_config.specs.LocatedMembers.{Seen, has_name}
 
 -- a flaw of the operator at a place
 abbrev pub flaw_path : ℕ → OperatorFlaw → Path

@@ -1,7 +1,7 @@
 -- Lines and columns of a text: both count from 1, a line feed ends a line, and columns are characters (Unicode scalar values), each of
 -- which begins with a byte other than 0x80 to 0xBF (RFC 3629, section 3).
 use Rattle.std.specs.Prelude.{ℕ, ◌+◌, List, [], ◌∷◌, Bool, not, ◌&&◌, ◌==◌, nat_le, take, if◌then◌else◌}
-use Rattle.mds_configuration.specs.declared.position.TextPosition.{TextPosition}
+use Rattle.cli_config.specs.declared.position.TextPosition.{TextPosition}
 
 abbrev pub begins_char : ℕ → Bool
 begins_char b = not (nat_le 128 b && nat_le b 191)

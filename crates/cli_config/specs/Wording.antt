@@ -1,16 +1,16 @@
 -- The messages of findings.
 use Rattle.std.specs.Prelude.{ℕ, List, [], ◌++◌, Bool, true, false, codes, decimal, string_bytes}
-use Rattle.mds_diagnosis.specs.Wording.{wrong_wording}
-use Rattle.mds_zones.specs.Wording.{fault_wording}
-use Rattle.mds_configuration.specs.declared.finding.ConfigFinding.{ConfigFinding}
-use Rattle.mds_configuration.specs.declared.finding.FindingKind.{FindingKind}
-use Rattle.mds_configuration.specs.declared.finding.FindingKind.TheVariants.{Wrong, Zone, Unread, NoTruth, NoName}
-use Rattle.mds_configuration.specs.declared.nearest.Hint.{Hint}
-use Rattle.mds_configuration.specs.declared.nearest.Hint.TheVariants.{Nothing, Here, Elsewhere}
-use Rattle.mds_configuration.specs.declared.members.KnownMember.{KnownMember}
-use Rattle.mds_configuration.specs.declared.members.KnownMember.TheVariants as known
-use Rattle.mds_configuration.specs.declared.position.TextPosition.{TextPosition}
-use Rattle.mds_configuration.specs.Names.{name_of}
+use Rattle.mds_config_error.specs.Wording.{wrong_wording}
+use Rattle.cli_timezone.specs.Wording.{fault_wording}
+use Rattle.cli_config.specs.declared.finding.ConfigFinding.{ConfigFinding}
+use Rattle.cli_config.specs.declared.finding.FindingKind.{FindingKind}
+use Rattle.cli_config.specs.declared.finding.FindingKind.TheVariants.{Wrong, Zone, Unread, NoTruth, NoName}
+use Rattle.cli_config.specs.declared.nearest.Hint.{Hint}
+use Rattle.cli_config.specs.declared.nearest.Hint.TheVariants.{Nothing, Here, Elsewhere}
+use Rattle.cli_config.specs.declared.members.KnownMember.{KnownMember}
+use Rattle.cli_config.specs.declared.members.KnownMember.TheVariants as known
+use Rattle.cli_config.specs.declared.position.TextPosition.{TextPosition}
+use Rattle.cli_config.specs.Names.{name_of}
 
 -- where a known name belongs
 abbrev pub home_wording : KnownMember → List ℕ

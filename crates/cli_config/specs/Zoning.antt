@@ -2,16 +2,16 @@
 use Rattle.std.specs.Prelude.{ℕ, ◌+◌, List, [], ◌∷◌, ◌++◌, Bool, ◌&&◌, not, length, codes, if◌then◌else◌, Option, Some, None}
 use Rattle.std.specs.Result.{is_ok}
 use Rattle.mds_match.specs.Zone.{zone_of}
-use Rattle.mds_zones.specs.Names.{is_zone_name}
-use Rattle.mds_configuration.specs.declared.members.KnownMember.TheVariants.{Zone}
-use Rattle.mds_configuration.specs.declared.paths.Path.TheVariants.{Member}
-use Rattle.mds_configuration.specs.declared.located_members.Value.{Value}
-use Rattle.mds_configuration.specs.declared.zoning.ResolvedZone.{ResolvedZone}
-use Rattle.mds_configuration.specs.declared.zoning.ResolvedZone.TheVariants.{Plain, Rule, Fault}
-use Rattle.mds_configuration.specs.Lexemes.{is_space}
-use Rattle.mds_configuration.specs.Paths.{last_meant}
-use Rattle.mds_configuration.specs.Pieces.{piece, unquoted}
-use Rattle.mds_configuration.specs.LocatedMembers.{spots_of, is_text}
+use Rattle.cli_timezone.specs.Names.{is_zone_name}
+use Rattle.cli_config.specs.declared.members.KnownMember.TheVariants.{Zone}
+use Rattle.cli_config.specs.declared.paths.Path.TheVariants.{Member}
+use Rattle.cli_config.specs.declared.located_members.Value.{Value}
+use Rattle.cli_config.specs.declared.zoning.ResolvedZone.{ResolvedZone}
+use Rattle.cli_config.specs.declared.zoning.ResolvedZone.TheVariants.{Plain, Rule, Fault}
+use Rattle.cli_config.specs.Lexemes.{is_space}
+use Rattle.cli_config.specs.Paths.{last_meant}
+use Rattle.cli_config.specs.Pieces.{piece, unquoted}
+use Rattle.cli_config.specs.LocatedMembers.{spots_of, is_text}
 
 -- the value of the configuration's member `zone`
 abbrev pub zone_value : List ℕ → Option Value

@@ -1,12 +1,12 @@
 //! Findings in a configuration's text, and their messages.
 ghost use Rattle.std.specs.Prelude.{◌≡◌, IfOk, string_bytes};
-ghost use Rattle.mds_configuration.specs.Wording.{counted_wording, place_wording};
+ghost use Rattle.cli_config.specs.Wording.{counted_wording, place_wording};
 
 use crate::members::KnownMember;
 use crate::nearest::Hint;
 use crate::position::TextPosition;
-use mds_diagnosis::Wrong;
-use mds_zones::ZoneFileFault;
+use cli_timezone::ZoneFileFault;
+use mds_config_error::Wrong;
 use std::alloc::{AllocError, Global};
 use std::fmt;
 
@@ -41,22 +41,24 @@ struct KnownHome(KnownMember);
 
 impl fmt::Display for KnownHome {
     ghost use Rattle.std.specs.Prelude.{Some};
-    ghost use Rattle.mds_configuration.specs.Wording.{home_wording};
+    ghost use Rattle.cli_config.specs.Wording.{home_wording};
 
     ghost output = { λ home. Some (home_wording home.0) };
 
     fn fmt<W: fmt::Write>(&self, f: &mut fmt::Formatter<W>) -> fmt::Result {
         f.write_str(match self.0 {
-            KnownMember::Author | KnownMember::Public | KnownMember::Zone => ", beside \"operators\"",
+            KnownMember::Author | KnownMember::Public | KnownMember::Zone =>
+                ", beside \"operators\"",
             KnownMember::Operators => ", outside of the operators",
-            KnownMember::Id | KnownMember::Limit | KnownMember::Name | KnownMember::Token => ", of an operator",
+            KnownMember::Id | KnownMember::Limit | KnownMember::Name | KnownMember::Token =>
+                ", of an operator",
         })
     }
 }
 
 impl fmt::Display for Hint {
     ghost use Rattle.std.specs.Prelude.{Some};
-    ghost use Rattle.mds_configuration.specs.Wording.{hint_wording};
+    ghost use Rattle.cli_config.specs.Wording.{hint_wording};
 
     ghost output = { λ hint. Some (hint_wording hint) };
 
@@ -82,7 +84,7 @@ struct UnreadMessage(Hint);
 
 impl fmt::Display for UnreadMessage {
     ghost use Rattle.std.specs.Prelude.{Some};
-    ghost use Rattle.mds_configuration.specs.Wording.{unread_wording};
+    ghost use Rattle.cli_config.specs.Wording.{unread_wording};
 
     ghost output = { λ unread. Some (unread_wording unread.0) };
 
@@ -94,7 +96,7 @@ impl fmt::Display for UnreadMessage {
 
 impl fmt::Display for ConfigFinding {
     ghost use Rattle.std.specs.Prelude.{Some};
-    ghost use Rattle.mds_configuration.specs.Wording.{finding_wording};
+    ghost use Rattle.cli_config.specs.Wording.{finding_wording};
 
     ghost output = { λ finding. Some (finding_wording finding) };
 
@@ -107,7 +109,10 @@ impl fmt::Display for ConfigFinding {
                 let unread = UnreadMessage(hint);
                 write!(f, "{member}{unread}")
             }
-            FindingKind::NoTruth => write!(f, "{member}: neither true nor false, so it counts as false"),
+            FindingKind::NoTruth => write!(
+                f,
+                "{member}: neither true nor false, so it counts as false"
+            ),
             FindingKind::NoName => write!(
                 f,
                 "{member}: no text of at most 256 bytes, so it isn't read"
@@ -135,7 +140,7 @@ fn position_text(alloc: Global, place: TextPosition) -> Result<String, AllocErro
 }
 
 impl ConfigFinding {
-    ghost use Rattle.mds_configuration.specs.Wording.{is_error, line_wording};
+    ghost use Rattle.cli_config.specs.Wording.{is_error, line_wording};
 
     /// Whether the text is no configuration because of it. All else is a warning.
     pub fn is_error(&self) -> bool

@@ -1,19 +1,19 @@
 //! Gathers the findings in a configuration's text.
 ghost use Rattle.std.specs.Prelude.{◌≡◌, ◌++◌, None, IfOk, OnOk, map, option_map};
-ghost use Rattle.mds_configuration.specs.Findings.{begin_of, begins_at, error_here, findings, first_at, found_from, found_here, is_json, located, spots_if, told, warning_here, wrong_located, zone_located};
-ghost use Rattle.mds_configuration.specs.LocatedMembers.{seen};
+ghost use Rattle.cli_config.specs.Findings.{begin_of, begins_at, error_here, findings, first_at, found_from, found_here, is_json, located, spots_if, told, warning_here, wrong_located, zone_located};
+ghost use Rattle.cli_config.specs.LocatedMembers.{seen};
 
 use crate::finding::{ConfigFinding, FindingKind};
 use crate::grammar::fault_at;
 use crate::lexemes::{LexemeAt, lexemes_of};
-use crate::members::KnownMember;
-use crate::paths::{Path, last_value, path_text, member_text, wrong_path};
-use crate::position::position_of;
 use crate::located_members::{LocatedMember, Value};
+use crate::members::KnownMember;
+use crate::paths::{Path, last_value, member_text, path_text, wrong_path};
+use crate::position::position_of;
 use crate::walk::members_of_text;
 use crate::warning::warning;
 use crate::zoning::{ResolvedZone, text_to_check};
-use mds_diagnosis::{Wrong, diagnose};
+use mds_config_error::{Wrong, diagnose};
 use std::alloc::{AllocError, Global};
 
 /// An error, and the value that it is in, or none.
@@ -49,7 +49,11 @@ fn locate_zone_fault(spots: &[LocatedMember], zoned: &ResolvedZone) -> Option<Lo
     ensures { result ≡ zone_located (map seen spots.now) zoned.now }
 {
     match zoned {
-        ResolvedZone::Fault(fault) => Some(locate(spots, Path::Member(KnownMember::Zone), FindingKind::Zone(*fault))),
+        ResolvedZone::Fault(fault) => Some(locate(
+            spots,
+            Path::Member(KnownMember::Zone),
+            FindingKind::Zone(*fault),
+        )),
         ResolvedZone::Plain | ResolvedZone::Rule(_) => None,
     }
 }
@@ -170,7 +174,12 @@ fn members_if(
 }
 
 /// The offset of an error that is in no value.
-fn begin_of(alloc: Global, is_json: bool, text: &[u8], marks: &[LexemeAt]) -> Result<usize, AllocError>
+fn begin_of(
+    alloc: Global,
+    is_json: bool,
+    text: &[u8],
+    marks: &[LexemeAt],
+) -> Result<usize, AllocError>
     ensures { IfOk result (λ at. at ≡ begin_of is_json text.now marks.now) }
 {
     if !is_json {
@@ -183,16 +192,20 @@ fn begin_of(alloc: Global, is_json: bool, text: &[u8], marks: &[LexemeAt]) -> Re
 }
 
 /// The findings in a configuration's text, in the order of the text. They are the first error, as
-/// `mds_diagnosis::diagnose` names it, at the member or at the object that lacks it, with the fault of the zone's name;
+/// `mds_config_error::diagnose` names it, at the member or at the object that lacks it, with the fault of the zone's name;
 /// and a warning for each member that nobody reads, or whose value isn't read as it is written. In a text that is no
 /// JSON, errors are at the position where it stops being JSON, and there are no warnings.
 ///
-/// `zoned` says what the zone's text is: what `zone_name_in` finds, with what `mds_zones::rule_in` makes of its file.
+/// `zoned` says what the zone's text is: what `zone_name_in` finds, with what `cli_timezone::rule_in` makes of its file.
 ///
 /// # Errors
 ///
 /// Out of memory.
-pub fn review(alloc: Global, text: &[u8], zoned: &ResolvedZone) -> Result<Vec<ConfigFinding>, AllocError>
+pub fn review(
+    alloc: Global,
+    text: &[u8],
+    zoned: &ResolvedZone,
+) -> Result<Vec<ConfigFinding>, AllocError>
     ensures { IfOk result (λ found. map told found.items ≡ findings text.now zoned.now) }
 {
     let read = text_to_check(alloc, text, zoned)?;

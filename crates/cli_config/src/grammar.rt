@@ -1,6 +1,6 @@
 //! Where a text stops being JSON.
 ghost use Rattle.std.specs.Prelude.{◌≡◌, ◌∷◌, ◌<◌, ◌≤◌, length, drop, Some, None, IfOk, MatchBool, vec_len};
-ghost use Rattle.mds_configuration.specs.Grammar.{acted, acted_by, action, colon_action, fault_from, first_within, fresh, is_sound, list_action, list_more, more_action, name_action, object_action, object_more, standing, step, value_action};
+ghost use Rattle.cli_config.specs.Grammar.{acted, acted_by, action, colon_action, fault_from, first_within, fresh, is_sound, list_action, list_more, more_action, name_action, object_action, object_more, standing, step, value_action};
 
 use crate::lexemes::{LexemeAt, LexemeKind};
 use crate::located_members::piece;
@@ -55,8 +55,11 @@ fn value_action(sign: LexemeKind) -> Option<Action>
     match sign {
         LexemeKind::OpenObject => Some(Action::Open(Bracket::Object)),
         LexemeKind::OpenList => Some(Action::Open(Bracket::List)),
-        LexemeKind::Text | LexemeKind::Truth | LexemeKind::Null | LexemeKind::Number => Some(Action::Whole),
-        LexemeKind::CloseObject | LexemeKind::CloseList | LexemeKind::Colon | LexemeKind::Comma => None,
+        LexemeKind::Text | LexemeKind::Truth | LexemeKind::Null | LexemeKind::Number => Some(
+            Action::Whole,
+        ),
+        LexemeKind::CloseObject | LexemeKind::CloseList | LexemeKind::Colon | LexemeKind::Comma =>
+            None,
     }
 }
 
@@ -120,11 +123,12 @@ fn is_sound(alloc: Global, written: &[u8], sign: LexemeKind) -> Result<bool, All
     ensures { IfOk result (λ is. is ≡ is_sound written.now sign) }
 {
     match sign {
-        LexemeKind::Text | LexemeKind::Truth | LexemeKind::Null | LexemeKind::Number => match read_tree(alloc, written) {
-            Ok(_) => Ok(true),
-            Err(TextFault::NoMemory) => Err(AllocError),
-            Err(_) => Ok(false),
-        },
+        LexemeKind::Text | LexemeKind::Truth | LexemeKind::Null | LexemeKind::Number =>
+            match read_tree(alloc, written) {
+                Ok(_) => Ok(true),
+                Err(TextFault::NoMemory) => Err(AllocError),
+                Err(_) => Ok(false),
+            },
         _ => Ok(true),
     }
 }

@@ -1,6 +1,6 @@
 //! Where the lexemes of a JSON text begin.
 ghost use Rattle.std.specs.Prelude.{◌≡◌, ◌≤◌, length, map, IfOk};
-ghost use Rattle.mds_configuration.specs.Lexemes.{begun, begun_outside, is_space, mark_at, marks_of, mode_after, mode_outside, structural, word_sign};
+ghost use Rattle.cli_config.specs.Lexemes.{begun, begun_outside, is_space, mark_at, marks_of, mode_after, mode_outside, structural, word_sign};
 
 use std::alloc::{AllocError, Global};
 

@@ -5,13 +5,13 @@
 mod finding;
 mod gathering;
 mod grammar;
-mod limits;
 mod lexemes;
+mod limits;
+mod located_members;
 mod members;
 mod nearest;
 mod paths;
 mod position;
-mod located_members;
 mod walk;
 mod warning;
 mod zoning;
@@ -22,7 +22,7 @@ pub use limits::Limits;
 pub use members::{KnownMember, MOST_NAME};
 pub use nearest::Hint;
 pub use position::{TextPosition, position_of};
-pub use zoning::{ResolvedZone, zone_name_in, with_zone};
+pub use zoning::{ResolvedZone, with_zone, zone_name_in};
 
 #[cfg(test)]
 mod tests;

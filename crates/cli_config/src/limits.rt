@@ -1,7 +1,7 @@
 //! The limit of a configuration that is too low for the vehicles that an operator has held.
 ghost use Rattle.std.specs.Prelude.{◌≡◌, IfOk, decimal, map, option_map, string_bytes};
 ghost use Rattle.mds_request.specs.Configuration.{configuration, operator};
-ghost use Rattle.mds_configuration.specs.Limits.{bounds_in, held_wording, limit_wording, low_from, low_limit, low_wording};
+ghost use Rattle.cli_config.specs.Limits.{bounds_in, held_wording, limit_wording, low_from, low_limit, low_wording};
 
 use crate::paths::operator_text;
 use mds_request::{Config, Operator};
@@ -91,7 +91,7 @@ fn low_text(alloc: Global, id: &str, low: Low) -> Result<String, AllocError>
 }
 
 impl Limits {
-    ghost use Rattle.mds_configuration.specs.Limits.{bounds};
+    ghost use Rattle.cli_config.specs.Limits.{bounds};
 
     /// The limits of a configuration.
     ///

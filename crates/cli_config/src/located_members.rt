@@ -1,6 +1,6 @@
 //! The members of a configuration and of its operators, and their positions.
 ghost use Rattle.std.specs.Prelude.{◌≡◌, ◌+◌, ◌<◌, ◌≤◌, length, IfOk, string_bytes};
-ghost use Rattle.mds_configuration.specs.Pieces.{piece, unquoted};
+ghost use Rattle.cli_config.specs.Pieces.{piece, unquoted};
 
 use crate::lexemes::LexemeKind;
 use mds_text::{TextFault, Tree, read_tree};

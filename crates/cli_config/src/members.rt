@@ -1,11 +1,11 @@
 //! The members of a configuration that the server reads.
 ghost use Rattle.std.specs.Prelude.{◌≡◌, find, option_copied};
-ghost use Rattle.mds_configuration.specs.Names.{name_of, known_of, others_of};
-ghost use Rattle.mds_configuration.specs.FindKnown.{find_known};
+ghost use Rattle.cli_config.specs.Names.{name_of, known_of, others_of};
+ghost use Rattle.cli_config.specs.FindKnown.{find_known};
 
 use crate::located_members::MemberOwner;
 
-/// The most bytes of an operator's `name`, as `mds_app` reads it.
+/// The most bytes of an operator's `name`, as `server_app` reads it.
 pub const MOST_NAME: usize = 256;
 
 /// A member that the server reads.
@@ -42,9 +42,19 @@ impl KnownMember {
 }
 
 /// The members of the configuration.
-const OF_DOCUMENT: [KnownMember; 4] = [KnownMember::Author, KnownMember::Operators, KnownMember::Public, KnownMember::Zone];
+const OF_DOCUMENT: [KnownMember; 4] = [
+    KnownMember::Author,
+    KnownMember::Operators,
+    KnownMember::Public,
+    KnownMember::Zone,
+];
 /// The members of an operator.
-const OF_OPERATOR: [KnownMember; 4] = [KnownMember::Id, KnownMember::Limit, KnownMember::Name, KnownMember::Token];
+const OF_OPERATOR: [KnownMember; 4] = [
+    KnownMember::Id,
+    KnownMember::Limit,
+    KnownMember::Name,
+    KnownMember::Token,
+];
 
 /// The members of an object that the server reads.
 pub(crate) fn known_of(owner: MemberOwner) -> &'static [KnownMember]

@@ -1,10 +1,10 @@
 //! The known name that an unknown one may have meant.
 ghost use Rattle.std.specs.Prelude.{◌≡◌, IfOk};
 ghost use Rattle.std.specs.Str.{chars};
-ghost use Rattle.mds_configuration.specs.Nearest.{edits_to, hint, is_nearer, most_edits, nearer, nearest, nearest_from};
+ghost use Rattle.cli_config.specs.Nearest.{edits_to, hint, is_nearer, most_edits, nearer, nearest, nearest_from};
 
-use crate::members::{KnownMember, known_of, others_of};
 use crate::located_members::MemberOwner;
+use crate::members::{KnownMember, known_of, others_of};
 use std::alloc::{AllocError, Global};
 use strsim::osa_distance;
 
@@ -63,7 +63,11 @@ fn nearer(
 }
 
 /// The nearest of these to a name; none for a name of more than 64 bytes.
-fn nearest(alloc: Global, name: &str, members: &[KnownMember]) -> Result<Option<KnownMember>, AllocError>
+fn nearest(
+    alloc: Global,
+    name: &str,
+    members: &[KnownMember],
+) -> Result<Option<KnownMember>, AllocError>
     ensures { IfOk result (λ known. known ≡ nearest name.now members.now) }
 {
     if name.len() > MOST_COMPARED {

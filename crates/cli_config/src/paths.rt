@@ -1,12 +1,12 @@
 //! The path of the member that an error is in, and its value in the text.
 ghost use Rattle.std.specs.Prelude.{◌≡◌, ◌++◌, None, IfOk, OnOk, ◌<◌, map, string_bytes};
-ghost use Rattle.mds_configuration.specs.Names.{name_of};
-ghost use Rattle.mds_configuration.specs.Paths.{flaw_path, is_document, is_meant, is_nameless, is_operator, key_member, last_meant, names_or_is, operator_text, path_text, shown, shown_byte, spot_text, wrong_path};
-ghost use Rattle.mds_configuration.specs.LocatedMembers.{has_name, seen};
+ghost use Rattle.cli_config.specs.Names.{name_of};
+ghost use Rattle.cli_config.specs.Paths.{flaw_path, is_document, is_meant, is_nameless, is_operator, key_member, last_meant, names_or_is, operator_text, path_text, shown, shown_byte, spot_text, wrong_path};
+ghost use Rattle.cli_config.specs.LocatedMembers.{has_name, seen};
 
+use crate::located_members::{LocatedMember, MemberOwner, Value};
 use crate::members::KnownMember;
-use crate::located_members::{MemberOwner, LocatedMember, Value};
-use mds_diagnosis::{OperatorFlaw, Key, Wrong};
+use mds_config_error::{Key, OperatorFlaw, Wrong};
 use std::alloc::{AllocError, Global};
 
 /// The path of an error.
@@ -28,7 +28,10 @@ fn flaw_path(place: usize, flaw: OperatorFlaw) -> Path
     match flaw {
         OperatorFlaw::Entry => Path::Operator(place),
         OperatorFlaw::Id => Path::OfOperator(place, KnownMember::Id),
-        OperatorFlaw::Limit | OperatorFlaw::LimitRange => Path::OfOperator(place, KnownMember::Limit),
+        OperatorFlaw::Limit | OperatorFlaw::LimitRange => Path::OfOperator(
+            place,
+            KnownMember::Limit,
+        ),
         OperatorFlaw::Token => Path::OfOperator(place, KnownMember::Token),
     }
 }

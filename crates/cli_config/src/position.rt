@@ -1,6 +1,6 @@
 //! Lines and columns of a text.
 ghost use Rattle.std.specs.Prelude.{◌≡◌};
-ghost use Rattle.mds_configuration.specs.Positions.{begins_char, past, place_at};
+ghost use Rattle.cli_config.specs.Positions.{begins_char, past, place_at};
 
 /// A position in a text. Lines and columns count from 1, columns in characters (Unicode scalar values).
 #[derive(Clone, Copy, Debug, PartialEq, Eq)]

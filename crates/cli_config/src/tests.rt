@@ -1,8 +1,8 @@
 //! Tests of the findings in configurations.
-use crate::{Limits, ResolvedZone, zone_name_in, review, with_zone};
+use crate::{Limits, ResolvedZone, review, with_zone, zone_name_in};
+use cli_timezone::{ZoneFileFault, ZoneRule};
 use mds_request::Config;
 use mds_text::Id;
-use mds_zones::{ZoneFileFault, ZoneRule};
 use std::alloc::{AllocError, Global};
 use std::test::Fail;
 

@@ -1,9 +1,9 @@
 //! Finds the members among the lexemes of a text.
 ghost use Rattle.std.specs.Prelude.{◌≡◌, ◌+◌, ◌++◌, ◌<◌, ◌≤◌, ◌^◌, map, length, option_map, option_to_list, IfOk, OnOk};
-ghost use Rattle.mds_configuration.specs.LocatedMembers.{begins_value, entry_from, is_colon, is_in_list, is_list, is_text, lists_operators, member_from, next_at, seen, spot_in, spots_from, start, value_at, walk_after};
+ghost use Rattle.cli_config.specs.LocatedMembers.{begins_value, entry_from, is_colon, is_in_list, is_list, is_text, lists_operators, member_from, next_at, seen, spot_in, spots_from, start, value_at, walk_after};
 
 use crate::lexemes::{LexemeAt, LexemeKind};
-use crate::located_members::{MemberOwner, LocatedMember, Value, piece, string_text};
+use crate::located_members::{LocatedMember, MemberOwner, Value, piece, string_text};
 use std::alloc::{AllocError, Global};
 
 /// The state of a walk over lexemes.
@@ -23,7 +23,8 @@ fn begins_value(sign: LexemeKind) -> bool
     match sign {
         LexemeKind::OpenObject | LexemeKind::OpenList | LexemeKind::Text => true,
         LexemeKind::Truth | LexemeKind::Null | LexemeKind::Number => true,
-        LexemeKind::CloseObject | LexemeKind::CloseList | LexemeKind::Colon | LexemeKind::Comma => false,
+        LexemeKind::CloseObject | LexemeKind::CloseList | LexemeKind::Colon | LexemeKind::Comma =>
+            false,
     }
 }
 
@@ -90,7 +91,12 @@ impl Walk {
     }
 
     /// The member or operator at the beginning of these lexemes.
-    fn member_in(self, alloc: Global, text: &[u8], marks: &[LexemeAt]) -> Result<Option<LocatedMember>, AllocError>
+    fn member_in(
+        self,
+        alloc: Global,
+        text: &[u8],
+        marks: &[LexemeAt],
+    ) -> Result<Option<LocatedMember>, AllocError>
         ensures { IfOk result (λ spot. option_map seen spot ≡ spot_in text.now self marks.now) }
     {
         if self.depth == 1 {
@@ -171,7 +177,11 @@ fn add_member(spots: &mut Vec<LocatedMember>, spot: Option<LocatedMember>) -> Re
 /// # Errors
 ///
 /// Out of memory.
-pub(crate) fn members_of_text(alloc: Global, text: &[u8], marks: &[LexemeAt]) -> Result<Vec<LocatedMember>, AllocError>
+pub(crate) fn members_of_text(
+    alloc: Global,
+    text: &[u8],
+    marks: &[LexemeAt],
+) -> Result<Vec<LocatedMember>, AllocError>
     ensures { IfOk result (λ spots. map seen spots.items ≡ spots_from text.now start marks.now) }
 {
     let mut spots = Vec::new(alloc);

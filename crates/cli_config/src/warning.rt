@@ -1,15 +1,15 @@
 //! The warning about a member that nobody reads, or whose value isn't read as it is written.
 ghost use Rattle.std.specs.Prelude.{◌≡◌, IfOk, length, option_map, string_bytes};
-ghost use Rattle.mds_configuration.specs.FindKnown.{find_known};
-ghost use Rattle.mds_configuration.specs.Names.{known_of};
-ghost use Rattle.mds_configuration.specs.Members.{is_name, is_truth, warning, warning_named, warning_of};
-ghost use Rattle.mds_configuration.specs.LocatedMembers.{seen};
+ghost use Rattle.cli_config.specs.FindKnown.{find_known};
+ghost use Rattle.cli_config.specs.Names.{known_of};
+ghost use Rattle.cli_config.specs.Members.{is_name, is_truth, warning, warning_named, warning_of};
+ghost use Rattle.cli_config.specs.LocatedMembers.{seen};
 
 use crate::finding::FindingKind;
 use crate::lexemes::LexemeKind;
+use crate::located_members::{LocatedMember, MemberOwner, Value, piece, string_text};
 use crate::members::{KnownMember, MOST_NAME, find_known, known_of};
 use crate::nearest::hint_for;
-use crate::located_members::{MemberOwner, LocatedMember, Value, piece, string_text};
 use std::alloc::{AllocError, Global};
 
 /// Whether a value is `true`, `false`, or null, which counts as absent.
@@ -68,7 +68,11 @@ fn warning_of(
 /// # Errors
 ///
 /// Out of memory.
-pub(crate) fn warning(alloc: Global, text: &[u8], spot: &LocatedMember) -> Result<Option<FindingKind>, AllocError>
+pub(crate) fn warning(
+    alloc: Global,
+    text: &[u8],
+    spot: &LocatedMember,
+) -> Result<Option<FindingKind>, AllocError>
     ensures { IfOk result (λ told. told ≡ warning text.now (seen spot.now)) }
 {
     match &spot.name {

@@ -2,15 +2,15 @@
 ghost use Rattle.std.specs.Prelude.{◌≡◌, ◌++◌, ◌∷◌, [], IfOk, codes, option_map, vec_len};
 ghost use Rattle.std.specs.Result.{is_ok};
 ghost use Rattle.mds_match.specs.Zone.{zone_of};
-ghost use Rattle.mds_configuration.specs.Zoning.{ended, name_in, named_zone, replaced, stand_in, with_rule, with_zone, written_end, zone_value};
+ghost use Rattle.cli_config.specs.Zoning.{ended, name_in, named_zone, replaced, stand_in, with_rule, with_zone, written_end, zone_value};
 
 use crate::lexemes::{LexemeKind, is_space, lexemes_of};
+use crate::located_members::{Value, piece, string_text};
 use crate::members::KnownMember;
 use crate::paths::{Path, last_value};
-use crate::located_members::{Value, piece, string_text};
 use crate::walk::members_of_text;
+use cli_timezone::{ZoneFileFault, ZoneName, ZoneRule};
 use mds_match::Zone;
-use mds_zones::{ZoneFileFault, ZoneName, ZoneRule};
 use std::alloc::{AllocError, Global};
 
 /// What the zone of a configuration is.
@@ -78,7 +78,12 @@ fn written_end(text: &[u8], value: Value) -> usize
 }
 
 /// The text with another string in place of a value.
-fn replace_value(alloc: Global, text: &[u8], value: Value, rule: &str) -> Result<Vec<u8>, AllocError>
+fn replace_value(
+    alloc: Global,
+    text: &[u8],
+    value: Value,
+    rule: &str,
+) -> Result<Vec<u8>, AllocError>
     ensures { IfOk result (λ new. new.items ≡ replaced text.now value rule.now) }
 {
     let mut new = Vec::new(alloc);
@@ -117,7 +122,11 @@ pub fn with_zone(alloc: Global, text: &[u8], rule: &ZoneRule) -> Result<Vec<u8>,
 /// # Errors
 ///
 /// Out of memory.
-pub(crate) fn text_to_check(alloc: Global, text: &[u8], zoned: &ResolvedZone) -> Result<Vec<u8>, AllocError>
+pub(crate) fn text_to_check(
+    alloc: Global,
+    text: &[u8],
+    zoned: &ResolvedZone,
+) -> Result<Vec<u8>, AllocError>
     ensures { IfOk result (λ new. new.items ≡ stand_in text.now zoned.now) }
 {
     match zoned {

@@ -11,14 +11,14 @@ use Rattle.mds_text.specs.Quoting.{is_quoted}
 use Rattle.mds_text.specs.Tree.{Json, null, boolean, int, text, degrees, list, object, Items, no_items, item, Members, no_members, member}
 use Rattle.mds_text.specs.declared.draft_kind.DraftKind.{DraftKind}
 use Rattle.mds_text.specs.declared.draft_kind.DraftKind.TheVariants.{Policy, Geography}
-use Rattle.mds_import.specs.Members.{named, as_id, as_list, text_named, id_named, list_named, or_none}
+use Rattle.cli_documents.specs.Members.{named, as_id, as_list, text_named, id_named, list_named, or_none}
 use Rattle.mds_text.specs.View.{view}
-use Rattle.mds_import.specs.declared.drafting.DocumentLists.{DocumentLists}
-use Rattle.mds_import.specs.declared.drafting.Origin.{Origin}
-use Rattle.mds_import.specs.declared.drafting.RefusalReason.{RefusalReason}
-use Rattle.mds_import.specs.declared.drafting.RefusalReason.TheVariants.{BadField, Decimal}
-use Rattle.mds_import.specs.declared.drafting.PreparedDocument.{PreparedDocument}
-use Rattle.mds_import.specs.declared.drafting.PreparedDocument.TheVariants as code
+use Rattle.cli_documents.specs.declared.drafting.DocumentLists.{DocumentLists}
+use Rattle.cli_documents.specs.declared.drafting.Origin.{Origin}
+use Rattle.cli_documents.specs.declared.drafting.RefusalReason.{RefusalReason}
+use Rattle.cli_documents.specs.declared.drafting.RefusalReason.TheVariants.{BadField, Decimal}
+use Rattle.cli_documents.specs.declared.drafting.PreparedDocument.{PreparedDocument}
+use Rattle.cli_documents.specs.declared.drafting.PreparedDocument.TheVariants as code
 
 -- the value of the member `data`, or the file itself
 abbrev pub or_else : Option Json → Json → Json

@@ -3,7 +3,7 @@ use Rattle.std.specs.Prelude.{◌≡◌, ℕ, List, [], ◌∷◌, Bool, true, f
 use Rattle.std.specs.List.{list_any, remove}
 use Rattle.mds_text.specs.declared.draft_kind.DraftKind.{DraftKind}
 use Rattle.mds_text.specs.declared.draft_kind.DraftKind.TheVariants.{Policy, Geography}
-use Rattle.mds_import.specs.declared.drafting.ImportDraft.{ImportDraft}
+use Rattle.cli_documents.specs.declared.drafting.ImportDraft.{ImportDraft}
 
 -- a policy waits for each geography, and for the policies that it supersedes
 abbrev pub waits_by : DraftKind → DraftKind → Bool → Bool

@@ -2,7 +2,7 @@
 ghost use Rattle.std.specs.Prelude.{◌≡◌, IfOk, map, option_map};
 ghost use Rattle.std.specs.List.{filter_map};
 ghost use Rattle.mds_text.specs.View.{view};
-ghost use Rattle.mds_import.specs.Documents.{is_judged, is_fractional, fraction_in, fraction_among, fraction_of, rules_of, unjudged_id, unjudged};
+ghost use Rattle.cli_documents.specs.Documents.{is_judged, is_fractional, fraction_in, fraction_among, fraction_of, rules_of, unjudged_id, unjudged};
 
 use crate::drafting::or_none;
 use crate::member::{list_member, text_member};

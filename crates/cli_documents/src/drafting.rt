@@ -3,8 +3,8 @@ ghost use Rattle.std.specs.Prelude.{◌≡◌, IfOk, map, option_map, if◌then�
 ghost use Rattle.std.specs.List.{filter_map};
 ghost use Rattle.mds_text.specs.Tree.{items_of, members_of};
 ghost use Rattle.mds_text.specs.View.{view, member_view};
-ghost use Rattle.mds_import.specs.Members.{as_id, as_list, or_none, id_named};
-ghost use Rattle.mds_import.specs.Documents.{inner, is_of_type, features, listed, documents, read_with, read_view, fraction_of, decimal_at, decimal_in, decimal_among, prepared, geography_with, policy_with, outcome, target_of, Outcome};
+ghost use Rattle.cli_documents.specs.Members.{as_id, as_list, or_none, id_named};
+ghost use Rattle.cli_documents.specs.Documents.{inner, is_of_type, features, listed, documents, read_with, read_view, fraction_of, decimal_at, decimal_in, decimal_among, prepared, geography_with, policy_with, outcome, target_of, Outcome};
 
 use crate::bounds::fraction_of;
 use crate::member::{as_id, as_list, id_member, list_member, member_of, text_member};
@@ -208,7 +208,11 @@ fn ids_in(alloc: Global, values: &[Tree]) -> Result<Vec<Id>, AllocError>
 }
 
 /// The draft of a geography, or the refusal of a document without an identifier.
-fn geography<'t>(alloc: Global, origin: Origin, value: &'t Tree) -> Result<PreparedDocument<'t>, AllocError>
+fn geography<'t>(
+    alloc: Global,
+    origin: Origin,
+    value: &'t Tree,
+) -> Result<PreparedDocument<'t>, AllocError>
     ensures { IfOk result (λ p. outcome p ≡ geography_with origin (id_named (codes "geography_id") (view value.now)) (view value.now)) }
 {
     let Some(id) = id_member(value, "geography_id") else {
@@ -257,7 +261,7 @@ fn policy<'t>(
 }
 
 /// What a document becomes: a draft with the document's text, or a refusal with the member at fault. `decimals` says
-/// whether its file has numbers that aren't plain (`mds_reading::read_and_count` counts them). Such a number goes as the
+/// whether its file has numbers that aren't plain (`mds_json::read_and_count` counts them). Such a number goes as the
 /// text of its characters, but for a bound of an evaluated rule, for which a policy is refused.
 pub fn prepare<'t>(
     alloc: Global,

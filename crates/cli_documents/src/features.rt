@@ -1,8 +1,8 @@
 //! Features of GeoJSON as drafts of geographies.
 ghost use Rattle.std.specs.Prelude.{◌≡◌, IfOk, Some, codes, option_map, option_and_then};
 ghost use Rattle.mds_text.specs.View.{view};
-ghost use Rattle.mds_import.specs.Members.{id_named, text_named, named};
-ghost use Rattle.mds_import.specs.Documents.{namespace, id_of_name, id_or, properties_of, feature_id, geography_text, feature_with, feature_prepared, outcome};
+ghost use Rattle.cli_documents.specs.Members.{id_named, text_named, named};
+ghost use Rattle.cli_documents.specs.Documents.{namespace, id_of_name, id_or, properties_of, feature_id, geography_text, feature_with, feature_prepared, outcome};
 
 use crate::drafting::{ImportDraft, Origin, PreparedDocument, RefusalReason, refuse_document};
 use crate::member::{id_member, member_of, text_member};

@@ -9,7 +9,8 @@ mod order;
 
 pub use bounds::unjudged_rule_ids;
 pub use drafting::{
-    ImportDraft, DocumentLists, Origin, PreparedDocument, RefusedDocument, RefusalReason, decimal_at, documents, prepare, target_of,
+    DocumentLists, ImportDraft, Origin, PreparedDocument, RefusalReason, RefusedDocument,
+    decimal_at, documents, prepare, target_of,
 };
 pub use features::{id_of_name, prepare_feature};
 pub use member::{id_member, list_member, member_of, text_member};

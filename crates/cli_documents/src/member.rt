@@ -3,7 +3,7 @@ ghost use Rattle.std.specs.Prelude.{◌≡◌, map, option_map};
 ghost use Rattle.mds_text.specs.Fields.{find_member};
 ghost use Rattle.mds_text.specs.Tree.{members_of};
 ghost use Rattle.mds_text.specs.View.{view, member_view};
-ghost use Rattle.mds_import.specs.Members.{named, as_text, as_id, as_list, text_named, id_named, list_named};
+ghost use Rattle.cli_documents.specs.Members.{named, as_text, as_id, as_list, text_named, id_named, list_named};
 
 use mds_text::{Id, Member, Tree};
 

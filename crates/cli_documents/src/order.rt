@@ -1,7 +1,7 @@
 //! The order in which drafts are sent.
 ghost use Rattle.std.specs.Prelude.{◌≡◌, ◌<◌, not, length, IfOk, IfSome, bytes_eq, position, slice_get, Some};
 ghost use Rattle.std.specs.List.{list_any, remove};
-ghost use Rattle.mds_import.specs.Order.{waits_by, waits_for, waits, next_place, IsInTurn};
+ghost use Rattle.cli_documents.specs.Order.{waits_by, waits_for, waits, next_place, IsInTurn};
 
 use crate::drafting::ImportDraft;
 use mds_text::{DraftKind, Id};

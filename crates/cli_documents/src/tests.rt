@@ -1,6 +1,9 @@
 //! Tests of a file's documents as they are sent.
-use crate::{ImportDraft, Origin, PreparedDocument, RefusalReason, documents, order_drafts, prepare, target_of};
-use mds_reading::read_and_count;
+use crate::{
+    ImportDraft, Origin, PreparedDocument, RefusalReason, documents, order_drafts, prepare,
+    target_of,
+};
+use mds_json::read_and_count;
 use mds_text::Tree;
 use std::alloc::Global;
 use std::test::Fail;

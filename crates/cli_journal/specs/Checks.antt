@@ -1,7 +1,7 @@
 -- The fault of a journal that is checked.
 use Rattle.std.specs.Prelude.{Option, Some, None, Result, Ok, Err}
-use Rattle.mds_folder.specs.declared.fault.Damage.{Damage}
-use Rattle.mds_folder.specs.declared.fault.FolderFault.TheVariants.{Damaged}
+use Rattle.journal_folder.specs.declared.fault.Damage.{Damage}
+use Rattle.journal_folder.specs.declared.fault.FolderFault.TheVariants.{Damaged}
 use Rattle.cli_journal.specs.declared.exit_cause.ExitCause.{ExitCause}
 use Rattle.cli_journal.specs.declared.exit_cause.ExitCause.TheVariants.{Folder}
 

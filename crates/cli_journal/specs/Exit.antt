@@ -1,14 +1,14 @@
 -- The exit statuses, and the first line on standard error at each end.
 use Rattle.std.specs.Prelude.{ℕ, ◌==◌, List, codes, if◌then◌else◌, Result, Ok, Err}
-use Rattle.mds_folder.specs.Exit as folder
-use Rattle.mds_folder.specs.declared.fault.FolderFault.{FolderFault}
-use Rattle.mds_folder.specs.declared.fault.FolderFault.TheVariants as faults
-use Rattle.mds_recovery.specs.declared.fault.Cause.{Cause}
-use Rattle.mds_recovery.specs.declared.fault.Cause.TheVariants as causes
-use Rattle.mds_recovery.specs.declared.fault.StartFault.{StartFault}
-use Rattle.mds_recovery.specs.declared.fault.StartFault.TheVariants.{Opening, Stopped}
-use Rattle.mds_thinning.specs.declared.fault.CompactFault.{CompactFault}
-use Rattle.mds_thinning.specs.declared.fault.CompactFault.TheVariants as thin
+use Rattle.journal_folder.specs.Exit as folder
+use Rattle.journal_folder.specs.declared.fault.FolderFault.{FolderFault}
+use Rattle.journal_folder.specs.declared.fault.FolderFault.TheVariants as faults
+use Rattle.journal_recovery.specs.declared.fault.Cause.{Cause}
+use Rattle.journal_recovery.specs.declared.fault.Cause.TheVariants as causes
+use Rattle.journal_recovery.specs.declared.fault.StartFault.{StartFault}
+use Rattle.journal_recovery.specs.declared.fault.StartFault.TheVariants.{Opening, Stopped}
+use Rattle.journal_compaction.specs.declared.fault.CompactFault.{CompactFault}
+use Rattle.journal_compaction.specs.declared.fault.CompactFault.TheVariants as thin
 use Rattle.cli_journal.specs.declared.exit_cause.ExitCause.{ExitCause}
 use Rattle.cli_journal.specs.declared.exit_cause.ExitCause.TheVariants.{Usage, Misconfigured, NoMemory, NoListener, NoControl, NotStopped, NotPrinted, Folder, Refused, NotKept, NotThinned, Differs}
 

@@ -1,6 +1,6 @@
 -- The file, folder or address that a fault is about.
 use Rattle.std.specs.Prelude.{ℕ, List, Option, Some, None}
-use Rattle.mds_command.specs.Commands.{Request, serve, check, check_config, audit, thin, stop}
+use Rattle.cli_args.specs.Commands.{Request, serve, check, check_config, audit, thin, stop}
 use Rattle.cli_journal.specs.declared.exit_cause.ExitCause.{ExitCause}
 use Rattle.cli_journal.specs.declared.exit_cause.ExitCause.TheVariants.{Misconfigured, NoListener, NoControl, NotStopped, Folder, Refused, NotKept, NotThinned, Differs}
 

@@ -2,9 +2,9 @@
 use Rattle.std.specs.Prelude.{◌≡◌, ℕ, List, [], ◌∷◌, Some}
 use Rattle.mds_request.specs.Configuration.{Configuration}
 use Rattle.mds_request.specs.Request.{Request}
-use Rattle.mds_entries.specs.Entries.{Entry}
-use Rattle.mds_entries.specs.Requests.{request_by}
-use Rattle.mds_folder.specs.Script.{request_text}
+use Rattle.journal_entry.specs.Entries.{Entry}
+use Rattle.journal_entry.specs.Requests.{request_by}
+use Rattle.journal_folder.specs.Script.{request_text}
 
 -- the payloads of a journal's entries: those behind its head
 abbrev pub behind_head : List (List ℕ) → List (List ℕ)

@@ -4,11 +4,11 @@ ghost use Rattle.cli_journal.specs.Compaction.{may_leave_remains};
 
 use crate::configuration::{configuration_in, configuration_text};
 use crate::exit_cause::ExitCause;
-use mds_command::ThinOptions;
-use mds_folder::FolderFault;
-use mds_limits::moment_of;
+use cli_args::ThinOptions;
+use journal_compaction::{CompactFault, Counts, compact_folder};
+use journal_folder::FolderFault;
 use mds_text::Moment;
-use mds_thinning::{Counts, CompactFault, compact_folder};
+use server_admission::moment_of;
 use std::alloc::AllocGlobal;
 use std::fs::{self, File, Files};
 use std::io::Print;

@@ -1,12 +1,12 @@
 //! A configuration's file: its text, findings in it, and the rule in the place of its zone's name.
 ghost use Rattle.std.specs.Prelude.{◌≤◌, length, IfOk};
-ghost use Rattle.mds_lines.specs.declared.gather.TheConstants.{LINE_LIMIT};
+ghost use Rattle.mds_script.specs.declared.gather.TheConstants.{LINE_LIMIT};
 
 use crate::configuration::{check_length, text_in};
 use crate::exit_cause::ExitCause;
-use mds_configuration::{ConfigFinding, FindingKind, ResolvedZone, zone_name_in, review, with_zone};
-use mds_diagnosis::Detail;
-use mds_zones::{ZoneFileFault, ZoneName, rule_in, zone_message};
+use cli_config::{ConfigFinding, FindingKind, ResolvedZone, review, with_zone, zone_name_in};
+use cli_timezone::{ZoneFileFault, ZoneName, rule_in, zone_message};
+use mds_config_error::Detail;
 use std::alloc::{AllocError, AllocGlobal, Global};
 use std::fs::{File, Files};
 use std::io::{Eprint, Read};
@@ -62,7 +62,10 @@ impl ConfigFile {
     /// # Errors
     ///
     /// `Misconfigured` where it can't be read or is longer than a line of a script may be, `NoMemory`.
-    pub fn read<R: Files<File = File> + AllocGlobal>(rt: &R, path: &str) -> Result<ConfigFile, ExitCause> {
+    pub fn read<R: Files<File = File> + AllocGlobal>(
+        rt: &R,
+        path: &str,
+    ) -> Result<ConfigFile, ExitCause> {
         let alloc = rt.alloc();
         let text = match File::open(rt, path) {
             Ok(file) => text_in(alloc, file)?,

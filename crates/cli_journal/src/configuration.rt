@@ -1,13 +1,13 @@
 //! Reads the configuration from its file.
 ghost use Rattle.std.specs.Prelude.{◌≡◌, ◌≤◌, length, IfOk, Ok};
-ghost use Rattle.mds_lines.specs.declared.gather.TheConstants.{LINE_LIMIT};
+ghost use Rattle.mds_script.specs.declared.gather.TheConstants.{LINE_LIMIT};
 ghost use Rattle.mds_request.specs.Configuration.{configuration, read_configuration};
 
-use crate::exit_cause::ExitCause;
 use crate::config_file::ConfigFile;
-use mds_diagnosis::Detail;
-use mds_lines::LINE_LIMIT;
+use crate::exit_cause::ExitCause;
+use mds_config_error::Detail;
 use mds_request::{Config, ConfigFault};
+use mds_script::LINE_LIMIT;
 use mds_text::TextFault;
 use std::alloc::{AllocGlobal, Global};
 use std::fs::{File, Files};

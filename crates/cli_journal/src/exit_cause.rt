@@ -2,11 +2,11 @@
 ghost use Rattle.std.specs.Prelude.{◌≡◌};
 ghost use Rattle.cli_journal.specs.Exit.{cause_status, exit_status, cause_message, folder_message, message_of, cause_of_thinned, ending_of_thinned};
 
-use mds_diagnosis::Detail;
-use mds_folder::FolderFault;
-use mds_recovery::{Cause, Fault, StartFault};
+use journal_compaction::CompactFault;
+use journal_folder::FolderFault;
+use journal_recovery::{Cause, Fault, StartFault};
+use mds_config_error::Detail;
 use mds_snapshot::OpenFault;
-use mds_thinning::CompactFault;
 use std::alloc::AllocError;
 
 /// Why the program ends.
@@ -80,7 +80,10 @@ impl ExitCause {
         ensures { result ≡ exit_status self }
     {
         match self {
-            ExitCause::NoListener | ExitCause::NoControl | ExitCause::NotStopped | ExitCause::NotPrinted => 1,
+            ExitCause::NoListener
+            | ExitCause::NoControl
+            | ExitCause::NotStopped
+            | ExitCause::NotPrinted => 1,
             ExitCause::Usage | ExitCause::Misconfigured(_) => 2,
             ExitCause::NoMemory => 3,
             ExitCause::Folder(fault) => fault.status(),

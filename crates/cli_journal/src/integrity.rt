@@ -1,14 +1,14 @@
 //! Checks a folder's journal, without locking or changing it.
 ghost use Rattle.std.specs.Prelude.{◌≡◌, IsTrue, false, Ok};
-ghost use Rattle.mds_records.specs.Endings.{is_opened};
-ghost use Rattle.mds_folder.specs.Damages.{damage_of};
+ghost use Rattle.journal_file.specs.Endings.{is_opened};
+ghost use Rattle.journal_folder.specs.Damages.{damage_of};
 ghost use Rattle.cli_journal.specs.Checks.{refused_for};
 
 use crate::exit_cause::ExitCause;
 use crate::script::behind_head;
-use mds_entries::read_head;
-use mds_folder::{FolderFault, Survey, damage_of, entries_in, journal_bytes, survey_of};
-use mds_records::JournalEnding as Ends;
+use journal_entry::read_head;
+use journal_file::JournalEnding as Ends;
+use journal_folder::{FolderFault, Survey, damage_of, entries_in, journal_bytes, survey_of};
 use std::alloc::{AllocGlobal, Global};
 use std::fs::{File, Files};
 use std::io::Print;

@@ -1,13 +1,13 @@
 //! Messages on standard error after a fault: what, where, and what is wrong.
 ghost use Rattle.std.specs.Prelude.{◌≡◌, option_map};
-ghost use Rattle.mds_command.specs.Commands.{asked_view};
+ghost use Rattle.cli_args.specs.Commands.{asked_view};
 ghost use Rattle.cli_journal.specs.Messages.{config_of, listener_of, control_of, folder_of, place_in};
 
 use crate::exit_cause::ExitCause;
-use mds_command::{CliCommand, USAGE};
-use mds_entries::Unfit;
-use mds_folder::FolderFault;
-use mds_recovery::{Cause, Fault};
+use cli_args::{CliCommand, USAGE};
+use journal_entry::Unfit;
+use journal_folder::FolderFault;
+use journal_recovery::{Cause, Fault};
 use std::alloc::AllocGlobal;
 use std::io::Eprint;
 

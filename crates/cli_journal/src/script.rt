@@ -1,18 +1,19 @@
 //! Prints a folder's journal as a script, which `mds_replay` answers.
 ghost use Rattle.std.specs.Prelude.{◌≡◌, ◌++◌, ◌∷◌, [], ℕ, List, map, IfOk, OnOk};
 ghost use Rattle.std.specs.Io.KnownBytes.{Appends};
-ghost use Rattle.mds_entries.specs.Entries.{entry_of};
-ghost use Rattle.mds_folder.specs.Script.{blanked};
+ghost use Rattle.journal_entry.specs.Entries.{entry_of};
+ghost use Rattle.journal_folder.specs.Script.{blanked};
 ghost use Rattle.mds_request.specs.Configuration.{configuration};
 ghost use Rattle.cli_journal.specs.Script.{IsLineOf, behind_head};
 
 use crate::configuration::{configuration_in, configuration_text};
 use crate::exit_cause::ExitCause;
 use crate::integrity::check_startable;
-use mds_command::AuditOptions;
-use mds_entries::{EntryClient, JournalEntry, Unfit, request_by};
-use mds_folder::{
-    Extract, FolderFault, entries_in, journal_bytes, push_blanked, request_line, survey_of, extract_entries,
+use cli_args::AuditOptions;
+use journal_entry::{EntryClient, JournalEntry, Unfit, request_by};
+use journal_folder::{
+    Extract, FolderFault, entries_in, extract_entries, journal_bytes, push_blanked, request_line,
+    survey_of,
 };
 use mds_request::Config;
 use std::alloc::{AllocError, AllocGlobal, Global};

@@ -10,7 +10,7 @@ use Rattle.std.proofs.lemmas.List.Sums.{list_all-from_AllPass}
 use Rattle.std.proofs.lemmas.Str.{IsUtf8-from_ascii}
 use Rattle.std.specs.List.{list_all}
 use Rattle.std.specs.Str.{IsUtf8}
-use Rattle.mds_zones.specs.Footer.{IsLastLine, IsFooter, is_line_feed, is_rule_byte, is_plain}
+use Rattle.cli_timezone.specs.Footer.{IsLastLine, IsFooter, is_line_feed, is_rule_byte, is_plain}
 
 -- a text that ends with a line feed
 ended : (file : List ℕ) → 1 ≤ length file → get_or file (length file - 1) 0 ≡ 10 → file ≡ take (length file - 1) file ++ 10 ∷ []

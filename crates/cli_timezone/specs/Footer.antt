@@ -1,8 +1,8 @@
 -- The footer of a TZif file (RFC 9636, section 3.3), and the rule in it: a TZ string of POSIX.
 use Rattle.std.specs.Prelude.{◌≡◌, ◌≢◌, ℕ, List, [], ◌∷◌, ◌++◌, Bool, true, false, not, ◌&&◌, ◌==◌, nat_le, nat_eq, length, slice_index, codes}
 use Rattle.std.specs.List.{list_all, starts_with}
-use Rattle.mds_zones.specs.declared.fault.ZoneFileFault.{ZoneFileFault}
-use Rattle.mds_zones.specs.declared.fault.ZoneFileFault.TheVariants.{Unreadable, NoTzif, FirstVersion, NoFooter, NoRule, NoText, NoMemory}
+use Rattle.cli_timezone.specs.declared.fault.ZoneFileFault.{ZoneFileFault}
+use Rattle.cli_timezone.specs.declared.fault.ZoneFileFault.TheVariants.{Unreadable, NoTzif, FirstVersion, NoFooter, NoRule, NoText, NoMemory}
 
 -- section 3.1: a header of 44 bytes, which begins with `TZif` and a byte for the version
 abbrev pub is_tzif : List ℕ → Bool

@@ -1,6 +1,6 @@
 -- Names of time zones, as in the IANA time zone database and after a colon in POSIX's TZ variable, and the file of one.
 use Rattle.std.specs.Prelude.{ℕ, List, [], ◌∷◌, ◌++◌, Bool, true, false, ◌&&◌, ◌||◌, ◌==◌, nat_le, length, if◌then◌else◌, codes}
-use Rattle.mds_zones.specs.declared.name.TheConstants.{MOST_NAME}
+use Rattle.cli_timezone.specs.declared.name.TheConstants.{MOST_NAME}
 
 -- a letter, a digit, `_`, `-` or `+`
 abbrev pub is_part_byte : ℕ → Bool

@@ -1,8 +1,8 @@
 -- The messages about a named zone.
 use Rattle.std.specs.Prelude.{ℕ, List, ◌++◌, codes}
-use Rattle.mds_zones.specs.declared.fault.ZoneFileFault.{ZoneFileFault}
-use Rattle.mds_zones.specs.declared.fault.ZoneFileFault.TheVariants.{Unreadable, NoTzif, FirstVersion, NoFooter, NoRule, NoText, NoMemory}
-use Rattle.mds_zones.specs.Names.{path_of}
+use Rattle.cli_timezone.specs.declared.fault.ZoneFileFault.{ZoneFileFault}
+use Rattle.cli_timezone.specs.declared.fault.ZoneFileFault.TheVariants.{Unreadable, NoTzif, FirstVersion, NoFooter, NoRule, NoText, NoMemory}
+use Rattle.cli_timezone.specs.Names.{path_of}
 
 -- which rule a name means, and by which file
 abbrev pub zone_wording : List ℕ → List ℕ → List ℕ

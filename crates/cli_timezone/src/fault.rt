@@ -23,7 +23,7 @@ pub enum ZoneFileFault {
 
 impl From<AllocError> for ZoneFileFault {
     ghost use Rattle.std.specs.Prelude.{◌≡◌};
-    ghost use Rattle.mds_zones.specs.declared.fault.ZoneFileFault.TheVariants.{NoMemory};
+    ghost use Rattle.cli_timezone.specs.declared.fault.ZoneFileFault.TheVariants.{NoMemory};
 
     ghost from_gives = { λ _ e. e ≡ NoMemory };
 
@@ -34,7 +34,7 @@ impl From<AllocError> for ZoneFileFault {
 
 impl fmt::Display for ZoneFileFault {
     ghost use Rattle.std.specs.Prelude.{Some};
-    ghost use Rattle.mds_zones.specs.Wording.{fault_wording};
+    ghost use Rattle.cli_timezone.specs.Wording.{fault_wording};
 
     ghost output = { λ fault. Some (fault_wording fault) };
 

@@ -1,6 +1,6 @@
 //! The footer of a TZif file (RFC 9636).
 ghost use Rattle.std.specs.Prelude.{◌≡◌, ℕ, List, true, MatchOption, MatchResult};
-ghost use Rattle.mds_zones.specs.Footer.{is_tzif, is_first_version, HasFault, HasRule, IsFooter, IsLastLine};
+ghost use Rattle.cli_timezone.specs.Footer.{is_tzif, is_first_version, HasFault, HasRule, IsFooter, IsLastLine};
 
 use crate::fault::ZoneFileFault;
 use crate::rule::ZoneRule;

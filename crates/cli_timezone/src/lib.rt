@@ -4,15 +4,15 @@
 
 mod fault;
 mod footer;
+mod messages;
 mod name;
 mod rule;
-mod messages;
 
 pub use fault::ZoneFileFault;
 pub use footer::rule_in;
+pub use messages::zone_message;
 pub use name::{MOST_NAME, ZoneName};
 pub use rule::ZoneRule;
-pub use messages::zone_message;
 
 #[cfg(test)]
 mod tests;

@@ -1,6 +1,6 @@
 //! The message about a named zone.
 ghost use Rattle.std.specs.Prelude.{◌≡◌, IfOk, string_bytes};
-ghost use Rattle.mds_zones.specs.Wording.{zone_wording};
+ghost use Rattle.cli_timezone.specs.Wording.{zone_wording};
 
 use crate::name::ZoneName;
 use crate::rule::ZoneRule;

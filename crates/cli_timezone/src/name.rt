@@ -1,6 +1,6 @@
 //! Names of time zones.
 ghost use Rattle.std.specs.Prelude.{◌≡◌, true, false, IfOk, IfSome, is_some, string_bytes};
-ghost use Rattle.mds_zones.specs.Names.{is_part_byte, are_parts, is_zone_name, path_of};
+ghost use Rattle.cli_timezone.specs.Names.{is_part_byte, are_parts, is_zone_name, path_of};
 
 use std::alloc::{AllocError, Global};
 use std::marker::Model;
@@ -19,7 +19,7 @@ pub struct ZoneName {
 
 impl Model for ZoneName {
     ghost use Rattle.std.specs.Prelude.{◌≡◌, ℕ, List, true, string_bytes};
-    ghost use Rattle.mds_zones.specs.Names.{is_zone_name};
+    ghost use Rattle.cli_timezone.specs.Names.{is_zone_name};
 
     ghost Value = { List ℕ };
 

@@ -1,7 +1,7 @@
 //! The rule of a named zone.
 ghost use Rattle.std.specs.Prelude.{◌≡◌, true, IfOk, IfSome, is_some};
 ghost use Rattle.std.specs.List.{list_all};
-ghost use Rattle.mds_zones.specs.Footer.{is_rule_byte, is_plain};
+ghost use Rattle.cli_timezone.specs.Footer.{is_rule_byte, is_plain};
 
 use std::alloc::{AllocError, Global};
 use std::marker::Model;
@@ -15,7 +15,7 @@ pub struct ZoneRule {
 
 impl Model for ZoneRule {
     ghost use Rattle.std.specs.Prelude.{◌≡◌, ℕ, List, true, string_bytes};
-    ghost use Rattle.mds_zones.specs.Footer.{is_plain};
+    ghost use Rattle.cli_timezone.specs.Footer.{is_plain};
 
     ghost Value = { List ℕ };
 

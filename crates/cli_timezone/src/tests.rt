@@ -113,7 +113,13 @@ fn says_why_there_is_no_rule(rt: HostRuntime) -> Result<(), Fail> {
             ZoneFileFault::NoFooter
         )
     );
-    assert!(rt; has_fault(alloc, &file_of(alloc, b'2', b"\n\n")?, ZoneFileFault::NoRule));
+    assert!(rt;
+        has_fault(
+            alloc,
+            &file_of(alloc, b'2', b"\n\n")?,
+            ZoneFileFault::NoRule
+        )
+    );
     assert!(rt;
         has_fault(
             alloc,
@@ -121,7 +127,13 @@ fn says_why_there_is_no_rule(rt: HostRuntime) -> Result<(), Fail> {
             ZoneFileFault::NoText
         )
     );
-    assert!(rt; has_fault(alloc, &file_of(alloc, b'2', b"\nU\"\n")?, ZoneFileFault::NoText));
+    assert!(rt;
+        has_fault(
+            alloc,
+            &file_of(alloc, b'2', b"\nU\"\n")?,
+            ZoneFileFault::NoText
+        )
+    );
     Ok(())
 }
 

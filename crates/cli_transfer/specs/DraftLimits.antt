@@ -3,10 +3,10 @@ use Rattle.std.specs.Prelude.{ℕ, List, length, ◌==◌, Bool, true, false, �
 use Rattle.std.specs.List.{list_all, list_any}
 use Rattle.mds_text.specs.declared.draft_kind.DraftKind.{DraftKind}
 use Rattle.mds_text.specs.declared.draft_kind.DraftKind.TheVariants.{Policy, Geography}
-use Rattle.mds_import.specs.declared.drafting.ImportDraft.{ImportDraft}
-use Rattle.mds_errands.specs.declared.draft_limits.SkipReason.{SkipReason}
-use Rattle.mds_errands.specs.declared.draft_limits.SkipReason.TheVariants.{Long, Twice, Many}
-use Rattle.mds_errands.specs.declared.draft_limits.TheConstants.{MOST_BODY, MOST_DRAFTS}
+use Rattle.cli_documents.specs.declared.drafting.ImportDraft.{ImportDraft}
+use Rattle.cli_transfer.specs.declared.draft_limits.SkipReason.{SkipReason}
+use Rattle.cli_transfer.specs.declared.draft_limits.SkipReason.TheVariants.{Long, Twice, Many}
+use Rattle.cli_transfer.specs.declared.draft_limits.TheConstants.{MOST_BODY, MOST_DRAFTS}
 
 abbrev pub is_same_kind : DraftKind → DraftKind → Bool
 is_same_kind Policy Policy = true

@@ -1,10 +1,10 @@
 -- How a job ends, and with which exit status (PROTOCOL, ruffletuff).
 use Rattle.std.specs.Prelude.{ℕ, ◌==◌, if◌then◌else◌}
-use Rattle.mds_errands.specs.declared.end.TransferEnd.{TransferEnd}
-use Rattle.mds_errands.specs.declared.end.TransferEnd.TheVariants.{Done, SomeRefused, NoServer, BadReply, NotPrinted, BadPlace, NoToken, NoMemory, NotWritten, Barred}
-use Rattle.mds_errands.specs.declared.end.TransferTally.{TransferTally}
-use Rattle.mds_client.specs.declared.fault.ResponseFault.{ResponseFault}
-use Rattle.mds_client.specs.declared.fault.ResponseFault.TheVariants as Reply
+use Rattle.cli_transfer.specs.declared.end.TransferEnd.{TransferEnd}
+use Rattle.cli_transfer.specs.declared.end.TransferEnd.TheVariants.{Done, SomeRefused, NoServer, BadReply, NotPrinted, BadPlace, NoToken, NoMemory, NotWritten, Barred}
+use Rattle.cli_transfer.specs.declared.end.TransferTally.{TransferTally}
+use Rattle.cli_client.specs.declared.fault.ResponseFault.{ResponseFault}
+use Rattle.cli_client.specs.declared.fault.ResponseFault.TheVariants as Reply
 
 -- all is done where nothing is refused
 abbrev pub end_of : TransferTally → TransferEnd

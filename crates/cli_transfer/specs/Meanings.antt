@@ -1,7 +1,7 @@
 -- What the status of a response means for what was sent (PROTOCOL, refusals).
 use Rattle.std.specs.Prelude.{ℕ, ◌==◌, ◌||◌, nat_le, if◌then◌else◌}
-use Rattle.mds_errands.specs.declared.meaning.Meaning.{Meaning}
-use Rattle.mds_errands.specs.declared.meaning.Meaning.TheVariants.{Taken, Refused, Barred, Unavailable}
+use Rattle.cli_transfer.specs.declared.meaning.Meaning.{Meaning}
+use Rattle.cli_transfer.specs.declared.meaning.Meaning.TheVariants.{Taken, Refused, Barred, Unavailable}
 
 -- 200: it is accepted; 401 and 403: the client may send nothing; from 500 on the server can't accept anything now; any
 -- other status refuses it alone

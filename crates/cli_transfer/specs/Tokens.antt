@@ -1,8 +1,8 @@
 -- The access token in a file.
 use Rattle.std.specs.Prelude.{ℕ, ◌-◌, ◌==◌, List, length, take, drop, Bool, nat_lt, bytes_eq, codes, if◌then◌else◌, Result, Ok, Err}
-use Rattle.mds_errands.specs.declared.token.TokenFault.{TokenFault}
-use Rattle.mds_errands.specs.declared.token.TokenFault.TheVariants.{Empty, TooLong}
-use Rattle.mds_errands.specs.declared.token.TheConstants.{MOST_TOKEN}
+use Rattle.cli_transfer.specs.declared.token.TokenFault.{TokenFault}
+use Rattle.cli_transfer.specs.declared.token.TokenFault.TheVariants.{Empty, TooLong}
+use Rattle.cli_transfer.specs.declared.token.TheConstants.{MOST_TOKEN}
 
 abbrev pub ends_in : (ending bytes : List ℕ) → Bool
 ends_in ending bytes = bytes_eq (drop (length bytes - length ending) bytes) ending

@@ -3,11 +3,11 @@
 use crate::end::{TransferEnd, TransferTally};
 use crate::escape::escape_bytes;
 use crate::meaning::{Meaning, meaning_of};
-use crate::sending::note_reply;
 use crate::messages::location_at;
-use mds_client::HttpResponse;
-use mds_import::{Origin, member_of};
-use mds_reading::read_tree;
+use crate::sending::note_reply;
+use cli_client::HttpResponse;
+use cli_documents::{Origin, member_of};
+use mds_json::read_tree;
 use mds_text::{TextFault, Tree, print_tree};
 use std::alloc::{AllocGlobal, Global};
 use std::io::{Eprint, Print};

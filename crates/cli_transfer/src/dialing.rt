@@ -1,6 +1,6 @@
 //! Connections to a server, with a deadline.
 
-use mds_client::Dial;
+use cli_client::Dial;
 use std::io::{self, ErrorKind, Read, Write};
 use std::net::{Net, OpenStream, TcpStream};
 use std::thread;

@@ -1,9 +1,9 @@
 //! Limits on the drafts that are sent, and on what may stand in a request.
 ghost use Rattle.std.specs.Prelude.{◌≡◌};
 ghost use Rattle.std.specs.List.{list_all, list_any};
-ghost use Rattle.mds_errands.specs.DraftLimits.{is_same_kind, is_same, why_unkept, is_visible_byte, is_visible};
+ghost use Rattle.cli_transfer.specs.DraftLimits.{is_same_kind, is_same, why_unkept, is_visible_byte, is_visible};
 
-use mds_import::ImportDraft;
+use cli_documents::ImportDraft;
 use mds_text::DraftKind;
 
 /// The most bytes of a document: a server reads no longer body.

@@ -1,9 +1,9 @@
 //! How a job ends.
 ghost use Rattle.std.specs.Prelude.{◌≡◌, ◌+◌, ◌-◌, ◌^◌, min};
-ghost use Rattle.mds_errands.specs.Ends.{end_of, exit_status};
+ghost use Rattle.cli_transfer.specs.Ends.{end_of, exit_status};
 
 use crate::token::TokenFault;
-use mds_client::ResponseFault;
+use cli_client::ResponseFault;
 use std::alloc::AllocError;
 
 /// How a job, an import or an export, ends.
@@ -110,7 +110,7 @@ impl TransferEnd {
 
 impl From<AllocError> for TransferEnd {
     ghost use Rattle.std.specs.Prelude.{◌≡◌};
-    ghost use Rattle.mds_errands.specs.declared.end.TransferEnd.TheVariants.{NoMemory};
+    ghost use Rattle.cli_transfer.specs.declared.end.TransferEnd.TheVariants.{NoMemory};
 
     ghost from_gives = { λ _ e. e ≡ NoMemory };
 
@@ -121,7 +121,7 @@ impl From<AllocError> for TransferEnd {
 
 impl From<ResponseFault> for TransferEnd {
     ghost use Rattle.std.specs.Prelude.{◌≡◌};
-    ghost use Rattle.mds_errands.specs.Ends.{end_of_fault};
+    ghost use Rattle.cli_transfer.specs.Ends.{end_of_fault};
 
     ghost from_gives = { λ fault e. e ≡ end_of_fault fault };
 

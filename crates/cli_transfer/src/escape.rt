@@ -1,6 +1,6 @@
 //! Bytes from elsewhere, escaped for a terminal.
 ghost use Rattle.std.specs.Prelude.{◌≡◌, ◌++◌, ◌<◌, ◌≤◌, IfOk, OnOk, string_bytes};
-ghost use Rattle.mds_errands.specs.Escapes.{is_shown, hex_digit, escaped_byte, escaped};
+ghost use Rattle.cli_transfer.specs.Escapes.{is_shown, hex_digit, escaped_byte, escaped};
 
 use std::alloc::{AllocError, Global};
 

@@ -3,12 +3,12 @@
 use crate::end::TransferEnd;
 use crate::host::TransferHost;
 use crate::meaning::{Meaning, meaning_of};
-use crate::sending::{response_or_end, client_of, report_refusal};
 use crate::messages::DocumentLocation;
-use mds_client::{ClientRequest, HttpResponse, RemoteServer};
-use mds_feeds::{features_file, geographies_file, policies_file};
-use mds_import::list_member;
-use mds_reading::read_tree;
+use crate::sending::{client_of, report_refusal, response_or_end};
+use cli_client::{ClientRequest, HttpResponse, RemoteServer};
+use cli_documents::list_member;
+use cli_vehicles::{features_file, geographies_file, policies_file};
+use mds_json::read_tree;
 use mds_text::{TextFault, Tree};
 use std::alloc::{AllocGlobal, Global};
 use std::fs::{self, File, Files};
@@ -34,7 +34,11 @@ fn tree_in(alloc: Global, reply: &HttpResponse) -> Result<Tree, TransferEnd> {
 /// # Errors
 ///
 /// `NoMemory`.
-fn end_of_refusal<R: Eprint + AllocGlobal>(rt: &R, target: &str, reply: &HttpResponse) -> Result<TransferEnd, TransferEnd> {
+fn end_of_refusal<R: Eprint + AllocGlobal>(
+    rt: &R,
+    target: &str,
+    reply: &HttpResponse,
+) -> Result<TransferEnd, TransferEnd> {
     let spot = DocumentLocation {
         file: target,
         document: None,
@@ -51,7 +55,11 @@ fn end_of_refusal<R: Eprint + AllocGlobal>(rt: &R, target: &str, reply: &HttpRes
 /// # Errors
 ///
 /// `BadPlace`, `NoServer` where the response is of no use, `BadReply`, `Barred`, `NoMemory`.
-fn fetch_tree<R: TransferHost>(rt: &R, server: &RemoteServer<'_>, target: &str) -> Result<Tree, TransferEnd> {
+fn fetch_tree<R: TransferHost>(
+    rt: &R,
+    server: &RemoteServer<'_>,
+    target: &str,
+) -> Result<Tree, TransferEnd> {
     let mut client = client_of(rt, server)?;
     let call = ClientRequest {
         method: "GET",
@@ -110,7 +118,11 @@ fn write_all<R: Files<File = File> + AllocGlobal>(
 /// # Errors
 ///
 /// `BadPlace`, `NoServer`, `BadReply`, `Barred`, `NotWritten`, `NotPrinted`, `NoMemory`.
-fn fetch_and_write<R: TransferHost>(rt: &R, folder: &str, server: &RemoteServer<'_>) -> Result<(), TransferEnd> {
+fn fetch_and_write<R: TransferHost>(
+    rt: &R,
+    folder: &str,
+    server: &RemoteServer<'_>,
+) -> Result<(), TransferEnd> {
     let told_policies = fetch_tree(rt, server, "/policies")?;
     let told_geographies = fetch_tree(rt, server, "/geographies")?;
     let Some(policies) = list_member(&told_policies, "policies") else {
@@ -138,7 +150,11 @@ fn print_counts<R: Print>(rt: &R, policies: usize, geographies: usize) -> Result
 /// Writes what is published at a server into a folder, which is made where it isn't there: its policies as a file of
 /// MDS 2.0 (`policies.json`), its geographies as one (`geographies.json`) and as GeoJSON (`geographies.geojson`).
 /// Prints how many of each on standard output.
-pub fn export_published<R: TransferHost>(rt: &R, folder: &str, server: &RemoteServer<'_>) -> TransferEnd {
+pub fn export_published<R: TransferHost>(
+    rt: &R,
+    folder: &str,
+    server: &RemoteServer<'_>,
+) -> TransferEnd {
     match fetch_and_write(rt, folder, server) {
         Ok(()) => TransferEnd::Done,
         Err(end) => end,

@@ -2,7 +2,7 @@
 
 use crate::end::TransferEnd;
 use crate::sources::ParsedFile;
-use mds_import::{id_member, list_member, member_of, text_member};
+use cli_documents::{id_member, list_member, member_of, text_member};
 use mds_text::{Id, Tree};
 use std::alloc::Global;
 use std::collections::BTreeMap;
@@ -172,7 +172,11 @@ fn is_type(entry: Option<&Tree>, name: &str) -> bool {
 }
 
 /// The entry of a vehicle's type.
-pub(crate) fn type_of<'s>(sheets: &'s [FeedFile], known: &FeedIndex, vehicle: &Tree) -> Option<&'s Tree> {
+pub(crate) fn type_of<'s>(
+    sheets: &'s [FeedFile],
+    known: &FeedIndex,
+    vehicle: &Tree,
+) -> Option<&'s Tree> {
     let name = text_member(vehicle, "vehicle_type_id")?;
     for entry in &known.types {
         if is_type(type_at(sheets, *entry), name) {

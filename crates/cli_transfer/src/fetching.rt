@@ -1,9 +1,9 @@
 //! Files that are read from another server.
 
 use crate::dialing::{Dialer, TimedStream};
-use crate::end::TransferEnd;
 use crate::draft_limits::is_visible;
-use mds_client::{Dial, HeadProgress, ResponseFault, body_of, parse_head};
+use crate::end::TransferEnd;
+use cli_client::{Dial, HeadProgress, ResponseFault, body_of, parse_head};
 use std::alloc::{AllocError, AllocGlobal, Global};
 use std::io::{self, ErrorKind, Read, Write};
 use std::net::Net;

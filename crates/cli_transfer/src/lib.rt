@@ -4,26 +4,26 @@
 
 mod batch;
 mod dialing;
+mod draft_limits;
 mod end;
-mod transfer;
 mod escape;
 mod export;
 mod feed;
 mod fetching;
 mod host;
-mod draft_limits;
 mod meaning;
+mod messages;
 mod opening;
 mod policies;
 mod sending;
 mod sources;
 mod status;
 mod token;
-mod messages;
+mod transfer;
 
 pub use end::{TransferEnd, TransferTally};
-pub use transfer::run_transfer;
 pub use escape::escape_bytes;
 pub use host::TransferHost;
 pub use meaning::{Meaning, meaning_of};
 pub use token::TokenFault;
+pub use transfer::run_transfer;

@@ -1,6 +1,6 @@
 //! What the status of a response means for what was sent.
 ghost use Rattle.std.specs.Prelude.{◌≡◌};
-ghost use Rattle.mds_errands.specs.Meanings.{meaning_of};
+ghost use Rattle.cli_transfer.specs.Meanings.{meaning_of};
 
 /// What a response means for what was sent.
 #[derive(Clone, Copy, Debug, PartialEq, Eq)]

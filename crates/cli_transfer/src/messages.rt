@@ -2,8 +2,8 @@
 
 use crate::end::TransferEnd;
 use crate::escape::escape_bytes;
-use mds_import::Origin;
-use mds_reading::read_tree;
+use cli_documents::Origin;
+use mds_json::read_tree;
 use mds_text::{TextFault, Tree};
 use std::alloc::{AllocGlobal, Global};
 use std::io::Eprint;
@@ -36,7 +36,11 @@ pub(crate) fn location_at(files: &[String], origin: Origin) -> DocumentLocation<
 /// # Errors
 ///
 /// `NoMemory`. That standard error can't be written isn't reported.
-pub fn print_message<R: Eprint + AllocGlobal>(rt: &R, spot: DocumentLocation<'_>, words: &str) -> Result<(), TransferEnd> {
+pub fn print_message<R: Eprint + AllocGlobal>(
+    rt: &R,
+    spot: DocumentLocation<'_>,
+    words: &str,
+) -> Result<(), TransferEnd> {
     let file = escape_bytes(rt.alloc(), spot.file.as_bytes())?;
     let _ = match spot.document {
         Some(document) => {

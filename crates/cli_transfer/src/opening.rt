@@ -1,6 +1,6 @@
 //! Opening files to read them.
 ghost use Rattle.std.specs.Prelude.{◌≡◌};
-ghost use Rattle.mds_errands.specs.Openings.{is_given_open, is_opened};
+ghost use Rattle.cli_transfer.specs.Openings.{is_given_open, is_opened};
 
 use std::fs::{self, File, Files};
 
@@ -38,7 +38,10 @@ fn is_opened(path: &str, is_regular: bool) -> bool
 /// # Errors
 ///
 /// As `FileOpenFault` says.
-pub(crate) fn open_source<R: Files<File = File>>(rt: &R, path: &str) -> Result<File, FileOpenFault> {
+pub(crate) fn open_source<R: Files<File = File>>(
+    rt: &R,
+    path: &str,
+) -> Result<File, FileOpenFault> {
     match fs::metadata(rt, path) {
         Ok(metadata) if !is_opened(path, metadata.is_file()) => Err(FileOpenFault::NotRegular),
         Ok(_) => match File::open(rt, path) {

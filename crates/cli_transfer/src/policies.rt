@@ -1,17 +1,17 @@
 //! Imports documents of policies and geographies as drafts.
 
+use crate::draft_limits::skip_reason;
 use crate::end::{TransferEnd, TransferTally};
 use crate::escape::escape_bytes;
 use crate::host::TransferHost;
-use crate::draft_limits::skip_reason;
+use crate::messages::{DocumentLocation, print_message};
 use crate::sending::send_drafts;
 use crate::sources::{ParsedFile, read_and_parse};
-use crate::messages::{DocumentLocation, print_message};
-use mds_client::RemoteServer;
-use mds_command::Import;
-use mds_import::{
-    ImportDraft, Origin, PreparedDocument, RefusedDocument, RefusalReason, decimal_at, documents, order_drafts, prepare,
-    prepare_feature, target_of, unjudged_rule_ids,
+use cli_args::Import;
+use cli_client::RemoteServer;
+use cli_documents::{
+    ImportDraft, Origin, PreparedDocument, RefusalReason, RefusedDocument, decimal_at, documents,
+    order_drafts, prepare, prepare_feature, target_of, unjudged_rule_ids,
 };
 use mds_text::{DraftKind, Tree};
 use std::alloc::{AllocError, AllocGlobal, Global};

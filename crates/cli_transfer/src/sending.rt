@@ -1,13 +1,13 @@
 //! Sends drafts to a server, and reports its responses.
 
 use crate::dialing::Dialer;
+use crate::draft_limits::is_visible;
 use crate::end::{TransferEnd, TransferTally};
 use crate::host::TransferHost;
-use crate::draft_limits::is_visible;
 use crate::meaning::{Meaning, meaning_of};
 use crate::messages::{DocumentLocation, location_at, print_message, refusal_text};
-use mds_client::{ClientRequest, Client, HttpResponse, ResponseFault, RemoteServer};
-use mds_import::{ImportDraft, target_of};
+use cli_client::{Client, ClientRequest, HttpResponse, RemoteServer, ResponseFault};
+use cli_documents::{ImportDraft, target_of};
 use std::alloc::AllocGlobal;
 use std::io::Eprint;
 use std::net::Net;
@@ -40,7 +40,9 @@ pub(crate) fn client_of<'a, R: Net + Clock>(
 /// # Errors
 ///
 /// `NoServer`, `BadReply`, `NoMemory`.
-pub(crate) fn response_or_end(asked: Result<HttpResponse, ResponseFault>) -> Result<HttpResponse, TransferEnd> {
+pub(crate) fn response_or_end(
+    asked: Result<HttpResponse, ResponseFault>,
+) -> Result<HttpResponse, TransferEnd> {
     match asked {
         Ok(reply) => Ok(reply),
         Err(fault) => Err(TransferEnd::from(fault)),

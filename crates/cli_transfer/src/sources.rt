@@ -3,9 +3,9 @@
 use crate::end::TransferEnd;
 use crate::fetching::{MOST_BYTES, TOO_LONG, fetch_file, link_of};
 use crate::host::TransferHost;
-use crate::opening::{FileOpenFault, open_source};
 use crate::messages::{DocumentLocation, print_message};
-use mds_reading::read_and_count;
+use crate::opening::{FileOpenFault, open_source};
+use mds_json::read_and_count;
 use mds_text::{TextFault, Tree};
 use std::alloc::{AllocGlobal, Global};
 use std::fs::{File, Files};
@@ -26,7 +26,10 @@ pub struct ParsedFile {
 /// # Errors
 ///
 /// `NoMemory`.
-fn bytes_in<S: Read + Drop>(alloc: Global, file: S) -> Result<Result<Vec<u8>, &'static str>, TransferEnd> {
+fn bytes_in<S: Read + Drop>(
+    alloc: Global,
+    file: S,
+) -> Result<Result<Vec<u8>, &'static str>, TransferEnd> {
     let mut bytes = Vec::new(alloc);
     let mut front = file.take(MOST_BYTES + 1);
     if let Err(error) = front.read_to_end(&mut bytes) {
@@ -46,7 +49,10 @@ fn bytes_in<S: Read + Drop>(alloc: Global, file: S) -> Result<Result<Vec<u8>, &'
 /// # Errors
 ///
 /// `NoMemory`.
-fn parse_file(alloc: Global, bytes: &[u8]) -> Result<Result<ParsedFile, &'static str>, TransferEnd> {
+fn parse_file(
+    alloc: Global,
+    bytes: &[u8],
+) -> Result<Result<ParsedFile, &'static str>, TransferEnd> {
     match read_and_count(alloc, bytes) {
         Ok((tree, quoted)) => Ok(Ok(ParsedFile {
             tree,
@@ -62,7 +68,10 @@ fn parse_file(alloc: Global, bytes: &[u8]) -> Result<Result<ParsedFile, &'static
 /// # Errors
 ///
 /// `NoMemory`.
-fn bytes_of<R: TransferHost>(rt: &R, path: &str) -> Result<Result<Vec<u8>, &'static str>, TransferEnd> {
+fn bytes_of<R: TransferHost>(
+    rt: &R,
+    path: &str,
+) -> Result<Result<Vec<u8>, &'static str>, TransferEnd> {
     let alloc = rt.alloc();
     match link_of(alloc, path)? {
         Some(link) => fetch_file(rt, &link),
@@ -79,7 +88,10 @@ fn bytes_of<R: TransferHost>(rt: &R, path: &str) -> Result<Result<Vec<u8>, &'sta
 /// # Errors
 ///
 /// `NoMemory`.
-pub fn read_and_parse<R: TransferHost>(rt: &R, path: &str) -> Result<Option<ParsedFile>, TransferEnd> {
+pub fn read_and_parse<R: TransferHost>(
+    rt: &R,
+    path: &str,
+) -> Result<Option<ParsedFile>, TransferEnd> {
     let source = match bytes_of(rt, path)? {
         Ok(bytes) => parse_file(rt.alloc(), &bytes)?,
         Err(words) => Err(words),

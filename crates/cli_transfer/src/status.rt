@@ -2,15 +2,17 @@
 
 use crate::batch::{ReportBatch, note_batch, print_batch, put_in};
 use crate::end::{TransferEnd, TransferTally};
-use crate::feed::{FeedIndex, FeedFile, is_feed, is_gbfs, statuses_in, type_of, vehicle_of, vehicles_in};
+use crate::feed::{
+    FeedFile, FeedIndex, is_feed, is_gbfs, statuses_in, type_of, vehicle_of, vehicles_in,
+};
 use crate::host::TransferHost;
-use crate::sending::{response_or_end, client_of, note_reply};
-use crate::sources::read_and_parse;
 use crate::messages::{DocumentLocation, location_at, print_message, refusal_text};
-use mds_client::{ClientRequest, HttpResponse, RemoteServer};
-use mds_command::Import;
-use mds_feeds::{VehicleOutcome, gbfs_outcome, instant_of, mds_outcome};
-use mds_import::{Origin, member_of};
+use crate::sending::{client_of, note_reply, response_or_end};
+use crate::sources::read_and_parse;
+use cli_args::Import;
+use cli_client::{ClientRequest, HttpResponse, RemoteServer};
+use cli_documents::{Origin, member_of};
+use cli_vehicles::{VehicleOutcome, gbfs_outcome, instant_of, mds_outcome};
 use mds_text::{Id, Tree};
 use std::alloc::{AllocError, AllocGlobal, Global};
 use std::fs::{File, Files};
@@ -151,7 +153,11 @@ fn report_no_feed<R: Eprint + AllocGlobal>(rt: &R, path: &str) -> Result<(), Tra
 /// # Errors
 ///
 /// `NoMemory`.
-fn read_feed_file<R: TransferHost>(rt: &R, file: usize, path: &str) -> Result<Option<FeedFile>, TransferEnd> {
+fn read_feed_file<R: TransferHost>(
+    rt: &R,
+    file: usize,
+    path: &str,
+) -> Result<Option<FeedFile>, TransferEnd> {
     let Some(source) = read_and_parse(rt, path)? else {
         return Ok(None);
     };
@@ -167,7 +173,11 @@ fn read_feed_file<R: TransferHost>(rt: &R, file: usize, path: &str) -> Result<Op
 /// # Errors
 ///
 /// `NoMemory`.
-fn read_all<R: TransferHost>(rt: &R, files: &[String], tally: &mut TransferTally) -> Result<Vec<FeedFile>, TransferEnd> {
+fn read_all<R: TransferHost>(
+    rt: &R,
+    files: &[String],
+    tally: &mut TransferTally,
+) -> Result<Vec<FeedFile>, TransferEnd> {
     let mut sheets = Vec::new(rt.alloc());
     for (file, path) in files.iter().enumerate() {
         match read_feed_file(rt, file, path.as_str())? {

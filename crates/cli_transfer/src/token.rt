@@ -1,11 +1,11 @@
 //! The access token of an import or an export.
 ghost use Rattle.std.specs.Prelude.{◌≡◌, MatchResult, Ok, Err};
-ghost use Rattle.mds_errands.specs.Tokens.{without_line_end, token_in};
+ghost use Rattle.cli_transfer.specs.Tokens.{without_line_end, token_in};
 
 use crate::end::TransferEnd;
 use crate::opening::{FileOpenFault, open_source};
-use mds_client::RemoteServer;
-use mds_command::{Destination, TokenSource};
+use cli_args::{Destination, TokenSource};
+use cli_client::RemoteServer;
 use std::alloc::{AllocGlobal, Global};
 use std::fs::{File, Files};
 use std::io::{ErrorKind, Read};
@@ -97,7 +97,10 @@ fn first_bytes<S: Read + Drop>(alloc: Global, file: S) -> Result<Vec<u8>, Transf
 /// # Errors
 ///
 /// `NoToken`, `BadPlace` where it isn't UTF-8, `NoMemory`.
-fn read_token<R: Files<File = File> + AllocGlobal>(rt: &R, path: &str) -> Result<String, TransferEnd> {
+fn read_token<R: Files<File = File> + AllocGlobal>(
+    rt: &R,
+    path: &str,
+) -> Result<String, TransferEnd> {
     let file = match open_source(rt, path) {
         Ok(file) => file,
         Err(FileOpenFault::NotRegular) => return Err(TransferEnd::NoToken(TokenFault::NotRegular)),

@@ -6,7 +6,7 @@ use crate::host::TransferHost;
 use crate::policies::import_policies;
 use crate::status::import_status;
 use crate::token::{server_for, server_of, token_for};
-use mds_command::{Destination, Transfer, TokenSource};
+use cli_args::{Destination, TokenSource, Transfer};
 use std::alloc::AllocGlobal;
 use std::fs::{File, Files};
 use std::io::{Eprint, Print};
@@ -50,14 +50,21 @@ fn place_in<'a>(errand: &Transfer<'a>, end: TransferEnd) -> Option<&'a str> {
 /// # Errors
 ///
 /// `NoToken`, `BadPlace`, `NoMemory`, where the access token can't be had.
-fn run_with_token<R: TransferHost>(rt: &R, errand: &Transfer<'_>) -> Result<TransferEnd, TransferEnd> {
+fn run_with_token<R: TransferHost>(
+    rt: &R,
+    errand: &Transfer<'_>,
+) -> Result<TransferEnd, TransferEnd> {
     let token = token_for(rt, destination_of(errand))?;
     let token = token.as_str();
     Ok(match errand {
         Transfer::Policies(import) => {
             import_policies(rt, import, server_for(import.destination, token))
         }
-        Transfer::Status(import) => import_status(rt, import, server_for(import.destination, token)),
+        Transfer::Status(import) => import_status(
+            rt,
+            import,
+            server_for(import.destination, token),
+        ),
         Transfer::Published(export) => {
             export_published(rt, export.folder, &server_of(export.source, token))
         }

@@ -4,7 +4,7 @@ use Rattle.std.specs.Prelude.{ℕ, List, [], ◌∷◌, ◌++◌, Bool, true, fa
 use Rattle.mds_text.specs.Printed.{printed, quoted, comma_if}
 use Rattle.mds_text.specs.Quoting.{is_quoted}
 use Rattle.mds_text.specs.Tree.{Json, null, boolean, int, text, degrees, list, object, Items, no_items, item, Members, no_members, member}
-use Rattle.mds_import.specs.Members.{named, list_named, or_none}
+use Rattle.cli_documents.specs.Members.{named, list_named, or_none}
 
 -- a text that reads as a number that isn't plain is written as that number
 abbrev pub bare_text : List ℕ → List ℕ

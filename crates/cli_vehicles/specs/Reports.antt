@@ -6,14 +6,14 @@ use Rattle.jiff_core.specs.declared.error.Error.{Error}
 use Rattle.uuid.specs.Text.{hyphenated_text, lower}
 use Rattle.mds_text.specs.Printed.{printed, quoted}
 use Rattle.mds_text.specs.Tree.{Json, boolean, int, text}
-use Rattle.mds_import.specs.Members.{named, text_named, id_named}
-use Rattle.mds_import.specs.Documents.{id_of_name}
-use Rattle.mds_feeds.specs.Published.{bare}
-use Rattle.mds_feeds.specs.declared.report.StateMembers as program_deed
-use Rattle.mds_feeds.specs.declared.report.TypeMembers as program_make
-use Rattle.mds_feeds.specs.declared.report.VehicleOutcome as program_meant
-use Rattle.mds_feeds.specs.declared.report.VehicleOutcome.TheVariants as meant
-use Rattle.mds_feeds.specs.declared.report.PositionMembers as program_place
+use Rattle.cli_documents.specs.Members.{named, text_named, id_named}
+use Rattle.cli_documents.specs.Documents.{id_of_name}
+use Rattle.cli_vehicles.specs.Published.{bare}
+use Rattle.cli_vehicles.specs.declared.report.StateMembers as program_deed
+use Rattle.cli_vehicles.specs.declared.report.TypeMembers as program_make
+use Rattle.cli_vehicles.specs.declared.report.VehicleOutcome as program_meant
+use Rattle.cli_vehicles.specs.declared.report.VehicleOutcome.TheVariants as meant
+use Rattle.cli_vehicles.specs.declared.report.PositionMembers as program_place
 
 -- a report that is sent, a vehicle that is removed from the fleet, or the member for which nothing is sent
 pub data VehicleOutcome : Type 0 where

@@ -3,7 +3,7 @@ ghost use Rattle.std.specs.Prelude.{◌≡◌, false, [], ◌∷◌, ◌++◌, I
 ghost use Rattle.mds_text.specs.Tree.{items_of, members_of};
 ghost use Rattle.mds_text.specs.View.{view, member_view};
 ghost use Rattle.mds_text.specs.Printed.{quoted, printed};
-ghost use Rattle.mds_feeds.specs.Published.{bare, bare_text, bare_items, bare_members, or_null};
+ghost use Rattle.cli_vehicles.specs.Published.{bare, bare_text, bare_items, bare_members, or_null};
 
 use mds_text::{Member, Tree, is_quoted, print_tree, text_tree};
 use std::alloc::{AllocError, Global};

@@ -1,12 +1,14 @@
 //! Vehicles of GBFS 3 as reports.
 ghost use Rattle.std.specs.Prelude.{◌≡◌, IfOk, option_map};
 ghost use Rattle.mds_text.specs.View.{view};
-ghost use Rattle.mds_feeds.specs.Reports.{millis_in, millis_at, instant_of, is_true, gbfs_state, one_text, gbfs_make, gbfs_deed, gbfs_with, gbfs_meant, make_view, deed_view, meant_view};
+ghost use Rattle.cli_vehicles.specs.Reports.{millis_in, millis_at, instant_of, is_true, gbfs_state, one_text, gbfs_make, gbfs_deed, gbfs_with, gbfs_meant, make_view, deed_view, meant_view};
 
 use crate::bare::json_string;
-use crate::report::{StateMembers, VehicleMembers, TypeMembers, VehicleOutcome, position_in, report_or_fault};
+use crate::report::{
+    StateMembers, TypeMembers, VehicleMembers, VehicleOutcome, position_in, report_or_fault,
+};
+use cli_documents::{id_of_name, member_of, text_member};
 use jiff::Timestamp;
-use mds_import::{id_of_name, member_of, text_member};
 use mds_text::{Tree, print_tree};
 use std::alloc::{AllocError, Global};
 
@@ -101,7 +103,11 @@ fn gbfs_type_members(alloc: Global, kind: Option<&Tree>) -> Result<Option<TypeMe
 }
 
 /// A vehicle's state at this moment.
-fn gbfs_state_members(alloc: Global, vehicle: &Tree, moment: Option<i64>) -> Result<Option<StateMembers>, AllocError>
+fn gbfs_state_members(
+    alloc: Global,
+    vehicle: &Tree,
+    moment: Option<i64>,
+) -> Result<Option<StateMembers>, AllocError>
     ensures { IfOk result (λ d. option_map deed_view d ≡ gbfs_deed (view vehicle.now) moment) }
 {
     let Some(moment) = moment else {

@@ -1,12 +1,15 @@
 //! Vehicles of MDS 2.0 as reports and removals.
 ghost use Rattle.std.specs.Prelude.{◌≡◌, IfOk, codes, option_map, option_and_then};
 ghost use Rattle.mds_text.specs.View.{view};
-ghost use Rattle.mds_import.specs.Members.{named};
-ghost use Rattle.mds_feeds.specs.Reports.{is_away, located, mds_place, mds_make, mds_deed, mds_in_state, mds_stated, mds_with, mds_meant, place_view, make_view, deed_view, meant_view};
+ghost use Rattle.cli_documents.specs.Members.{named};
+ghost use Rattle.cli_vehicles.specs.Reports.{is_away, located, mds_place, mds_make, mds_deed, mds_in_state, mds_stated, mds_with, mds_meant, place_view, make_view, deed_view, meant_view};
 
 use crate::bare::json_string;
-use crate::report::{StateMembers, VehicleMembers, TypeMembers, VehicleOutcome, PositionMembers, list_text, position_in, report_or_fault};
-use mds_import::{id_member, member_of, text_member};
+use crate::report::{
+    PositionMembers, StateMembers, TypeMembers, VehicleMembers, VehicleOutcome, list_text,
+    position_in, report_or_fault,
+};
+use cli_documents::{id_member, member_of, text_member};
 use mds_text::{Id, Tree, print_tree};
 use std::alloc::{AllocError, Global};
 
@@ -38,7 +41,11 @@ fn last_position(alloc: Global, status: &Tree) -> Result<Option<PositionMembers>
 }
 
 /// A vehicle's position: that of its last event, or else that of its last telemetry.
-fn mds_position(alloc: Global, status: &Tree, event: &Tree) -> Result<Option<PositionMembers>, AllocError>
+fn mds_position(
+    alloc: Global,
+    status: &Tree,
+    event: &Tree,
+) -> Result<Option<PositionMembers>, AllocError>
     ensures { IfOk result (λ p. option_map place_view p ≡ mds_place (view status.now) (view event.now)) }
 {
     match location_of(alloc, event)? {
@@ -61,7 +68,11 @@ fn mds_type_members(alloc: Global, vehicle: &Tree) -> Result<Option<TypeMembers>
 }
 
 /// A vehicle's state, and the types and the moment of its last event.
-fn mds_state_members(alloc: Global, state: &str, event: &Tree) -> Result<Option<StateMembers>, AllocError>
+fn mds_state_members(
+    alloc: Global,
+    state: &str,
+    event: &Tree,
+) -> Result<Option<StateMembers>, AllocError>
     ensures { IfOk result (λ d. option_map deed_view d ≡ mds_deed state.now (view event.now)) }
 {
     match member_of(event, "timestamp") {
@@ -83,7 +94,12 @@ struct StatusWithVehicle<'t> {
 }
 
 /// What a vehicle in this state becomes.
-fn outcome_in_state(alloc: Global, device: Id, state: &str, seen: &StatusWithVehicle<'_>) -> Result<VehicleOutcome, AllocError>
+fn outcome_in_state(
+    alloc: Global,
+    device: Id,
+    state: &str,
+    seen: &StatusWithVehicle<'_>,
+) -> Result<VehicleOutcome, AllocError>
     ensures { IfOk result (λ m. meant_view m ≡ mds_in_state device state.now (view seen.now.status.now) (view seen.now.event.now) (view seen.now.vehicle.now)) }
 {
     if is_away(state) {
@@ -101,7 +117,11 @@ fn outcome_in_state(alloc: Global, device: Id, state: &str, seen: &StatusWithVeh
 /// What a vehicle's status (MDS 2.0, vehicle status) becomes, with the vehicle's own entry, which has its type: a
 /// report by its last event, at the event's position or else that of the last telemetry; or a removal, in the states
 /// `removed`, `missing` and `elsewhere`; or the member for which nothing is sent.
-pub fn mds_outcome(alloc: Global, status: &Tree, vehicle: &Tree) -> Result<VehicleOutcome, AllocError>
+pub fn mds_outcome(
+    alloc: Global,
+    status: &Tree,
+    vehicle: &Tree,
+) -> Result<VehicleOutcome, AllocError>
     ensures { IfOk result (λ m. meant_view m ≡ mds_meant (view status.now) (view vehicle.now)) }
 {
     let Some(device) = id_member(status, "device_id") else {

@@ -2,11 +2,11 @@
 ghost use Rattle.std.specs.Prelude.{◌≡◌, ◌++◌, false, IfOk, OnOk, codes, map, option_map};
 ghost use Rattle.mds_text.specs.View.{view};
 ghost use Rattle.mds_text.specs.Printed.{printed};
-ghost use Rattle.mds_import.specs.Members.{list_named, or_none};
-ghost use Rattle.mds_feeds.specs.Published.{geography_text, first_of, shape_of, feature_text, joined, policies_file, geographies_file, features_file};
+ghost use Rattle.cli_documents.specs.Members.{list_named, or_none};
+ghost use Rattle.cli_vehicles.specs.Published.{geography_text, first_of, shape_of, feature_text, joined, policies_file, geographies_file, features_file};
 
 use crate::bare::{push_bare_member, push_member, push_tree};
-use mds_import::{list_member, member_of};
+use cli_documents::{list_member, member_of};
 use mds_text::Tree;
 use std::alloc::{AllocError, Global};
 

@@ -1,10 +1,10 @@
 //! Reports as text.
 ghost use Rattle.std.specs.Prelude.{◌≡◌, ◌++◌, IfOk, OnOk, option_map};
 ghost use Rattle.mds_text.specs.View.{view};
-ghost use Rattle.mds_feeds.specs.Reports.{device_text, place_text, make_text, deed_text, report_text, list_text, place_with, place_at, told, meant_view, place_view, make_view, deed_view};
+ghost use Rattle.cli_vehicles.specs.Reports.{device_text, place_text, make_text, deed_text, report_text, list_text, place_with, place_at, told, meant_view, place_view, make_view, deed_view};
 
 use crate::bare::print_bare;
-use mds_import::member_of;
+use cli_documents::member_of;
 use mds_text::{Id, Tree, print_tree};
 use std::alloc::{AllocError, Global};
 

@@ -1,8 +1,9 @@
 //! Tests of vehicles of feeds, and of files of what is published.
 use crate::{
-    VehicleOutcome, features_file, gbfs_outcome, geographies_file, instant_of, mds_outcome, policies_file,
+    VehicleOutcome, features_file, gbfs_outcome, geographies_file, instant_of, mds_outcome,
+    policies_file,
 };
-use mds_reading::read_tree;
+use mds_json::read_tree;
 use std::slice::from_ref;
 use std::test::Fail;
 
@@ -41,7 +42,7 @@ fn reports_a_vehicle(rt: HostRuntime) -> Result<(), Fail> {
     let alloc = rt.alloc();
     let vehicle = read_tree(alloc, VEHICLE)?;
     let kind = read_tree(alloc, TYPE)?;
-    let moment = match mds_import::member_of(&vehicle, "last_reported") {
+    let moment = match cli_documents::member_of(&vehicle, "last_reported") {
         Some(seen) => instant_of(seen),
         None => None,
     };

@@ -3,7 +3,7 @@ use Rattle.std.proofs.Common.{◌≡◌, Bool, true, false, cond, List, [], ◌�
 use Rattle.std.specs.Prelude.{◌&&◌}
 use Rattle.std.proofs.lemmas.Bool.{and_parts}
 use Rattle.std.proofs.lemmas.List.{append-nil}
-use Rattle.mds_commit.specs.Durable.{chosen}
+use Rattle.journal_commit.specs.Durable.{chosen}
 
 by_flag : {A : Type 0} (flag : Bool) (item : A) (others : List A) → cond flag (item ∷ others) others ≡ cond flag (item ∷ []) [] ++ others
 by_flag true item others = refl

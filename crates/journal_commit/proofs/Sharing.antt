@@ -4,11 +4,11 @@ use Rattle.std.proofs.lemmas.List.{get_or-set_same, get_or_default, length-set, 
 use Rattle.std.proofs.lemmas.List.Folds.{fold-map, sum_by-replicate}
 use Rattle.std.proofs.lemmas.List.Sums.{sum_by-take-le, sum_by-take-drop, sum_by-drop_more, sum_by-set, sum_by-append, sum_by-cons}
 use Rattle.std.proofs.lemmas.List.Sums.{get_or-le-sum_by, sum_by-le-sum_by, sum_by_more_le_part}
-use Rattle.mds_commit.specs.declared.decisions.Usage.{Usage}
-use Rattle.mds_commit.specs.declared.decisions.TheConstants.{MOST_TEXTS, MOST_BYTES}
-use Rattle.mds_commit.specs.declared.client_shares.ClientShare.{ClientShare}
-use Rattle.mds_commit.specs.Shares.{texts_kept, bytes_kept, both, IsShared}
-use Rattle.mds_commit.specs.Tables.{usage_of, bytes_in, texts_held, share_of, holding}
+use Rattle.journal_commit.specs.declared.decisions.Usage.{Usage}
+use Rattle.journal_commit.specs.declared.decisions.TheConstants.{MOST_TEXTS, MOST_BYTES}
+use Rattle.journal_commit.specs.declared.client_shares.ClientShare.{ClientShare}
+use Rattle.journal_commit.specs.Shares.{texts_kept, bytes_kept, both, IsShared}
+use Rattle.journal_commit.specs.Tables.{usage_of, bytes_in, texts_held, share_of, holding}
 
 pub sum_by-map : {X Y : Type 0} (f : Y → ℕ) (h : X → Y) (xs : List X) → sum_by f (map h xs) ≡ sum_by (λ x. f (h x)) xs
 sum_by-map f h xs = fold-map (λ a y. a + f y) h 0 xs

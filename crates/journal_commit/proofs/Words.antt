@@ -5,8 +5,8 @@ use Rattle.std.proofs.lemmas.Bool.Decides.{nat_tests}
 use mathlib.Core.List.{IsPrefix}
 use prog.Atomic.{either}
 use Rattle.logbook.specs.Pages.{Cell, cell, keeps, no_nib, step, Moves, Goes}
-use Rattle.mds_commit.specs.History.{AreSynced, IsKept, Adds, Stamps, Raises, Finds}
-use Rattle.mds_commit.proofs.Fronts.{prefix_whole, prefix_taken}
+use Rattle.journal_commit.specs.History.{AreSynced, IsKept, Adds, Stamps, Raises, Finds}
+use Rattle.journal_commit.proofs.Fronts.{prefix_whole, prefix_taken}
 
 abbrev pub shown : List (List ℕ) → List (List ℕ)
 shown log = []

@@ -1,7 +1,7 @@
 -- Durability: what no crash takes away.
 use Rattle.std.specs.Prelude.{◌≡◌, ℕ, Bool, List, [], ◌∷◌, ◌++◌, if◌then◌else◌}
 use mathlib.Core.List.{IsPrefix}
-use Rattle.mds_commit.specs.History.{AreSynced}
+use Rattle.journal_commit.specs.History.{AreSynced}
 
 module _ {L : Type 0} (may_be : L → List (List ℕ) → Type 0) (is_synced : L → Type 0) where
   -- synced payloads begin with these

@@ -1,8 +1,8 @@
 -- The disk space reserved for payloads before they are appended.
 use Rattle.std.specs.Prelude.{ℕ, ◌+◌, ◌≤◌, List, [], ◌∷◌, length}
-use Rattle.mds_records.specs.Records.{extent}
-use Rattle.mds_records.specs.Groups.{group_of}
-use Rattle.mds_commit.specs.declared.backlog.TheConstants.{RECORD_OVERHEAD}
+use Rattle.journal_file.specs.Records.{extent}
+use Rattle.journal_file.specs.Groups.{group_of}
+use Rattle.journal_commit.specs.declared.backlog.TheConstants.{RECORD_OVERHEAD}
 
 -- how many bytes are reserved for these payloads
 abbrev pub held_for : List (List ℕ) → ℕ

@@ -1,7 +1,7 @@
 -- What may wait is shared out among the clients.
 use Rattle.std.specs.Prelude.{◌≡◌, ℕ, ◌+◌, ◌*◌, ◌≤◌, max, List, ◌∷◌, ◌++◌, sum_by}
-use Rattle.mds_commit.specs.declared.decisions.Usage.{Usage}
-use Rattle.mds_commit.specs.declared.decisions.TheConstants.{MOST_TEXTS, MOST_BYTES, MOST_TEXTS_OF_ONE, MOST_BYTES_OF_ONE, LEAST_BYTES}
+use Rattle.journal_commit.specs.declared.decisions.Usage.{Usage}
+use Rattle.journal_commit.specs.declared.decisions.TheConstants.{MOST_TEXTS, MOST_BYTES, MOST_TEXTS_OF_ONE, MOST_BYTES_OF_ONE, LEAST_BYTES}
 
 -- with so much more it has no more than its share, and next to what all have then there is one reservation for each
 -- other that has nothing

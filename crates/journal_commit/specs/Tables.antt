@@ -1,8 +1,8 @@
 -- What each client has, in a table.
 use Rattle.std.specs.Prelude.{ℕ, ◌+◌, List, slice_set, slice_index_or, sum_by}
-use Rattle.mds_commit.specs.declared.decisions.Usage.{Usage}
-use Rattle.mds_commit.specs.declared.client_shares.ClientShare.{ClientShare}
-use Rattle.mds_commit.specs.Shares.{both}
+use Rattle.journal_commit.specs.declared.decisions.Usage.{Usage}
+use Rattle.journal_commit.specs.declared.client_shares.ClientShare.{ClientShare}
+use Rattle.journal_commit.specs.Shares.{both}
 
 -- what one client has in all
 abbrev pub usage_of : ClientShare → Usage

@@ -1,7 +1,7 @@
 -- What waits to be written: the payloads that were appended after those that the flusher has taken.
 use Rattle.std.specs.Prelude.{List, ℕ, refl}
 use Rattle.std.specs.Coded.{Coded, code_by, coded×}
-use Rattle.mds_commit.specs.Codes.{coded_texts}
+use Rattle.journal_commit.specs.Codes.{coded_texts}
 
 pub record Waiting : Type 0 where
   pub taken : List (List ℕ)

@@ -1,19 +1,19 @@
 //! The state under the keeper's lock: the payloads that wait for the flusher, and the disk space reserved for them.
 ghost use Rattle.std.specs.Prelude.{◌≡◌, ◌+◌, ◌≤◌, ◌<◌, ◌++◌, ◌∷◌, [], length, map, true, IfOk, IfSome, IfNone, OnOk, OnErr, OnSome, if◌then◌else◌, get_or, drop, false, vec_len, vec_capacity};
 ghost use mathlib.Core.List.{IsPrefix};
-ghost use Rattle.mds_records.specs.Groups.{is_taken};
-ghost use Rattle.mds_commit.specs.Durable.{chosen};
-ghost use Rattle.mds_commit.specs.Tables.{bytes_in, holding};
-ghost use Rattle.mds_commit.specs.declared.decisions.TheConstants.{MOST_TEXTS};
-ghost use Rattle.mds_commit.specs.declared.backlog.TheConstants.{RECORD_OVERHEAD};
-ghost use Rattle.mds_commit.specs.declared.reserved_space.TheConstants.{STEP};
+ghost use Rattle.journal_file.specs.Groups.{is_taken};
+ghost use Rattle.journal_commit.specs.Durable.{chosen};
+ghost use Rattle.journal_commit.specs.Tables.{bytes_in, holding};
+ghost use Rattle.journal_commit.specs.declared.decisions.TheConstants.{MOST_TEXTS};
+ghost use Rattle.journal_commit.specs.declared.backlog.TheConstants.{RECORD_OVERHEAD};
+ghost use Rattle.journal_commit.specs.declared.reserved_space.TheConstants.{STEP};
 
+use crate::client_shares::ClientShares;
 use crate::decisions::{MOST_TEXTS, MOST_TEXTS_OF_ONE, Round, Usage, next_round};
 use crate::history::{CommitLedger, LogName, LogPosition};
 use crate::reserved_space::{ReservedSpace, STEP};
-use crate::client_shares::ClientShares;
 use crate::space::{NoRoom, Space};
-use mds_records::{Log, fits, is_plain};
+use journal_file::{Log, fits, is_plain};
 use std::alloc::{AllocError, Global};
 use std::marker::Model;
 use std::mem;
@@ -73,8 +73,8 @@ pub(crate) struct CommitQueue<K: LogName, L: Log> {
 
 impl<K: LogName, L: Log> Model for CommitQueue<K, L> {
     ghost use Rattle.std.specs.Prelude.{◌≡◌, ◌≤◌, ◌++◌, map, vec_capacity};
-    ghost use Rattle.mds_commit.specs.Waiting.{Waiting, coded_waiting};
-    ghost use Rattle.mds_commit.specs.declared.decisions.TheConstants.{MOST_TEXTS};
+    ghost use Rattle.journal_commit.specs.Waiting.{Waiting, coded_waiting};
+    ghost use Rattle.journal_commit.specs.declared.decisions.TheConstants.{MOST_TEXTS};
 
     ghost Value = { Waiting };
 
@@ -174,7 +174,11 @@ impl<K: LogName, L: Log> CommitQueue<K, L> {
 
     /// Moves all that waits into a group, which is empty and has the capacity, and returns the log position of all that
     /// was appended. None where `taken` isn't the log position of what was taken so far.
-    fn take(&mut self, group: &mut Vec<Vec<u8>>, taken: &LogPosition<K, L>) -> Option<LogPosition<K, L>>
+    fn take(
+        &mut self,
+        group: &mut Vec<Vec<u8>>,
+        taken: &LogPosition<K, L>,
+    ) -> Option<LogPosition<K, L>>
         requires empty { group.old.items ≡ [] }
         requires capacity { MOST_TEXTS ≤ vec_capacity group.old }
         ensures taken { IfSome result (λ stamp. stamp ≡ taken.now ++ map (λ v. v.items) group.new.items) }
@@ -279,7 +283,11 @@ impl<K: LogName, L: Log, S: Space> CommitBacklog<K, L, S> {
     /// # Errors
     ///
     /// See [`ReserveFault`]. Nothing is reserved then, and nothing has changed for others.
-    pub(crate) fn make_reservation(&mut self, asker: usize, text: Vec<u8>) -> Result<Reservation, ReserveFault>
+    pub(crate) fn make_reservation(
+        &mut self,
+        asker: usize,
+        text: Vec<u8>,
+    ) -> Result<Reservation, ReserveFault>
         ensures place { IfOk result (λ place. place.text ≡ text) }
         ensures asker { IfOk result (λ place. place.asker ≡ asker) }
         ensures held { OnOk result (self.new.shares.each.items ≡ holding self.old.shares.each.items asker (record { texts = 1; bytes = vec_len text + RECORD_OVERHEAD })) }
@@ -313,7 +321,11 @@ impl<K: LogName, L: Log, S: Space> CommitBacklog<K, L, S> {
 
     /// Appends the payload of a reservation, and returns the log position of all that was appended then. None where it
     /// can't, which doesn't happen where the reservation was made here.
-    pub(crate) fn append(&mut self, ledger: &CommitLedger<K, L>, place: Reservation) -> Option<LogPosition<K, L>>
+    pub(crate) fn append(
+        &mut self,
+        ledger: &CommitLedger<K, L>,
+        place: Reservation,
+    ) -> Option<LogPosition<K, L>>
         ensures pushed { IfSome result (λ stamp. (stamp ≡ self.old.queue.appended ++ place.text.items ∷ []) × (self.new.queue.appended ≡ stamp)) }
         ensures taken { self.new.queue.taken ≡ self.old.queue.taken }
     {
@@ -408,7 +420,11 @@ impl<K: LogName, L: Log, S: Space> CommitBacklog<K, L, S> {
 
     /// What the flusher does next.
     pub(crate) fn round(&self) -> Round {
-        next_round(self.queue.len(), self.shares.reserved_count(), self.is_stopping)
+        next_round(
+            self.queue.len(),
+            self.shares.reserved_count(),
+            self.is_stopping,
+        )
     }
 
     /// Moves all that waits into a group: see [`CommitQueue::take`]. Its reserved disk space is released, since it is written

@@ -1,8 +1,8 @@
 //! Each client's share: its payloads that wait, and what it has reserved.
 ghost use Rattle.std.specs.Prelude.{◌≡◌, ◌+◌, ◌*◌, ◌<◌, ◌≤◌, true, IfOk, MatchBool, length, map, sum_by, slice_set};
-ghost use Rattle.mds_commit.specs.Shares.{IsShared, texts_kept, bytes_kept};
-ghost use Rattle.mds_commit.specs.Tables.{usage_of, bytes_in, texts_held, holding, share_of, untaken};
-ghost use Rattle.mds_commit.specs.declared.decisions.TheConstants.{MOST_TEXTS, MOST_BYTES, LEAST_BYTES};
+ghost use Rattle.journal_commit.specs.Shares.{IsShared, texts_kept, bytes_kept};
+ghost use Rattle.journal_commit.specs.Tables.{usage_of, bytes_in, texts_held, holding, share_of, untaken};
+ghost use Rattle.journal_commit.specs.declared.decisions.TheConstants.{MOST_TEXTS, MOST_BYTES, LEAST_BYTES};
 
 use crate::decisions::{LEAST_BYTES, MOST_CLIENTS, Usage, may_reserve};
 use std::alloc::{AllocError, Global};

@@ -1,16 +1,16 @@
 //! The commit log that all desks and the room share: it appends their records, and says when a response may leave.
 ghost use Rattle.std.specs.Prelude.{◌≡◌, ◌++◌, ◌≤◌, [], map, ℕ, List, IfOk, IfNone, IfSome, OnOk, OnErr, vec_capacity};
 ghost use mathlib.Core.List.{IsPrefix};
-ghost use Rattle.mds_commit.specs.Durable.{AreDurable, AreLast, IsLast, chosen};
-ghost use Rattle.mds_commit.specs.declared.decisions.TheConstants.{MOST_TEXTS};
-ghost use Rattle.mds_commit.specs.declared.decisions.ResponseTiming.TheVariants as tellings;
+ghost use Rattle.journal_commit.specs.Durable.{AreDurable, AreLast, IsLast, chosen};
+ghost use Rattle.journal_commit.specs.declared.decisions.TheConstants.{MOST_TEXTS};
+ghost use Rattle.journal_commit.specs.declared.decisions.ResponseTiming.TheVariants as tellings;
 
 use crate::backlog::{CommitBacklog, Reservation, Reservations, ReserveFault};
-use crate::decisions::{Round, ResponseTiming, Usage, may_respond};
+use crate::decisions::{ResponseTiming, Round, Usage, may_respond};
 use crate::flusher::{FlushFault, Flusher};
-use crate::history::{CommitLedger, LogName, UnnamedHistory, LogPosition};
+use crate::history::{CommitLedger, LogName, LogPosition, UnnamedHistory};
 use crate::space::Space;
-use mds_records::Log;
+use journal_file::Log;
 use std::alloc::{AllocError, Global};
 use std::mem;
 use std::sync::atomic::{AtomicBool, Ordering};
@@ -112,7 +112,11 @@ impl<K: LogName, L: Log, S: Space> CommitLog<K, L, S> {
     /// # Errors
     ///
     /// The keeper failed; this doesn't happen where the reservation was made here.
-    pub fn append<R: Wait>(&self, rt: &R, place: Reservation) -> Result<LogPosition<K, L>, CommitFault>
+    pub fn append<R: Wait>(
+        &self,
+        rt: &R,
+        place: Reservation,
+    ) -> Result<LogPosition<K, L>, CommitFault>
         ensures { IfOk result (λ stamp. IsLast place.text.items stamp) }
     {
         let appended = self.backlog.lock(rt).append(&self.ledger, place);
@@ -155,7 +159,10 @@ impl<K: LogName, L: Log, S: Space> CommitLog<K, L, S> {
 
     /// Releases all of these reservations.
     pub fn release_all<R: Wait>(&self, rt: &R, places: Reservations) {
-        let _nothing = self.backlog.lock(rt).append_chosen(&self.ledger, places, &[]);
+        let _nothing = self
+            .backlog
+            .lock(rt)
+            .append_chosen(&self.ledger, places, &[]);
         self.more.notify_one();
     }
 
@@ -176,7 +183,10 @@ impl<K: LogName, L: Log, S: Space> CommitLog<K, L, S> {
         ensures last { IfOk result (λ stamp. AreLast (chosen kept.now (map (λ v. v.items) places.texts.items)) stamp) }
         ensures known { IfOk result (λ stamp. IsPrefix known.now stamp) }
     {
-        let settled = self.backlog.lock(rt).append_chosen(&self.ledger, places, kept);
+        let settled = self
+            .backlog
+            .lock(rt)
+            .append_chosen(&self.ledger, places, kept);
         match settled {
             // Under the lock it is all that was appended, so it begins with what was known before.
             Some(stamp) if known.begins(&stamp) => {
@@ -196,7 +206,11 @@ impl<K: LogName, L: Log, S: Space> CommitLog<K, L, S> {
     /// # Errors
     ///
     /// The keeper failed: then nothing may become visible.
-    pub fn append_synced<R: Wait>(&self, rt: &R, place: Reservation) -> Result<LogPosition<K, L>, CommitFault>
+    pub fn append_synced<R: Wait>(
+        &self,
+        rt: &R,
+        place: Reservation,
+    ) -> Result<LogPosition<K, L>, CommitFault>
         ensures last { IfOk result (λ stamp. IsLast place.text.items stamp) }
         ensures durable { IfOk result (λ stamp. AreDurable L.may_be L.is_synced stamp) }
     {

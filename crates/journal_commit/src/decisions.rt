@@ -1,9 +1,9 @@
 //! When a response may leave, what the flusher does next, and whether a reservation may be made: decisions over plain
 //! values.
 ghost use Rattle.std.specs.Prelude.{◌≡◌, ◌+◌, ◌<◌, ◌≤◌, true, false, IsTrue, ◌↔◌};
-ghost use Rattle.mds_commit.specs.declared.decisions.Round.TheVariants as rounds;
-ghost use Rattle.mds_commit.specs.declared.decisions.ResponseTiming.TheVariants as tellings;
-ghost use Rattle.mds_commit.specs.Shares.{MayReserve};
+ghost use Rattle.journal_commit.specs.declared.decisions.Round.TheVariants as rounds;
+ghost use Rattle.journal_commit.specs.declared.decisions.ResponseTiming.TheVariants as tellings;
+ghost use Rattle.journal_commit.specs.Shares.{MayReserve};
 
 /// The most payloads that wait to be written, together with those that have reservations.
 pub const MOST_TEXTS: usize = 16_384;

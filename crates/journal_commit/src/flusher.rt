@@ -1,14 +1,14 @@
 //! The flusher: one thread that writes and syncs for all that wait.
 ghost use Rattle.std.specs.Prelude.{◌≡◌, ◌++◌, ◌≤◌, [], map, ℕ, List, IfOk, OnOk, vec_capacity, vec_len};
-ghost use Rattle.mds_commit.specs.Durable.{AreDurable, EndsWith};
-ghost use Rattle.mds_commit.specs.History.{AreSynced};
-ghost use Rattle.mds_commit.specs.declared.decisions.TheConstants.{MOST_TEXTS};
+ghost use Rattle.journal_commit.specs.Durable.{AreDurable, EndsWith};
+ghost use Rattle.journal_commit.specs.History.{AreSynced};
+ghost use Rattle.journal_commit.specs.declared.decisions.TheConstants.{MOST_TEXTS};
 
+use crate::commit_log::CommitLog;
 use crate::decisions::MOST_TEXTS;
 use crate::history::{CommitLedger, LogName, LogPosition};
-use crate::commit_log::CommitLog;
 use crate::space::Space;
-use mds_records::{AppendFault, Log, SyncFault};
+use journal_file::{AppendFault, Log, SyncFault};
 use std::alloc::{AllocError, Global};
 use std::marker::Model;
 use std::sync::Wait;
@@ -49,8 +49,8 @@ struct FlushedLog<K: LogName, L: Log> {
 
 impl<K: LogName, L: Log> Model for FlushedLog<K, L> {
     ghost use Rattle.std.specs.Prelude.{ℕ, List};
-    ghost use Rattle.mds_commit.specs.Codes.{coded_texts};
-    ghost use Rattle.mds_commit.specs.Durable.{EndsWith};
+    ghost use Rattle.journal_commit.specs.Codes.{coded_texts};
+    ghost use Rattle.journal_commit.specs.Durable.{EndsWith};
 
     ghost Value = { List (List ℕ) };
 
@@ -161,7 +161,11 @@ impl<K: LogName, L: Log> Flusher<K, L> {
     /// # Errors
     ///
     /// An append or a sync failed. No response of any thread or task leaves any more.
-    pub fn run<R: Wait, S: Space>(self, rt: &R, keeper: &CommitLog<K, L, S>) -> Result<L, FlushFault>
+    pub fn run<R: Wait, S: Space>(
+        self,
+        rt: &R,
+        keeper: &CommitLog<K, L, S>,
+    ) -> Result<L, FlushFault>
         ensures { IfOk result L.is_synced }
     {
         let mut flusher = self;

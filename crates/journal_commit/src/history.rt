@@ -2,10 +2,10 @@
 //! two atomic words, how many payloads were appended, and how many of these are synced.
 ghost use Rattle.std.specs.Prelude.{◌≡◌, ◌+◌, ◌<◌, ◌≤◌, ◌^◌, ◌++◌, ◌∷◌, ℕ, List, [], length, take, IfOk, MatchBool, OnOk, true};
 ghost use mathlib.Core.List.{IsPrefix};
-ghost use Rattle.mds_commit.specs.History.{AreSynced, appended_of, synced_of};
+ghost use Rattle.journal_commit.specs.History.{AreSynced, appended_of, synced_of};
 
+use journal_file::{Log, SyncFault};
 use logbook::{Gain, Offer, Plain, Play, Rule, Seen, Word};
-use mds_records::{Log, SyncFault};
 use std::marker::{Brand, Model, PhantomData};
 
 /// A payload, which contracts see as its bytes. No value of this type is made.
@@ -15,7 +15,7 @@ pub struct Text {
 
 impl Model for Text {
     ghost use Rattle.std.specs.Prelude.{ℕ, List};
-    ghost use Rattle.mds_commit.specs.Codes.{coded_text};
+    ghost use Rattle.journal_commit.specs.Codes.{coded_text};
 
     ghost Value = { List ℕ };
 
@@ -32,7 +32,7 @@ pub struct CommitRule<L: Log> {
 impl<L: Log> Rule<Text, u64> for CommitRule<L> {
     ghost use Rattle.std.specs.Prelude.{[]};
     ghost use base.Fml.{ftrue};
-    ghost use Rattle.mds_commit.specs.History.{IsKept};
+    ghost use Rattle.journal_commit.specs.History.{IsKept};
 
     ghost holds = { λ cells log. IsKept L.may_be L.is_synced cells log };
 
@@ -60,7 +60,7 @@ impl Gain<Text, u64> for NoCommitGain {
 pub struct AppendStep;
 
 impl Play<Text, u64> for AppendStep {
-    ghost use Rattle.mds_commit.specs.History.{Adds};
+    ghost use Rattle.journal_commit.specs.History.{Adds};
 
     ghost then = { Adds };
 }
@@ -77,7 +77,7 @@ impl Plain<Vec<u8>, Text, u64> for AppendStep {
 pub struct ReadAppendedStep;
 
 impl Play<Text, u64> for ReadAppendedStep {
-    ghost use Rattle.mds_commit.specs.History.{Stamps};
+    ghost use Rattle.journal_commit.specs.History.{Stamps};
 
     ghost then = { Stamps };
 }
@@ -95,7 +95,7 @@ impl Plain<(), Text, u64> for ReadAppendedStep {
 pub struct RecordSyncedStep;
 
 impl Play<Text, u64> for RecordSyncedStep {
-    ghost use Rattle.mds_commit.specs.History.{Raises};
+    ghost use Rattle.journal_commit.specs.History.{Raises};
 
     ghost then = { Raises };
 }
@@ -106,7 +106,7 @@ pub struct ReadSyncedStep<L: Log> {
 }
 
 impl<L: Log> Play<Text, u64> for ReadSyncedStep<L> {
-    ghost use Rattle.mds_commit.specs.History.{Finds};
+    ghost use Rattle.journal_commit.specs.History.{Finds};
 
     ghost then = { Finds L.may_be L.is_synced };
 }
@@ -203,7 +203,7 @@ pub struct LogPosition<K: LogName, L: Log> {
 
 impl<K: LogName, L: Log> Model for LogPosition<K, L> {
     ghost use Rattle.std.specs.Prelude.{◌≡◌, ℕ, List, length};
-    ghost use Rattle.mds_commit.specs.Codes.{coded_texts};
+    ghost use Rattle.journal_commit.specs.Codes.{coded_texts};
 
     ghost Value = { List (List ℕ) };
 
@@ -224,8 +224,8 @@ pub struct SyncedPrefix<K: LogName, L: Log> {
 
 impl<K: LogName, L: Log> Model for SyncedPrefix<K, L> {
     ghost use Rattle.std.specs.Prelude.{◌≡◌, ◌≤◌, ℕ, List, length, take};
-    ghost use Rattle.mds_commit.specs.Codes.{coded_texts};
-    ghost use Rattle.mds_commit.specs.History.{AreSynced};
+    ghost use Rattle.journal_commit.specs.Codes.{coded_texts};
+    ghost use Rattle.journal_commit.specs.History.{AreSynced};
 
     ghost Value = { List (List ℕ) };
 
@@ -278,8 +278,14 @@ impl<K: LogName, L: Log> LogPosition<K, L> {
         ensures { IsPrefix self.now result }
     {
         let mut seen = self.seen.again();
-        let mut offer: Offer<Text, u64, CommitRule<L>, NoCommitGain> = seen.plain::<NoCommitGain, (), ReadAppendedStep>(&());
-        let count = ledger.appended.load::<ReadAppendedStep, NoCommitGain>(&mut seen, &mut offer);
+        let mut offer: Offer<Text, u64, CommitRule<L>, NoCommitGain> = seen.plain::<
+            NoCommitGain,
+            (),
+            ReadAppendedStep,
+        >(&());
+        let count = ledger
+            .appended
+            .load::<ReadAppendedStep, NoCommitGain>(&mut seen, &mut offer);
         LogPosition {
             count,
             seen,
@@ -293,14 +299,22 @@ impl<K: LogName, L: Log> LogPosition<K, L> {
         ensures { MatchBool result (self.new ≡ self.old ++ text.now.items ∷ []) (IsPrefix self.old self.new) }
     {
         let mut seen = self.seen.again();
-        let mut offer: Offer<Text, u64, CommitRule<L>, NoCommitGain> = seen.plain::<NoCommitGain, Vec<u8>, AppendStep>(
-            text,
-        );
+        let mut offer: Offer<Text, u64, CommitRule<L>, NoCommitGain> = seen.plain::<
+            NoCommitGain,
+            Vec<u8>,
+            AppendStep,
+        >(text);
         let mut pen = seen.no_pen();
         let count = self.count;
         let found = ledger
             .appended
-            .compare_exchange::<AppendStep, NoCommitGain>(count, count + 1, &mut seen, &mut offer, &mut pen);
+            .compare_exchange::<AppendStep, NoCommitGain>(
+                count,
+                count + 1,
+                &mut seen,
+                &mut offer,
+                &mut pen,
+            );
         let added = found == count;
         self.count = if added { count + 1 } else { found };
         self.seen = seen;
@@ -313,7 +327,11 @@ impl<K: LogName, L: Log> LogPosition<K, L> {
         requires texts { (first : List (List ℕ)) × L.may_be log.now (first ++ self.now) }
     {
         let mut seen = self.seen.again();
-        let mut offer: Offer<Text, u64, CommitRule<L>, NoCommitGain> = seen.plain::<NoCommitGain, (), ReadAppendedStep>(&());
+        let mut offer: Offer<Text, u64, CommitRule<L>, NoCommitGain> = seen.plain::<
+            NoCommitGain,
+            (),
+            ReadAppendedStep,
+        >(&());
         let mut pen = seen.no_pen();
         let _found = ledger
             .synced
@@ -329,7 +347,11 @@ impl<K: LogName, L: Log> LogPosition<K, L> {
         ensures front { (appended : List (List ℕ)) × IsPrefix self.now appended × IsPrefix result appended }
     {
         let mut seen = self.seen.again();
-        let mut offer: Offer<Text, u64, CommitRule<L>, NoCommitGain> = seen.plain::<NoCommitGain, (), ReadAppendedStep>(&());
+        let mut offer: Offer<Text, u64, CommitRule<L>, NoCommitGain> = seen.plain::<
+            NoCommitGain,
+            (),
+            ReadAppendedStep,
+        >(&());
         let count = ledger
             .synced
             .load::<ReadSyncedStep<L>, NoCommitGain>(&mut seen, &mut offer);

@@ -1,6 +1,6 @@
 //! Laws of group commit. The functions do nothing: their contracts are the laws.
-ghost use Rattle.mds_commit.specs.Reservations.{PlacesAreEnough};
-ghost use Rattle.mds_commit.specs.Shares.{OneIsLeftForEach};
+ghost use Rattle.journal_commit.specs.Reservations.{PlacesAreEnough};
+ghost use Rattle.journal_commit.specs.Shares.{OneIsLeftForEach};
 
 /// The disk space reserved for the payloads of a group is enough for its records.
 pub fn reservations_are_enough()

@@ -4,24 +4,24 @@
 
 mod backlog;
 mod ballast;
+mod client_shares;
+mod commit_log;
 mod decisions;
 mod flusher;
 mod history;
-mod commit_log;
 pub mod laws;
 mod reserved_space;
-mod sync_wait;
-mod client_shares;
 mod space;
+mod sync_wait;
 
 pub use backlog::{Reservation, Reservations, ReserveFault};
 pub use ballast::Ballast;
+pub use commit_log::{CommitFault, CommitLog, open};
 pub use decisions::{
-    LEAST_BYTES, MOST_CLIENTS, MOST_BYTES, MOST_BYTES_OF_ONE, MOST_TEXTS, MOST_TEXTS_OF_ONE, Round,
-    ResponseTiming, Usage, may_reserve, may_respond, next_round,
+    LEAST_BYTES, MOST_BYTES, MOST_BYTES_OF_ONE, MOST_CLIENTS, MOST_TEXTS, MOST_TEXTS_OF_ONE,
+    ResponseTiming, Round, Usage, may_reserve, may_respond, next_round,
 };
 pub use flusher::{FlushFault, Flusher};
-pub use history::{CommitLedger, LogName, UnnamedHistory, LogPosition, SyncedPrefix};
-pub use commit_log::{CommitLog, CommitFault, open};
-pub use sync_wait::AwaitSync;
+pub use history::{CommitLedger, LogName, LogPosition, SyncedPrefix, UnnamedHistory};
 pub use space::{CountedSpace, NoRoom, Space};
+pub use sync_wait::AwaitSync;

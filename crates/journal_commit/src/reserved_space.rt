@@ -1,7 +1,7 @@
 //! The disk space reserved for what waits.
 ghost use Rattle.std.specs.Prelude.{◌≡◌, ◌+◌, ◌-◌, ◌≤◌, OnOk, OnErr};
-ghost use Rattle.mds_commit.specs.declared.decisions.TheConstants.{MOST_BYTES};
-ghost use Rattle.mds_commit.specs.declared.reserved_space.TheConstants.{STEP};
+ghost use Rattle.journal_commit.specs.declared.decisions.TheConstants.{MOST_BYTES};
+ghost use Rattle.journal_commit.specs.declared.reserved_space.TheConstants.{STEP};
 
 use crate::space::{NoRoom, Space};
 

@@ -1,15 +1,15 @@
 //! A pending response: a task that waits until all that it shows is synced.
 ghost use Rattle.std.specs.Prelude.{◌≡◌, Some, IfOk, IfSome};
 ghost use Rattle.tokio.specs.Locks.{owned_notified_source};
-ghost use Rattle.mds_commit.specs.Durable.{AreDurable};
+ghost use Rattle.journal_commit.specs.Durable.{AreDurable};
 
+use crate::commit_log::{CommitFault, CommitLog};
 use crate::decisions::ResponseTiming;
 use crate::history::{LogName, LogPosition};
-use crate::commit_log::{CommitLog, CommitFault};
 use crate::space::Space;
 use futures::Future;
 use futures::task::{Context, Poll};
-use mds_records::Log;
+use journal_file::Log;
 use std::sync::Arc;
 use tokio::sync::OwnedNotified;
 
@@ -26,7 +26,11 @@ pub struct AwaitSync<T: Drop, K: LogName, L: Log, S: Space> {
 
 impl<T: Drop, K: LogName, L: Log, S: Space> AwaitSync<T, K, L, S> {
     /// The response, once all that it shows is synced.
-    pub fn new(keeper: Arc<CommitLog<K, L, S>>, stamp: LogPosition<K, L>, reply: T) -> AwaitSync<T, K, L, S>
+    pub fn new(
+        keeper: Arc<CommitLog<K, L, S>>,
+        stamp: LogPosition<K, L>,
+        reply: T,
+    ) -> AwaitSync<T, K, L, S>
         ensures stamp { result.stamp ≡ stamp }
         ensures reply { result.reply ≡ Some reply }
     {

@@ -3,11 +3,11 @@ use Rattle.std.proofs.Common.{◌≡◌, ℕ, ◌+◌, ◌<◌, Bool, true, fals
 use Rattle.std.proofs.lemmas.List.{map-append, take_more}
 use Rattle.mds_request.specs.Configuration.{Configuration}
 use Rattle.mds_request.specs.Reply.{Reply}
-use Rattle.mds_entries.specs.Entries.{Entry}
-use Rattle.mds_entries.specs.declared.entry.EntryClient.TheVariants.{Author}
-use Rattle.mds_recovery.specs.Recovery.{Server}
-use Rattle.mds_thinning.specs.Questions.{asks, is_draft, drafts}
-use Rattle.mds_thinning.specs.Replies.{IsTold, AreTold}
+use Rattle.journal_entry.specs.Entries.{Entry}
+use Rattle.journal_entry.specs.declared.entry.EntryClient.TheVariants.{Author}
+use Rattle.journal_recovery.specs.Recovery.{Server}
+use Rattle.journal_compaction.specs.Questions.{asks, is_draft, drafts}
+use Rattle.journal_compaction.specs.Replies.{IsTold, AreTold}
 
 drafts_more : (at : ℕ) (entries : List Entry) (e : Entry) → drafts at (entries ++ e ∷ []) ≡ drafts at entries ++ drafts at (e ∷ [])
 drafts_more at [] e = refl

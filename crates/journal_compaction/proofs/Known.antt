@@ -10,13 +10,13 @@ use Rattle.std.proofs.lemmas.Bool.{false≢true}
 use Rattle.std.proofs.lemmas.Bool.Decides.{nat_tests, Decides-eqb}
 use Rattle.std.proofs.lemmas.Map.Text.{is_eq-slice_cmp}
 use Rattle.std.proofs.lemmas.Slice.Eq.{bytes_eq-Decides}
-use Rattle.mds_thinning.specs.declared.kind.Device.{Device}
-use Rattle.mds_thinning.specs.declared.kind.EntryKind.{EntryKind}
-use Rattle.mds_thinning.specs.declared.kind.EntryKind.TheVariants.{Report, Removal, Other}
-use Rattle.mds_thinning.specs.declared.kind.LaterEntries.{LaterEntries}
-use Rattle.mds_thinning.specs.declared.kind.LaterEntries.TheVariants.{Run, Settled}
-use Rattle.mds_thinning.specs.Staying.{is_same, is_removal, states_of, state_before, begins, is_none, stays}
-use Rattle.mds_thinning.specs.Passes.{device_cmp, begins_at, joined, ahead_of, stays_by, stays_at}
+use Rattle.journal_compaction.specs.declared.kind.Device.{Device}
+use Rattle.journal_compaction.specs.declared.kind.EntryKind.{EntryKind}
+use Rattle.journal_compaction.specs.declared.kind.EntryKind.TheVariants.{Report, Removal, Other}
+use Rattle.journal_compaction.specs.declared.kind.LaterEntries.{LaterEntries}
+use Rattle.journal_compaction.specs.declared.kind.LaterEntries.TheVariants.{Run, Settled}
+use Rattle.journal_compaction.specs.Staying.{is_same, is_removal, states_of, state_before, begins, is_none, stays}
+use Rattle.journal_compaction.specs.Passes.{device_cmp, begins_at, joined, ahead_of, stays_by, stays_at}
 
 then_equal : (o r : Ordering) → is_eq (ordering_then o r) ≡ (is_eq o && is_eq r)
 then_equal Less r = refl

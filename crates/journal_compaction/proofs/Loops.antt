@@ -4,10 +4,10 @@ use Rattle.std.proofs.Common.{Bool, true, false, cond, List, [], ◌∷◌, ◌+
 use Rattle.std.proofs.Math.Seq.{take-suc, drop-cons}
 use Rattle.std.proofs.lemmas.Grind.{reverse_onto}
 use Rattle.std.proofs.lemmas.List.{reverse-append}
-use Rattle.mds_thinning.specs.declared.kind.EntryKind.{EntryKind}
-use Rattle.mds_thinning.specs.Staying.{staying, picked}
-use Rattle.mds_thinning.specs.Passes.{begins_at, beginnings, stays_at}
-use Rattle.mds_thinning.proofs.Known.{stays_as_known}
+use Rattle.journal_compaction.specs.declared.kind.EntryKind.{EntryKind}
+use Rattle.journal_compaction.specs.Staying.{staying, picked}
+use Rattle.journal_compaction.specs.Passes.{begins_at, beginnings, stays_at}
+use Rattle.journal_compaction.proofs.Known.{stays_as_known}
 
 pub drop_more : {A : Type 0} (xs : List A) (i : ℕ) (d : A) → i < length xs → drop i xs ≡ get_or xs i d ∷ drop (i + 1) xs
 drop_more xs i d h = let e : i + 1 ≡ suc i = omega arith in rw e (drop-cons xs i d h)

@@ -7,26 +7,26 @@ use Rattle.mds_text.specs.Fault.{Fault}
 use Rattle.mds_fleet.specs.Books.{Report as Told, row_from}
 use Rattle.mds_fleet.specs.History.{row_by, run_from}
 use Rattle.mds_fleet.specs.Reading.{read_report}
-use Rattle.mds_restarts.specs.Persisted.{run_begun, ThinnedIsTheSame}
-use Rattle.mds_thinning.specs.declared.kind.Device.{Device}
-use Rattle.mds_thinning.specs.declared.kind.EntryKind.{EntryKind}
-use Rattle.mds_thinning.specs.declared.kind.EntryKind.TheVariants.{Report, Removal, Other}
-use Rattle.mds_thinning.specs.declared.kind.LaterEntries.{LaterEntries}
-use Rattle.mds_thinning.specs.declared.kind.LaterEntries.TheVariants.{Run, Settled}
-use Rattle.mds_thinning.specs.Staying.{is_same, state_before, begins, stays, staying, picked}
-use Rattle.mds_thinning.specs.Passes.{joined, ahead_of, stays_by}
+use Rattle.journal_laws.specs.Persisted.{run_begun, ThinnedIsTheSame}
+use Rattle.journal_compaction.specs.declared.kind.Device.{Device}
+use Rattle.journal_compaction.specs.declared.kind.EntryKind.{EntryKind}
+use Rattle.journal_compaction.specs.declared.kind.EntryKind.TheVariants.{Report, Removal, Other}
+use Rattle.journal_compaction.specs.declared.kind.LaterEntries.{LaterEntries}
+use Rattle.journal_compaction.specs.declared.kind.LaterEntries.TheVariants.{Run, Settled}
+use Rattle.journal_compaction.specs.Staying.{is_same, state_before, begins, stays, staying, picked}
+use Rattle.journal_compaction.specs.Passes.{joined, ahead_of, stays_by}
 use Rattle.mds_request.specs.Call.{call_of}
 use Rattle.mds_request.specs.Configuration.{Configuration}
 use Rattle.mds_request.specs.declared.call.Call.{Call}
 use Rattle.mds_request.specs.declared.call.Call.TheVariants.{Operator as OperatorAt}
 use Rattle.mds_request.specs.declared.call.OperatorCall.TheVariants.{Report as Reports, RemoveVehicle}
 use Rattle.mds_request.specs.declared.code.Code.{Code}
-use Rattle.mds_entries.specs.Entries.{Entry}
-use Rattle.mds_entries.specs.Requests.{actor_by, token_of, with_token}
-use Rattle.mds_thinning.specs.Kinds.{as_report, kind_by, kind_asked, kind_of}
-use Rattle.mds_thinning.specs.Compacting.{thinned}
-use Rattle.mds_thinning.specs.Laws.{added, reports_since, RowsStay}
-use Rattle.mds_thinning.proofs.Known.{stays_as_known, same_is, equal_bytes, same_bytes, apart}
+use Rattle.journal_entry.specs.Entries.{Entry}
+use Rattle.journal_entry.specs.Requests.{actor_by, token_of, with_token}
+use Rattle.journal_compaction.specs.Kinds.{as_report, kind_by, kind_asked, kind_of}
+use Rattle.journal_compaction.specs.Compacting.{thinned}
+use Rattle.journal_compaction.specs.Laws.{added, reports_since, RowsStay}
+use Rattle.journal_compaction.proofs.Known.{stays_as_known, same_is, equal_bytes, same_bytes, apart}
 
 -- the report that began the run of this state, where the last one has it
 abbrev begun_of : List ℕ → List Told → List Told

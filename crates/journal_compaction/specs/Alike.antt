@@ -1,9 +1,9 @@
 -- When one journal was found to lead to where another does.
 use Rattle.std.specs.Prelude.{ℕ, List}
 use Rattle.mds_request.specs.Configuration.{Configuration}
-use Rattle.mds_entries.specs.Entries.{Entry}
-use Rattle.mds_thinning.specs.Questions.{questions}
-use Rattle.mds_thinning.specs.Compaction.{IsJournal, AreAlike}
+use Rattle.journal_entry.specs.Entries.{Entry}
+use Rattle.journal_compaction.specs.Questions.{questions}
+use Rattle.journal_compaction.specs.Compaction.{IsJournal, AreAlike}
 
 -- A server that is started from the entries of the other journal and one that is started from this one have the same
 -- answers to the questions of a moment.

@@ -2,11 +2,11 @@
 use Rattle.std.specs.Prelude.{◌≡◌, ℕ, List, ◌∷◌, map, length, Ok}
 use Rattle.mds_request.specs.Configuration.{Configuration, read_configuration}
 use Rattle.mds_request.specs.Reply.{Reply}
-use Rattle.mds_entries.specs.Entries.{Entry, entry_text}
-use Rattle.mds_thinning.specs.Questions.{questions}
-use Rattle.mds_thinning.specs.Replies.{AreReplies}
-use Rattle.mds_thinning.specs.Compacting.{thinned}
-use Rattle.mds_thinning.specs.declared.compaction.Counts.{Counts}
+use Rattle.journal_entry.specs.Entries.{Entry, entry_text}
+use Rattle.journal_compaction.specs.Questions.{questions}
+use Rattle.journal_compaction.specs.Replies.{AreReplies}
+use Rattle.journal_compaction.specs.Compacting.{thinned}
+use Rattle.journal_compaction.specs.declared.compaction.Counts.{Counts}
 
 -- the payloads of a journal: a head, and one of each entry
 abbrev pub IsJournal : List (List ℕ) → List ℕ → List Entry → Type 0

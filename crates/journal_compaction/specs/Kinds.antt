@@ -11,10 +11,10 @@ use Rattle.mds_request.specs.declared.call.Call.{Call}
 use Rattle.mds_request.specs.declared.call.Call.TheVariants.{Operator as OperatorAt}
 use Rattle.mds_request.specs.declared.call.OperatorCall.TheVariants.{Report as Reports, RemoveVehicle}
 use Rattle.mds_request.specs.declared.code.Code.{Code}
-use Rattle.mds_entries.specs.Entries.{Entry}
-use Rattle.mds_entries.specs.Requests.{request_by}
-use Rattle.mds_thinning.specs.declared.kind.EntryKind.{EntryKind}
-use Rattle.mds_thinning.specs.declared.kind.EntryKind.TheVariants.{Report, Removal, Other}
+use Rattle.journal_entry.specs.Entries.{Entry}
+use Rattle.journal_entry.specs.Requests.{request_by}
+use Rattle.journal_compaction.specs.declared.kind.EntryKind.{EntryKind}
+use Rattle.journal_compaction.specs.declared.kind.EntryKind.TheVariants.{Report, Removal, Other}
 
 abbrev pub as_report : ℕ → Result Told Fault → EntryKind
 as_report operator (Ok report) = Report (record { operator = operator; id = report.device }) report.state

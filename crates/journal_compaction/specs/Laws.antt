@@ -5,13 +5,13 @@ use Rattle.mds_fleet.specs.Books.{Report as Told}
 use Rattle.mds_fleet.specs.History.{row_by}
 use Rattle.mds_fleet.specs.Reading.{read_report}
 use Rattle.mds_request.specs.Configuration.{Configuration}
-use Rattle.mds_entries.specs.Entries.{Entry}
-use Rattle.mds_thinning.specs.declared.kind.Device.{Device}
-use Rattle.mds_thinning.specs.declared.kind.EntryKind.{EntryKind}
-use Rattle.mds_thinning.specs.declared.kind.EntryKind.TheVariants.{Report, Removal, Other}
-use Rattle.mds_thinning.specs.Kinds.{kind_of}
-use Rattle.mds_thinning.specs.Staying.{is_same}
-use Rattle.mds_thinning.specs.Compacting.{thinned}
+use Rattle.journal_entry.specs.Entries.{Entry}
+use Rattle.journal_compaction.specs.declared.kind.Device.{Device}
+use Rattle.journal_compaction.specs.declared.kind.EntryKind.{EntryKind}
+use Rattle.journal_compaction.specs.declared.kind.EntryKind.TheVariants.{Report, Removal, Other}
+use Rattle.journal_compaction.specs.Kinds.{kind_of}
+use Rattle.journal_compaction.specs.Staying.{is_same}
+use Rattle.journal_compaction.specs.Compacting.{thinned}
 
 -- a device's reports, the last one first, after an entry of this kind, whose body reads so
 abbrev pub added : Device → EntryKind → Result Told Fault → List Told → List Told

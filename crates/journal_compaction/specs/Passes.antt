@@ -3,12 +3,12 @@ use Rattle.std.specs.Prelude.{ℕ, ◌&&◌, Bool, true, false, List, [], ◌∷
 use Rattle.std.specs.declared.cmp.Ordering.{Ordering}
 use Rattle.std.specs.Ordering.{nat_cmp, ordering_then}
 use Rattle.std.specs.Cmp.Lexicographic.{slice_cmp}
-use Rattle.mds_thinning.specs.declared.kind.Device.{Device}
-use Rattle.mds_thinning.specs.declared.kind.EntryKind.{EntryKind}
-use Rattle.mds_thinning.specs.declared.kind.EntryKind.TheVariants.{Report, Removal, Other}
-use Rattle.mds_thinning.specs.declared.kind.LaterEntries.{LaterEntries}
-use Rattle.mds_thinning.specs.declared.kind.LaterEntries.TheVariants.{Run, Settled}
-use Rattle.mds_thinning.specs.Staying.{is_same, begins, state_before}
+use Rattle.journal_compaction.specs.declared.kind.Device.{Device}
+use Rattle.journal_compaction.specs.declared.kind.EntryKind.{EntryKind}
+use Rattle.journal_compaction.specs.declared.kind.EntryKind.TheVariants.{Report, Removal, Other}
+use Rattle.journal_compaction.specs.declared.kind.LaterEntries.{LaterEntries}
+use Rattle.journal_compaction.specs.declared.kind.LaterEntries.TheVariants.{Run, Settled}
+use Rattle.journal_compaction.specs.Staying.{is_same, begins, state_before}
 
 -- devices in the order of a map
 abbrev pub device_cmp : Device → Device → Ordering

@@ -3,9 +3,9 @@ use Rattle.std.specs.Prelude.{ℕ, Bool, true, false, List, [], ◌∷◌, ◌++
 use Rattle.mds_request.specs.Configuration.{Configuration, Operator}
 use Rattle.mds_request.specs.declared.request.Verb.{Verb}
 use Rattle.mds_request.specs.declared.request.Verb.TheVariants.{Get, Put}
-use Rattle.mds_entries.specs.Entries.{Entry}
-use Rattle.mds_entries.specs.declared.entry.EntryClient.{EntryClient}
-use Rattle.mds_entries.specs.declared.entry.EntryClient.TheVariants.{Author, Operator as OperatorBy}
+use Rattle.journal_entry.specs.Entries.{Entry}
+use Rattle.journal_entry.specs.declared.entry.EntryClient.{EntryClient}
+use Rattle.journal_entry.specs.declared.entry.EntryClient.TheVariants.{Author, Operator as OperatorBy}
 
 -- a GET request for this target
 abbrev pub asks : ℕ → EntryClient → List ℕ → Entry

@@ -7,10 +7,10 @@ use Rattle.mds_request.specs.Reply.{Reply}
 use Rattle.mds_request.specs.declared.config.Actor.{Actor}
 use Rattle.mds_request.specs.declared.config.Actor.TheVariants.{Author, Operator as OperatorAt, Nobody}
 use Rattle.mds_desk.specs.Room.{TakesRoomTurn}
-use Rattle.mds_entries.specs.Entries.{Entry}
-use Rattle.mds_entries.specs.Requests.{actor_by, request_by}
-use Rattle.mds_recovery.specs.Laws.{IsStartedAgain}
-use Rattle.mds_recovery.specs.Recovery.{Server, DeskAnswers}
+use Rattle.journal_entry.specs.Entries.{Entry}
+use Rattle.journal_entry.specs.Requests.{actor_by, request_by}
+use Rattle.journal_recovery.specs.Laws.{IsStartedAgain}
+use Rattle.journal_recovery.specs.Recovery.{Server, DeskAnswers}
 
 -- the author's room answers, and the desks stay
 pub record RoomTells (request : Request) (reply : Reply) (s next : Server) : Type 0 where

@@ -3,12 +3,12 @@
 ghost use Rattle.std.specs.Prelude.{◌≡◌, [], ◌∷◌, List, IfOk, OnOk, bytes_eq};
 ghost use Rattle.std.specs.BTreeMap.{get};
 ghost use Rattle.std.specs.Option.{option_copied};
-ghost use Rattle.mds_thinning.specs.Staying.{begins, state_before, staying};
-ghost use Rattle.mds_thinning.specs.Passes.{device_cmp, begins_at, beginnings, joined, ahead_of, stays_by, stays_at};
-ghost use Rattle.mds_thinning.specs.declared.kind.EntryKind.{EntryKind as Known};
-ghost use Rattle.mds_thinning.specs.declared.kind.Device.{Device as Owned};
+ghost use Rattle.journal_compaction.specs.Staying.{begins, state_before, staying};
+ghost use Rattle.journal_compaction.specs.Passes.{device_cmp, begins_at, beginnings, joined, ahead_of, stays_by, stays_at};
+ghost use Rattle.journal_compaction.specs.declared.kind.EntryKind.{EntryKind as Known};
+ghost use Rattle.journal_compaction.specs.declared.kind.Device.{Device as Owned};
 
-use crate::kind::{LaterEntries, Device, EntryKind};
+use crate::kind::{Device, EntryKind, LaterEntries};
 use mds_text::Token;
 use std::alloc::{AllocError, Global};
 use std::collections::BTreeMap;
@@ -92,7 +92,11 @@ fn with_report(state: Token, ahead: Option<&LaterEntries>) -> LaterEntries
 }
 
 /// Whether an entry stays, by what is known to come after it, to which it is then added.
-fn stays(behind: &mut BTreeMap<Device, LaterEntries>, kind: EntryKind, begins: bool) -> Result<bool, AllocError>
+fn stays(
+    behind: &mut BTreeMap<Device, LaterEntries>,
+    kind: EntryKind,
+    begins: bool,
+) -> Result<bool, AllocError>
     ensures stays { (kinds : List Known) → IfOk result (λ is. ((q : Owned) → get device_cmp behind.old q ≡ ahead_of q kinds)
         → is ≡ stays_at kind begins kinds) }
     ensures known { (kinds : List Known) → OnOk result (((q : Owned) → get device_cmp behind.old q ≡ ahead_of q kinds)

@@ -1,19 +1,23 @@
 //! The entries of a compacted journal.
 ghost use Rattle.std.specs.Prelude.{◌≡◌, [], ◌∷◌, ◌++◌, map, length, IfOk, OnOk, if◌then◌else◌};
 ghost use Rattle.mds_request.specs.Configuration.{configuration};
-ghost use Rattle.mds_entries.specs.Entries.{entry_of};
-ghost use Rattle.mds_thinning.specs.Kinds.{kind_of};
-ghost use Rattle.mds_thinning.specs.Staying.{staying, picked};
-ghost use Rattle.mds_thinning.specs.Compacting.{thinned};
+ghost use Rattle.journal_entry.specs.Entries.{entry_of};
+ghost use Rattle.journal_compaction.specs.Kinds.{kind_of};
+ghost use Rattle.journal_compaction.specs.Staying.{staying, picked};
+ghost use Rattle.journal_compaction.specs.Compacting.{thinned};
 
 use crate::choosing::stay_marks;
 use crate::kind::{EntryKind, kind_of};
-use mds_entries::JournalEntry;
+use journal_entry::JournalEntry;
 use mds_request::{Config, Routes};
 use std::alloc::{AllocError, Global};
 
 /// The kind of each entry.
-fn kinds_of(alloc: Global, config: &Config, entries: &[JournalEntry<'_>]) -> Result<Vec<EntryKind>, AllocError>
+fn kinds_of(
+    alloc: Global,
+    config: &Config,
+    entries: &[JournalEntry<'_>],
+) -> Result<Vec<EntryKind>, AllocError>
     ensures { IfOk result (λ kinds. kinds.items ≡ map (kind_of (configuration config.now)) (map entry_of entries.now)) }
 {
     let routes = Routes::new(alloc)?;
@@ -38,7 +42,11 @@ fn copy_entry<'a>(entry: &JournalEntry<'a>) -> JournalEntry<'a>
 }
 
 /// Adds an entry where it is marked.
-fn keep<'a>(kept: &mut Vec<JournalEntry<'a>>, entry: &JournalEntry<'a>, mark: bool) -> Result<(), AllocError>
+fn keep<'a>(
+    kept: &mut Vec<JournalEntry<'a>>,
+    entry: &JournalEntry<'a>,
+    mark: bool,
+) -> Result<(), AllocError>
     ensures { OnOk result (map entry_of kept.new.items ≡ map entry_of kept.old.items ++ (if mark then entry_of entry.now ∷ [] else [])) }
 {
     if !mark {

@@ -1,21 +1,21 @@
 //! Compaction of a journal to a new log, and the comparison of the servers of both.
 ghost use Rattle.std.specs.Prelude.{◌≡◌, [], map, Ok, IfOk, OnOk};
 ghost use Rattle.mds_request.specs.Configuration.{configuration, read_configuration};
-ghost use Rattle.mds_entries.specs.Entries.{entry_of};
+ghost use Rattle.journal_entry.specs.Entries.{entry_of};
 ghost use Rattle.mds_snapshot.specs.Opening.{book_of};
-ghost use Rattle.mds_thinning.specs.Replies.{AreReplies};
-ghost use Rattle.mds_thinning.specs.Compaction.{IsThinned, IsJournal, AreAlike};
+ghost use Rattle.journal_compaction.specs.Replies.{AreReplies};
+ghost use Rattle.journal_compaction.specs.Compaction.{IsThinned, IsJournal, AreAlike};
 
+use crate::compacting::compact_entries;
 use crate::comparing::are_same;
 use crate::fault::CompactFault;
 use crate::questions::questions;
-use crate::replies::{ServerOpening, QuestionFault, replies};
-use crate::compacting::compact_entries;
+use crate::replies::{QuestionFault, ServerOpening, replies};
 use crate::writing::write_synced;
+use journal_entry::JournalEntry;
+use journal_file::Log;
+use journal_folder::{Damage, FolderFault, entries_in, suits};
 use mds_desk::SharedReply;
-use mds_entries::JournalEntry;
-use mds_folder::{Damage, FolderFault, entries_in, suits};
-use mds_records::Log;
 use mds_request::Config;
 use mds_snapshot::{Blank, OpeningName};
 use mds_text::Moment;
@@ -62,7 +62,10 @@ fn config_of(alloc: Global, text: &[u8]) -> Result<Config, CompactFault>
 }
 
 /// The head and the entries of a journal's payloads.
-fn parts<'a>(alloc: Global, texts: &'a [Vec<u8>]) -> Result<(&'a [u8], Vec<JournalEntry<'a>>), CompactFault>
+fn parts<'a>(
+    alloc: Global,
+    texts: &'a [Vec<u8>],
+) -> Result<(&'a [u8], Vec<JournalEntry<'a>>), CompactFault>
     ensures { IfOk result (λ r. IsJournal (map (λ t. t.items) texts.now) r.0.now (map entry_of r.1.items)) }
 {
     let Some((head, rest)) = texts.split_first() else {

@@ -1,8 +1,8 @@
 //! Why a journal isn't compacted.
-use mds_entries::WriteFault;
-use mds_folder::FolderFault;
-use mds_records::{AppendFault, SyncFault, ReadFault};
-use mds_recovery::StartFault;
+use journal_entry::WriteFault;
+use journal_file::{AppendFault, ReadFault, SyncFault};
+use journal_folder::FolderFault;
+use journal_recovery::StartFault;
 use mds_request::ConfigFault;
 use std::alloc::{AllocError, AllocFailed};
 use std::fmt;

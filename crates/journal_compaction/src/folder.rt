@@ -1,11 +1,11 @@
 //! Compaction of the journal in a city's folder.
 
-use crate::fault::CompactFault;
-use crate::prefix::check_empty;
-use crate::journal_location::{JournalLocation, compact_at};
 use crate::compaction::{Counts, SourceJournal};
-use mds_folder::{CutFiles, Folder, FolderFault, create_locked, open_folder, sync_names};
-use mds_records::{Journal, Log, FileStorage};
+use crate::fault::CompactFault;
+use crate::journal_location::{JournalLocation, compact_at};
+use crate::prefix::check_empty;
+use journal_file::{FileStorage, Journal, Log};
+use journal_folder::{CutFiles, Folder, FolderFault, create_locked, open_folder, sync_names};
 use mds_text::Moment;
 use std::alloc::Global;
 use std::fs::{self, File, Files};
@@ -42,7 +42,8 @@ fn rename<R: Files<File = File>>(rt: &R, alloc: Global, folder: &str) -> Result<
     }
 }
 
-impl<R: Files<File = File>> JournalLocation<Journal<FileStorage<File>>> for LockedFolder<'_, '_, R> {
+impl<R: Files<File = File>> JournalLocation<Journal<FileStorage<File>>>
+    for LockedFolder<'_, '_, R> {
     ghost use Rattle.std.specs.Prelude.{⊤};
 
     // the proofs know nothing of the contents of files
@@ -117,5 +118,7 @@ pub fn compact_folder<R: Wait + Files<File = File>>(
         locks: (lock, held),
         thinned: None,
     };
-    compact_at::<LockedFolder<'_, '_, R>, Journal<FileStorage<File>>, R>(rt, alloc, &mut place, &old)
+    compact_at::<LockedFolder<'_, '_, R>, Journal<FileStorage<File>>, R>(
+        rt, alloc, &mut place, &old,
+    )
 }

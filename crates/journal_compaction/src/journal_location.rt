@@ -1,13 +1,13 @@
 //! The order in which a compacted journal takes the place of the old one.
 ghost use Rattle.std.specs.Prelude.{◌≡◌, ◌⊎◌, map};
 ghost use Rattle.mds_snapshot.specs.Opening.{book_of};
-ghost use Rattle.mds_thinning.specs.Compaction.{IsThinned};
-ghost use Rattle.mds_thinning.specs.declared.compaction.Counts.{Counts as Numbers};
+ghost use Rattle.journal_compaction.specs.Compaction.{IsThinned};
+ghost use Rattle.journal_compaction.specs.declared.compaction.Counts.{Counts as Numbers};
 
-use crate::fault::CompactFault;
 use crate::compaction::{Counts, SourceJournal, compact};
-use mds_folder::FolderFault;
-use mds_records::Log;
+use crate::fault::CompactFault;
+use journal_file::Log;
+use journal_folder::FolderFault;
 use mds_snapshot::{Blank, OpeningName, prepare};
 use std::alloc::Global;
 use std::marker::Brand;

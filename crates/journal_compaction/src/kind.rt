@@ -1,10 +1,10 @@
 //! The kinds of entries that compaction tells apart.
 ghost use Rattle.std.specs.Prelude.{◌≡◌, IfOk};
 ghost use Rattle.mds_request.specs.Configuration.{configuration};
-ghost use Rattle.mds_entries.specs.Entries.{entry_of};
-ghost use Rattle.mds_thinning.specs.Kinds.{kind_of, kind_by, reported};
+ghost use Rattle.journal_entry.specs.Entries.{entry_of};
+ghost use Rattle.journal_compaction.specs.Kinds.{kind_of, kind_by, reported};
 
-use mds_entries::{JournalEntry, request_by};
+use journal_entry::{JournalEntry, request_by};
 use mds_fleet::Report;
 use mds_request::{Call, Code, Config, OperatorCall, Routes, read_call};
 use mds_text::{Id, TextFault, Token};

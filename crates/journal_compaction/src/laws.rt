@@ -1,8 +1,8 @@
 //! Laws of compaction. Each function's contract is the law; the functions do nothing but call the laws that theirs
 //! follow from.
-ghost use Rattle.mds_thinning.specs.Laws.{RowsStay};
+ghost use Rattle.journal_compaction.specs.Laws.{RowsStay};
 
-use mds_restarts::laws as restarts;
+use journal_laws::laws as restarts;
 
 /// The reports of a device that stay lead to the same row as all its reports since it was last removed.
 pub fn rows_stay()

@@ -3,22 +3,22 @@
 #![tactic(auto)]
 
 mod choosing;
+mod compacting;
+mod compaction;
 mod comparing;
 mod fault;
 mod folder;
-mod prefix;
+mod journal_location;
 mod kind;
 pub mod laws;
-mod journal_location;
+mod prefix;
 mod questions;
 mod replies;
-mod compacting;
-mod compaction;
 mod writing;
 
-pub use fault::CompactFault;
-pub use folder::compact_folder;
-pub use prefix::{AnswersAgree, JournalPrefix, check_empty, compact_prefix};
-pub use journal_location::{JournalLocation, compact_at};
 pub use compacting::compact_entries;
 pub use compaction::{Counts, SourceJournal, compact};
+pub use fault::CompactFault;
+pub use folder::compact_folder;
+pub use journal_location::{JournalLocation, compact_at};
+pub use prefix::{AnswersAgree, JournalPrefix, check_empty, compact_prefix};

@@ -1,14 +1,14 @@
 //! A prefix of a journal, compacted while the journal is appended to.
 ghost use Rattle.std.specs.Prelude.{◌≡◌, ℕ, List, [], map, IfOk};
-ghost use Rattle.mds_records.specs.LogEnds.{IsSealed};
-ghost use Rattle.mds_rolling.specs.Compacted.{numbers_of};
+ghost use Rattle.journal_file.specs.LogEnds.{IsSealed};
+ghost use Rattle.journal_swap.specs.Compacted.{numbers_of};
 ghost use Rattle.mds_snapshot.specs.Opening.{book_of};
 
-use crate::fault::CompactFault;
 use crate::compaction::{SourceJournal, compact};
-use mds_folder::FolderFault;
-use mds_records::{Log, ReadFault, LogEnd, HasLogEnd, texts_between};
-use mds_rolling::{Equivalence, CompactedLog};
+use crate::fault::CompactFault;
+use journal_file::{HasLogEnd, Log, LogEnd, ReadFault, texts_between};
+use journal_folder::FolderFault;
+use journal_swap::{CompactedLog, Equivalence};
 use mds_snapshot::{Blank, OpeningName, prepare};
 use mds_text::Moment;
 use std::alloc::Global;
@@ -19,7 +19,7 @@ use std::sync::Wait;
 pub struct AnswersAgree;
 
 impl Equivalence for AnswersAgree {
-    ghost use Rattle.mds_thinning.specs.Alike.{LeadsAlike};
+    ghost use Rattle.journal_compaction.specs.Alike.{LeadsAlike};
 
     ghost same = { LeadsAlike };
 }

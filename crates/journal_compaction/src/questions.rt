@@ -1,10 +1,10 @@
 //! The questions by which compaction compares two servers.
 ghost use Rattle.std.specs.Prelude.{◌≡◌, [], ◌∷◌, ◌++◌, map, IfOk, OnOk, if◌then◌else◌};
 ghost use Rattle.mds_request.specs.Configuration.{configuration, operator};
-ghost use Rattle.mds_entries.specs.Entries.{entry_of};
-ghost use Rattle.mds_thinning.specs.Questions.{asks, is_draft, fleets, drafts, questions};
+ghost use Rattle.journal_entry.specs.Entries.{entry_of};
+ghost use Rattle.journal_compaction.specs.Questions.{asks, is_draft, fleets, drafts, questions};
 
-use mds_entries::{EntryClient, JournalEntry};
+use journal_entry::{EntryClient, JournalEntry};
 use mds_request::{Config, Operator, Verb};
 use mds_text::Moment;
 use std::alloc::{AllocError, Global};
@@ -56,13 +56,22 @@ fn add_fleets<'a>(
     ensures { OnOk result (map entry_of list.new.items ≡ map entry_of list.old.items ++ fleets at (map operator operators.now)) }
 {
     for operator in operators {
-        add(list, at, EntryClient::Operator(operator.id), b"/fleet/vehicles")?;
+        add(
+            list,
+            at,
+            EntryClient::Operator(operator.id),
+            b"/fleet/vehicles",
+        )?;
     }
     Ok(())
 }
 
 /// Adds the question for an entry's draft, where the author put one by it.
-fn add_draft<'a>(list: &mut Vec<JournalEntry<'a>>, entry: &JournalEntry<'a>, at: Moment) -> Result<(), AllocError>
+fn add_draft<'a>(
+    list: &mut Vec<JournalEntry<'a>>,
+    entry: &JournalEntry<'a>,
+    at: Moment,
+) -> Result<(), AllocError>
     ensures { OnOk result (map entry_of list.new.items ≡ map entry_of list.old.items ++ drafts at (entry_of entry.now ∷ [])) }
 {
     if is_draft(entry) {

@@ -5,16 +5,16 @@ ghost use Rattle.mds_request.specs.Request.{request_of};
 ghost use Rattle.mds_snapshot.specs.Opening.{book_of};
 ghost use Rattle.mds_desk.specs.Desk.{DeskState, state_of};
 ghost use Rattle.mds_desk.specs.Room.{RoomState, room_of};
-ghost use Rattle.mds_entries.specs.Entries.{entry_of};
-ghost use Rattle.mds_recovery.specs.Recovery.{server_of, DeskAnswers};
-ghost use Rattle.mds_thinning.specs.Replies.{RoomTells, Tells, IsTold, AreTold, AreReplies};
+ghost use Rattle.journal_entry.specs.Entries.{entry_of};
+ghost use Rattle.journal_recovery.specs.Recovery.{server_of, DeskAnswers};
+ghost use Rattle.journal_compaction.specs.Replies.{RoomTells, Tells, IsTold, AreTold, AreReplies};
 
 use crate::fault::CompactFault;
-use mds_desk::{SharedReply, AuthorRoom, Desk, OpenGate};
-use mds_entries::{JournalEntry, actor_by, request_by};
-use mds_recovery::{Cause, Fault, SilentProgress, StartFault, start_again};
+use journal_entry::{JournalEntry, actor_by, request_by};
+use journal_recovery::{Cause, Fault, SilentProgress, StartFault, start_again};
+use mds_desk::{AuthorRoom, Desk, OpenGate, SharedReply};
 use mds_request::{Actor, Config, Request};
-use mds_snapshot::{Blank, OpeningName, OpenFault};
+use mds_snapshot::{Blank, OpenFault, OpeningName};
 use mds_verdict::Plain;
 use std::alloc::Global;
 use std::sync::Wait;
@@ -29,7 +29,11 @@ pub(crate) struct ServerOpening {
 }
 
 /// The desk at a place answers its operator's request.
-fn desk_answer<K: OpeningName>(desks: &mut [Desk<K>], place: usize, request: &Request<'_>) -> SharedReply
+fn desk_answer<K: OpeningName>(
+    desks: &mut [Desk<K>],
+    place: usize,
+    request: &Request<'_>,
+) -> SharedReply
     requires { place < length desks.old }
     ensures { (room : RoomState) → DeskAnswers place (request_of request.now) result
         (record { room = room; desks = map state_of desks.old }) (record { room = room; desks = map state_of desks.new }) }
@@ -38,7 +42,11 @@ fn desk_answer<K: OpeningName>(desks: &mut [Desk<K>], place: usize, request: &Re
 }
 
 /// The author's room answers a request. A question publishes nothing, so desks have nothing to learn.
-fn room_answer<K: OpeningName, R: Wait>(rt: &R, room: &mut AuthorRoom<K>, request: &Request<'_>) -> SharedReply
+fn room_answer<K: OpeningName, R: Wait>(
+    rt: &R,
+    room: &mut AuthorRoom<K>,
+    request: &Request<'_>,
+) -> SharedReply
     ensures { (desks : List DeskState) → RoomTells (request_of request.now) result
         (record { room = room_of room.old; desks = desks }) (record { room = room_of room.new; desks = desks }) }
 {

@@ -1,10 +1,10 @@
 //! Writes a journal's entries to a new log.
 ghost use Rattle.std.specs.Prelude.{◌≡◌, [], ◌∷◌, ◌++◌, List, ℕ, map, length, IfOk, OnOk};
-ghost use Rattle.mds_entries.specs.Entries.{entry_of, entry_text};
+ghost use Rattle.journal_entry.specs.Entries.{entry_of, entry_text};
 
 use crate::fault::CompactFault;
-use mds_entries::{JournalEntry, entry_text};
-use mds_records::Log;
+use journal_entry::{JournalEntry, entry_text};
+use journal_file::Log;
 use std::alloc::{AllocError, Global};
 
 /// The most entries that are appended at once.

@@ -2,9 +2,9 @@
 use Rattle.std.specs.Prelude.{◌==◌}
 use Rattle.std.proofs.Common.{◌≡◌, ℕ, false, ◌+◌, ◌<◌, List, [], ◌∷◌, ◌++◌, length, refl, sym, ap, ◌∙◌, append_assoc, arith}
 use Rattle.std.proofs.lemmas.List.{append-nil, length-append}
-use Rattle.mds_entries.specs.Entries.{id_text, size_text}
-use Rattle.mds_entries.specs.Heads.{Share, IsShare, AreShares, share_text, shares_text}
-use Rattle.mds_entries.proofs.Spelled.{same_front, id_length, size_length}
+use Rattle.journal_entry.specs.Entries.{id_text, size_text}
+use Rattle.journal_entry.specs.Heads.{Share, IsShare, AreShares, share_text, shares_text}
+use Rattle.journal_entry.proofs.Spelled.{same_front, id_length, size_length}
 
 pub share_length : (share : Share) → length (share_text share) ≡ 40
 share_length share = omega (arith, length-append (id_text share.id) (size_text share.vehicles), id_length share.id, size_length share.vehicles)

@@ -7,12 +7,12 @@ use Rattle.std.proofs.lemmas.Nat.{from_be_bytes-to_be_bytes_4, from_be_bytes-to_
 use Rattle.uuid.specs.Text.{parsed, hyphenated_text, lower}
 use Rattle.uuid.proofs.TextLemmas.{by_index_length}
 use Rattle.mds_text.specs.Fields.{last_moment}
-use Rattle.mds_entries.specs.declared.entry.EntryClient.{EntryClient}
-use Rattle.mds_entries.specs.declared.entry.EntryClient.TheVariants.{Author, Operator}
-use Rattle.mds_entries.specs.declared.entry.TheConstants.{ENTRY, MOST_TARGET}
+use Rattle.journal_entry.specs.declared.entry.EntryClient.{EntryClient}
+use Rattle.journal_entry.specs.declared.entry.EntryClient.TheVariants.{Author, Operator}
+use Rattle.journal_entry.specs.declared.entry.TheConstants.{ENTRY, MOST_TARGET}
 use Rattle.mds_request.specs.declared.request.Verb.{Verb}
 use Rattle.mds_request.specs.declared.request.Verb.TheVariants.{Get, Put, Post, Delete, Other}
-use Rattle.mds_entries.specs.Entries.{Entry, IsEntry, IsShort, IsId, IsAsker, moment_text, size_text, id_text, verb_code, asker_text, fields_text, entry_text}
+use Rattle.journal_entry.specs.Entries.{Entry, IsEntry, IsShort, IsId, IsAsker, moment_text, size_text, id_text, verb_code, asker_text, fields_text, entry_text}
 
 pub same_front : (a b r s : List ℕ) → length a ≡ length b → a ++ r ≡ b ++ s → (a ≡ b) × (r ≡ s)
 same_front a b r s long e =

@@ -3,11 +3,11 @@ use Rattle.std.specs.Prelude.{◌≡◌, ℕ, ◌≤◌, List, [], ◌∷◌, �
 use Rattle.std.specs.Int.{w32, w64, to_be_bytes}
 use Rattle.uuid.specs.Text.{hyphenated_text, lower, parsed}
 use Rattle.mds_text.specs.Fields.{last_moment}
-use Rattle.mds_entries.specs.declared.entry.EntryClient.{EntryClient}
-use Rattle.mds_entries.specs.declared.entry.EntryClient.TheVariants.{Author, Operator}
-use Rattle.mds_entries.specs.declared.entry.JournalEntry.{JournalEntry as Lent}
-use Rattle.mds_entries.specs.declared.entry.TheConstants.{ENTRY, MOST_TARGET}
-use Rattle.mds_entries.specs.declared.encoding.TheConstants.{BY_AUTHOR, BY_OPERATOR}
+use Rattle.journal_entry.specs.declared.entry.EntryClient.{EntryClient}
+use Rattle.journal_entry.specs.declared.entry.EntryClient.TheVariants.{Author, Operator}
+use Rattle.journal_entry.specs.declared.entry.JournalEntry.{JournalEntry as Lent}
+use Rattle.journal_entry.specs.declared.entry.TheConstants.{ENTRY, MOST_TARGET}
+use Rattle.journal_entry.specs.declared.encoding.TheConstants.{BY_AUTHOR, BY_OPERATOR}
 use Rattle.mds_request.specs.declared.request.Verb.{Verb}
 use Rattle.mds_request.specs.declared.request.Verb.TheVariants.{Get, Put, Post, Delete, Other}
 use Rattle.mds_request.specs.declared.call.TheConstants.{MOST_BODY}

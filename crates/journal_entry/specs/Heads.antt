@@ -3,12 +3,12 @@
 use Rattle.std.specs.Prelude.{◌≡◌, ◌≢◌, ℕ, ◌<◌, ◌^◌, List, [], ◌∷◌, ◌++◌, map, find, codes, bytes_eq, nat_le, if◌then◌else◌, Option, Some, None}
 use Rattle.std.specs.List.{AllByRecursion}
 use Rattle.mds_request.specs.Configuration.{Configuration, Operator}
-use Rattle.mds_entries.specs.Entries.{id_text, size_text, IsId}
-use Rattle.mds_entries.specs.Requests.{has_id}
-use Rattle.mds_entries.specs.declared.head.OperatorShare.{OperatorShare as Lent}
-use Rattle.mds_entries.specs.declared.head.TheConstants.{LAYOUT}
-use Rattle.mds_entries.specs.declared.fitting.Unfit.{Unfit}
-use Rattle.mds_entries.specs.declared.fitting.Unfit.TheVariants.{Missing, LowLimit}
+use Rattle.journal_entry.specs.Entries.{id_text, size_text, IsId}
+use Rattle.journal_entry.specs.Requests.{has_id}
+use Rattle.journal_entry.specs.declared.head.OperatorShare.{OperatorShare as Lent}
+use Rattle.journal_entry.specs.declared.head.TheConstants.{LAYOUT}
+use Rattle.journal_entry.specs.declared.fitting.Unfit.{Unfit}
+use Rattle.journal_entry.specs.declared.fitting.Unfit.TheVariants.{Missing, LowLimit}
 
 -- an operator's share: its identifier, with how many vehicles it may hold, or has held
 pub record OperatorShare : Type 0 where

@@ -5,9 +5,9 @@ use Rattle.mds_request.specs.Configuration.{repeats}
 use Rattle.mds_request.specs.Request.{Request}
 use Rattle.mds_request.specs.declared.config.Actor.{Actor}
 use Rattle.mds_request.specs.declared.config.Actor.TheVariants.{Author, Operator as OperatorAt, Nobody}
-use Rattle.mds_entries.specs.Entries.{Entry}
-use Rattle.mds_entries.specs.declared.entry.EntryClient.{EntryClient}
-use Rattle.mds_entries.specs.declared.entry.EntryClient.TheVariants.{Author as TheAuthor, Operator as OperatorBy}
+use Rattle.journal_entry.specs.Entries.{Entry}
+use Rattle.journal_entry.specs.declared.entry.EntryClient.{EntryClient}
+use Rattle.journal_entry.specs.declared.entry.EntryClient.TheVariants.{Author as TheAuthor, Operator as OperatorBy}
 
 abbrev pub has_id : List ℕ → Operator → Bool
 has_id id operator = bytes_eq operator.id id

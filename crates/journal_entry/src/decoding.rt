@@ -2,13 +2,13 @@
 ghost use Rattle.std.specs.Prelude.{◌≡◌, ◌≢◌, ◌↔◌, ◌≤◌, ◌<◌, ◌^◌, ℕ, List, ◌∷◌, ◌++◌, length, MatchOption, IfOk, IfErr, IsErrOf};
 ghost use Rattle.std.specs.Int.{w64, w32, from_be_bytes, to_be_bytes};
 ghost use Rattle.mds_text.specs.Fields.{last_moment};
-ghost use Rattle.mds_entries.specs.Entries.{Entry as Accepted, IsEntry, IsId, IsAsker, IsShort, entry_of, entry_text, fields_text, moment_text, size_text, id_text, asker_text, verb_code};
-ghost use Rattle.mds_entries.specs.declared.entry.EntryClient.{EntryClient as ByWhom};
-ghost use Rattle.mds_entries.specs.declared.entry.TheConstants.{ENTRY, MOST_TARGET};
+ghost use Rattle.journal_entry.specs.Entries.{Entry as Accepted, IsEntry, IsId, IsAsker, IsShort, entry_of, entry_text, fields_text, moment_text, size_text, id_text, asker_text, verb_code};
+ghost use Rattle.journal_entry.specs.declared.entry.EntryClient.{EntryClient as ByWhom};
+ghost use Rattle.journal_entry.specs.declared.entry.TheConstants.{ENTRY, MOST_TARGET};
 ghost use Rattle.mds_request.specs.declared.request.Verb.{Verb as Method};
 
-use crate::entry::{EntryClient, ENTRY, JournalEntry, MOST_TARGET, is_short};
 use crate::encoding::{BY_AUTHOR, BY_OPERATOR};
+use crate::entry::{ENTRY, EntryClient, JournalEntry, MOST_TARGET, is_short};
 use mds_request::Verb;
 use mds_text::{Id, Moment};
 use std::alloc::{AllocError, Global};
@@ -38,7 +38,7 @@ pub(crate) enum DecodeFault {
 
 impl From<AllocError> for DecodeFault {
     ghost use Rattle.std.specs.Prelude.{◌≡◌};
-    ghost use Rattle.mds_entries.specs.declared.decoding.DecodeFault.TheVariants.{NoMemory};
+    ghost use Rattle.journal_entry.specs.declared.decoding.DecodeFault.TheVariants.{NoMemory};
 
     ghost from_gives = { λ _ flaw. flaw ≡ NoMemory };
 

@@ -1,6 +1,6 @@
 //! Journal entries: an accepted request with its client, and its payload.
 ghost use Rattle.std.specs.Prelude.{◌≡◌, ◌↔◌, ◌≤◌, length, true, IfOk, IsErrOf, IsTrue};
-ghost use Rattle.mds_entries.specs.Entries.{IsShort, entry_of, entry_text};
+ghost use Rattle.journal_entry.specs.Entries.{IsShort, entry_of, entry_text};
 
 use crate::encoding::{push_client, push_moment, push_size, verb_code};
 use mds_request::{MOST_BODY, Verb};
@@ -45,7 +45,7 @@ pub enum WriteFault {
 
 impl From<AllocError> for WriteFault {
     ghost use Rattle.std.specs.Prelude.{◌≡◌};
-    ghost use Rattle.mds_entries.specs.declared.entry.WriteFault.TheVariants.{NoMemory};
+    ghost use Rattle.journal_entry.specs.declared.entry.WriteFault.TheVariants.{NoMemory};
 
     ghost from_gives = { λ _ fault. fault ≡ NoMemory };
 

@@ -2,8 +2,8 @@
 ghost use Rattle.std.specs.Prelude.{◌≡◌, option_map, map, position, bytes_eq};
 ghost use Rattle.mds_request.specs.Configuration.{configuration, operator};
 ghost use Rattle.mds_request.specs.Request.{request_of};
-ghost use Rattle.mds_entries.specs.Entries.{entry_of};
-ghost use Rattle.mds_entries.specs.Requests.{ReadsTheRequest, has_id, actor_by, token_of, asker_at, entry_by, request_by};
+ghost use Rattle.journal_entry.specs.Entries.{entry_of};
+ghost use Rattle.journal_entry.specs.Requests.{ReadsTheRequest, has_id, actor_by, token_of, asker_at, entry_by, request_by};
 
 use crate::entry::{EntryClient, JournalEntry};
 use mds_request::{Actor, Config, Operator, Request};

@@ -2,8 +2,8 @@
 ghost use Rattle.std.specs.Prelude.{◌≡◌, map, find, option_map, option_copied};
 ghost use Rattle.std.specs.Result.{result_err};
 ghost use Rattle.mds_request.specs.Configuration.{configuration, operator as named};
-ghost use Rattle.mds_entries.specs.Heads.{share_of, unfit, unfit_at, unfit_by};
-ghost use Rattle.mds_entries.specs.Requests.{has_id};
+ghost use Rattle.journal_entry.specs.Heads.{share_of, unfit, unfit_at, unfit_by};
+ghost use Rattle.journal_entry.specs.Requests.{has_id};
 
 use crate::entry_requests::is_same;
 use crate::head::OperatorShare;

@@ -1,12 +1,12 @@
 //! A journal's head: its first payload, which lists the operators.
 ghost use Rattle.std.specs.Prelude.{◌≡◌, ◌≢◌, ◌↔◌, ◌≤◌, ◌<◌, ◌^◌, ℕ, List, ◌∷◌, ◌++◌, map, IfOk, IfErr, OnOk, IsErrOf};
 ghost use Rattle.mds_request.specs.Configuration.{configuration, operator as named};
-ghost use Rattle.mds_entries.specs.Entries.{id_text, size_text};
-ghost use Rattle.mds_entries.specs.Heads.{Share as Part, IsShare, AreShares, share_of, limit_of, shares_of, share_text, shares_text, head_word, head_text};
-ghost use Rattle.mds_entries.specs.declared.head.TheConstants.{LAYOUT};
+ghost use Rattle.journal_entry.specs.Entries.{id_text, size_text};
+ghost use Rattle.journal_entry.specs.Heads.{Share as Part, IsShare, AreShares, share_of, limit_of, shares_of, share_text, shares_text, head_word, head_text};
+ghost use Rattle.journal_entry.specs.declared.head.TheConstants.{LAYOUT};
 
-use crate::encoding::{push_id, push_size};
 use crate::decoding::{DecodeFault, id_in, size_in};
+use crate::encoding::{push_id, push_size};
 use mds_request::{Config, Operator};
 use mds_text::Id;
 use std::alloc::{AllocError, Global};

@@ -2,17 +2,17 @@
 //! that says whose journal it is.
 #![tactic(auto)]
 
-mod entry_requests;
+mod decoding;
+mod encoding;
 mod entry;
+mod entry_requests;
 mod fitting;
 mod head;
-mod encoding;
-mod decoding;
 #[cfg(test)]
 mod tests;
 
+pub use decoding::{EntryFault, read_entry};
+pub use entry::{ENTRY, EntryClient, JournalEntry, MOST_TARGET, WriteFault, entry_text, is_short};
 pub use entry_requests::{actor_by, entry_by, reads_the_request, request_by};
-pub use entry::{EntryClient, ENTRY, JournalEntry, MOST_TARGET, WriteFault, entry_text, is_short};
 pub use fitting::{Unfit, fits};
 pub use head::{HeadFault, LAYOUT, OperatorShare, head_text, read_head, shares};
-pub use decoding::{EntryFault, read_entry};

@@ -1,6 +1,7 @@
 //! Tests of payloads whose bytes are worked out by hand.
 use crate::{
-    EntryClient, JournalEntry, EntryFault, HeadFault, OperatorShare, entry_text, head_text, read_entry, read_head,
+    EntryClient, EntryFault, HeadFault, JournalEntry, OperatorShare, entry_text, head_text,
+    read_entry, read_head,
 };
 use mds_request::Verb;
 use mds_text::{Id, Moment};

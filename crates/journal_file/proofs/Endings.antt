@@ -1,11 +1,11 @@
 -- How the ending of a file is decided.
 use Rattle.std.proofs.Common.{◌≡◌, ℕ, ◌<◌, ◌≤◌, Bool, true, false, cond, List, [], ◌∷◌, length, Option, Some, None, refl, arith}
 use Rattle.std.specs.Prelude.{nat_lt, ◌==◌}
-use Rattle.mds_records.specs.Marks.{furthest_said, first_moved}
-use Rattle.mds_records.specs.Endings.{begins_with, signature_of, beginning, is_torn_record, unexplained, ending_by, ending_of, is_opened}
-use Rattle.mds_records.specs.declared.ending.JournalEnding.{JournalEnding}
-use Rattle.mds_records.specs.Openings.{refusal_of}
-use Rattle.mds_records.specs.declared.ending.JournalEnding.TheVariants.{Whole, Torn, Unexplained, Foreign, Moved, Damaged}
+use Rattle.journal_file.specs.Marks.{furthest_said, first_moved}
+use Rattle.journal_file.specs.Endings.{begins_with, signature_of, beginning, is_torn_record, unexplained, ending_by, ending_of, is_opened}
+use Rattle.journal_file.specs.declared.ending.JournalEnding.{JournalEnding}
+use Rattle.journal_file.specs.Openings.{refusal_of}
+use Rattle.journal_file.specs.declared.ending.JournalEnding.TheVariants.{Whole, Torn, Unexplained, Foreign, Moved, Damaged}
 
 -- after whole records the marks decide
 pub told_by_marks : (whole : ℕ) (behind : List ℕ) → 0 < whole → 0 < length behind → ending_of whole behind ≡ ending_by whole behind (furthest_said behind) (first_moved whole behind)

@@ -1,8 +1,8 @@
 -- Lists of found records, with one more pushed.
 use Rattle.std.proofs.Common.{◌≡◌, ℕ, ◌+◌, List, [], ◌∷◌, ◌++◌, length, map, refl, sym, ap, ◌∙◌, append_assoc, arith}
 use Rattle.std.proofs.lemmas.List.{map_push}
-use Rattle.mds_records.specs.Sum.{sum_over, sums_over}
-use Rattle.mds_records.specs.Records.{extent, offsets_from}
+use Rattle.journal_file.specs.Sum.{sum_over, sums_over}
+use Rattle.journal_file.specs.Records.{extent, offsets_from}
 
 pub extent_more : (texts : List (List ℕ)) (text : List ℕ) → extent (texts ++ text ∷ []) ≡ extent texts + (12 + length text)
 extent_more [] text = omega arith

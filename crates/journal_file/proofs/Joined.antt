@@ -3,9 +3,9 @@ use Rattle.std.proofs.Common.{◌≡◌, ℕ, ◌+◌, ◌-◌, List, [], ◌∷
 use Rattle.std.specs.List.{AllByRecursion}
 use Rattle.std.proofs.lemmas.List.{length-append, append-nil}
 use Rattle.std.proofs.Math.Seq.{take-append-add}
-use Rattle.mds_records.specs.Sum.{sum_over, sums_over}
-use Rattle.mds_records.specs.Records.{Fits, Reads, written, record_of, extent, first_at}
-use Rattle.mds_records.proofs.Records.{first_again, first_front, short_none, record_length}
+use Rattle.journal_file.specs.Sum.{sum_over, sums_over}
+use Rattle.journal_file.specs.Records.{Fits, Reads, written, record_of, extent, first_at}
+use Rattle.journal_file.proofs.Records.{first_again, first_front, short_none, record_length}
 
 pub written_length : (before : ℕ) (texts : List (List ℕ)) → length (written before texts) ≡ extent texts
 written_length before [] = refl

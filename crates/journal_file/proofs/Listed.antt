@@ -4,14 +4,14 @@ use Rattle.std.specs.Prelude.{◌&&◌, nat_lt, nat_le}
 use Rattle.std.specs.List.{AllByRecursion, filter, list_all}
 use Rattle.std.proofs.lemmas.List.{length-append}
 use Rattle.std.proofs.lemmas.List.Elements.{filter-append}
-use Rattle.mds_records.specs.Sum.{sums_over}
-use Rattle.mds_records.specs.Records.{Fits, Reads, written, extent}
-use Rattle.mds_records.specs.Marks.{mark_head, mark_of}
-use Rattle.mds_records.specs.Groups.{is_plain, is_taken, are_taken, group_of, listed, MayBeOf}
-use Rattle.mds_records.specs.declared.record.TheConstants.{MOST_TEXT}
-use Rattle.mds_records.proofs.Marked.{mark_fits}
-use Rattle.mds_records.proofs.Written.{extent_joined}
-use Rattle.mds_records.proofs.Joined.{written_length, reads_more, reads_front, sums_joined}
+use Rattle.journal_file.specs.Sum.{sums_over}
+use Rattle.journal_file.specs.Records.{Fits, Reads, written, extent}
+use Rattle.journal_file.specs.Marks.{mark_head, mark_of}
+use Rattle.journal_file.specs.Groups.{is_plain, is_taken, are_taken, group_of, listed, MayBeOf}
+use Rattle.journal_file.specs.declared.record.TheConstants.{MOST_TEXT}
+use Rattle.journal_file.proofs.Marked.{mark_fits}
+use Rattle.journal_file.proofs.Written.{extent_joined}
+use Rattle.journal_file.proofs.Joined.{written_length, reads_more, reads_front, sums_joined}
 
 all_three : (a b c : Bool) → (a && b && c) ≡ true → (a ≡ true) × (b ≡ true) × (c ≡ true)
 all_three true true true e = (refl, refl, refl)

@@ -6,11 +6,11 @@ use Rattle.std.proofs.lemmas.Bool.{le-ltb}
 use Rattle.std.proofs.lemmas.List.{take_at, drop_at, length-append}
 use Rattle.std.proofs.lemmas.Nat.{from_be_bytes-to_be_bytes_8}
 use Rattle.std.proofs.Math.Nat.{le-max_left, le-max_right}
-use Rattle.mds_records.specs.Sum.{sum_over}
-use Rattle.mds_records.specs.Records.{Fits}
-use Rattle.mds_records.specs.Marks.{mark_head, mark_of, claim_by, claim_at, said_by, is_moved, further, furthest_said, first_moved}
-use Rattle.mds_records.specs.Laws.{SayAtMost}
-use Rattle.mds_records.proofs.Records.{sum_fits}
+use Rattle.journal_file.specs.Sum.{sum_over}
+use Rattle.journal_file.specs.Records.{Fits}
+use Rattle.journal_file.specs.Marks.{mark_head, mark_of, claim_by, claim_at, said_by, is_moved, further, furthest_said, first_moved}
+use Rattle.journal_file.specs.Laws.{SayAtMost}
+use Rattle.journal_file.proofs.Records.{sum_fits}
 
 head_length : (position synced : ℕ) → length (mark_head position synced) ≡ 24
 unfolding mark_head

@@ -6,9 +6,9 @@ use Rattle.std.proofs.lemmas.Bool.{cases_lt, le-ltb}
 use Rattle.std.proofs.lemmas.List.{take_at, drop_at, length-append, length-take, length-take-le, length-drop, take-append-drop, take-replicate, length-replicate}
 use Rattle.std.proofs.Math.Seq.{take-append-add}
 use Rattle.std.proofs.lemmas.Nat.{from_be_bytes-to_be_bytes_4, from_be_bytes-to_be_bytes_8}
-use Rattle.mds_records.specs.Sum.{sum_over}
-use Rattle.mds_records.specs.Records.{Fits, record_of, first_at, text_at}
-use Rattle.mds_records.specs.declared.record.TheConstants.{MOST_TEXT}
+use Rattle.journal_file.specs.Sum.{sum_over}
+use Rattle.journal_file.specs.Records.{Fits, record_of, first_at, text_at}
+use Rattle.journal_file.specs.declared.record.TheConstants.{MOST_TEXT}
 
 pub sum_fits : (before : ℕ) (text : List ℕ) → sum_over before text < 2 ^ 64
 unfolding sum_over

@@ -2,13 +2,13 @@
 use Rattle.std.proofs.Common.{◌≡◌, ℕ, ◌+◌, List, ◌++◌, length, sym, ap, ◌∙◌, arith}
 use Rattle.std.proofs.lemmas.List.{length-append}
 use Rattle.std.proofs.lemmas.List.Elements.{filter-append}
-use Rattle.mds_records.specs.Sum.{sums_over}
-use Rattle.mds_records.specs.Records.{extent}
-use Rattle.mds_records.specs.Groups.{is_plain, listed}
-use Rattle.mds_records.specs.LogEnds.{IsSealed}
-use Rattle.mds_records.specs.declared.log_end.LogEnd.{LogEnd}
-use Rattle.mds_records.proofs.Written.{extent_joined}
-use Rattle.mds_records.proofs.Joined.{sums_joined}
+use Rattle.journal_file.specs.Sum.{sums_over}
+use Rattle.journal_file.specs.Records.{extent}
+use Rattle.journal_file.specs.Groups.{is_plain, listed}
+use Rattle.journal_file.specs.LogEnds.{IsSealed}
+use Rattle.journal_file.specs.declared.log_end.LogEnd.{LogEnd}
+use Rattle.journal_file.proofs.Written.{extent_joined}
+use Rattle.journal_file.proofs.Joined.{sums_joined}
 
 -- what is read after a log end ends with the next log end
 pub sealed_behind : (from to : LogEnd) (list texts : List (List ℕ)) → IsSealed from list → to.sum ≡ sums_over from.sum texts

@@ -1,10 +1,10 @@
 -- Records that were written whole are read first.
 use Rattle.std.proofs.Common.{◌≡◌, ℕ, ◌+◌, ◌≤◌, List, [], ◌∷◌, ◌++◌, Some, arith, refl, sym, ap, subst, ◌∙◌, append_assoc}
 use Rattle.std.specs.List.{AllByRecursion}
-use Rattle.mds_records.specs.Sum.{sum_over, sums_over}
-use Rattle.mds_records.specs.Laws.{IsFrontOf, IsTornFrom}
-use Rattle.mds_records.specs.Records.{Reads, Fits, written, record_of, extent, first_at}
-use Rattle.mds_records.proofs.Records.{not_none, some_is, first_again}
+use Rattle.journal_file.specs.Sum.{sum_over, sums_over}
+use Rattle.journal_file.specs.Laws.{IsFrontOf, IsTornFrom}
+use Rattle.journal_file.specs.Records.{Reads, Fits, written, record_of, extent, first_at}
+use Rattle.journal_file.proofs.Records.{not_none, some_is, first_again}
 
 -- where the first record reads so, its payload is read, and then what is read after it
 pub first_then : (before : ℕ) (bytes text rest read : List ℕ) (found : List (List ℕ)) → first_at before bytes ≡ Some (text, rest) → Reads before bytes (read ∷ found)

@@ -2,13 +2,13 @@
 use Rattle.std.specs.Prelude.{◌≡◌, ℕ, ◌+◌, ◌==◌, ◌&&◌, Bool, true, false, List, [], ◌∷◌, length, take, nat_lt, nat_le, if◌then◌else◌, Option, Some, None}
 use Rattle.std.specs.List.{starts_with, list_all}
 use Rattle.std.specs.Int.{w32, from_be_bytes}
-use Rattle.mds_records.specs.Marks.{furthest_said, first_moved}
-use Rattle.mds_records.specs.declared.record.TheConstants.{HEAD, MOST_TEXT}
-use Rattle.mds_records.specs.declared.signature.Signature.{Signature}
-use Rattle.mds_records.specs.declared.signature.Signature.TheVariants.{Gzip, ByteOrderMark, Zeros, Records, Text, Unknown}
-use Rattle.mds_records.specs.declared.ending.JournalEnding.{JournalEnding}
-use Rattle.mds_records.specs.declared.ending.JournalEnding.TheVariants.{Whole, Torn, Unexplained, Foreign, Moved, Damaged}
-use Rattle.mds_records.specs.declared.ending.CutTail.{CutTail}
+use Rattle.journal_file.specs.Marks.{furthest_said, first_moved}
+use Rattle.journal_file.specs.declared.record.TheConstants.{HEAD, MOST_TEXT}
+use Rattle.journal_file.specs.declared.signature.Signature.{Signature}
+use Rattle.journal_file.specs.declared.signature.Signature.TheVariants.{Gzip, ByteOrderMark, Zeros, Records, Text, Unknown}
+use Rattle.journal_file.specs.declared.ending.JournalEnding.{JournalEnding}
+use Rattle.journal_file.specs.declared.ending.JournalEnding.TheVariants.{Whole, Torn, Unexplained, Foreign, Moved, Damaged}
+use Rattle.journal_file.specs.declared.ending.CutTail.{CutTail}
 
 -- the bytes begin with these
 abbrev pub begins_with : List ℕ → List ℕ → Bool

@@ -1,10 +1,10 @@
 -- Groups of payloads that are written at once, each after a mark, and the list of payloads that a log has of them.
 use Rattle.std.specs.Prelude.{◌≡◌, ℕ, ◌+◌, ◌==◌, ◌&&◌, Bool, true, false, not, List, [], ◌∷◌, ◌++◌, length, nat_lt, nat_le}
 use Rattle.std.specs.List.{filter, list_all}
-use Rattle.mds_records.specs.Sum.{sums_over}
-use Rattle.mds_records.specs.Records.{Reads, extent}
-use Rattle.mds_records.specs.Marks.{mark_of}
-use Rattle.mds_records.specs.declared.record.TheConstants.{HEAD, MOST_TEXT}
+use Rattle.journal_file.specs.Sum.{sums_over}
+use Rattle.journal_file.specs.Records.{Reads, extent}
+use Rattle.journal_file.specs.Marks.{mark_of}
+use Rattle.journal_file.specs.declared.record.TheConstants.{HEAD, MOST_TEXT}
 
 -- a payload that is no mark: it doesn't begin as one, nor does any UTF-8 text
 abbrev pub is_plain : List ℕ → Bool

@@ -1,11 +1,11 @@
 -- What is read from a file that was truncated, torn or filled with zeros, and how such a file ends.
 use Rattle.std.specs.Prelude.{◌≡◌, ◌≢◌, ℕ, ◌+◌, ◌^◌, ◌<◌, ◌≤◌, List, [], ◌∷◌, ◌++◌, length, take, drop, replicate, true, false, Some, None}
 use Rattle.std.specs.List.{AllByRecursion}
-use Rattle.mds_records.specs.Sum.{sum_over, sums_over}
-use Rattle.mds_records.specs.Records.{Fits, Reads, written, extent, first_at}
-use Rattle.mds_records.specs.Marks.{mark_of, claim_at}
-use Rattle.mds_records.specs.Endings.{beginning, ending_of, is_opened}
-use Rattle.mds_records.specs.declared.ending.JournalEnding.TheVariants.{Damaged}
+use Rattle.journal_file.specs.Sum.{sum_over, sums_over}
+use Rattle.journal_file.specs.Records.{Fits, Reads, written, extent, first_at}
+use Rattle.journal_file.specs.Marks.{mark_of, claim_at}
+use Rattle.journal_file.specs.Endings.{beginning, ending_of, is_opened}
+use Rattle.journal_file.specs.declared.ending.JournalEnding.TheVariants.{Damaged}
 
 -- the list begins with these
 abbrev pub IsFrontOf : List (List ℕ) → List (List ℕ) → Type 0

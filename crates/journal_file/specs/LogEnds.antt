@@ -1,10 +1,10 @@
 -- Log ends: where a list of payloads ends in its file, which distinguishes it from other lists, assuming no checksum
 -- collision.
 use Rattle.std.specs.Prelude.{◌≡◌, ℕ, List, length}
-use Rattle.mds_records.specs.Sum.{sums_over}
-use Rattle.mds_records.specs.Records.{extent}
-use Rattle.mds_records.specs.Groups.{listed}
-use Rattle.mds_records.specs.declared.log_end.LogEnd.{LogEnd}
+use Rattle.journal_file.specs.Sum.{sums_over}
+use Rattle.journal_file.specs.Records.{extent}
+use Rattle.journal_file.specs.Groups.{listed}
+use Rattle.journal_file.specs.declared.log_end.LogEnd.{LogEnd}
 
 -- The records of some payloads that are listed so end at the log end's position with its checksum, and the list has as
 -- many payloads as the log end says.

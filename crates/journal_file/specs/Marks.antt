@@ -3,8 +3,8 @@
 -- where it was written, and has a checksum of its own.
 use Rattle.std.specs.Prelude.{ℕ, ◌+◌, ◌==◌, ◌&&◌, Bool, false, not, List, [], ◌∷◌, ◌++◌, length, take, drop, max, nat_lt, bytes_eq, codes, if◌then◌else◌, Option, Some, None}
 use Rattle.std.specs.Int.{w64, to_be_bytes, from_be_bytes}
-use Rattle.mds_records.specs.Sum.{sum_over}
-use Rattle.mds_records.specs.declared.marks.TheConstants.{MARK}
+use Rattle.journal_file.specs.Sum.{sum_over}
+use Rattle.journal_file.specs.declared.marks.TheConstants.{MARK}
 
 -- a mark's magic word, of eight bytes; its first byte occurs in no UTF-8 text
 abbrev pub mark_word : List ℕ

@@ -1,9 +1,9 @@
 -- Why a journal isn't opened, by how its file ends.
 use Rattle.std.specs.Prelude.{Option, Some, None}
-use Rattle.mds_records.specs.declared.ending.JournalEnding.{JournalEnding}
-use Rattle.mds_records.specs.declared.ending.JournalEnding.TheVariants.{Whole, Torn, Unexplained, Foreign, Moved, Damaged}
-use Rattle.mds_records.specs.declared.journal.JournalOpenFault.{JournalOpenFault}
-use Rattle.mds_records.specs.declared.journal.JournalOpenFault.TheVariants as fault
+use Rattle.journal_file.specs.declared.ending.JournalEnding.{JournalEnding}
+use Rattle.journal_file.specs.declared.ending.JournalEnding.TheVariants.{Whole, Torn, Unexplained, Foreign, Moved, Damaged}
+use Rattle.journal_file.specs.declared.journal.JournalOpenFault.{JournalOpenFault}
+use Rattle.journal_file.specs.declared.journal.JournalOpenFault.TheVariants as fault
 
 -- none, where it is opened
 abbrev pub refusal_of : JournalEnding → Option JournalOpenFault

@@ -2,8 +2,8 @@
 -- all payloads before it.
 use Rattle.std.specs.Prelude.{◌≡◌, ℕ, ◌+◌, ◌<◌, ◌≤◌, ◌==◌, ◌&&◌, List, [], ◌∷◌, ◌++◌, length, take, drop, nat_lt, nat_le, if◌then◌else◌, Option, Some, None}
 use Rattle.std.specs.Int.{w32, w64, to_be_bytes, from_be_bytes}
-use Rattle.mds_records.specs.Sum.{sum_over}
-use Rattle.mds_records.specs.declared.record.TheConstants.{HEAD, MOST_TEXT}
+use Rattle.journal_file.specs.Sum.{sum_over}
+use Rattle.journal_file.specs.declared.record.TheConstants.{HEAD, MOST_TEXT}
 
 -- a payload that can have a record: at least one byte, so that zeros are no record, and at most `MOST_TEXT`
 pub record Fits (text : List ℕ) : Type 0 where

@@ -1,6 +1,6 @@
 //! How a file ends after its whole records.
 ghost use Rattle.std.specs.Prelude.{◌≡◌, ◌+◌, ◌^◌, ◌<◌, ◌≤◌, length};
-ghost use Rattle.mds_records.specs.Endings.{is_torn_record, is_short_of, unexplained, without_records, ending_of, is_opened};
+ghost use Rattle.journal_file.specs.Endings.{is_torn_record, is_short_of, unexplained, without_records, ending_of, is_opened};
 
 use crate::marks::{first_moved_mark, furthest_synced_end};
 use crate::record::{HEAD, MOST_TEXT};
@@ -47,7 +47,8 @@ impl JournalEnding {
     {
         match self {
             JournalEnding::Whole | JournalEnding::Torn | JournalEnding::Unexplained => true,
-            JournalEnding::Foreign(_) | JournalEnding::Moved(_) | JournalEnding::Damaged(_) => false,
+            JournalEnding::Foreign(_) | JournalEnding::Moved(_) | JournalEnding::Damaged(_) =>
+                false,
         }
     }
 }

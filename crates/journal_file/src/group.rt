@@ -1,9 +1,9 @@
 //! Groups of payloads that are written at once.
 ghost use Rattle.std.specs.Prelude.{◌≡◌, ◌+◌, ◌^◌, ◌<◌, map, true, IfOk};
-ghost use Rattle.mds_records.specs.Sum.{sums_over};
-ghost use Rattle.mds_records.specs.Records.{written};
-ghost use Rattle.mds_records.specs.Groups.{is_plain, is_taken, are_taken, group_of};
-ghost use Rattle.mds_records.specs.declared.record.TheConstants.{HEAD};
+ghost use Rattle.journal_file.specs.Sum.{sums_over};
+ghost use Rattle.journal_file.specs.Records.{written};
+ghost use Rattle.journal_file.specs.Groups.{is_plain, is_taken, are_taken, group_of};
+ghost use Rattle.journal_file.specs.declared.record.TheConstants.{HEAD};
 
 use crate::marks::push_mark;
 use crate::record::{MOST_TEXT, push};

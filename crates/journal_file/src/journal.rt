@@ -1,20 +1,20 @@
 //! A log in one file of records.
 ghost use Rattle.std.specs.Prelude.{◌≡◌, ◌⊎◌, ◌≤◌, ℕ, List, length, map, take, drop, true, false, Some, None, IfOk, OnOk, IsErrOf};
-ghost use Rattle.mds_records.specs.Sum.{sums_over};
-ghost use Rattle.mds_records.specs.Records.{Reads, extent};
-ghost use Rattle.mds_records.specs.Endings.{ending_of, is_opened, IsCut};
-ghost use Rattle.mds_records.specs.Groups.{MayBeOf, listed};
-ghost use Rattle.mds_records.specs.Openings.{refusal_of};
-ghost use Rattle.mds_records.specs.declared.journal.TheConstants.{MOST_POSITION};
+ghost use Rattle.journal_file.specs.Sum.{sums_over};
+ghost use Rattle.journal_file.specs.Records.{Reads, extent};
+ghost use Rattle.journal_file.specs.Endings.{ending_of, is_opened, IsCut};
+ghost use Rattle.journal_file.specs.Groups.{MayBeOf, listed};
+ghost use Rattle.journal_file.specs.Openings.{refusal_of};
+ghost use Rattle.journal_file.specs.declared.journal.TheConstants.{MOST_POSITION};
 
-use crate::tail_store::TailStore;
 use crate::ending::{CutTail, JournalEnding, ending_of};
 use crate::group::{are_taken, group_of, is_plain};
-use crate::log::{AppendFault, Log, SyncFault, ReadFault};
-use crate::storage::{Storage, StorageFault};
+use crate::log::{AppendFault, Log, ReadFault, SyncFault};
+use crate::log_end::{HasLogEnd, LogEnd};
 use crate::reading::{Record, read};
-use crate::log_end::{LogEnd, HasLogEnd};
 use crate::signature::Signature;
+use crate::storage::{Storage, StorageFault};
+use crate::tail_store::TailStore;
 use std::alloc::{AllocError, Global};
 
 /// The furthest position at which a group may begin: 2^62.

@@ -1,7 +1,7 @@
 //! Laws of the format. The functions do nothing: their contracts are the laws.
-ghost use Rattle.mds_records.specs.Laws.{ReadsAFront, ReadsTheWritten, ReadsWhatWasSynced, ReadsNoZeros};
-ghost use Rattle.mds_records.specs.Laws.{CutsNothingSynced, FindsDamage, RefusesWhatWasMoved, OpensNothingForeign};
-ghost use Rattle.mds_records.specs.Laws.{OpensWhatACrashLeaves};
+ghost use Rattle.journal_file.specs.Laws.{ReadsAFront, ReadsTheWritten, ReadsWhatWasSynced, ReadsNoZeros};
+ghost use Rattle.journal_file.specs.Laws.{CutsNothingSynced, FindsDamage, RefusesWhatWasMoved, OpensNothingForeign};
+ghost use Rattle.journal_file.specs.Laws.{OpensWhatACrashLeaves};
 
 /// Of a file truncated anywhere, a prefix of its payloads is read.
 pub fn reads_a_front()

@@ -34,7 +34,7 @@ pub struct SyncFault;
 
 impl From<AllocError> for AppendFault {
     ghost use Rattle.std.specs.Prelude.{◌≡◌};
-    ghost use Rattle.mds_records.specs.declared.log.AppendFault.TheVariants.{NoMemory};
+    ghost use Rattle.journal_file.specs.declared.log.AppendFault.TheVariants.{NoMemory};
 
     ghost from_gives = { λ _ fault. fault ≡ NoMemory };
 
@@ -45,7 +45,7 @@ impl From<AllocError> for AppendFault {
 
 impl From<AllocError> for ReadFault {
     ghost use Rattle.std.specs.Prelude.{◌≡◌};
-    ghost use Rattle.mds_records.specs.declared.log.ReadFault.TheVariants.{NoMemory};
+    ghost use Rattle.journal_file.specs.declared.log.ReadFault.TheVariants.{NoMemory};
 
     ghost from_gives = { λ _ fault. fault ≡ NoMemory };
 
@@ -58,7 +58,7 @@ impl From<AllocError> for ReadFault {
 /// log may hold; assuming no checksum collision, there is one.
 pub trait Log: Drop {
     ghost use Rattle.std.specs.Prelude.{◌≡◌, ◌≢◌, ◌+◌, ℕ, List, ◌++◌, map, drop, length, false, IfOk, OnOk, OnErr, IsErrOf};
-    ghost use Rattle.mds_records.specs.Groups.{are_taken};
+    ghost use Rattle.journal_file.specs.Groups.{are_taken};
 
     /// The log may hold this list, as far as it knows.
     ghost may_be: { Self → List (List ℕ) → Type 0 };

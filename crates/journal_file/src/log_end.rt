@@ -1,6 +1,6 @@
 //! Log ends: where a log's list ends in its file, and the payloads between two such ends.
 ghost use Rattle.std.specs.Prelude.{◌≡◌, ◌++◌, [], ℕ, List, map, IfOk};
-ghost use Rattle.mds_records.specs.LogEnds.{IsSealed};
+ghost use Rattle.journal_file.specs.LogEnds.{IsSealed};
 
 use crate::journal::plain_texts;
 use crate::log::{Log, ReadFault};
@@ -35,7 +35,7 @@ impl LogEnd {
 /// A log that reports its log end.
 pub trait HasLogEnd: Log {
     ghost use Rattle.std.specs.Prelude.{ℕ, List};
-    ghost use Rattle.mds_records.specs.LogEnds.{IsSealed};
+    ghost use Rattle.journal_file.specs.LogEnds.{IsSealed};
 
     /// Where the list ends in its file.
     fn log_end(&self) -> LogEnd

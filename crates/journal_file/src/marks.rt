@@ -1,9 +1,9 @@
 //! Marks: payloads that say how far the file was synced, to tell a torn tail from damage.
 ghost use Rattle.std.specs.Prelude.{◌≡◌, ◌+◌, ◌^◌, ◌<◌, ◌++◌, length, IfOk, OnOk, OnErr, option_map};
-ghost use Rattle.mds_records.specs.Sum.{sum_over};
-ghost use Rattle.mds_records.specs.Records.{record_of};
-ghost use Rattle.mds_records.specs.Marks.{mark_head, mark_of, claim_by, claim_at, said_by, is_moved, further, furthest_said, first_moved};
-ghost use Rattle.mds_records.specs.declared.record.TheConstants.{HEAD};
+ghost use Rattle.journal_file.specs.Sum.{sum_over};
+ghost use Rattle.journal_file.specs.Records.{record_of};
+ghost use Rattle.journal_file.specs.Marks.{mark_head, mark_of, claim_by, claim_at, said_by, is_moved, further, furthest_said, first_moved};
+ghost use Rattle.journal_file.specs.declared.record.TheConstants.{HEAD};
 
 use crate::numbers::number;
 use crate::record::{HEAD, push};

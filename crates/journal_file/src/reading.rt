@@ -1,7 +1,7 @@
 //! The record reader: reads up to the first place where no whole record stands.
 ghost use Rattle.std.specs.Prelude.{◌≡◌, ◌≤◌, ℕ, List, length, map, IfOk, option_map};
-ghost use Rattle.mds_records.specs.Sum.{sums_over};
-ghost use Rattle.mds_records.specs.Records.{Reads, first_at, text_at, extent, offsets_from};
+ghost use Rattle.journal_file.specs.Sum.{sums_over};
+ghost use Rattle.journal_file.specs.Records.{Reads, first_at, text_at, extent, offsets_from};
 
 use crate::numbers::number;
 use crate::record::{HEAD, MOST_TEXT};

@@ -1,7 +1,7 @@
 //! The record writer.
 ghost use Rattle.std.specs.Prelude.{◌≡◌, ◌++◌, ◌&&◌, ◌↔◌, IfOk, OnOk, OnErr, IsTrue};
-ghost use Rattle.mds_records.specs.Sum.{sum_over};
-ghost use Rattle.mds_records.specs.Records.{Fits, record_of};
+ghost use Rattle.journal_file.specs.Sum.{sum_over};
+ghost use Rattle.journal_file.specs.Records.{Fits, record_of};
 
 use crate::sum::sum_over;
 use std::alloc::{AllocError, Global};

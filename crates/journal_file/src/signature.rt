@@ -1,7 +1,7 @@
 //! What a file begins with where a journal's records would begin.
 ghost use Rattle.std.specs.Prelude.{◌≡◌, ◌==◌, ◌≤◌, length, take};
 ghost use Rattle.std.specs.List.{list_all};
-ghost use Rattle.mds_records.specs.Endings.{is_written, is_ordered, signature_of};
+ghost use Rattle.journal_file.specs.Endings.{is_written, is_ordered, signature_of};
 
 use crate::marks::furthest_synced_end;
 

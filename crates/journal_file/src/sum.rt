@@ -1,6 +1,6 @@
 //! The checksum of a record.
 ghost use Rattle.std.specs.Prelude.{◌≡◌};
-ghost use Rattle.mds_records.specs.Sum.{sum_over};
+ghost use Rattle.journal_file.specs.Sum.{sum_over};
 
 use std::hash::{DefaultHasher, Hasher};
 

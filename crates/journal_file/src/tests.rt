@@ -1,5 +1,4 @@
 //! Tests. The expected bytes come from another program's SipHash-1-3 with both keys 0.
-use crate::tail_store::MemoryTailStore;
 use crate::ending::{CutTail, JournalEnding, ending_of};
 use crate::group::{are_taken, group_of};
 use crate::journal::{Journal, JournalOpenFault};
@@ -8,6 +7,7 @@ use crate::memory_storage::MemoryStorage;
 use crate::reading::read;
 use crate::record::push;
 use crate::signature::Signature;
+use crate::tail_store::MemoryTailStore;
 use std::alloc::{AllocError, Global};
 
 const FIRST: &[u8] = &[0, 0, 0, 3, 37, 19, 247, 30, 17, 226, 15, 101, 111, 110, 101];

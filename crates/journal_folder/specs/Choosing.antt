@@ -1,10 +1,10 @@
 -- Which entries of a journal are replayed, and which are extracted.
 use Rattle.std.specs.Prelude.{ℕ, Bool, true, false, not, List, [], ◌∷◌, map, bytes_eq, nat_lt, if◌then◌else◌, Option, Some, None}
 use Rattle.std.specs.List.{filter, list_any}
-use Rattle.mds_entries.specs.Entries.{Entry}
-use Rattle.mds_entries.specs.Heads.{Share}
-use Rattle.mds_entries.specs.declared.entry.EntryClient.{EntryClient}
-use Rattle.mds_entries.specs.declared.entry.EntryClient.TheVariants.{Author, Operator}
+use Rattle.journal_entry.specs.Entries.{Entry}
+use Rattle.journal_entry.specs.Heads.{Share}
+use Rattle.journal_entry.specs.declared.entry.EntryClient.{EntryClient}
+use Rattle.journal_entry.specs.declared.entry.EntryClient.TheVariants.{Author, Operator}
 
 -- one of these operators, which are left out
 abbrev pub is_dropped : List (List ℕ) → List ℕ → Bool

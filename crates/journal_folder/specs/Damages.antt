@@ -1,9 +1,9 @@
 -- What is wrong with a journal that ends so.
 use Rattle.std.specs.Prelude.{ℕ, Option, Some, None}
-use Rattle.mds_records.specs.declared.ending.JournalEnding.{JournalEnding}
-use Rattle.mds_records.specs.declared.ending.JournalEnding.TheVariants as ends
-use Rattle.mds_folder.specs.declared.fault.Damage.{Damage}
-use Rattle.mds_folder.specs.declared.fault.Damage.TheVariants.{Lost, Moved, Foreign, Unexplained}
+use Rattle.journal_file.specs.declared.ending.JournalEnding.{JournalEnding}
+use Rattle.journal_file.specs.declared.ending.JournalEnding.TheVariants as ends
+use Rattle.journal_folder.specs.declared.fault.Damage.{Damage}
+use Rattle.journal_folder.specs.declared.fault.Damage.TheVariants.{Lost, Moved, Foreign, Unexplained}
 
 -- none where it is whole, or torn as a kill of the program leaves it; an unexplained tail is reported, though the
 -- journal is opened and the tail is cut

@@ -1,12 +1,12 @@
 -- The exit statuses of the faults of a folder.
 use Rattle.std.specs.Prelude.{ℕ}
-use Rattle.mds_entries.specs.declared.head.HeadFault.{HeadFault}
-use Rattle.mds_entries.specs.declared.head.HeadFault.TheVariants as head
-use Rattle.mds_records.specs.declared.journal.JournalOpenFault.{JournalOpenFault}
-use Rattle.mds_records.specs.declared.journal.JournalOpenFault.TheVariants as opening
-use Rattle.mds_folder.specs.declared.fault.Damage.TheVariants.{Lost, Moved, Foreign, Unexplained, TooLong, Version, NoHead}
-use Rattle.mds_folder.specs.declared.fault.FolderFault.{FolderFault}
-use Rattle.mds_folder.specs.declared.fault.FolderFault.TheVariants.{Unusable, Linked, Locked, NoMemory, Damaged, Unfitting}
+use Rattle.journal_entry.specs.declared.head.HeadFault.{HeadFault}
+use Rattle.journal_entry.specs.declared.head.HeadFault.TheVariants as head
+use Rattle.journal_file.specs.declared.journal.JournalOpenFault.{JournalOpenFault}
+use Rattle.journal_file.specs.declared.journal.JournalOpenFault.TheVariants as opening
+use Rattle.journal_folder.specs.declared.fault.Damage.TheVariants.{Lost, Moved, Foreign, Unexplained, TooLong, Version, NoHead}
+use Rattle.journal_folder.specs.declared.fault.FolderFault.{FolderFault}
+use Rattle.journal_folder.specs.declared.fault.FolderFault.TheVariants.{Unusable, Linked, Locked, NoMemory, Damaged, Unfitting}
 
 -- 3 where out of memory, 4 for a folder that can't be used, 5 for a damaged journal, 6 for a configuration that doesn't
 -- fit it

@@ -3,7 +3,7 @@
 use crate::fault::FolderFault;
 use crate::files::open_new;
 use crate::folder::sync_names;
-use mds_records::{TailStore, StorageFault};
+use journal_file::{StorageFault, TailStore};
 use std::alloc::{AllocError, Global};
 use std::fs::{self, File, Files};
 use std::io::Write;

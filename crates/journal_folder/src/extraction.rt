@@ -1,9 +1,9 @@
 //! Which entries of a journal are replayed, and which are extracted.
 ghost use Rattle.std.specs.Prelude.{◌≡◌, ◌≤◌, ◌++◌, ◌∷◌, [], length, map, take, IfOk, OnOk, bytes_eq};
-ghost use Rattle.mds_entries.specs.Entries.{entry_of};
-ghost use Rattle.mds_folder.specs.Choosing.{is_dropped, asks_dropped, without, concerns, is_later, in_time, told};
+ghost use Rattle.journal_entry.specs.Entries.{entry_of};
+ghost use Rattle.journal_folder.specs.Choosing.{is_dropped, asks_dropped, without, concerns, is_later, in_time, told};
 
-use mds_entries::{EntryClient, JournalEntry};
+use journal_entry::{EntryClient, JournalEntry};
 use mds_text::{Id, Moment};
 use std::alloc::{AllocError, Global};
 
@@ -59,7 +59,10 @@ fn copy_of<'a>(entry: &JournalEntry<'a>) -> JournalEntry<'a>
 }
 
 /// Appends a copy of an entry.
-fn push_copy<'a>(kept: &mut Vec<JournalEntry<'a>>, entry: &JournalEntry<'a>) -> Result<(), AllocError>
+fn push_copy<'a>(
+    kept: &mut Vec<JournalEntry<'a>>,
+    entry: &JournalEntry<'a>,
+) -> Result<(), AllocError>
     ensures { OnOk result (map entry_of kept.new.items ≡ map entry_of kept.old.items ++ entry_of entry.now ∷ []) }
 {
     match kept.push(copy_of(entry)) {

@@ -1,9 +1,9 @@
 //! Why a city's folder isn't opened.
 ghost use Rattle.std.specs.Prelude.{◌≡◌};
-ghost use Rattle.mds_folder.specs.Exit.{exit_status};
+ghost use Rattle.journal_folder.specs.Exit.{exit_status};
 
-use mds_entries::{EntryFault, HeadFault, Unfit};
-use mds_records::{AppendFault, SyncFault, JournalOpenFault, ReadFault, Signature};
+use journal_entry::{EntryFault, HeadFault, Unfit};
+use journal_file::{AppendFault, JournalOpenFault, ReadFault, Signature, SyncFault};
 use std::alloc::{AllocError, AllocFailed};
 use std::fmt;
 
@@ -62,7 +62,7 @@ impl FolderFault {
 
 impl From<AllocError> for FolderFault {
     ghost use Rattle.std.specs.Prelude.{◌≡◌};
-    ghost use Rattle.mds_folder.specs.declared.fault.FolderFault.TheVariants.{NoMemory};
+    ghost use Rattle.journal_folder.specs.declared.fault.FolderFault.TheVariants.{NoMemory};
 
     ghost from_gives = { λ _ e. e ≡ NoMemory };
 
@@ -79,7 +79,7 @@ impl<T: Drop> From<AllocFailed<T>> for FolderFault {
 
 impl From<JournalOpenFault> for FolderFault {
     ghost use Rattle.std.specs.Prelude.{◌≡◌};
-    ghost use Rattle.mds_folder.specs.Exit.{fault_of_opening};
+    ghost use Rattle.journal_folder.specs.Exit.{fault_of_opening};
 
     ghost from_gives = { λ fault e. e ≡ fault_of_opening fault };
 
@@ -87,7 +87,9 @@ impl From<JournalOpenFault> for FolderFault {
         match fault {
             JournalOpenFault::Damaged(synced) => FolderFault::Damaged(Damage::Lost(synced)),
             JournalOpenFault::Moved(place) => FolderFault::Damaged(Damage::Moved(place)),
-            JournalOpenFault::Foreign(signature) => FolderFault::Damaged(Damage::Foreign(signature)),
+            JournalOpenFault::Foreign(signature) => FolderFault::Damaged(Damage::Foreign(
+                signature,
+            )),
             JournalOpenFault::Torn(whole) => FolderFault::Damaged(Damage::Unexplained(whole)),
             JournalOpenFault::TooLong => FolderFault::Damaged(Damage::TooLong),
             JournalOpenFault::NotKept | JournalOpenFault::Failed => FolderFault::Unusable,
@@ -122,9 +124,9 @@ impl From<SyncFault> for FolderFault {
 
 impl From<HeadFault> for FolderFault {
     ghost use Rattle.std.specs.Prelude.{◌≡◌, ◌≢◌};
-    ghost use Rattle.mds_entries.specs.declared.fitting.Unfit.{Unfit};
-    ghost use Rattle.mds_folder.specs.Exit.{fault_of_head};
-    ghost use Rattle.mds_folder.specs.declared.fault.FolderFault.TheVariants.{Unfitting};
+    ghost use Rattle.journal_entry.specs.declared.fitting.Unfit.{Unfit};
+    ghost use Rattle.journal_folder.specs.Exit.{fault_of_head};
+    ghost use Rattle.journal_folder.specs.declared.fault.FolderFault.TheVariants.{Unfitting};
 
     ghost from_gives = { λ fault e. (e ≡ fault_of_head fault) × ((against : Unfit) → e ≢ Unfitting against) };
 

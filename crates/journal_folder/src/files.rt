@@ -1,6 +1,6 @@
 //! Files of a folder, opened by their names without following a link.
 ghost use Rattle.std.specs.Prelude.{◌≡◌};
-ghost use Rattle.mds_folder.specs.Files.{owner_of};
+ghost use Rattle.journal_folder.specs.Files.{owner_of};
 
 use crate::fault::FolderFault;
 use std::fs::{self, File, Files, Metadata, TryLockError};

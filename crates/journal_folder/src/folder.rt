@@ -51,7 +51,11 @@ fn create_folder<R: Files<File = File>>(rt: &R, folder: &str) -> Result<(), Fold
 
 /// Makes a folder where it isn't there, and waits until its name is on the disk: each time, since a start that made it
 /// may have been killed before that. Where the folder above can't be read, it doesn't wait.
-fn ensure_folder<R: Files<File = File>>(rt: &R, alloc: Global, folder: &str) -> Result<(), FolderFault> {
+fn ensure_folder<R: Files<File = File>>(
+    rt: &R,
+    alloc: Global,
+    folder: &str,
+) -> Result<(), FolderFault> {
     match fs::metadata(rt, folder) {
         Ok(found) if found.is_dir() => {}
         Err(error) if error.kind() == ErrorKind::NotFound => create_folder(rt, folder)?,

@@ -1,15 +1,15 @@
 //! A journal's payloads: the head, and the entries after it.
 ghost use Rattle.std.specs.Prelude.{◌≡◌, ◌⊎◌, ℕ, List, [], ◌∷◌, ◌++◌, map, drop, take, Some, None, IfOk, IfErr, OnOk, IsErrOf};
 ghost use Rattle.mds_request.specs.Configuration.{configuration};
-ghost use Rattle.mds_entries.specs.Entries.{IsEntry, entry_of, entry_text};
-ghost use Rattle.mds_entries.specs.Heads.{Share as Part, AreShares, share_of, shares_of, head_text, unfit};
-ghost use Rattle.mds_entries.specs.declared.fitting.Unfit.{Unfit as Against};
-ghost use Rattle.mds_folder.specs.Choosing.{needed};
+ghost use Rattle.journal_entry.specs.Entries.{IsEntry, entry_of, entry_text};
+ghost use Rattle.journal_entry.specs.Heads.{Share as Part, AreShares, share_of, shares_of, head_text, unfit};
+ghost use Rattle.journal_entry.specs.declared.fitting.Unfit.{Unfit as Against};
+ghost use Rattle.journal_folder.specs.Choosing.{needed};
 
 use crate::extraction::is_dropped;
 use crate::fault::{FolderFault, entry_fault};
-use mds_entries::{JournalEntry, OperatorShare, fits, head_text, read_entry, read_head, shares};
-use mds_records::Log;
+use journal_entry::{JournalEntry, OperatorShare, fits, head_text, read_entry, read_head, shares};
+use journal_file::Log;
 use mds_request::Config;
 use mds_text::Id;
 use std::alloc::{AllocError, Global};
@@ -49,7 +49,11 @@ fn head_group(alloc: Global, config: &Config) -> Result<Vec<Vec<u8>>, AllocError
 }
 
 /// What a head requires of a configuration: each operator that isn't left out.
-fn needed_shares(alloc: Global, shares: &[OperatorShare], dropped: &[Id]) -> Result<Vec<OperatorShare>, AllocError>
+fn needed_shares(
+    alloc: Global,
+    shares: &[OperatorShare],
+    dropped: &[Id],
+) -> Result<Vec<OperatorShare>, AllocError>
     ensures { IfOk result (λ kept. map share_of kept.items ≡ needed dropped.now (map share_of shares.now)) }
 {
     let mut kept = Vec::new(alloc);

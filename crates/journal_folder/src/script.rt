@@ -2,7 +2,7 @@
 ghost use Rattle.std.specs.Prelude.{◌≡◌, ◌++◌, IfOk, OnOk};
 ghost use Rattle.mds_request.specs.Request.{request_of};
 ghost use Rattle.std.specs.Fmt.{decimal};
-ghost use Rattle.mds_folder.specs.Script.{word_of, blank, blanked, body_text, request_text};
+ghost use Rattle.journal_folder.specs.Script.{word_of, blank, blanked, body_text, request_text};
 
 use mds_request::{Request, Verb};
 use mds_text::Moment;

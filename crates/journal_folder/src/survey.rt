@@ -1,12 +1,12 @@
 //! A survey of a journal's bytes: its payloads, and how it ends.
 ghost use Rattle.std.specs.Prelude.{◌≡◌, ℕ, List, map, drop, IfOk};
-ghost use Rattle.mds_records.specs.Records.{Reads, extent};
-ghost use Rattle.mds_records.specs.Endings.{ending_of};
-ghost use Rattle.mds_records.specs.Groups.{listed};
-ghost use Rattle.mds_folder.specs.Damages.{damage_of};
+ghost use Rattle.journal_file.specs.Records.{Reads, extent};
+ghost use Rattle.journal_file.specs.Endings.{ending_of};
+ghost use Rattle.journal_file.specs.Groups.{listed};
+ghost use Rattle.journal_folder.specs.Damages.{damage_of};
 
 use crate::fault::Damage;
-use mds_records::{JournalEnding, Record, ending_of, is_plain, read};
+use journal_file::{JournalEnding, Record, ending_of, is_plain, read};
 use std::alloc::{AllocError, Global};
 
 /// What a journal's bytes are.

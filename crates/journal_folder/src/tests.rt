@@ -1,8 +1,8 @@
 //! Tests of the decisions on files and on journals.
 use crate::fault::{Damage, FolderFault};
-use crate::files::{PathEntry, Identity, NameOwner, owner_of};
+use crate::files::{Identity, NameOwner, PathEntry, owner_of};
 use crate::survey::{damage_of, survey_of};
-use mds_records::{JournalEnding, JournalOpenFault, Signature};
+use journal_file::{JournalEnding, JournalOpenFault, Signature};
 
 const OPENED: Identity = Identity {
     device: 1,

@@ -5,8 +5,8 @@ use Rattle.std.proofs.lemmas.List.{reverse-append, length-take-le, get_or-take}
 use Rattle.std.proofs.lemmas.Option.{slice_get-map, slice_get-get_or}
 use Rattle.std.proofs.lemmas.Slice.Eq.{bytes_eq-Decides}
 use Rattle.mds_fleet.specs.Books.{Report}
-use Rattle.mds_restarts.specs.Persisted.{run_begun, thinned}
-use Rattle.mds_restarts.specs.Compaction.{ThinsTo}
+use Rattle.journal_laws.specs.Persisted.{run_begun, thinned}
+use Rattle.journal_laws.specs.Compaction.{ThinsTo}
 
 head_is : (a b : Report) (r s : List Report) → a ∷ r ≡ b ∷ s → a ≡ b
 head_is a b r s e = cc

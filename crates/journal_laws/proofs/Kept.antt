@@ -26,7 +26,7 @@ use Rattle.mds_machine.specs.Laws.{RefusedLeaves, IsDetermined}
 use Rattle.mds_machine.specs.Meaning.{own_call}
 use Rattle.mds_machine.specs.Operator.{operator_does}
 use Rattle.mds_machine.specs.Step.{State, Exchange, Step, Run, with_rows, call_does}
-use Rattle.mds_restarts.specs.Persisted.{may_change, is_kept, kept, requests_in, AreSuccesses}
+use Rattle.journal_laws.specs.Persisted.{may_change, is_kept, kept, requests_in, AreSuccesses}
 
 abbrev call_step : State → Result Call Code → Request → Reply × State
 call_step w call request = settled w (call >>= λ c. call_does w c request)

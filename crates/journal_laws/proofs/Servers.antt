@@ -23,9 +23,9 @@ use Rattle.mds_machine.proofs.Successes.{succeeds_on, operator_succeeds, settled
 use Rattle.mds_machine.specs.Desks.{AreTurns, IsTurn, IsUnavailable, desk_does, refusal_of}
 use Rattle.mds_machine.specs.Fronts.{Turn, last_front, requests_in, replies_in}
 use Rattle.mds_machine.proofs.Views.{prefix_on}
-use Rattle.mds_restarts.specs.Persisted.{may_change, is_kept}
-use Rattle.mds_restarts.proofs.Kept.{changes_apart}
-use Rattle.mds_restarts.specs.Servers.{kept_turns, AreServed}
+use Rattle.journal_laws.specs.Persisted.{may_change, is_kept}
+use Rattle.journal_laws.proofs.Kept.{changes_apart}
+use Rattle.journal_laws.specs.Servers.{kept_turns, AreServed}
 
 read_left : (rows : Rows) (answer : Result Reply Code) → (settled rows (answer >>= leaving rows)).1 ≡ rows
 read_left rows (Ok a) = refl

@@ -1,7 +1,7 @@
 -- What compaction keeps of a list of reports, by index.
 use Rattle.std.specs.Prelude.{◌≡◌, ℕ, List, [], ◌∷◌, reverse, Some, slice_get}
 use Rattle.mds_fleet.specs.Books.{Report}
-use Rattle.mds_restarts.specs.Persisted.{thinned}
+use Rattle.journal_laws.specs.Persisted.{thinned}
 
 -- Of these reports, earliest first, compaction keeps those at these indices. (`reports_to_keep` has the latest first.)
 pub record ThinsTo (reports : List Report) (begun last : ℕ) : Type 0 where

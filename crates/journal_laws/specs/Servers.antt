@@ -12,7 +12,7 @@ use Rattle.mds_machine.specs.Desks.{AreTurns}
 use Rattle.mds_machine.specs.Fronts.{Turn, last_front, requests_in, replies_in}
 use Rattle.mds_machine.specs.OneHistory.{HasServed}
 use Rattle.mds_machine.specs.Room.{AreRoomTurns, authors_in}
-use Rattle.mds_restarts.specs.Persisted.{is_kept, AreAnsweredAgain}
+use Rattle.journal_laws.specs.Persisted.{is_kept, AreAnsweredAgain}
 
 -- a desk's turns that are persisted: their requests and replies decide, not their fronts
 abbrev pub kept_turns : Configuration → List Turn → List Turn

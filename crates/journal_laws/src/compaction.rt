@@ -1,7 +1,7 @@
 //! Which reports of a device compaction keeps: those that are enough for its row.
 ghost use Rattle.std.specs.Prelude.{◌≡◌, [], map, MatchOption, bytes_eq};
 ghost use Rattle.mds_fleet.specs.Books.{report_document};
-ghost use Rattle.mds_restarts.specs.Compaction.{ThinsTo};
+ghost use Rattle.journal_laws.specs.Compaction.{ThinsTo};
 
 use mds_fleet::Report;
 

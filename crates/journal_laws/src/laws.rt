@@ -1,7 +1,7 @@
 //! Laws of what a journal persists, and of what is recovered from it. Each function's contract is the law; the
 //! functions do nothing but call the laws that theirs follow from.
-ghost use Rattle.mds_restarts.specs.Persisted.{KeptLeadsThere, AnsweredAgainLeadsThere, FrontsAreFronts, IsOneHistory, RowsStandApart, ChangesStandApart, ThinnedIsTheSame};
-ghost use Rattle.mds_restarts.specs.Servers.{DeskIsRecovered, DeskGoesOn, RoomIsRecovered, IsOneServer};
+ghost use Rattle.journal_laws.specs.Persisted.{KeptLeadsThere, AnsweredAgainLeadsThere, FrontsAreFronts, IsOneHistory, RowsStandApart, ChangesStandApart, ThinnedIsTheSame};
+ghost use Rattle.journal_laws.specs.Servers.{DeskIsRecovered, DeskGoesOn, RoomIsRecovered, IsOneServer};
 
 use mds_machine::{desk_laws as fronts, laws as machine};
 

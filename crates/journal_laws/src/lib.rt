@@ -2,9 +2,9 @@
 //! that replays it.
 #![tactic(auto)]
 
-mod persistence;
-pub mod laws;
 mod compaction;
+pub mod laws;
+mod persistence;
 
-pub use persistence::{is_persisted, persists, may_change};
 pub use compaction::{KeptReports, reports_to_keep};
+pub use persistence::{is_persisted, may_change, persists};

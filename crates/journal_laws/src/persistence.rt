@@ -3,7 +3,7 @@ ghost use Rattle.std.specs.Prelude.{◌≡◌, ◌==◌, ◌&&◌};
 ghost use Rattle.mds_request.specs.Configuration.{configuration};
 ghost use Rattle.mds_request.specs.Reply.{Reply};
 ghost use Rattle.mds_request.specs.Request.{request_of};
-ghost use Rattle.mds_restarts.specs.Persisted.{is_kept, may_change};
+ghost use Rattle.journal_laws.specs.Persisted.{is_kept, may_change};
 
 use mds_request::{AuthorCall, Call, Code, Config, OperatorCall, Request, Routes, read_call};
 

@@ -4,10 +4,10 @@ use Rattle.std.proofs.Math.Seq.{take-append_seam}
 use Rattle.mds_request.specs.Configuration.{Configuration}
 use Rattle.mds_desk.specs.Desk.{DeskState, new_desks}
 use Rattle.mds_desk.specs.Room.{RoomState, new_room}
-use Rattle.mds_entries.specs.Entries.{Entry}
-use Rattle.mds_recovery.specs.Recovery.{Server, AreAnswered}
-use Rattle.mds_recovery.specs.Laws.{AnsweredAreTurns, JournalLeadsBack, GoesOnAsOneServer, IsStartedAgain, new_server}
-use Rattle.mds_recovery.proofs.New.{new_is}
+use Rattle.journal_entry.specs.Entries.{Entry}
+use Rattle.journal_recovery.specs.Recovery.{Server, AreAnswered}
+use Rattle.journal_recovery.specs.Laws.{AnsweredAreTurns, JournalLeadsBack, GoesOnAsOneServer, IsStartedAgain, new_server}
+use Rattle.journal_recovery.proofs.New.{new_is}
 
 abbrev pub with_both : RoomState → List DeskState → Server
 with_both room desks = record { room = room; desks = desks }

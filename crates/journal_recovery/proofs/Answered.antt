@@ -19,11 +19,11 @@ use Rattle.mds_machine.specs.Fronts.{Turn, last_front}
 use Rattle.mds_machine.specs.Room.{AreRoomTurns, IsRoomTurn, authors_in, is_authors, is_the_author}
 use Rattle.mds_desk.specs.Desk.{DeskState, TakesTurn}
 use Rattle.mds_desk.specs.Room.{RoomState, IsNoted, held_in}
-use Rattle.mds_entries.specs.Entries.{Entry}
-use Rattle.mds_entries.specs.Requests.{actor_by, token_of, with_token, request_by}
-use Rattle.mds_recovery.specs.Recovery.{Server, LearnsNote, RoomAnswers, DeskAnswers, Answers}
-use Rattle.mds_recovery.specs.Laws.{is_actor, requests_by, IsRoomRecovered, IsDeskRecovered, IsServerOf, AnsweredAreTurns}
-use Rattle.mds_recovery.proofs.Lists.{the_same, other_at, set_same, set_other, set_long, at_set}
+use Rattle.journal_entry.specs.Entries.{Entry}
+use Rattle.journal_entry.specs.Requests.{actor_by, token_of, with_token, request_by}
+use Rattle.journal_recovery.specs.Recovery.{Server, LearnsNote, RoomAnswers, DeskAnswers, Answers}
+use Rattle.journal_recovery.specs.Laws.{is_actor, requests_by, IsRoomRecovered, IsDeskRecovered, IsServerOf, AnsweredAreTurns}
+use Rattle.journal_recovery.proofs.Lists.{the_same, other_at, set_same, set_other, set_long, at_set}
 
 pub prefix_self : {A : Type 0} (xs : List A) → IsPrefix xs xs
 prefix_self xs = ([], append-nil xs)

@@ -8,12 +8,12 @@ use Rattle.mds_request.specs.declared.config.Actor.TheVariants.{Author, Operator
 use Rattle.mds_machine.specs.Step.{Exchange}
 use Rattle.mds_machine.specs.Fronts.{Turn, requests_in}
 use Rattle.mds_machine.specs.Room.{is_authors, authors_in}
-use Rattle.mds_restarts.specs.Persisted.{is_kept, kept}
-use Rattle.mds_restarts.specs.Persisted.{requests_in as room_requests_in}
-use Rattle.mds_restarts.specs.Servers.{kept_turns}
-use Rattle.mds_recovery.specs.Laws.{requests_by, is_turn_kept, FrontsAreJournals}
-use Rattle.mds_recovery.proofs.Lists.{none_some}
-use Rattle.mds_recovery.proofs.Grows.{requests_of_both}
+use Rattle.journal_laws.specs.Persisted.{is_kept, kept}
+use Rattle.journal_laws.specs.Persisted.{requests_in as room_requests_in}
+use Rattle.journal_laws.specs.Servers.{kept_turns}
+use Rattle.journal_recovery.specs.Laws.{requests_by, is_turn_kept, FrontsAreJournals}
+use Rattle.journal_recovery.proofs.Lists.{none_some}
+use Rattle.journal_recovery.proofs.Grows.{requests_of_both}
 
 first_is : {X : Type 0} (a b : X) (xs ys : List X) → a ∷ xs ≡ b ∷ ys → a ≡ b
 first_is a b xs ys e = ap (λ l. get_or l 0 a) e

@@ -16,15 +16,15 @@ use Rattle.mds_machine.specs.Step.{Exchange}
 use Rattle.mds_machine.specs.Views.{is_place}
 use Rattle.mds_machine.specs.Fronts.{Turn, requests_in}
 use Rattle.mds_machine.specs.Room.{is_authors, is_the_author, authors_in}
-use Rattle.mds_restarts.specs.Persisted.{is_kept, kept}
-use Rattle.mds_restarts.specs.Persisted.{requests_in as room_requests_in}
-use Rattle.mds_restarts.specs.Servers.{kept_turns}
-use Rattle.mds_entries.specs.Entries.{Entry}
-use Rattle.mds_entries.specs.Requests.{has_id, actor_by, request_by, asker_at, asked_by, ReadsTheRequest}
-use Rattle.mds_entries.specs.declared.entry.EntryClient.TheVariants.{Author as TheAuthor, Operator as OperatorBy}
-use Rattle.mds_recovery.specs.Laws.{is_actor, requests_by, is_turn_kept, IsEntryOf, IsOneTurnMore, JournalGrowsByExchange, JournalGrowsByTurn}
-use Rattle.mds_recovery.proofs.Lists.{the_same, none_some}
-use Rattle.mds_recovery.proofs.Answered.{first_own, first_other}
+use Rattle.journal_laws.specs.Persisted.{is_kept, kept}
+use Rattle.journal_laws.specs.Persisted.{requests_in as room_requests_in}
+use Rattle.journal_laws.specs.Servers.{kept_turns}
+use Rattle.journal_entry.specs.Entries.{Entry}
+use Rattle.journal_entry.specs.Requests.{has_id, actor_by, request_by, asker_at, asked_by, ReadsTheRequest}
+use Rattle.journal_entry.specs.declared.entry.EntryClient.TheVariants.{Author as TheAuthor, Operator as OperatorBy}
+use Rattle.journal_recovery.specs.Laws.{is_actor, requests_by, is_turn_kept, IsEntryOf, IsOneTurnMore, JournalGrowsByExchange, JournalGrowsByTurn}
+use Rattle.journal_recovery.proofs.Lists.{the_same, none_some}
+use Rattle.journal_recovery.proofs.Answered.{first_own, first_other}
 
 both_true : (a b : Bool) → (a && b) ≡ true → (a ≡ true) × (b ≡ true)
 both_true true b e = (refl, e)

@@ -11,10 +11,10 @@ use Rattle.mds_request.specs.Request.{Request}
 use Rattle.mds_request.specs.Reply.{Reply}
 use Rattle.mds_desk.specs.Desk.{DeskState, TakesTurn, Learns}
 use Rattle.mds_desk.specs.Room.{RoomState}
-use Rattle.mds_entries.specs.Entries.{Entry}
-use Rattle.mds_recovery.specs.Recovery.{Server, DeskAnswers, IsAnsweredAgain, AreAnswered, IsRefused, IsStopped}
-use Rattle.mds_recovery.specs.declared.fault.Cause.{Cause}
-use Rattle.mds_recovery.proofs.Lists.{the_same, set_long, set_other, at_set}
+use Rattle.journal_entry.specs.Entries.{Entry}
+use Rattle.journal_recovery.specs.Recovery.{Server, DeskAnswers, IsAnsweredAgain, AreAnswered, IsRefused, IsStopped}
+use Rattle.journal_recovery.specs.declared.fault.Cause.{Cause}
+use Rattle.journal_recovery.proofs.Lists.{the_same, set_long, set_other, at_set}
 
 -- the first so many desks have learnt a list, and the others are as they were
 pub record LearntSoFar (list : List Publication) (count : ℕ) (before now : List DeskState) : Type 0 where

@@ -6,8 +6,8 @@ use Rattle.std.proofs.lemmas.List.FromFn.{length-map-range_with_len}
 use Rattle.std.proofs.lemmas.Option.{slice_get_within, slice_get-map}
 use Rattle.mds_request.specs.Configuration.{Configuration, Operator}
 use Rattle.mds_desk.specs.Desk.{DeskState, new_desk, new_desks}
-use Rattle.mds_recovery.specs.Laws.{IsServerOf, new_server}
-use Rattle.mds_recovery.proofs.Lists.{the_same, none_some}
+use Rattle.journal_recovery.specs.Laws.{IsServerOf, new_server}
+use Rattle.journal_recovery.proofs.Lists.{the_same, none_some}
 
 from_zero : (n : ℕ) → 0 + n ≡ n
 from_zero n = omega arith

@@ -14,16 +14,16 @@ use Rattle.mds_machine.specs.Desks.{AreTurns}
 use Rattle.mds_machine.specs.Fronts.{Turn, last_front, requests_in}
 use Rattle.mds_machine.specs.OneHistory.{HasServed}
 use Rattle.mds_machine.specs.Room.{AreRoomTurns, is_authors, authors_in}
-use Rattle.mds_restarts.specs.Persisted.{AreSuccesses, is_kept, kept}
-use Rattle.mds_restarts.specs.Persisted.{requests_in as room_requests_in}
-use Rattle.mds_restarts.specs.Servers.{AreServed, kept_turns}
+use Rattle.journal_laws.specs.Persisted.{AreSuccesses, is_kept, kept}
+use Rattle.journal_laws.specs.Persisted.{requests_in as room_requests_in}
+use Rattle.journal_laws.specs.Servers.{AreServed, kept_turns}
 use Rattle.mds_desk.specs.Desk.{DeskState, new_desks}
 use Rattle.mds_desk.specs.Room.{held_in, new_room}
-use Rattle.mds_entries.specs.Entries.{Entry}
-use Rattle.mds_entries.specs.Requests.{actor_by, request_by, entry_by}
-use Rattle.mds_recovery.specs.Recovery.{Server, AreAnswered, IsStopped}
-use Rattle.mds_recovery.specs.declared.fault.StartFault.{StartFault}
-use Rattle.mds_recovery.specs.declared.fault.StartFault.TheVariants.{Opening, Stopped}
+use Rattle.journal_entry.specs.Entries.{Entry}
+use Rattle.journal_entry.specs.Requests.{actor_by, request_by, entry_by}
+use Rattle.journal_recovery.specs.Recovery.{Server, AreAnswered, IsStopped}
+use Rattle.journal_recovery.specs.declared.fault.StartFault.{StartFault}
+use Rattle.journal_recovery.specs.declared.fault.StartFault.TheVariants.{Opening, Stopped}
 
 abbrev pub is_actor : Actor → Actor → Bool
 is_actor Author Author = true

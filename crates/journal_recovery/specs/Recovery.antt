@@ -11,11 +11,11 @@ use Rattle.mds_desk.specs.Desk.{DeskState, TakesTurn, Learns, state_of}
 use Rattle.mds_desk.specs.Room.{RoomState, TakesRoomTurn, room_of}
 use Rattle.mds_desk.specs.declared.author.AuthorRoom.{AuthorRoom}
 use Rattle.mds_desk.specs.declared.desk.Desk.{Desk}
-use Rattle.mds_entries.specs.Entries.{Entry}
-use Rattle.mds_entries.specs.Requests.{actor_by, request_by}
-use Rattle.mds_recovery.specs.declared.fault.Cause.{Cause}
-use Rattle.mds_recovery.specs.declared.fault.Cause.TheVariants.{NoDesk, Refused}
-use Rattle.mds_recovery.specs.declared.fault.Fault.{Fault}
+use Rattle.journal_entry.specs.Entries.{Entry}
+use Rattle.journal_entry.specs.Requests.{actor_by, request_by}
+use Rattle.journal_recovery.specs.declared.fault.Cause.{Cause}
+use Rattle.journal_recovery.specs.declared.fault.Cause.TheVariants.{NoDesk, Refused}
+use Rattle.journal_recovery.specs.declared.fault.Fault.{Fault}
 
 -- the author's room and the desks of a server, between two entries
 pub record Server : Type 0 where

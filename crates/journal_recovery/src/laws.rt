@@ -1,10 +1,10 @@
 //! Laws of replay. Each function's contract is the law; the functions do nothing but call the laws that theirs follow
 //! from.
-ghost use Rattle.mds_recovery.specs.Laws.{AnsweredAreTurns, AnsweredByParts, FrontsAreJournals, JournalLeadsBack, GoesOnAsOneServer};
-ghost use Rattle.mds_recovery.specs.Laws.{JournalGrowsByExchange, JournalGrowsByTurn};
+ghost use Rattle.journal_recovery.specs.Laws.{AnsweredAreTurns, AnsweredByParts, FrontsAreJournals, JournalLeadsBack, GoesOnAsOneServer};
+ghost use Rattle.journal_recovery.specs.Laws.{JournalGrowsByExchange, JournalGrowsByTurn};
 
-use mds_entries::reads_the_request;
-use mds_restarts::laws as restarts;
+use journal_entry::reads_the_request;
+use journal_laws::laws as restarts;
 
 /// Replaying entries in parts is replaying them, so that a long journal needn't be in memory as a whole.
 pub fn replay_by_parts()

@@ -5,16 +5,16 @@ ghost use Rattle.mds_request.specs.Request.{request_of};
 ghost use Rattle.mds_request.specs.Reply.{Reply};
 ghost use Rattle.mds_desk.specs.Desk.{state_of};
 ghost use Rattle.mds_desk.specs.Room.{RoomState};
-ghost use Rattle.mds_entries.specs.Entries.{entry_of};
-ghost use Rattle.mds_recovery.specs.Recovery.{server_of, AllLearn, RoomAnswers, DeskAnswers, Answers, HasNoDesk};
-ghost use Rattle.mds_recovery.specs.Recovery.{IsAnsweredAgain, AreAnswered, IsRefused, IsStopped};
+ghost use Rattle.journal_entry.specs.Entries.{entry_of};
+ghost use Rattle.journal_recovery.specs.Recovery.{server_of, AllLearn, RoomAnswers, DeskAnswers, Answers, HasNoDesk};
+ghost use Rattle.journal_recovery.specs.Recovery.{IsAnsweredAgain, AreAnswered, IsRefused, IsStopped};
 
 use crate::fault::{Cause, Fault};
 use crate::progress::Progress;
-use mds_desk::{SharedReply, AuthorRoom, Desk, OpenGate};
-use mds_entries::{JournalEntry, actor_by, request_by};
+use journal_entry::{JournalEntry, actor_by, request_by};
+use mds_desk::{AuthorRoom, Desk, OpenGate, SharedReply};
 use mds_request::{Actor, Config, Request};
-use mds_snapshot::{OpeningName, Note};
+use mds_snapshot::{Note, OpeningName};
 use mds_verdict::Plain;
 use std::sync::Wait;
 
@@ -54,7 +54,11 @@ fn room_answers<K: OpeningName, R: Wait>(
 }
 
 /// The desk at an index answers its operator's request.
-fn desk_answers<K: OpeningName>(desks: &mut [Desk<K>], place: usize, request: &Request<'_>) -> SharedReply
+fn desk_answers<K: OpeningName>(
+    desks: &mut [Desk<K>],
+    place: usize,
+    request: &Request<'_>,
+) -> SharedReply
     requires { place < length desks.old }
     ensures { (room : RoomState) → DeskAnswers place (request_of request.now) result
         (record { room = room; desks = map state_of desks.old }) (record { room = room; desks = map state_of desks.new }) }

@@ -3,18 +3,18 @@ ghost use Rattle.std.specs.Prelude.{◌≡◌, map, IfErr, IfOk, OnOk};
 ghost use Rattle.mds_request.specs.Configuration.{configuration};
 ghost use Rattle.mds_snapshot.specs.Opening.{book_of};
 ghost use Rattle.mds_desk.specs.Room.{room_of};
-ghost use Rattle.mds_entries.specs.Entries.{entry_of};
-ghost use Rattle.mds_recovery.specs.Laws.{IsRefusedFrom, IsStartRefused, IsStartedAgain};
-ghost use Rattle.mds_recovery.specs.Recovery.{server_of, AreAnswered};
+ghost use Rattle.journal_entry.specs.Entries.{entry_of};
+ghost use Rattle.journal_recovery.specs.Laws.{IsRefusedFrom, IsStartRefused, IsStartedAgain};
+ghost use Rattle.journal_recovery.specs.Recovery.{server_of, AreAnswered};
 
 use crate::fault::StartFault;
 use crate::laws;
 use crate::progress::Progress;
 use crate::replay::recover;
+use journal_entry::JournalEntry;
 use mds_desk::{AuthorRoom, Desk, furnish};
-use mds_entries::JournalEntry;
 use mds_request::Config;
-use mds_snapshot::{Blank, OpeningName, OpenFault};
+use mds_snapshot::{Blank, OpenFault, OpeningName};
 use std::alloc::Global;
 use std::sync::Wait;
 

@@ -1,12 +1,12 @@
 -- What becomes of a log whose file may be a compacted one, at each step.
 use Rattle.std.proofs.Common.{◌≡◌, ℕ, ◌+◌, Bool, true, false, List, [], ◌∷◌, ◌++◌, length, refl, sym, ap, subst, ◌∙◌, append_assoc, inl, inr, arith}
 use Rattle.std.proofs.lemmas.List.{length-append, append-nil}
-use Rattle.mds_records.specs.LogEnds.{IsSealed}
-use Rattle.mds_records.specs.declared.log_end.LogEnd.{LogEnd}
-use Rattle.mds_rolling.specs.Leading.{LeadsBeside, Leads}
-use Rattle.mds_rolling.specs.Compacted.{IsShorter}
-use Rattle.mds_rolling.specs.Swapped.{IsRolled, IsCaughtUp}
-use Rattle.mds_rolling.proofs.Leading.{grown, joined, beside_then}
+use Rattle.journal_file.specs.LogEnds.{IsSealed}
+use Rattle.journal_file.specs.declared.log_end.LogEnd.{LogEnd}
+use Rattle.journal_swap.specs.Leading.{LeadsBeside, Leads}
+use Rattle.journal_swap.specs.Compacted.{IsShorter}
+use Rattle.journal_swap.specs.Swapped.{IsRolled, IsCaughtUp}
+use Rattle.journal_swap.proofs.Leading.{grown, joined, beside_then}
 
 -- a log by itself
 pub rolled_new : (same : List (List ℕ) → List (List ℕ) → Type 0) (may : List (List ℕ) → Type 0) (exchanged keeping : Bool) (seal at : LogEnd) (since : List (List ℕ)) (list : List (List ℕ))

@@ -1,8 +1,8 @@
 -- A compacted log that may take another's place.
 use Rattle.std.specs.Prelude.{◌≡◌, ℕ, List, [], ◌∷◌, ◌++◌}
 use Rattle.std.specs.Coded.{Coded, coded_ℕ, coded_list}
-use Rattle.mds_records.specs.LogEnds.{IsSealed}
-use Rattle.mds_records.specs.declared.log_end.LogEnd.{LogEnd}
+use Rattle.journal_file.specs.LogEnds.{IsSealed}
+use Rattle.journal_file.specs.declared.log_end.LogEnd.{LogEnd}
 
 -- The log may hold a list that begins with one that was found equivalent to another; that other, followed by the same
 -- rest, has the log end.

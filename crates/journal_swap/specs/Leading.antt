@@ -1,7 +1,7 @@
 -- When a log's file has the same effect as all that was appended, though it is a compacted one.
 use Rattle.std.specs.Prelude.{◌≡◌, ◌⊎◌, ℕ, List, [], ◌∷◌, ◌++◌}
-use Rattle.mds_records.specs.LogEnds.{IsSealed}
-use Rattle.mds_records.specs.declared.log_end.LogEnd.{LogEnd}
+use Rattle.journal_file.specs.LogEnds.{IsSealed}
+use Rattle.journal_file.specs.declared.log_end.LogEnd.{LogEnd}
 
 -- lists with the same log end: they are one, assuming no checksum collision
 abbrev pub HaveOneSeal : (one other : List (List ℕ)) → Type 0

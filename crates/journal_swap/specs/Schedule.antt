@@ -1,5 +1,5 @@
 -- When a journal is compacted.
-use Rattle.mds_rolling.specs.declared.schedule.TheConstants.{SMALL_LAG}
+use Rattle.journal_swap.specs.declared.schedule.TheConstants.{SMALL_LAG}
 use Rattle.std.specs.Prelude.{nat_le, ℕ, ◌+◌, ◌*◌, ◌^◌, ◌-◌, ◌==◌, ◌&&◌, Bool, not, min, nat_lt}
 
 -- a journal of so many bytes is to be compacted; never, where the least growth is 0

@@ -1,8 +1,8 @@
 -- A log whose file may be a compacted one with the same effect.
 use Rattle.std.specs.Prelude.{◌≡◌, ℕ, Bool, true, false, List, ◌++◌, length}
-use Rattle.mds_records.specs.LogEnds.{IsSealed}
-use Rattle.mds_records.specs.declared.log_end.LogEnd.{LogEnd}
-use Rattle.mds_rolling.specs.Leading.{Leads}
+use Rattle.journal_file.specs.LogEnds.{IsSealed}
+use Rattle.journal_file.specs.declared.log_end.LogEnd.{LogEnd}
+use Rattle.journal_swap.specs.Leading.{Leads}
 
 -- these are the payloads after the log end
 abbrev pub AreBehind : LogEnd → (since held : List (List ℕ)) → Type 0

@@ -1,8 +1,8 @@
 //! Copies of the payloads appended after a log end, for a compacted log that is to take the log's place.
 ghost use Rattle.std.specs.Prelude.{◌≡◌, ◌&&◌, ◌++◌, [], ℕ, List, map, true, false, OnOk};
-ghost use Rattle.mds_records.specs.declared.log_end.LogEnd.{LogEnd as Known};
+ghost use Rattle.journal_file.specs.declared.log_end.LogEnd.{LogEnd as Known};
 
-use mds_records::LogEnd;
+use journal_file::LogEnd;
 use std::alloc::{AllocError, Global};
 
 /// The most bytes of payloads of which copies are kept.

@@ -1,10 +1,10 @@
 //! A compacted log that may take another's place.
 ghost use Rattle.std.specs.Prelude.{◌≡◌, ◌++◌, ℕ, List, map, length, IfOk};
-ghost use Rattle.mds_records.specs.LogEnds.{IsSealed};
-ghost use Rattle.mds_rolling.specs.Compacted.{IsShorter, numbers_of};
+ghost use Rattle.journal_file.specs.LogEnds.{IsSealed};
+ghost use Rattle.journal_swap.specs.Compacted.{IsShorter, numbers_of};
 
 use crate::equivalence::Equivalence;
-use mds_records::{AppendFault, SyncFault, ReadFault, LogEnd, HasLogEnd, texts_between};
+use journal_file::{AppendFault, HasLogEnd, LogEnd, ReadFault, SyncFault, texts_between};
 use std::alloc::Global;
 use std::marker::{Model, PhantomData};
 
@@ -31,7 +31,7 @@ pub struct CompactedLog<L: HasLogEnd, P: Equivalence> {
 
 impl<L: HasLogEnd, P: Equivalence> Model for CompactedLog<L, P> {
     ghost use Rattle.std.specs.Prelude.{ℕ, List};
-    ghost use Rattle.mds_rolling.specs.Compacted.{IsShorter, coded_numbers, numbers_of};
+    ghost use Rattle.journal_swap.specs.Compacted.{IsShorter, coded_numbers, numbers_of};
 
     ghost Value = { List ℕ };
 

@@ -1,8 +1,8 @@
 //! The compaction side of a log whose file is replaced.
 
-use crate::equivalence::Equivalence;
 use crate::compacted_log::CompactedLog;
-use mds_records::{LogEnd, HasLogEnd};
+use crate::equivalence::Equivalence;
+use journal_file::{HasLogEnd, LogEnd};
 
 /// It isn't known which file stands in the log's place.
 #[derive(Clone, Copy, Debug, PartialEq, Eq)]

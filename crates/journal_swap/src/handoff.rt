@@ -1,9 +1,9 @@
 //! The hand-over between a log and the thread that compacts it.
 
+use crate::compacted_log::CompactedLog;
 use crate::equivalence::Equivalence;
 use crate::schedule::CompactionSchedule;
-use crate::compacted_log::CompactedLog;
-use mds_records::{LogEnd, HasLogEnd};
+use journal_file::{HasLogEnd, LogEnd};
 use std::mem;
 use std::sync::{Condvar, Mutex, Wait};
 

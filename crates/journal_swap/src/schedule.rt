@@ -1,6 +1,6 @@
 //! When a journal is compacted: by its size in bytes.
 ghost use Rattle.std.specs.Prelude.{◌≡◌, true, false};
-ghost use Rattle.mds_rolling.specs.Schedule.{is_due, due_after, due_again, is_little};
+ghost use Rattle.journal_swap.specs.Schedule.{is_due, due_after, due_again, is_little};
 
 /// Whether a journal of so many bytes is to be compacted: beyond `due`; never, where the least growth is 0.
 pub fn is_due(at_least: u64, due: u64, bytes: u64) -> bool

@@ -1,13 +1,13 @@
 //! A log whose file is replaced by a compacted one while it is appended to.
 ghost use Rattle.std.specs.Prelude.{◌≡◌, ◌++◌, ℕ, List, map, true, false, IfOk, OnOk, OnErr, IsErrOf};
-ghost use Rattle.mds_records.specs.Groups.{are_taken};
-ghost use Rattle.mds_rolling.specs.Swapped.{IsRolled, IsCaughtUp};
+ghost use Rattle.journal_file.specs.Groups.{are_taken};
+ghost use Rattle.journal_swap.specs.Swapped.{IsRolled, IsCaughtUp};
 
-use crate::compaction_source::CompactionSource;
-use crate::equivalence::Equivalence;
 use crate::catch_up_buffer::CatchUpBuffer;
 use crate::compacted_log::{CatchUpFault, CompactedLog};
-use mds_records::{AppendFault, Log, SyncFault, ReadFault, HasLogEnd};
+use crate::compaction_source::CompactionSource;
+use crate::equivalence::Equivalence;
+use journal_file::{AppendFault, HasLogEnd, Log, ReadFault, SyncFault};
 use std::alloc::Global;
 use std::marker::PhantomData;
 
@@ -56,7 +56,10 @@ fn append_to<L: HasLogEnd>(log: &mut L, texts: &[Vec<u8>]) -> Result<(), AppendF
 /// # Errors
 ///
 /// `NotKept` where they aren't kept, `NotWritten` or `NoMemory` where they can't be appended or synced.
-fn catch_up<L: HasLogEnd, P: Equivalence>(shorter: CompactedLog<L, P>, kept: &CatchUpBuffer) -> Result<L, CatchUpFault>
+fn catch_up<L: HasLogEnd, P: Equivalence>(
+    shorter: CompactedLog<L, P>,
+    kept: &CatchUpBuffer,
+) -> Result<L, CatchUpFault>
     ensures synced { IfOk result (λ log. L.is_synced log) }
     ensures kept { OnOk result (kept.now.is_keeping ≡ true) }
     ensures caught { IfOk result (λ log. IsCaughtUp P.same (L.may_be log) kept.now.seal (map (λ v. v.items) kept.now.texts.items)) }
@@ -107,12 +110,14 @@ impl<L: HasLogEnd, P: Equivalence, B: CompactionSource<L, P>> SwapLog<L, P, B> {
     {
         let Ok(log) = catch_up(shorter, &self.kept) else {
             self.kept.forget();
-            self.beside.on_swap_tried(false, self.log.log_end().position);
+            self.beside
+                .on_swap_tried(false, self.log.log_end().position);
             return Ok(false);
         };
         if self.beside.replace(&log).is_err() {
             self.is_broken = true;
-            self.beside.on_swap_tried(false, self.log.log_end().position);
+            self.beside
+                .on_swap_tried(false, self.log.log_end().position);
             return Err(SyncFault);
         }
         self.log = log;

@@ -8,7 +8,7 @@ use Rattle.mds_policy.specs.declared.rule.Kind.{Kind}
 use Rattle.mds_policy.specs.declared.rule.Kind.TheVariants.{Count, Time, Other}
 use Rattle.mds_match.specs.Row.{Row}
 use Rattle.mds_verdict.specs.Verdict.{adds}
-use Rattle.mds_kept.specs.Columns.{AreOf, adds_since}
+use Rattle.mds_bitmaps.specs.Columns.{AreOf, adds_since}
 
 -- whether a row counts towards a measure depends on the beginning of its state alone
 pub adds_by_since : (kind : Kind) (bounds : Bounds) (t since : ℕ) (row : Row) → row.since ≡ since → adds_since kind bounds t since ≡ adds kind bounds t row

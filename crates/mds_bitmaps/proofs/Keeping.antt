@@ -13,16 +13,16 @@ use Rattle.mds_geometry.specs.declared.position.Position.{Position}
 use Rattle.mds_policy.specs.Policy.{Policy}
 use Rattle.mds_match.specs.Row.{Row, row_of}
 use Rattle.mds_match.specs.declared.vehicle.Vehicle.{Vehicle}
-use Rattle.mds_kept.specs.Masked.{IsMasked, masked_matches}
-use Rattle.mds_kept.specs.Masks.{HasBits, IsMask, matches}
-use Rattle.mds_kept.specs.declared.matcher.PolicyMatcher.{PolicyMatcher}
+use Rattle.mds_bitmaps.specs.Masked.{IsMasked, masked_matches}
+use Rattle.mds_bitmaps.specs.Masks.{HasBits, IsMask, matches}
+use Rattle.mds_bitmaps.specs.declared.matcher.PolicyMatcher.{PolicyMatcher}
 use Rattle.mds_verdict.proofs.Numbered.{by_places}
-use Rattle.mds_kept.proofs.Counted.{some_in}
-use Rattle.mds_kept.proofs.Walking.{found_at, kept_when_read}
-use Rattle.mds_kept.specs.Columns.{AreOf}
-use Rattle.mds_kept.specs.Index.{AreKept, AreOwn, AreRead, Fits, Grows, IsChanged, IsColumn, IsListed, IsMaskBy, IsMaskOf, IsPublished, IsSince, Published, Vehicles, device_cmp, rows_in}
-use Rattle.mds_kept.specs.declared.bitmap_index.BitmapColumn.{BitmapColumn}
-use Rattle.mds_kept.specs.declared.bitmap_index.BitmapIndex.{BitmapIndex}
+use Rattle.mds_bitmaps.proofs.Counted.{some_in}
+use Rattle.mds_bitmaps.proofs.Walking.{found_at, kept_when_read}
+use Rattle.mds_bitmaps.specs.Columns.{AreOf}
+use Rattle.mds_bitmaps.specs.Index.{AreKept, AreOwn, AreRead, Fits, Grows, IsChanged, IsColumn, IsListed, IsMaskBy, IsMaskOf, IsPublished, IsSince, Published, Vehicles, device_cmp, rows_in}
+use Rattle.mds_bitmaps.specs.declared.bitmap_index.BitmapColumn.{BitmapColumn}
+use Rattle.mds_bitmaps.specs.declared.bitmap_index.BitmapIndex.{BitmapIndex}
 
 -- cached words of one kind are cached words of another, where the words of each row are
 pub kept_as : (Is As : Row → ℕ → Type 0) (vehicles : Vehicles) (devices : List (List ℕ)) (words : List ℕ) (changed : List (List ℕ)) → ((row : Row) (word : ℕ) → Is row word → As row word)

@@ -18,9 +18,9 @@ use Rattle.std.proofs.lemmas.List.Elements.{Contains-push, Contains-append_left}
 use Rattle.std.proofs.lemmas.List.Sorted.{searchable_from_sorted}
 use Rattle.std.proofs.lemmas.Map.Keys.{Less-from_sorted, sorted_tail}
 use Rattle.mds_match.specs.Row.{Row, row_of}
-use Rattle.mds_kept.specs.Index.{AreEdited, AreKept, HasArrived, HasDeparted, IsColumn, IsListed, IsMaskOf, IsSince, Published, Vehicles, device_cmp, with_place, without_place}
-use Rattle.mds_kept.specs.declared.bitmap_index.BitmapColumn.{BitmapColumn}
-use Rattle.mds_kept.specs.declared.bitmap_index.IndexedFleet.{IndexedFleet}
+use Rattle.mds_bitmaps.specs.Index.{AreEdited, AreKept, HasArrived, HasDeparted, IsColumn, IsListed, IsMaskOf, IsSince, Published, Vehicles, device_cmp, with_place, without_place}
+use Rattle.mds_bitmaps.specs.declared.bitmap_index.BitmapColumn.{BitmapColumn}
+use Rattle.mds_bitmaps.specs.declared.bitmap_index.IndexedFleet.{IndexedFleet}
 
 -- ---- the index that a search finds in ascending keys
 

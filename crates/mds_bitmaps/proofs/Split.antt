@@ -6,7 +6,7 @@ use Rattle.mds_match.specs.declared.local.Local.{Local}
 use Rattle.std.specs.List.{list_any}
 use Rattle.mds_match.specs.Matching.{is_evaluated, is_open, contains, shares, empty_or, state_fits, in_place, meets}
 use Rattle.mds_match.specs.Row.{Row}
-use Rattle.mds_kept.specs.Masks.{is_open_at, matches}
+use Rattle.mds_bitmaps.specs.Masks.{is_open_at, matches}
 
 in_other_order : (evaluated active type propulsion state place : Bool)
     → (evaluated && active && type && propulsion && state && place) ≡ (active && (evaluated && place && (type && propulsion && state)))

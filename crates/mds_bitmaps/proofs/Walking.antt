@@ -15,7 +15,7 @@ use Rattle.std.proofs.lemmas.Map.Views.{All-found}
 use Rattle.std.proofs.Math.Seq.{get_or-append_seam}
 use Rattle.mds_match.specs.Row.{Row, row_of}
 use Rattle.mds_match.specs.declared.vehicle.Vehicle.{Vehicle}
-use Rattle.mds_kept.specs.Index.{AreKept, AreRead, Vehicles, device_cmp, rows_in}
+use Rattle.mds_bitmaps.specs.Index.{AreKept, AreRead, Vehicles, device_cmp, rows_in}
 
 pub record Next {X : Type 0} (xs : List X) (n : ℕ) (x : X) (rest : List X) : Type 0 where
   pub within : n < length xs

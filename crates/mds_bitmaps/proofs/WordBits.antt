@@ -8,7 +8,7 @@ use Rattle.std.proofs.lemmas.List.{get_or-map}
 use Rattle.std.proofs.lemmas.Nat.Bits.{bit_at_set_same, bit_at_set_other, bit_at_and, bit_at-zero, bit_at-trailing_zeros}
 use Rattle.std.proofs.Math.Seq.{get_or-append_seam}
 use Rattle.mds_match.proofs.Positions.{position_here, position_nowhere}
-use Rattle.mds_kept.specs.Masks.{HasBits}
+use Rattle.mds_bitmaps.specs.Masks.{HasBits}
 
 abbrev pub as_bit : Bool → ℕ
 as_bit b = cond b 1 0

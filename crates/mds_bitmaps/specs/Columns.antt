@@ -7,7 +7,7 @@ use Rattle.mds_policy.specs.declared.rule.Kind.{Kind}
 use Rattle.mds_policy.specs.declared.rule.Kind.TheVariants.{Count, Time, Other}
 use Rattle.mds_match.specs.Row.{Row}
 use Rattle.mds_verdict.specs.Verdict.{millis, within}
-use Rattle.mds_kept.specs.Masks.{IsMask}
+use Rattle.mds_bitmaps.specs.Masks.{IsMask}
 
 -- Whether a vehicle that a rule catches counts towards its measure, where the run of its state began at this
 -- millisecond: each one does for a count rule, and for a time rule each one whose time in its state is outside the

@@ -13,13 +13,13 @@ use Rattle.mds_geometry.specs.declared.position.Position.{Position}
 use Rattle.mds_policy.specs.Policy.{Policy}
 use Rattle.mds_match.specs.declared.vehicle.Vehicle.{Vehicle}
 use Rattle.mds_match.specs.Row.{Row, row_of}
-use Rattle.mds_kept.specs.Masked.{IsMasked}
-use Rattle.mds_kept.specs.Masks.{HasBits, IsMask, matches}
-use Rattle.mds_kept.specs.declared.matcher.PolicyMatcher.{PolicyMatcher}
-use Rattle.mds_kept.specs.declared.bitmap_index.BitmapColumn.{BitmapColumn}
-use Rattle.mds_kept.specs.declared.bitmap_index.BitmapIndex.{BitmapIndex}
-use Rattle.mds_kept.specs.declared.bitmap_index.IndexedFleet.{IndexedFleet}
-use Rattle.mds_kept.specs.declared.bitmap_index.TheConstants.{MOST_BITMAPS}
+use Rattle.mds_bitmaps.specs.Masked.{IsMasked}
+use Rattle.mds_bitmaps.specs.Masks.{HasBits, IsMask, matches}
+use Rattle.mds_bitmaps.specs.declared.matcher.PolicyMatcher.{PolicyMatcher}
+use Rattle.mds_bitmaps.specs.declared.bitmap_index.BitmapColumn.{BitmapColumn}
+use Rattle.mds_bitmaps.specs.declared.bitmap_index.BitmapIndex.{BitmapIndex}
+use Rattle.mds_bitmaps.specs.declared.bitmap_index.IndexedFleet.{IndexedFleet}
+use Rattle.mds_bitmaps.specs.declared.bitmap_index.TheConstants.{MOST_BITMAPS}
 
 -- device ids in the order of their bytes
 abbrev pub device_cmp : List ℕ → List ℕ → Ordering

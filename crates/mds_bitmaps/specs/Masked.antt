@@ -6,9 +6,9 @@ use Rattle.mds_geometry.specs.declared.position.Position.{Position}
 use Rattle.mds_policy.specs.Policy.{Policy, rule_document}
 use Rattle.mds_match.specs.Resolved.{is_meant}
 use Rattle.mds_match.specs.Row.{Row}
-use Rattle.mds_kept.specs.Masks.{matches}
-use Rattle.mds_kept.specs.declared.matcher.PolicyMatcher.{PolicyMatcher}
-use Rattle.mds_kept.specs.declared.matcher.RuleMatcher.{RuleMatcher}
+use Rattle.mds_bitmaps.specs.Masks.{matches}
+use Rattle.mds_bitmaps.specs.declared.matcher.PolicyMatcher.{PolicyMatcher}
+use Rattle.mds_bitmaps.specs.declared.matcher.RuleMatcher.{RuleMatcher}
 
 -- a row matches a rule with its areas
 abbrev pub masked_matches : Row → RuleMatcher → Bool

@@ -1,8 +1,8 @@
 ghost use Rattle.std.specs.Prelude.{◌≡◌, ◌≤◌, ◌∷◌, ◌++◌, [], List, ℕ, true, All, IfSome, drop, length};
 ghost use Rattle.std.specs.BTreeMap.{IsOrdered, btree_map_len, keys};
 ghost use Rattle.mds_policy.specs.Policy.{policy_document};
-ghost use Rattle.mds_kept.specs.Masks.{IsMask};
-ghost use Rattle.mds_kept.specs.Index.{AreKept, AreRead, AreRows, HasRoom, IsChanged, IsColumn, IsListed, IsSince, Published, Vehicles, device_cmp, has_column, rows_in};
+ghost use Rattle.mds_bitmaps.specs.Masks.{IsMask};
+ghost use Rattle.mds_bitmaps.specs.Index.{AreKept, AreRead, AreRows, HasRoom, IsChanged, IsColumn, IsListed, IsSince, Published, Vehicles, device_cmp, has_column, rows_in};
 
 use crate::bits::MOST_RULES;
 use crate::columns::{Columns, verdicts_by};
@@ -58,7 +58,7 @@ impl BitmapIndex {
     ghost use Rattle.std.specs.BTreeMap.{IsOrdered, btree_map_len};
     ghost use Rattle.mds_policy.specs.Policy.{policy_document};
     ghost use Rattle.mds_verdict.specs.Verdict.{verdict_document, verdicts};
-    ghost use Rattle.mds_kept.specs.Index.{AreOwn, Fits, HasArrived, HasDeparted, HasRoom, IsChanged, IsPublished, MayAsk, Published, Vehicles, device_cmp, rows_in};
+    ghost use Rattle.mds_bitmaps.specs.Index.{AreOwn, Fits, HasArrived, HasDeparted, HasRoom, IsChanged, IsPublished, MayAsk, Published, Vehicles, device_cmp, rows_in};
 
     /// An empty index. Allocates nothing.
     pub fn new() -> BitmapIndex
@@ -181,14 +181,19 @@ fn has_column(columns: &[BitmapColumn], policy: Id) -> bool
 
 /// Whether a column of this policy has room: it is cached already, or with one more column there
 /// are at most 4,194,304 bitmaps.
-fn has_room(kept: &Option<IndexedFleet>, policy: &Policy, vehicles: &BTreeMap<Id, Box<Vehicle>>) -> bool
+fn has_room(
+    kept: &Option<IndexedFleet>,
+    policy: &Policy,
+    vehicles: &BTreeMap<Id, Box<Vehicle>>,
+) -> bool
     ensures { result ≡ true → HasRoom kept.now (policy_document policy.now).id (btree_map_len vehicles.now) }
 {
     let Some(listed) = kept else {
         return true;
     };
     let columns = listed.columns.len().saturating_add(1);
-    has_column(&listed.columns, policy.id()) || columns.saturating_mul(vehicles.len()) <= MOST_BITMAPS
+    has_column(&listed.columns, policy.id())
+        || columns.saturating_mul(vehicles.len()) <= MOST_BITMAPS
 }
 
 /// Whether a policy was asked about before. It counts as asked about from now on, unless out of
@@ -262,7 +267,14 @@ fn with_sinces(
         changed,
         moved: _,
     } = listed;
-    let sinces = refresh_words(alloc, sinces, &SinceWord, &devices, vehicles, &changed[seen..])?;
+    let sinces = refresh_words(
+        alloc,
+        sinces,
+        &SinceWord,
+        &devices,
+        vehicles,
+        &changed[seen..],
+    )?;
     let seen = changed.len();
     Some(IndexedFleet {
         devices,
@@ -293,7 +305,12 @@ fn without_columns(alloc: Global, vehicles: &BTreeMap<Id, Box<Vehicle>>) -> Opti
 }
 
 /// Takes the column of a policy out of the index; a new one without bitmaps where there is none.
-fn take_column(columns: &mut Vec<BitmapColumn>, alloc: Global, policy: Id, seen: usize) -> BitmapColumn
+fn take_column(
+    columns: &mut Vec<BitmapColumn>,
+    alloc: Global,
+    policy: Id,
+    seen: usize,
+) -> BitmapColumn
     ensures policy { result.policy ≡ policy }
     ensures kept { (published : Published) (vehicles : Vehicles) (devices changed : List (List ℕ)) →
         length changed ≡ seen → published.lasting policy ≡ true →

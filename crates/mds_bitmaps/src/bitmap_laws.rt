@@ -7,7 +7,7 @@ ghost use Rattle.mds_policy.specs.Policy.{Rule};
 ghost use Rattle.mds_match.specs.declared.local.Local.{Local};
 ghost use Rattle.mds_match.specs.Matching.{meets};
 ghost use Rattle.mds_match.specs.Row.{Row};
-ghost use Rattle.mds_kept.specs.Masks.{is_open_at, matches};
+ghost use Rattle.mds_bitmaps.specs.Masks.{is_open_at, matches};
 
 /// A vehicle meets a rule at a local time exactly where the rule is open then and the vehicle's row
 /// matches the rule whatever the time.

@@ -4,7 +4,7 @@ ghost use Rattle.mds_policy.specs.Policy.{Policy};
 ghost use Rattle.mds_match.specs.declared.local.Local.{Local as Time};
 ghost use Rattle.mds_match.specs.Matching.{first};
 ghost use Rattle.mds_match.specs.Row.{Row};
-ghost use Rattle.mds_kept.specs.Masks.{HasBits, IsMask, IsOpenMask};
+ghost use Rattle.mds_bitmaps.specs.Masks.{HasBits, IsMask, IsOpenMask};
 
 /// The most rules of a policy for which bitmaps are made: the bits of a word.
 pub const MOST_RULES: usize = 64;

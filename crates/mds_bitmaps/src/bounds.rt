@@ -1,6 +1,6 @@
 ghost use Rattle.std.specs.Prelude.{◌≡◌, ◌-◌};
 ghost use Rattle.mds_verdict.specs.Verdict.{within, millis, status_of};
-ghost use Rattle.mds_kept.specs.Columns.{adds_since};
+ghost use Rattle.mds_bitmaps.specs.Columns.{adds_since};
 
 use mds_policy::{Bounds, Kind};
 use mds_text::Moment;

@@ -6,7 +6,7 @@ ghost use Rattle.mds_match.specs.Matching.{first};
 ghost use Rattle.mds_match.specs.Row.{Row};
 ghost use Rattle.mds_verdict.specs.Verdict.{status_of, verdict_document, verdicts};
 ghost use Rattle.mds_verdict.specs.Gathered.{gathered_rule, gathered, shown};
-ghost use Rattle.mds_kept.specs.Columns.{AreOf, AreOfSome};
+ghost use Rattle.mds_bitmaps.specs.Columns.{AreOf, AreOfSome};
 
 use crate::bits::first_of;
 use crate::bounds::{adds_since, status_of};
@@ -131,7 +131,11 @@ fn count_in(verdict: &mut RuleVerdict, rule: &Rule, device: Id) -> Result<(), Al
 }
 
 /// The verdicts on a policy's rules where there is no vehicle.
-fn initial_verdicts(alloc: Global, rules: &[Rule], local: Local) -> Result<Vec<RuleVerdict>, AllocError>
+fn initial_verdicts(
+    alloc: Global,
+    rules: &[Rule],
+    local: Local,
+) -> Result<Vec<RuleVerdict>, AllocError>
     ensures { IfOk result (λ v. map verdict_document v.items ≡ map (λ r. gathered_rule (rule_document r) local []) rules.now) }
 {
     let mut held = Vec::with_capacity(alloc, rules.len())?;

@@ -2,20 +2,20 @@
 //! are open, cached between questions and renewed for the vehicles that changed.
 #![tactic(auto)]
 
+mod bitmap_index;
 pub mod bitmap_laws;
 mod bits;
 mod bounds;
 mod columns;
-mod bitmap_index;
+mod criteria;
 pub mod laws;
 mod matcher;
-mod criteria;
-mod open_rules;
 mod moves;
+mod open_rules;
 mod words;
 
+pub use bitmap_index::BitmapIndex;
 pub use bits::{MOST_RULES, first_of};
 pub use columns::{Columns, verdicts_by};
-pub use bitmap_index::BitmapIndex;
 pub use matcher::PolicyMatcher;
 pub use open_rules::open_bitmap;

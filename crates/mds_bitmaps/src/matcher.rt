@@ -5,8 +5,8 @@ ghost use Rattle.mds_geometry.specs.declared.position.Position.{Position};
 ghost use Rattle.mds_policy.specs.Policy.{rule_document};
 ghost use Rattle.mds_match.specs.Matching.{in_place};
 ghost use Rattle.mds_match.specs.Row.{Row, row_of};
-ghost use Rattle.mds_kept.specs.Masks.{matches};
-ghost use Rattle.mds_kept.specs.Masked.{masked_matches};
+ghost use Rattle.mds_bitmaps.specs.Masks.{matches};
+ghost use Rattle.mds_bitmaps.specs.Masked.{masked_matches};
 
 use crate::bits::with_bit;
 use crate::criteria::{is_evaluated, is_meant};
@@ -37,8 +37,8 @@ impl<'a> PolicyMatcher<'a> {
     ghost use Rattle.mds_geometry.specs.declared.position.Position.{Position};
     ghost use Rattle.mds_policy.specs.Policy.{policy_document, Policy as Document};
     ghost use Rattle.mds_match.specs.Row.{row_of};
-    ghost use Rattle.mds_kept.specs.Masks.{IsMask};
-    ghost use Rattle.mds_kept.specs.Masked.{IsMasked};
+    ghost use Rattle.mds_bitmaps.specs.Masks.{IsMask};
+    ghost use Rattle.mds_bitmaps.specs.Masked.{IsMasked};
 
     /// Looks up the geographies of a policy's rules, and decides which of the rules are evaluated.
     ///

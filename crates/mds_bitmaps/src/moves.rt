@@ -1,7 +1,7 @@
 ghost use Rattle.std.specs.Prelude.{◌≡◌, ◌≤◌, true, length, IfSome};
 ghost use Rattle.std.specs.List.{insert};
 ghost use Rattle.std.specs.BTreeMap.{IsOrdered};
-ghost use Rattle.mds_kept.specs.Index.{AreEdited, HasArrived, HasDeparted, IsListed, Published, Vehicles, device_cmp, with_place, without_place};
+ghost use Rattle.mds_bitmaps.specs.Index.{AreEdited, HasArrived, HasDeparted, IsListed, Published, Vehicles, device_cmp, with_place, without_place};
 
 use crate::bitmap_index::{BitmapColumn, IndexedFleet, MOST_BITMAPS, log_change};
 use mds_text::Id;

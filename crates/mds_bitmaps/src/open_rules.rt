@@ -1,6 +1,6 @@
 ghost use Rattle.std.specs.Prelude.{◌≤◌, length};
 ghost use Rattle.mds_policy.specs.Policy.{policy_document};
-ghost use Rattle.mds_kept.specs.Masks.{IsOpenMask};
+ghost use Rattle.mds_bitmaps.specs.Masks.{IsOpenMask};
 
 use crate::bits::with_bit;
 use mds_match::{Local, open_at};

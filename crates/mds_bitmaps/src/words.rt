@@ -1,6 +1,6 @@
 ghost use Rattle.std.specs.Prelude.{◌≡◌, ◌≤◌, IfOk, IfSome, [], true, length};
 ghost use Rattle.std.specs.BTreeMap.{IsOrdered, keys};
-ghost use Rattle.mds_kept.specs.Index.{AreKept, AreRead, device_cmp, rows_in};
+ghost use Rattle.mds_bitmaps.specs.Index.{AreKept, AreRead, device_cmp, rows_in};
 
 use crate::matcher::PolicyMatcher;
 use mds_match::Vehicle;
@@ -25,7 +25,7 @@ pub(crate) trait VehicleWord {
 pub(crate) struct SinceWord;
 
 impl VehicleWord for SinceWord {
-    ghost use Rattle.mds_kept.specs.Index.{IsSince};
+    ghost use Rattle.mds_bitmaps.specs.Index.{IsSince};
 
     ghost is = { λ _ row word. IsSince row word };
 
@@ -42,7 +42,7 @@ pub(crate) struct BitmapWord<'a> {
 }
 
 impl<'a> VehicleWord for BitmapWord<'a> {
-    ghost use Rattle.mds_kept.specs.Index.{IsMaskBy};
+    ghost use Rattle.mds_bitmaps.specs.Index.{IsMaskBy};
 
     ghost is = { λ mask row word. IsMaskBy mask.rules row word };
 

@@ -9,9 +9,9 @@ mod entries;
 mod force;
 pub mod laws;
 mod lists;
+mod places;
 mod print;
 mod published;
-mod places;
 mod spots;
 
 pub use batch::Batch;

@@ -51,7 +51,11 @@ fn list_spot(spots: &mut Vec<DocumentSpot>, spot: DocumentSpot)
 }
 
 /// Inserts the spots of the geographies of a batch.
-pub(crate) fn list_geographies(spots: &mut Vec<DocumentSpot>, batch: usize, geographies: &[Arc<Geography>])
+pub(crate) fn list_geographies(
+    spots: &mut Vec<DocumentSpot>,
+    batch: usize,
+    geographies: &[Arc<Geography>],
+)
     requires ascends { Ascends (λ s. s.id) spots.old.items }
     requires room { vec_len spots.old + length geographies.now ≤ vec_capacity spots.old }
     ensures listed { Lists (λ s. s.id) spots.old.items spots.new.items

@@ -5,8 +5,8 @@ use Rattle.std.proofs.lemmas.List.{drop_more, map-append}
 use Rattle.std.specs.List.{position_from}
 use Rattle.mds_text.specs.Tree.{Json}
 use Rattle.mds_request.specs.Configuration.{Operator}
-use Rattle.mds_diagnosis.specs.declared.wrong.Wrong.{Wrong}
-use Rattle.mds_diagnosis.specs.Diagnosis.{◌>>=◌, says_at, operator_of, each_from}
+use Rattle.mds_config_error.specs.declared.wrong.Wrong.{Wrong}
+use Rattle.mds_config_error.specs.Diagnosis.{◌>>=◌, says_at, operator_of, each_from}
 
 -- the element at an index, before those after it
 at : {X Y : Type 0} (f : X → Y) (xs : List X) (i : ℕ) (x : X) → i < length xs → x ≡ get_or xs i x → map f (drop i xs) ≡ f x ∷ map f (drop (i + 1) xs)

@@ -10,12 +10,12 @@ use Rattle.mds_text.specs.Tree.{Json}
 use Rattle.mds_text.specs.declared.field.Field.TheVariants.{Author as AuthorName, Operators as OperatorsName, Id as IdName, Limit as LimitName, Token as TokenName}
 use Rattle.mds_request.specs.Configuration.{Operator, access_at, in_limits, zone_at, tokens}
 use Rattle.mds_request.specs.declared.config.TheConstants.{MOST_OPERATORS}
-use Rattle.mds_diagnosis.specs.declared.wrong.Key.{Key}
-use Rattle.mds_diagnosis.specs.declared.wrong.Key.TheVariants.{Id, Token}
-use Rattle.mds_diagnosis.specs.declared.wrong.OperatorFlaw.{OperatorFlaw}
-use Rattle.mds_diagnosis.specs.declared.wrong.OperatorFlaw.TheVariants as flaw
-use Rattle.mds_diagnosis.specs.declared.wrong.Wrong.{Wrong}
-use Rattle.mds_diagnosis.specs.declared.wrong.Wrong.TheVariants as wrong
+use Rattle.mds_config_error.specs.declared.wrong.Key.{Key}
+use Rattle.mds_config_error.specs.declared.wrong.Key.TheVariants.{Id, Token}
+use Rattle.mds_config_error.specs.declared.wrong.OperatorFlaw.{OperatorFlaw}
+use Rattle.mds_config_error.specs.declared.wrong.OperatorFlaw.TheVariants as flaw
+use Rattle.mds_config_error.specs.declared.wrong.Wrong.{Wrong}
+use Rattle.mds_config_error.specs.declared.wrong.Wrong.TheVariants as wrong
 
 -- one reading after another; the first fault stays
 infixl 10 ◌>>=◌

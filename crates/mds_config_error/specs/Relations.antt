@@ -1,10 +1,10 @@
 -- The relation of a reading to its definition.
 use Rattle.std.specs.Prelude.{◌≡◌, List, ℕ, Result, Ok, Err, string_bytes}
 use Rattle.mds_request.specs.Configuration.{Operator}
-use Rattle.mds_diagnosis.specs.declared.operators.ReadOperator.{ReadOperator as Named}
-use Rattle.mds_diagnosis.specs.declared.stop.DiagnosisStop.{DiagnosisStop}
-use Rattle.mds_diagnosis.specs.declared.stop.DiagnosisStop.TheVariants.{Wrong as Stopped, NoMemory}
-use Rattle.mds_diagnosis.specs.declared.wrong.Wrong.{Wrong}
+use Rattle.mds_config_error.specs.declared.operators.ReadOperator.{ReadOperator as Named}
+use Rattle.mds_config_error.specs.declared.stop.DiagnosisStop.{DiagnosisStop}
+use Rattle.mds_config_error.specs.declared.stop.DiagnosisStop.TheVariants.{Wrong as Stopped, NoMemory}
+use Rattle.mds_config_error.specs.declared.wrong.Wrong.{Wrong}
 
 abbrev pub operator : Named → ReadOperator
 operator o = record { id = o.id; limit = o.limit; token = string_bytes o.token }

@@ -1,14 +1,14 @@
 -- The text of each fault.
 use Rattle.std.specs.Prelude.{◌≡◌, ℕ, List, ◌++◌, codes, decimal, Some}
-use Rattle.mds_diagnosis.specs.declared.detail.Detail.{Detail}
-use Rattle.mds_diagnosis.specs.declared.detail.Detail.TheVariants.{Unreadable, TooLong, Found, Untold}
-use Rattle.mds_diagnosis.specs.declared.wrong.Key.{Key}
-use Rattle.mds_diagnosis.specs.declared.wrong.Key.TheVariants.{Id, Token}
-use Rattle.mds_diagnosis.specs.declared.wrong.OperatorFlaw.{OperatorFlaw}
-use Rattle.mds_diagnosis.specs.declared.wrong.OperatorFlaw.TheVariants as flaw
-use Rattle.mds_diagnosis.specs.declared.wrong.Wrong.{Wrong}
-use Rattle.mds_diagnosis.specs.declared.wrong.Wrong.TheVariants as wrong
-use Rattle.mds_diagnosis.specs.Diagnosis.{wrong_in}
+use Rattle.mds_config_error.specs.declared.detail.Detail.{Detail}
+use Rattle.mds_config_error.specs.declared.detail.Detail.TheVariants.{Unreadable, TooLong, Found, Untold}
+use Rattle.mds_config_error.specs.declared.wrong.Key.{Key}
+use Rattle.mds_config_error.specs.declared.wrong.Key.TheVariants.{Id, Token}
+use Rattle.mds_config_error.specs.declared.wrong.OperatorFlaw.{OperatorFlaw}
+use Rattle.mds_config_error.specs.declared.wrong.OperatorFlaw.TheVariants as flaw
+use Rattle.mds_config_error.specs.declared.wrong.Wrong.{Wrong}
+use Rattle.mds_config_error.specs.declared.wrong.Wrong.TheVariants as wrong
+use Rattle.mds_config_error.specs.Diagnosis.{wrong_in}
 
 -- the text after the operator
 abbrev pub flaw_wording : OperatorFlaw → List ℕ

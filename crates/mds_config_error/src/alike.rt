@@ -3,8 +3,8 @@ ghost use Rattle.std.specs.Prelude.{◌≡◌, ◌+◌, ◌≤◌, ℕ, map, len
 ghost use Rattle.std.specs.List.{position_from};
 ghost use Rattle.mds_request.specs.Configuration.{tokens};
 ghost use Rattle.mds_request.specs.declared.config.TheConstants.{MOST_OPERATORS};
-ghost use Rattle.mds_diagnosis.specs.Diagnosis.{key_of, pair_of, unlike};
-ghost use Rattle.mds_diagnosis.specs.Relations.{operator};
+ghost use Rattle.mds_config_error.specs.Diagnosis.{key_of, pair_of, unlike};
+ghost use Rattle.mds_config_error.specs.Relations.{operator};
 
 use crate::operators::ReadOperator;
 use crate::wrong::{Key, Wrong};
@@ -54,7 +54,12 @@ fn pair_of(operators: &[ReadOperator], key: Key) -> Option<(usize, usize)>
 }
 
 /// The index of the first of these others, which begin at `from`, that is like an operator.
-fn place_behind(first: &ReadOperator, from: usize, others: &[ReadOperator], key: Key) -> Option<usize>
+fn place_behind(
+    first: &ReadOperator,
+    from: usize,
+    others: &[ReadOperator],
+    key: Key,
+) -> Option<usize>
     requires { from + length others.now ≤ MOST_OPERATORS }
     ensures { result ≡ position_from (bytes_eq (key_of key (operator first.now))) from (map (key_of key) (map operator others.now)) }
 {

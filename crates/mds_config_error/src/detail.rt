@@ -18,7 +18,7 @@ pub enum Detail {
 }
 
 impl Detail {
-    ghost use Rattle.mds_diagnosis.specs.Wording.{IsFound};
+    ghost use Rattle.mds_config_error.specs.Wording.{IsFound};
 
     /// What is wrong with a text that is no configuration; `Untold` where memory runs out.
     pub fn of(alloc: Global, text: &[u8]) -> Detail
@@ -33,7 +33,7 @@ impl Detail {
 
 impl fmt::Display for Detail {
     ghost use Rattle.std.specs.Prelude.{Some};
-    ghost use Rattle.mds_diagnosis.specs.Wording.{detail_wording};
+    ghost use Rattle.mds_config_error.specs.Wording.{detail_wording};
 
     ghost output = { λ detail. Some (detail_wording detail) };
 

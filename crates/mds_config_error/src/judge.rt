@@ -1,18 +1,18 @@
 //! From a text to what is wrong with it.
 ghost use Rattle.std.specs.Prelude.{◌≡◌, ◌≤◌, IfOk, length, map, vec_len};
-ghost use Rattle.mds_reading.specs.Node.{node_view};
+ghost use Rattle.mds_json.specs.Node.{node_view};
 ghost use Rattle.mds_request.specs.Configuration.{zone_at};
 ghost use Rattle.mds_request.specs.declared.config.TheConstants.{MOST_OPERATORS};
-ghost use Rattle.mds_diagnosis.specs.Diagnosis.{says, operators_at, configuration_of, read_configuration as told, wrong_in};
-ghost use Rattle.mds_diagnosis.specs.Relations.{operator, Shows, Tells};
-ghost use Rattle.mds_diagnosis.specs.declared.wrong.Wrong.TheVariants as wrong;
+ghost use Rattle.mds_config_error.specs.Diagnosis.{says, operators_at, configuration_of, read_configuration as told, wrong_in};
+ghost use Rattle.mds_config_error.specs.Relations.{operator, Shows, Tells};
+ghost use Rattle.mds_config_error.specs.declared.wrong.Wrong.TheVariants as wrong;
 
 use crate::alike::check_distinct;
 use crate::operators::{ReadOperator, access_at, operators_of};
 use crate::stop::DiagnosisStop;
 use crate::wrong::Wrong;
+use mds_json::{Node, NodeBuffer, document_of, required_list, required_text};
 use mds_match::Zone;
-use mds_reading::{Node, NodeBuffer, document_of, required_list, required_text};
 use mds_request::MOST_OPERATORS;
 use mds_text::{Field, TextFault};
 use std::alloc::{AllocError, Global};

@@ -11,4 +11,4 @@ mod wrong;
 
 pub use detail::Detail;
 pub use judge::diagnose;
-pub use wrong::{OperatorFlaw, Key, Wrong};
+pub use wrong::{Key, OperatorFlaw, Wrong};

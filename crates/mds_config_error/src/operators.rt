@@ -2,18 +2,18 @@
 ghost use Rattle.std.specs.Prelude.{◌≡◌, map, length, vec_len, IfOk};
 ghost use Rattle.std.specs.List.{list_all};
 ghost use Rattle.mds_text.specs.Fault.{Gives, text_cause, IsCaused};
-ghost use Rattle.mds_reading.specs.Node.{node_view};
+ghost use Rattle.mds_json.specs.Node.{node_view};
 ghost use Rattle.mds_request.specs.Configuration.{is_access_byte, is_access_token, access_at, in_limits};
-ghost use Rattle.mds_diagnosis.specs.Diagnosis.{says, says_at, operator_of, each_from};
-ghost use Rattle.mds_diagnosis.specs.Relations.{operator, Shows, Tells};
+ghost use Rattle.mds_config_error.specs.Diagnosis.{says, says_at, operator_of, each_from};
+ghost use Rattle.mds_config_error.specs.Relations.{operator, Shows, Tells};
 ghost use Rattle.mds_text.specs.Fields.{required_at, int_of};
 ghost use Rattle.mds_text.specs.declared.field.Field.TheVariants.{Limit as LimitName};
-ghost use Rattle.mds_diagnosis.specs.declared.wrong.OperatorFlaw.TheVariants as flaw;
+ghost use Rattle.mds_config_error.specs.declared.wrong.OperatorFlaw.TheVariants as flaw;
 
 use crate::stop::DiagnosisStop;
 use crate::wrong::{OperatorFlaw, Wrong};
+use mds_json::{Node, int_of, object_of, required_id, required_member, text_of};
 use mds_match::MOST_VEHICLES;
-use mds_reading::{Node, int_of, object_of, required_id, required_member, text_of};
 use mds_request::MOST_TOKEN;
 use mds_text::{Field, Id, TextFault};
 use std::alloc::Global;
@@ -27,7 +27,10 @@ pub(crate) struct ReadOperator {
 }
 
 /// The operators in order, up to the first that has a flaw.
-pub(crate) fn operators_of(alloc: Global, entries: &[Node<'_>]) -> Result<Vec<ReadOperator>, DiagnosisStop>
+pub(crate) fn operators_of(
+    alloc: Global,
+    entries: &[Node<'_>],
+) -> Result<Vec<ReadOperator>, DiagnosisStop>
     ensures reading { Tells (λ v. map operator v.items) result (each_from 0 (map node_view entries.now)) }
     ensures count { IfOk result (λ v. vec_len v ≡ length entries.now) }
 {

@@ -14,7 +14,7 @@ pub(crate) enum DiagnosisStop {
 
 impl From<Wrong> for DiagnosisStop {
     ghost use Rattle.std.specs.Prelude.{◌≡◌};
-    ghost use Rattle.mds_diagnosis.specs.declared.stop.DiagnosisStop.TheVariants.{Wrong as Stopped};
+    ghost use Rattle.mds_config_error.specs.declared.stop.DiagnosisStop.TheVariants.{Wrong as Stopped};
 
     ghost from_gives = { λ wrong e. e ≡ Stopped wrong };
 
@@ -25,7 +25,7 @@ impl From<Wrong> for DiagnosisStop {
 
 impl From<AllocError> for DiagnosisStop {
     ghost use Rattle.std.specs.Prelude.{◌≡◌};
-    ghost use Rattle.mds_diagnosis.specs.declared.stop.DiagnosisStop.TheVariants.{NoMemory};
+    ghost use Rattle.mds_config_error.specs.declared.stop.DiagnosisStop.TheVariants.{NoMemory};
 
     ghost from_gives = { λ _ e. e ≡ NoMemory };
 
@@ -36,7 +36,7 @@ impl From<AllocError> for DiagnosisStop {
 
 impl<T: Drop> From<AllocFailed<T>> for DiagnosisStop {
     ghost use Rattle.std.specs.Prelude.{◌≡◌};
-    ghost use Rattle.mds_diagnosis.specs.declared.stop.DiagnosisStop.TheVariants.{NoMemory};
+    ghost use Rattle.mds_config_error.specs.declared.stop.DiagnosisStop.TheVariants.{NoMemory};
 
     ghost from_gives = { λ _ e. e ≡ NoMemory };
 

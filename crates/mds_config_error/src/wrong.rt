@@ -12,7 +12,7 @@ pub enum Key {
 
 impl fmt::Display for Key {
     ghost use Rattle.std.specs.Prelude.{Some};
-    ghost use Rattle.mds_diagnosis.specs.Wording.{key_wording};
+    ghost use Rattle.mds_config_error.specs.Wording.{key_wording};
 
     ghost output = { λ key. Some (key_wording key) };
 
@@ -41,7 +41,7 @@ pub enum OperatorFlaw {
 
 impl fmt::Display for OperatorFlaw {
     ghost use Rattle.std.specs.Prelude.{Some};
-    ghost use Rattle.mds_diagnosis.specs.Wording.{flaw_wording};
+    ghost use Rattle.mds_config_error.specs.Wording.{flaw_wording};
 
     ghost output = { λ flaw. Some (flaw_wording flaw) };
 
@@ -85,7 +85,7 @@ struct OperatorPlace(usize);
 
 impl fmt::Display for OperatorPlace {
     ghost use Rattle.std.specs.Prelude.{Some};
-    ghost use Rattle.mds_diagnosis.specs.Wording.{operator_wording};
+    ghost use Rattle.mds_config_error.specs.Wording.{operator_wording};
 
     ghost output = { λ place. Some (operator_wording place.0) };
 
@@ -100,7 +100,7 @@ struct PlacePair(OperatorPlace, OperatorPlace);
 
 impl fmt::Display for PlacePair {
     ghost use Rattle.std.specs.Prelude.{Some};
-    ghost use Rattle.mds_diagnosis.specs.Wording.{pair_wording};
+    ghost use Rattle.mds_config_error.specs.Wording.{pair_wording};
 
     ghost output = { λ pair. Some (pair_wording pair.0.0 pair.1.0) };
 
@@ -111,7 +111,7 @@ impl fmt::Display for PlacePair {
 
 impl fmt::Display for Wrong {
     ghost use Rattle.std.specs.Prelude.{Some};
-    ghost use Rattle.mds_diagnosis.specs.Wording.{wrong_wording};
+    ghost use Rattle.mds_config_error.specs.Wording.{wrong_wording};
 
     ghost output = { λ wrong. Some (wrong_wording wrong) };
 

@@ -12,7 +12,7 @@ use Rattle.mds_text.proofs.moment.Moment.TheSendSync as moment
 use Rattle.mds_policy.proofs.policy.Policy.TheSendSync as policy
 use Rattle.mds_policy.specs.contracts.policy.Policy as Policy
 use Rattle.mds_geography.proofs.geography.Geography.TheSendSync as geography
-use Rattle.mds_reading.proofs.node_buffer.ReusableScratch.TheSendSync as scratch
+use Rattle.mds_json.proofs.node_buffer.ReusableScratch.TheSendSync as scratch
 use Rattle.mds_drafts.specs.contracts.draft.Draft as Draft
 use Rattle.mds_drafts.specs.contracts.drafts.Drafts as Drafts
 use Rattle.mds_catalog.proofs.entries.PolicyEntry.TheSendSync as entry

@@ -2,15 +2,15 @@
 ghost use Rattle.std.specs.Prelude.{◌≡◌, ◌⊎◌};
 
 use crate::answer::SharedReply;
+use crate::cache_key::{CacheKey, author_key};
 use crate::desk::Desk;
 use crate::publish_guard::{AlwaysPublish, PublishGuard};
-use crate::cache_key::{CacheKey, author_key};
+use crate::query::RoomQuery;
 use crate::resolving::refusal_of_another;
 use crate::shared_cache::SharedCache;
-use crate::query::RoomQuery;
 use mds_drafts::Drafts;
 use mds_request::{Actor, AuthorCall, Call, Code, Config, Request, Routes, read_call};
-use mds_snapshot::{OpeningName, Note, Publisher};
+use mds_snapshot::{Note, OpeningName, Publisher};
 use mds_world::{AuthorAct, author_step};
 use std::alloc::{AllocError, Global};
 use std::sync::{Arc, Wait};
@@ -69,7 +69,11 @@ impl<K: OpeningName> AuthorRoom<K> {
     /// any other request it is `too_large` or `token`. A request without success changes nothing. The reply to a
     /// publication is made before it is published, so that nothing is published without a success being reported. Once
     /// memory ran out in the publishing itself, each further publication is answered 503.
-    pub fn answer<R: Wait>(&mut self, rt: &R, request: &Request<'_>) -> (SharedReply, Option<Note<K>>)
+    pub fn answer<R: Wait>(
+        &mut self,
+        rt: &R,
+        request: &Request<'_>,
+    ) -> (SharedReply, Option<Note<K>>)
         ensures { TakesRoomTurn (room_of self.old) (request_of request.now) result.0 result.1 (room_of self.new) }
     {
         self.answer_with(rt, request, &mut AlwaysPublish)

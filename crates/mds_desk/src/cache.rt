@@ -5,7 +5,7 @@ ghost use Rattle.mds_desk.specs.CacheKey.{IsBodyOf};
 
 use crate::cache_key::CacheKey;
 use bytes::Bytes;
-use mds_snapshot::{OpeningName, Note};
+use mds_snapshot::{Note, OpeningName};
 use std::alloc::Global;
 use std::marker::Model;
 

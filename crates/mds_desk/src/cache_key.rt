@@ -111,7 +111,9 @@ pub fn author_key(catalogue: &Catalogue, call: &AuthorCall) -> Option<CacheKey>
 {
     match *call {
         AuthorCall::Policies => Some(CacheKey::AllPolicies),
-        AuthorCall::Policy(id) if is_policy_visible(catalogue, None, id) => Some(CacheKey::Policy(id)),
+        AuthorCall::Policy(id) if is_policy_visible(catalogue, None, id) => Some(CacheKey::Policy(
+            id,
+        )),
         AuthorCall::Geographies => Some(CacheKey::Geographies),
         AuthorCall::Geography(id) if has_geography(catalogue, id) => {
             Some(CacheKey::Geography(id))

@@ -9,15 +9,15 @@ ghost use Rattle.mds_request.specs.declared.code.Code.TheVariants.{NoMemory, NoS
 ghost use Rattle.mds_world.specs.Lasting.{fits_prop, lasting_in};
 
 use crate::answer::SharedReply;
+use crate::context::DeskContext;
 use crate::gate::Gate;
 use crate::operator::answer_call;
-use crate::context::DeskContext;
 use crate::query::DeskQuery;
 use core::mem::replace_with;
 use mds_catalog::Catalogue;
 use mds_fleet::Book;
 use mds_request::{Code, OperatorCall, Request};
-use mds_snapshot::{Look, OpeningName, Note, Pane};
+use mds_snapshot::{Look, Note, OpeningName, Pane};
 use mds_verdict::Evaluator;
 use std::alloc::{AllocError, Global};
 
@@ -39,7 +39,11 @@ pub struct Desk<K: OpeningName> {
 /// # Errors
 ///
 /// `NoMemory`: memory ran out.
-fn query_look<K: OpeningName, T: DeskQuery>(alloc: Global, look: &Look<K>, telling: &T) -> Result<T::Told, Code>
+fn query_look<K: OpeningName, T: DeskQuery>(
+    alloc: Global,
+    look: &Look<K>,
+    telling: &T,
+) -> Result<T::Told, Code>
     ensures told { IfOk result (T.tells telling.now look.now) }
     ensures refused { IfErr result (λ code. code ≡ NoMemory) }
 {

@@ -6,11 +6,11 @@ ghost use Rattle.mds_desk.specs.Desk.{state_of, new_desks};
 ghost use Rattle.mds_desk.specs.Room.{room_of, new_room};
 
 use crate::author::AuthorRoom;
-use crate::desk::Desk;
 use crate::context::DeskContext;
+use crate::desk::Desk;
 use crate::shared_cache::SharedCache;
 use mds_request::{Config, Routes};
-use mds_snapshot::{Blank, OpeningName, OpenFault, Pane, open};
+use mds_snapshot::{Blank, OpenFault, OpeningName, Pane, open};
 use std::alloc::{AllocError, Global};
 use std::sync::{Arc, Wait};
 

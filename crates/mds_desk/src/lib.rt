@@ -4,26 +4,26 @@
 
 mod answer;
 mod author;
+mod cache;
+mod cache_key;
+mod context;
 mod desk;
 mod furnishing;
 mod gate;
 pub mod laws;
-mod publish_guard;
 mod operator;
-mod cache_key;
-mod resolving;
-mod context;
-mod shared_cache;
-mod cache;
+mod publish_guard;
 mod query;
+mod resolving;
+mod shared_cache;
 
 pub use answer::SharedReply;
 pub use author::AuthorRoom;
+pub use cache::ResponseCache;
+pub use cache_key::{CacheKey, author_key, operator_key};
 pub use desk::Desk;
 pub use furnishing::furnish;
 pub use gate::{Gate, OpenGate};
 pub use publish_guard::{AlwaysPublish, PublishGuard};
-pub use cache_key::{CacheKey, author_key, operator_key};
+pub use query::{DeskQuery, RoomQuery};
 pub use shared_cache::SharedCache;
-pub use cache::ResponseCache;
-pub use query::{RoomQuery, DeskQuery};

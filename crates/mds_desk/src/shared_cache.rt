@@ -5,11 +5,11 @@ ghost use Rattle.mds_request.specs.declared.code.Code.TheVariants.{NoMemory};
 ghost use Rattle.mds_desk.specs.CacheKey.{IsBodyOf, IsFound, IsReplyTo};
 
 use crate::answer::SharedReply;
-use crate::cache_key::CacheKey;
 use crate::cache::ResponseCache;
+use crate::cache_key::CacheKey;
 use bytes::Bytes;
 use mds_request::{Code, Reply};
-use mds_snapshot::{OpeningName, Note};
+use mds_snapshot::{Note, OpeningName};
 use std::alloc::{AllocError, Global};
 use std::marker::Model;
 use std::sync::{Arc, Mutex, MutexGuard};
@@ -103,7 +103,13 @@ impl<K: OpeningName> SharedCache<K> {
     }
 
     /// The answer with this success, whose body is cached.
-    fn cache_success(&self, alloc: Global, key: CacheKey, note: &Note<K>, reply: Reply) -> SharedReply
+    fn cache_success(
+        &self,
+        alloc: Global,
+        key: CacheKey,
+        note: &Note<K>,
+        reply: Reply,
+    ) -> SharedReply
         requires success { reply.status ≡ 200 }
         requires body { IsBodyOf note.now key reply.body }
         ensures { (result ≡ reply) ⊎ (result ≡ refused NoMemory) }

@@ -7,8 +7,8 @@ ghost use Rattle.mds_text.specs.declared.draft_kind.DraftKind.TheVariants as kin
 use crate::draft::Draft;
 use mds_catalog::Batch;
 use mds_geography::Geography;
+use mds_json::ReusableScratch;
 use mds_policy::{Policy, PolicyFault};
-use mds_reading::ReusableScratch;
 use mds_text::{DraftKind, Id};
 use std::alloc::{AllocError, Global};
 use std::sync::Arc;

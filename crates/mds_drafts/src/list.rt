@@ -1,12 +1,12 @@
 //! The list of a publish request.
 ghost use Rattle.std.specs.Prelude.{◌≡◌, true, IfOk};
 ghost use Rattle.mds_text.specs.Fault.{Gives, text_cause};
-ghost use Rattle.mds_reading.specs.Node.{node_view};
+ghost use Rattle.mds_json.specs.Node.{node_view};
 ghost use Rattle.mds_catalog.specs.Publication.{are_distinct};
 ghost use Rattle.mds_drafts.specs.Named.{distinct_ids_at};
 
 use mds_catalog::are_distinct;
-use mds_reading::{Node, NodeBuffer, document_of, ids_at};
+use mds_json::{Node, NodeBuffer, document_of, ids_at};
 use mds_text::{Field, Id, TextFault};
 use std::alloc::Global;
 

@@ -15,10 +15,10 @@ use Rattle.std.proofs.lemmas.List.Elements.{All-weaker}
 use Rattle.std.proofs.lemmas.Map.Views.{tells_apart}
 use Rattle.mds_match.specs.Row.{Row, row_of}
 use Rattle.mds_match.specs.declared.vehicle.Vehicle.{Vehicle}
-use Rattle.mds_kept.specs.Index as kept
-use Rattle.mds_kept.specs.Index.{AreKept, HasArrived, HasDeparted, IsChanged, IsColumn, IsListed, IsMaskOf, IsSince, Published}
-use Rattle.mds_kept.specs.declared.bitmap_index.BitmapIndex.{BitmapIndex}
-use Rattle.mds_kept.proofs.Keeping.{if_some_as}
+use Rattle.mds_bitmaps.specs.Index as kept
+use Rattle.mds_bitmaps.specs.Index.{AreKept, HasArrived, HasDeparted, IsChanged, IsColumn, IsListed, IsMaskOf, IsSince, Published}
+use Rattle.mds_bitmaps.specs.declared.bitmap_index.BitmapIndex.{BitmapIndex}
+use Rattle.mds_bitmaps.proofs.Keeping.{if_some_as}
 use Rattle.mds_fleet.specs.Books.{device_cmp}
 use Rattle.mds_fleet.specs.Fleet.{Fits, Fleet, Vehicles, rows_of}
 use Rattle.mds_fleet.proofs.Rows.{Updates, device_exact, get_row, held_row, keys_rows}

@@ -10,9 +10,9 @@ use Rattle.mds_geometry.specs.declared.position.Position.{Position}
 use Rattle.mds_policy.specs.Policy.{Policy}
 use Rattle.mds_match.specs.Row.{Row, row_of}
 use Rattle.mds_match.specs.declared.vehicle.Vehicle.{Vehicle}
-use Rattle.mds_kept.specs.Index as kept
-use Rattle.mds_kept.specs.Index.{IsPublished, Published}
-use Rattle.mds_kept.specs.declared.bitmap_index.BitmapIndex.{BitmapIndex}
+use Rattle.mds_bitmaps.specs.Index as kept
+use Rattle.mds_bitmaps.specs.Index.{IsPublished, Published}
+use Rattle.mds_bitmaps.specs.declared.bitmap_index.BitmapIndex.{BitmapIndex}
 use Rattle.mds_fleet.specs.Books.{Rows, device_cmp}
 
 -- an operator's rows, the most that there may be, and the bitmap index

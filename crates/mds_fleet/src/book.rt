@@ -9,17 +9,17 @@ ghost use Rattle.mds_policy.specs.Policy.{policy_document};
 ghost use Rattle.mds_match.specs.Row.{row_of};
 ghost use Rattle.mds_match.specs.declared.vehicle.TheConstants.{MOST_VEHICLES};
 ghost use Rattle.mds_verdict.specs.Verdict.{verdict_document, verdicts};
-ghost use Rattle.mds_kept.specs.Index.{HasArrived, IsChanged, IsPublished, Published};
+ghost use Rattle.mds_bitmaps.specs.Index.{HasArrived, IsChanged, IsPublished, Published};
 ghost use Rattle.mds_fleet.specs.Books.{device_cmp, Take, outcome_at, report_document, reported, row_after, row_from, run_start};
 ghost use Rattle.mds_fleet.specs.Fleet.{rows_of, IsKept};
 ghost use Rattle.mds_fleet.specs.Reading.{read_report};
 
-use crate::report::Report;
 use crate::interner::WordInterner;
-use mds_kept::BitmapIndex;
+use crate::report::Report;
+use mds_bitmaps::BitmapIndex;
+use mds_json::ReusableScratch;
 use mds_match::{Local, LocalMoment, Places, Vehicle};
 use mds_policy::Policy;
-use mds_reading::ReusableScratch;
 use mds_text::{Id, Moment, TextFault, Token};
 use mds_verdict::RuleVerdict;
 use std::alloc::{AllocError, AllocFailed, Global};
@@ -69,7 +69,7 @@ pub struct Book {
 }
 
 impl Model for Book {
-    ghost use Rattle.mds_kept.specs.contracts.bitmap_index.BitmapIndex.{the_row as kept_row};
+    ghost use Rattle.mds_bitmaps.specs.contracts.bitmap_index.BitmapIndex.{the_row as kept_row};
     ghost use Rattle.mds_fleet.specs.Fleet.{Fleet, coded_fleet, rows_of, IsKept};
 
     ghost Value = { Fleet };
@@ -235,7 +235,10 @@ impl Book {
 }
 
 // References to all vehicles, ascending by device id.
-fn vehicle_refs(alloc: Global, vehicles: &BTreeMap<Id, Box<Vehicle>>) -> Result<Vec<&Vehicle>, AllocError>
+fn vehicle_refs(
+    alloc: Global,
+    vehicles: &BTreeMap<Id, Box<Vehicle>>,
+) -> Result<Vec<&Vehicle>, AllocError>
     ensures whole { IfOk result (λ rows. map (λ v. v.now) rows.items ≡ map (λ b. b.value) (values vehicles.now)) }
     ensures ordered { IsOrdered device_cmp vehicles.now }
 {
@@ -273,7 +276,11 @@ fn take(
 }
 
 // Takes a report of a device that has a row.
-fn update(vehicle: &mut Vehicle, shares: &mut WordInterner, report: Report) -> Result<Taken, BookFault>
+fn update(
+    vehicle: &mut Vehicle,
+    shares: &mut WordInterner,
+    report: Report,
+) -> Result<Taken, BookFault>
     ensures outcome { (held limit : ℕ) → result ≡ outcome_at (Some (row_of vehicle.old)) held limit (report_document report) }
     ensures changed { result ≡ Ok Taken.Changed → row_of vehicle.new ≡ row_after (Some (row_of vehicle.old)) (report_document report) }
     ensures others { result ≢ Ok Taken.Changed → row_of vehicle.new ≡ row_of vehicle.old }

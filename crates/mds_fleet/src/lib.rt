@@ -3,10 +3,10 @@
 #![tactic(auto)]
 
 mod book;
+mod interner;
 pub mod laws;
 mod reading;
 mod report;
-mod interner;
 
 pub use book::{Absent, Book, BookFault, Taken};
 pub use report::Report;

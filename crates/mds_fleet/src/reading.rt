@@ -1,17 +1,17 @@
 //! Reading a vehicle report, member by member in the order of the protocol.
 ghost use Rattle.std.specs.Prelude.{◌≡◌, ◌≤◌};
-ghost use Rattle.mds_reading.specs.Node.{node_view};
+ghost use Rattle.mds_json.specs.Node.{node_view};
 ghost use Rattle.mds_text.specs.Fault.{Gives, text_cause};
 ghost use Rattle.mds_fleet.specs.Books.{report_document};
 ghost use Rattle.mds_fleet.specs.Reading.{report_of, location_of, position_of, coordinate_at, tokens_at};
 
 use crate::report::Report;
 use mds_geometry::{Position, coordinate_of_node};
-use mds_match::Words;
-use mds_reading::{
+use mds_json::{
     Node, document_of, object_of, required_id, required_member, required_moment, required_token,
     tokens_at as optional_tokens,
 };
+use mds_match::Words;
 use mds_text::{Field, TextFault, Token, Units7};
 use std::alloc::Global;
 

@@ -1,8 +1,8 @@
 //! A vehicle report: what an operator sends about one vehicle.
 use crate::reading::report_of;
 use mds_geometry::Position;
+use mds_json::{NodeBuffer, ReusableScratch};
 use mds_match::Words;
-use mds_reading::{ReusableScratch, NodeBuffer};
 use mds_text::{Id, Moment, TextFault, Token, Tree};
 use std::alloc::Global;
 use std::sync::Arc;

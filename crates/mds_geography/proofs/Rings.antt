@@ -4,8 +4,8 @@ use Rattle.std.proofs.Math.Seq.{drop-cons}
 use Rattle.mds_text.specs.Fault.{Fault, ◌>>=◌}
 use Rattle.mds_text.specs.Tree.{Json}
 use Rattle.mds_geometry.specs.declared.position.Position.{Position}
-use Rattle.mds_reading.specs.Node.{node_view}
-use Rattle.mds_reading.specs.declared.node.Node.{Node}
+use Rattle.mds_json.specs.Node.{node_view}
+use Rattle.mds_json.specs.declared.node.Node.{Node}
 use Rattle.mds_geography.specs.Reading.{Counted, ring_of, rings_of, polygon_of, polygons_of}
 use Rattle.mds_geography.proofs.Fronts.{with_front, with_front-push}
 

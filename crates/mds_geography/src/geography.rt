@@ -6,7 +6,7 @@ use crate::fault::GeoFault;
 use crate::served_tree::collection_tree;
 use crate::walk::{geojson_of, kind_of};
 use mds_geometry::{Area, Polygon, Position};
-use mds_reading::{
+use mds_json::{
     Node, NodeBuffer, document_of, required_id, required_member, required_text, text_at,
 };
 use mds_text::{Field, Id, Moment, Tree, add_member, id_tree, int_tree, object_tree, text_tree};
@@ -114,7 +114,7 @@ struct ParsedGeography {
 }
 
 impl ParsedGeography {
-    ghost use Rattle.mds_reading.specs.Node.{node_view};
+    ghost use Rattle.mds_json.specs.Node.{node_view};
     ghost use Rattle.mds_geography.specs.Geography.{said_document};
     ghost use Rattle.mds_geography.specs.Reading.{read_geography, geography_of};
 

@@ -5,8 +5,8 @@ ghost use Rattle.mds_text.specs.Fault.{Gives, bad_field, text_cause};
 ghost use Rattle.mds_text.specs.Fields.{list_of, required_at};
 ghost use Rattle.mds_text.specs.Tree.{text};
 ghost use Rattle.mds_text.specs.declared.field.Field.TheVariants.{Coordinates, Features};
-ghost use Rattle.mds_reading.specs.Entries.{entries_view};
-ghost use Rattle.mds_reading.specs.Node.{node_view, pair_view};
+ghost use Rattle.mds_json.specs.Entries.{entries_view};
+ghost use Rattle.mds_json.specs.Node.{node_view, pair_view};
 ghost use Rattle.mds_geography.specs.Fault.{geo_cause};
 ghost use Rattle.mds_geography.specs.Reading.{position_of, position_at, positions_of, positions_in, ring_of, rings_of, polygon_of, polygons_of, multipolygon_of, geometry_of, kind_of, feature_of, feature_geometry, features_of, geojson_of, most_positions, uncounted};
 
@@ -14,7 +14,7 @@ use crate::fault::GeoFault;
 use mds_geometry::{
     MOST_LATITUDE, MOST_LONGITUDE, Polygon, Position, Ring, coordinate_of_node, coordinate_of_text,
 };
-use mds_reading::{Entries, Node, entries_of, member_at, required_member, required_text};
+use mds_json::{Entries, Node, entries_of, member_at, required_member, required_text};
 use mds_text::{Field, TextFault};
 use std::alloc::Global;
 

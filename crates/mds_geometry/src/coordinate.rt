@@ -4,10 +4,10 @@ ghost use Rattle.mds_geometry.specs.Coordinate.{coordinate_of, most_longitude, u
 ghost use Rattle.mds_text.specs.Fault.{Gives, IsCaused, text_cause};
 ghost use Rattle.mds_text.specs.Tree.{text};
 ghost use Rattle.mds_text.specs.View.{view};
-ghost use Rattle.mds_reading.specs.Node.{node_view};
+ghost use Rattle.mds_json.specs.Node.{node_view};
 
 use crate::decimal::units_of_text;
-use mds_reading::Node;
+use mds_json::Node;
 use mds_text::{Field, TextFault, Tree, Units7};
 
 /// The greatest longitude in degrees (RFC 7946, section 4).

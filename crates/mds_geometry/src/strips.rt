@@ -75,7 +75,12 @@ fn add_between(
 ///
 /// Out of memory.
 #[inline(always)]
-fn add_edge(all: &mut [Strip], scale: &Scale, edge: &Edge, start: EdgeStart) -> Result<(), AllocError>
+fn add_edge(
+    all: &mut [Strip],
+    scale: &Scale,
+    edge: &Edge,
+    start: EdgeStart,
+) -> Result<(), AllocError>
     requires { length all.old ≡ scale.now.last + 1 }
     ensures { OnOk result ((s : ℕ) → s < length all.old →
         get_or all.new s [] ≡ get_or all.old s [] ++ (if strips.reaches scale.now s edge.now then start ∷ [] else [])) }

@@ -11,10 +11,10 @@ use Rattle.mds_text.specs.Fault.{Fault, ◌>>=◌}
 use Rattle.mds_text.specs.Quoting.{is_quoted, quoted_count}
 use Rattle.mds_text.specs.Reading.{plain_int, json_of, items_from, members_from, json_of_read, read_text}
 use Rattle.mds_text.specs.Tree.{Json, null, boolean, int, text, list, object, Items, no_items, item, Members, no_members, member}
-use Rattle.mds_reading.proofs.Turning.{turned_value, turned_items, turned_members}
-use Rattle.mds_reading.specs.Direct.{ok_of, put, tree_value, tree_items, tree_members, quoted_in}
-use Rattle.mds_reading.proofs.Valued.{read_text-is, count-is}
-use Rattle.mds_reading.proofs.Turns.{converted_some}
+use Rattle.mds_json.proofs.Turning.{turned_value, turned_items, turned_members}
+use Rattle.mds_json.specs.Direct.{ok_of, put, tree_value, tree_items, tree_members, quoted_in}
+use Rattle.mds_json.proofs.Valued.{read_text-is, count-is}
+use Rattle.mds_json.proofs.Turns.{converted_some}
 
 abbrev Agrees : json.Json → Json → Type 0
 Agrees j t = (d : source.Data) × (of_json (turned_value j) ≡ Some d) × (json_of d ≡ Ok t)

@@ -7,7 +7,7 @@ use Rattle.std.proofs.lemmas.Str.{IsUtf8-append, IsUtf8-from_ascii, IsUtf8-take,
 use Rattle.std.specs.Char.{is_ascii_digit}
 use Rattle.std.specs.Str.{IsAscii}
 use Rattle.mds_text.specs.Quoting.{continues_token}
-use Rattle.mds_reading.proofs.Passing.{Continue}
+use Rattle.mds_json.proofs.Passing.{Continue}
 
 ascii_one : (c : ℕ) → c < 128 → IsAscii (c ∷ [])
 ascii_one c small zero = small

@@ -10,8 +10,8 @@ use Rattle.std.proofs.lemmas.List.Sums.{sum_by-cons}
 use Rattle.std.proofs.lemmas.List.{take_at, drop_at}
 use Rattle.mds_text.specs.Quoting.{is_quoted, piece_tail, pieces, quoted_count}
 use Rattle.mds_text.proofs.Pieces.{pieces-split}
-use Rattle.mds_reading.specs.Direct.{quoted_one, quoted_in}
-use Rattle.mds_reading.proofs.Turning.{no_bad}
+use Rattle.mds_json.specs.Direct.{quoted_one, quoted_in}
+use Rattle.mds_json.proofs.Turning.{no_bad}
 
 -- the count, after one more token
 pub one_taken : (old more : ℕ) (t : Token) (ts rest : List Token) → ts ≡ t ∷ rest → more ≡ old + quoted_one t → more + quoted_in rest ≡ old + quoted_in ts

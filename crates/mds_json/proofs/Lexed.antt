@@ -14,14 +14,14 @@ use Rattle.json.proofs.Printed.Numbers.{lex-number, in_word-ended}
 use Rattle.mds_text.specs.Numbers.{number_of}
 use Rattle.mds_text.specs.Quoting.{begins_token, continues_token, string_len, piece_tail, pieces_behind, shown, is_quoted, quoted_text}
 use Rattle.mds_text.proofs.Pieces.{pieces-split}
-use Rattle.mds_reading.proofs.Turning.{turned, turned_lexeme, no_bad, well}
-use Rattle.mds_reading.proofs.Passing.{Continue, IsWord, a_number, a_true, a_false, a_null, good_word}
-use Rattle.mds_reading.proofs.Closing.{Closed, closed, Front, byte_front}
-use Rattle.mds_reading.proofs.Bytes.{peel, join, peel_run, join_run, cut_behind}
+use Rattle.mds_json.proofs.Turning.{turned, turned_lexeme, no_bad, well}
+use Rattle.mds_json.proofs.Passing.{Continue, IsWord, a_number, a_true, a_false, a_null, good_word}
+use Rattle.mds_json.proofs.Closing.{Closed, closed, Front, byte_front}
+use Rattle.mds_json.proofs.Bytes.{peel, join, peel_run, join_run, cut_behind}
 use Rattle.std.proofs.lemmas.Str.{IsUtf8-append}
-use Rattle.mds_reading.proofs.Punctuated.{punctuate-turned}
-use Rattle.mds_reading.specs.Direct.{quoted_one, quoted_in}
-use Rattle.mds_reading.proofs.Counted.{quoted_lexemes, punctuate-counted, cut_counted, kept_counted}
+use Rattle.mds_json.proofs.Punctuated.{punctuate-turned}
+use Rattle.mds_json.specs.Direct.{quoted_one, quoted_in}
+use Rattle.mds_json.proofs.Counted.{quoted_lexemes, punctuate-counted, cut_counted, kept_counted}
 use Rattle.mds_text.specs.Quoting.{quoted_count}
 
 -- ---- the first piece

@@ -2,9 +2,9 @@
 use Rattle.std.proofs.Common.{◌≡◌, ℕ, ℤ, Bool, List, map, Vec, Global, rules}
 use Rattle.std.specs.Borrow.{Bor}
 use Rattle.mds_text.specs.Tree.{null, boolean, int, text, degrees, list, object, item, no_items, items_of, members_of}
-use Rattle.mds_reading.specs.Node.{node_view, node_member_view, pair_view}
-use Rattle.mds_reading.specs.declared.node.Node.{Node, Null, Bool as BoolOf, Int, Text, Degrees, Pair, Pairs, List as ListOf, Object, the_lemmas}
-use Rattle.mds_reading.specs.declared.node.NodeMember.{NodeMember}
+use Rattle.mds_json.specs.Node.{node_view, node_member_view, pair_view}
+use Rattle.mds_json.specs.declared.node.Node.{Node, Null, Bool as BoolOf, Int, Text, Degrees, Pair, Pairs, List as ListOf, Object, the_lemmas}
+use Rattle.mds_json.specs.declared.node.NodeMember.{NodeMember}
 
 pub node-Null : node_view Null ≡ null
 node-Null = search (rules, the_lemmas)

@@ -6,9 +6,9 @@ use Rattle.std.specs.Ordering.{nat_cmp, match_ordering}
 use Rattle.std.specs.declared.cmp.Ordering.{Ordering}
 use Rattle.std.specs.declared.cmp.Ordering.TheVariants.{Less, Greater}
 use Rattle.mds_text.specs.Tree.{Json, Members, member, members_of}
-use Rattle.mds_reading.specs.Node.{node_member_view}
-use Rattle.mds_reading.specs.declared.node.NodeMember.{NodeMember}
-use Rattle.mds_reading.specs.Direct.{put}
+use Rattle.mds_json.specs.Node.{node_member_view}
+use Rattle.mds_json.specs.declared.node.NodeMember.{NodeMember}
+use Rattle.mds_json.specs.Direct.{put}
 
 abbrev pub Pair : Type 0
 Pair = List ℕ × Json

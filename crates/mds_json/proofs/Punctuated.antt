@@ -5,7 +5,7 @@ use Rattle.json.specs.Token.{Token, begin_object, end_object, begin_array, end_a
 use Rattle.json.specs.Lex.{Lexeme, token, comma, colon, Place, fresh, after_value, after_comma, after_key, begins_colon, may_begin, may_close, if_allowed, place_token, punctuate}
 use Rattle.json.specs.Align.{is_good}
 use Rattle.mds_text.specs.Quoting.{is_quoted}
-use Rattle.mds_reading.proofs.Turning.{turned, turned_lexeme, no_bad, well}
+use Rattle.mds_json.proofs.Turning.{turned, turned_lexeme, no_bad, well}
 
 begins_colon-turned : (ls : List Lexeme) → begins_colon (map turned_lexeme ls) ≡ begins_colon ls
 begins_colon-turned [] = refl

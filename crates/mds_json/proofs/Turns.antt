@@ -6,8 +6,8 @@ use Rattle.json.specs.Json.{Parse, parse_map, after_end_array, read_key, items_s
 use Rattle.json.proofs.Grammar.{items_end, items_more, members_end, members_no_key, members_more}
 use Rattle.mds_text.specs.Tree.{Json as Data, list as array, object, Items, no_items, item, Members, no_members}
 use Rattle.serde_json.specs.Read.{converted}
-use Rattle.mds_reading.specs.Direct.{put, tree_value, tree_items, tree_members}
-use Rattle.mds_reading.specs.Gathered.{items_before}
+use Rattle.mds_json.specs.Direct.{put, tree_value, tree_items, tree_members}
+use Rattle.mds_json.specs.Gathered.{items_before}
 use Rattle.mds_text.specs.Tree.{items_of}
 
 abbrev pick : {A : Type 0} → A → Option A → A

@@ -7,14 +7,14 @@ use Rattle.json.specs.Json as json
 use Rattle.json.specs.Lex.{tokens}
 use Rattle.mds_text.specs.Quoting.{is_quoted, quoted_count, quoted_text}
 use Rattle.serde_json.specs.Read.{of_json, max_depth, read}
-use Rattle.mds_reading.proofs.Turning.{turned, turned_value, turned_items, turned_members, no_bad}
+use Rattle.mds_json.proofs.Turning.{turned, turned_value, turned_items, turned_members, no_bad}
 use Rattle.std.proofs.Common.{IsUtf8}
 use Rattle.std.proofs.lemmas.Str.{is_utf8-from_IsUtf8}
 use Rattle.mds_text.specs.Fault.{bad_json}
 use Rattle.std.specs.Prelude.{Err}
 use Rattle.mds_text.specs.Reading.{json_of_read, read_text}
-use Rattle.mds_reading.proofs.Lexed.{tokens-quoted, utf8-quoted, counted-quoted}
-use Rattle.mds_reading.specs.Direct.{quoted_in}
+use Rattle.mds_json.proofs.Lexed.{tokens-quoted, utf8-quoted, counted-quoted}
+use Rattle.mds_json.specs.Direct.{quoted_in}
 
 abbrev moved : {A B : Type 0} → (A → B) → Option (A × List Token) → Option (B × List Token)
 moved f None = None

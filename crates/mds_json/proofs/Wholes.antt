@@ -11,7 +11,7 @@ use Rattle.mds_text.specs.Fault.{bad_json}
 use Rattle.mds_text.specs.Quoting.{is_quoted}
 use Rattle.mds_text.specs.Reading.{plain_int}
 use Rattle.mds_text.specs.Tree.{int, text}
-use Rattle.mds_reading.specs.Direct.{ok_of, tree_number, whole_number}
+use Rattle.mds_json.specs.Direct.{ok_of, tree_number, whole_number}
 
 own : IsNumeralModel (AllDigits 10) (digits_value 10)
 own = record { to = λ ds h. h; from = λ ds h. h; same = λ ds h. refl }

@@ -3,9 +3,9 @@ use Rattle.std.specs.Prelude.{List, [], ◌∷◌, map, Result, Ok, Err}
 use Rattle.mds_text.specs.Fault.{Fault, IsCaused}
 use Rattle.mds_text.specs.Tree.{Json}
 use Rattle.mds_text.specs.declared.fault.TextFault.{TextFault}
-use Rattle.mds_reading.specs.Node.{node_view}
-use Rattle.mds_reading.specs.declared.entries.Entries.{Entries}
-use Rattle.mds_reading.specs.declared.node.Node.{Node}
+use Rattle.mds_json.specs.Node.{node_view}
+use Rattle.mds_json.specs.declared.entries.Entries.{Entries}
+use Rattle.mds_json.specs.declared.node.Node.{Node}
 
 -- those that were built, where there are any, else those that are borrowed
 abbrev pub made_or_lent : List Node → List Node → List Node

@@ -1,10 +1,10 @@
 -- The first entries of a list.
 use Rattle.std.specs.Prelude.{List, [], ◌∷◌}
 use Rattle.mds_text.specs.Tree.{Json, Items, item, int, text}
-use Rattle.mds_reading.specs.declared.first_entries.FirstEntries.{FirstEntries}
-use Rattle.mds_reading.specs.declared.first_entries.FirstEntries.TheVariants.{Empty, One, Two}
-use Rattle.mds_reading.specs.declared.first_entries.Scalar.{Scalar}
-use Rattle.mds_reading.specs.declared.first_entries.Scalar.TheVariants.{Int, Text}
+use Rattle.mds_json.specs.declared.first_entries.FirstEntries.{FirstEntries}
+use Rattle.mds_json.specs.declared.first_entries.FirstEntries.TheVariants.{Empty, One, Two}
+use Rattle.mds_json.specs.declared.first_entries.Scalar.{Scalar}
+use Rattle.mds_json.specs.declared.first_entries.Scalar.TheVariants.{Int, Text}
 
 abbrev pub scalar_view : Scalar → Json
 scalar_view (Int z) = int z

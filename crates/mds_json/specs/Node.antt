@@ -2,9 +2,9 @@
 use Rattle.std.specs.Prelude.{ℕ, List, map}
 use Rattle.std.specs.Borrow.{Bor}
 use Rattle.mds_text.specs.Tree.{Json, null, boolean, int, text, degrees, list, object, no_items, item, items_of, members_of}
-use Rattle.mds_reading.specs.declared.node.Node.{Node, Node-F, fold-Node}
-use Rattle.mds_reading.specs.declared.node.Node.TheOpen.{NodeMember-F}
-use Rattle.mds_reading.specs.declared.node.NodeMember.{NodeMember}
+use Rattle.mds_json.specs.declared.node.Node.{Node, Node-F, fold-Node}
+use Rattle.mds_json.specs.declared.node.Node.TheOpen.{NodeMember-F}
+use Rattle.mds_json.specs.declared.node.NodeMember.{NodeMember}
 
 -- a list of two strings
 abbrev pub pair_view : Bor (List ℕ) × Bor (List ℕ) → Json

@@ -7,18 +7,18 @@ ghost use Rattle.serde_json.specs.Read.{converted};
 ghost use Rattle.mds_text.specs.Quoting.{is_quoted, quoted_count};
 ghost use Rattle.mds_text.specs.Reading.{read_text};
 ghost use Rattle.mds_text.specs.Tree.{int, items_of, list, members_of, no_members};
-ghost use Rattle.mds_reading.specs.Gathered.{gathered, items_before, scalar_view};
-ghost use Rattle.mds_reading.specs.Node.{node_view, node_member_view};
-ghost use Rattle.mds_reading.specs.Direct.{tree_number, tree_value, tree_items, tree_members, quoted_in, quoted_one};
+ghost use Rattle.mds_json.specs.Gathered.{gathered, items_before, scalar_view};
+ghost use Rattle.mds_json.specs.Node.{node_view, node_member_view};
+ghost use Rattle.mds_json.specs.Direct.{tree_number, tree_value, tree_items, tree_members, quoted_in, quoted_one};
 ghost use Rattle.json.specs.Token as token;
 
+use crate::direct_fault::DirectFault;
 use crate::entries::nodes_of;
-use crate::lookahead::{next_number, next_string, opens_list, byte_or_space};
 use crate::first_entries::{FirstEntries, Scalar};
+use crate::lookahead::{byte_or_space, next_number, next_string, opens_list};
 use crate::members::put_member;
 use crate::node::{Node, NodeMember};
 use crate::point::has_point;
-use crate::direct_fault::DirectFault;
 use crate::whole::whole_number;
 use json::{Reader, Scratch, Token};
 use mds_text::is_quoted;
@@ -82,7 +82,9 @@ fn read<'a>(
             }
             Ok(Node::Object(read_members(alloc, text, reader, quoted, depth - 1)?))
         }
-        Token::EndArray | Token::EndObject | Token::Key(_) | Token::Bad => Err(DirectFault::Unusual),
+        Token::EndArray | Token::EndObject | Token::Key(_) | Token::Bad => Err(
+            DirectFault::Unusual,
+        ),
     }
 }
 

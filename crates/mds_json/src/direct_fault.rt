@@ -24,7 +24,7 @@ impl<T: Drop> From<AllocFailed<T>> for DirectFault {
 
 impl From<Invalid> for DirectFault {
     ghost use Rattle.std.specs.Prelude.{◌≡◌};
-    ghost use Rattle.mds_reading.specs.declared.direct_fault.DirectFault.TheVariants.{Unusual};
+    ghost use Rattle.mds_json.specs.declared.direct_fault.DirectFault.TheVariants.{Unusual};
 
     ghost from_gives = { λ _ e. e ≡ Unusual };
 

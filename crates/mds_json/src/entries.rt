@@ -1,8 +1,8 @@
 ghost use Rattle.std.specs.Prelude.{◌≡◌, [], map, IfOk};
 ghost use Rattle.mds_text.specs.Fault.{Gives, text_cause};
 ghost use Rattle.mds_text.specs.Fields.{list_of};
-ghost use Rattle.mds_reading.specs.Entries.{entries_view, IsCausedWhere};
-ghost use Rattle.mds_reading.specs.Node.{node_view, pair_view};
+ghost use Rattle.mds_json.specs.Entries.{entries_view, IsCausedWhere};
+ghost use Rattle.mds_json.specs.Node.{node_view, pair_view};
 
 use crate::node::Node;
 use mds_text::{Field, TextFault};

@@ -5,9 +5,9 @@ ghost use Rattle.std.specs.Prelude.{◌≡◌, option_map, map};
 ghost use Rattle.mds_text.specs.Fault.{Gives, IsCaused, text_cause};
 ghost use Rattle.mds_text.specs.Fields.{find_member, member_at, optional_at, required_at, required_member, object_of, document_of};
 ghost use Rattle.mds_text.specs.Fields.{text_of, bool_of, int_of, id_of, token_of, moment_of, bound_of, list_of, list_each};
-ghost use Rattle.mds_reading.specs.Entries.{entries_view, IsCausedWhere};
+ghost use Rattle.mds_json.specs.Entries.{entries_view, IsCausedWhere};
 ghost use Rattle.mds_text.specs.Tree.{members_of};
-ghost use Rattle.mds_reading.specs.Node.{node_view, node_member_view};
+ghost use Rattle.mds_json.specs.Node.{node_view, node_member_view};
 
 use crate::entries::{Entries, entries_of};
 use crate::node::{Node, NodeMember};

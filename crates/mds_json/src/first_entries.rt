@@ -2,8 +2,8 @@
 //! own.
 ghost use Rattle.std.specs.Prelude.{◌≡◌, IfOk, map};
 ghost use Rattle.mds_text.specs.Tree.{list, items_of};
-ghost use Rattle.mds_reading.specs.Node.{node_view};
-ghost use Rattle.mds_reading.specs.Gathered.{gathered, scalar_view};
+ghost use Rattle.mds_json.specs.Node.{node_view};
+ghost use Rattle.mds_json.specs.Gathered.{gathered, scalar_view};
 
 use crate::node::Node;
 use std::alloc::{AllocError, Global};

@@ -3,17 +3,17 @@
 #![tactic(auto)]
 
 mod direct;
+mod direct_fault;
 mod entries;
-mod lookahead;
 mod fields;
 mod first_entries;
+mod lookahead;
 mod members;
 mod node;
+mod node_buffer;
 mod own;
 mod point;
 mod read;
-mod node_buffer;
-mod direct_fault;
 mod whole;
 
 pub use entries::{Entries, entries_of};
@@ -23,5 +23,5 @@ pub use fields::{
     required_text, required_token, text_at, text_of, token_at, tokens_at, tokens_of,
 };
 pub use node::{Node, NodeMember};
+pub use node_buffer::{NodeBuffer, ReusableScratch};
 pub use read::{read_and_count, read_tree};
-pub use node_buffer::{ReusableScratch, NodeBuffer};

@@ -1,11 +1,11 @@
 //! Members of an object, in the byte order of their names.
 ghost use Rattle.std.specs.Prelude.{◌≡◌, ◌≤◌, IfSome, OnOk, insert, length, map};
 ghost use Rattle.mds_text.specs.Tree.{Json, members_of};
-ghost use Rattle.mds_reading.specs.Direct.{put};
-ghost use Rattle.mds_reading.specs.Node.{node_view, node_member_view};
+ghost use Rattle.mds_json.specs.Direct.{put};
+ghost use Rattle.mds_json.specs.Node.{node_view, node_member_view};
 
-use crate::node::{Node, NodeMember};
 use crate::direct_fault::DirectFault;
+use crate::node::{Node, NodeMember};
 use std::cmp::Ordering;
 
 /// The most members among which the place of the next one is searched for linearly.

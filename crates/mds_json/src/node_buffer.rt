@@ -2,12 +2,12 @@ ghost use Rattle.std.specs.Prelude.{◌≡◌, IfOk};
 ghost use Rattle.mds_text.specs.Fault.{Gives, text_cause};
 ghost use Rattle.mds_text.specs.Quoting.{quoted_count};
 ghost use Rattle.mds_text.specs.Reading.{read_text};
-ghost use Rattle.mds_reading.specs.Node.{node_view};
+ghost use Rattle.mds_json.specs.Node.{node_view};
 
 use crate::direct::read_direct;
+use crate::direct_fault::DirectFault;
 use crate::node::Node;
 use crate::own::lend;
-use crate::direct_fault::DirectFault;
 use json::Scratch;
 use mds_text::{TextFault, Tree};
 use std::alloc::{AllocError, Global};

@@ -2,7 +2,7 @@
 ghost use Rattle.std.specs.Prelude.{◌≡◌, IfOk, map};
 ghost use Rattle.mds_text.specs.Tree.{list, item, text, no_items};
 ghost use Rattle.mds_text.specs.View.{view, member_view};
-ghost use Rattle.mds_reading.specs.Node.{node_view, node_member_view, pair_view};
+ghost use Rattle.mds_json.specs.Node.{node_view, node_member_view, pair_view};
 
 use crate::node::{Node, NodeMember};
 use mds_text::{Member, Tree};

@@ -6,8 +6,8 @@ ghost use Rattle.mds_text.specs.Reading.{read_text};
 ghost use Rattle.mds_text.specs.View.{view};
 
 use crate::direct::read_direct;
-use crate::own::own;
 use crate::direct_fault::DirectFault;
+use crate::own::own;
 use json::Scratch;
 use mds_text::{TextFault, Tree};
 use std::alloc::Global;

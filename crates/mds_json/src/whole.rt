@@ -1,7 +1,7 @@
 //! Parses plain whole numbers.
 ghost use Rattle.std.specs.Prelude.{◌≡◌, ◌<◌, ◌^◌, ◌∷◌, Some, IfSome, slice_index};
 ghost use Rattle.std.specs.Fmt.{decimal};
-ghost use Rattle.mds_reading.specs.Direct.{whole_number};
+ghost use Rattle.mds_json.specs.Direct.{whole_number};
 
 /// The most digits of a plain whole number.
 const MOST_DIGITS: usize = 18;

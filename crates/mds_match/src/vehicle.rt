@@ -25,7 +25,11 @@ impl Words {
     /// # Errors
     ///
     /// Out of memory.
-    pub fn new_shared(alloc: Global, word: Token, types: Vec<Token>) -> Result<Arc<Words>, AllocError>
+    pub fn new_shared(
+        alloc: Global,
+        word: Token,
+        types: Vec<Token>,
+    ) -> Result<Arc<Words>, AllocError>
         ensures word { IfOk result (λ share. share.value.word ≡ word) }
         ensures types { IfOk result (λ share. share.value.types ≡ types) }
     {

@@ -3,8 +3,8 @@ use Rattle.std.proofs.Common.{◌≡◌, ℕ, ◌+◌, ◌<◌, List, [], ◌∷
 use Rattle.std.proofs.lemmas.List.{drop_more}
 use Rattle.mds_text.specs.Fault.{Fault, ◌>>=◌}
 use Rattle.mds_text.specs.Tree.{members_of}
-use Rattle.mds_reading.specs.Node.{node_member_view}
-use Rattle.mds_reading.specs.declared.node.NodeMember.{NodeMember}
+use Rattle.mds_json.specs.Node.{node_member_view}
+use Rattle.mds_json.specs.declared.node.NodeMember.{NodeMember}
 use Rattle.mds_text.proofs.Lists.{with_front}
 use Rattle.mds_policy.specs.Policy.{States}
 use Rattle.mds_policy.specs.Reading.{state_of, states_of}

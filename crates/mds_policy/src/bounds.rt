@@ -2,11 +2,11 @@
 ghost use Rattle.std.specs.Prelude.{◌≡◌, ◌≤◌, Ok, Some, unwrap_or};
 ghost use Rattle.mds_text.specs.Fault.{Gives, text_cause};
 ghost use Rattle.mds_text.specs.Fields.{bound_of, most_bound, optional_at};
-ghost use Rattle.mds_reading.specs.Node.{node_view};
+ghost use Rattle.mds_json.specs.Node.{node_view};
 ghost use Rattle.mds_policy.specs.Reading.{bounds_of};
 
 use crate::rule::Bounds;
-use mds_reading::{Node, bool_at, bound_at};
+use mds_json::{Node, bool_at, bound_at};
 use mds_text::{Field, TextFault};
 
 #[tactic(auto, unfolding(crate::specs::Reading::bounds_of))]

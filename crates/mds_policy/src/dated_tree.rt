@@ -12,7 +12,11 @@ use std::cmp::Ordering;
 const PUBLISHED_DATE: &str = "published_date";
 
 /// A copy of the document with the moment of its publication.
-pub(crate) fn with_published_date(alloc: Global, document: &Tree, moment: Moment) -> Result<Tree, AllocError>
+pub(crate) fn with_published_date(
+    alloc: Global,
+    document: &Tree,
+    moment: Moment,
+) -> Result<Tree, AllocError>
     ensures { IfOk result (λ t. view t ≡ dated moment (view document.now)) }
 {
     match document {

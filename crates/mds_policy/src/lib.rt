@@ -2,13 +2,13 @@
 #![tactic(auto)]
 
 mod bounds;
+mod dated_tree;
 mod fault;
 mod kind;
 mod lists;
 mod policy;
 mod reading;
 mod rule;
-mod dated_tree;
 mod states;
 mod window;
 

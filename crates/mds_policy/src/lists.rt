@@ -2,10 +2,10 @@
 ghost use Rattle.std.specs.Prelude.{◌≡◌, option_map};
 ghost use Rattle.mds_text.specs.Fault.{Gives, text_cause};
 ghost use Rattle.mds_text.specs.Fields.{id_of, token_of, list_each, or_empty};
-ghost use Rattle.mds_reading.specs.Node.{node_view};
+ghost use Rattle.mds_json.specs.Node.{node_view};
 ghost use Rattle.mds_policy.specs.Reading.{optional_list};
 
-use mds_reading::{Node, ids_at, tokens_at};
+use mds_json::{Node, ids_at, tokens_at};
 use mds_text::{Field, Id, TextFault, Token};
 use std::alloc::Global;
 

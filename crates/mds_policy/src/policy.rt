@@ -1,8 +1,8 @@
+use crate::dated_tree::with_published_date;
 use crate::fault::PolicyFault;
 use crate::reading::policy_of;
 use crate::rule::Rule;
-use crate::dated_tree::with_published_date;
-use mds_reading::{ReusableScratch, NodeBuffer, read_tree};
+use mds_json::{NodeBuffer, ReusableScratch, read_tree};
 use mds_text::{Id, Moment, Tree};
 use std::alloc::{AllocError, Global};
 

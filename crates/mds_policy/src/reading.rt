@@ -3,7 +3,7 @@ ghost use Rattle.std.specs.Prelude.{◌≡◌, map, Ok};
 ghost use Rattle.mds_text.specs.Fault.{Gives, text_cause};
 ghost use Rattle.mds_text.specs.Fields.{each};
 ghost use Rattle.mds_text.specs.Reading.{read_text};
-ghost use Rattle.mds_reading.specs.Node.{node_view};
+ghost use Rattle.mds_json.specs.Node.{node_view};
 ghost use Rattle.mds_policy.specs.Fault.{policy_cause};
 ghost use Rattle.mds_policy.specs.Policy.{rule_document, policy_document};
 ghost use Rattle.mds_policy.specs.Reading.{few_rules, rule_of, policy_of};
@@ -16,7 +16,7 @@ use crate::policy::Policy;
 use crate::rule::Rule;
 use crate::states::states_at;
 use crate::window::window_of;
-use mds_reading::{
+use mds_json::{
     Node, document_of, moment_at, object_of, required_id, required_ids, required_list,
     required_moment, required_text, required_token, text_at, token_at,
 };

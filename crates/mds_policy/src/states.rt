@@ -3,13 +3,13 @@ ghost use Rattle.std.specs.Prelude.{◌≡◌, map, Ok, option_map};
 ghost use Rattle.mds_text.specs.Fault.{Gives, text_cause};
 ghost use Rattle.mds_text.specs.Fields.{optional_at, object_of};
 ghost use Rattle.mds_text.specs.Tree.{members_of};
-ghost use Rattle.mds_reading.specs.Entries.{IsCausedWhere};
-ghost use Rattle.mds_reading.specs.Node.{node_view, node_member_view};
+ghost use Rattle.mds_json.specs.Entries.{IsCausedWhere};
+ghost use Rattle.mds_json.specs.Node.{node_view, node_member_view};
 ghost use Rattle.mds_policy.specs.Policy.{states_document};
 ghost use Rattle.mds_policy.specs.Reading.{event_entries, events_of, state_of, states_of, states_member, optional_list};
 
 use crate::rule::StateEvents;
-use mds_reading::{Node, NodeMember, member_at, tokens_of};
+use mds_json::{Node, NodeMember, member_at, tokens_of};
 use mds_text::{Field, TextFault, Token};
 use std::alloc::Global;
 

@@ -2,11 +2,11 @@
 ghost use Rattle.std.specs.Prelude.{◌≡◌, ◌+◌, ◌<◌, length, map, Ok, option_map};
 ghost use Rattle.mds_text.specs.Fault.{Gives, text_cause};
 ghost use Rattle.mds_text.specs.Fields.{each, optional_at, list_each};
-ghost use Rattle.mds_reading.specs.Node.{node_view};
+ghost use Rattle.mds_json.specs.Node.{node_view};
 ghost use Rattle.mds_policy.specs.Reading.{digits_at, second_of_day, time_of_day, time_of, weekday_of, day_of, days_listed, optional_list, window_of};
 
 use crate::rule::Window;
-use mds_reading::{Node, entries_of, member_at, text_of};
+use mds_json::{Node, entries_of, member_at, text_of};
 use mds_text::{Field, TextFault, two_digits};
 use std::alloc::Global;
 

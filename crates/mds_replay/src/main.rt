@@ -2,8 +2,8 @@
 //! one answer line goes out for each request.
 #![tactic(auto)]
 
-use mds_diagnosis::Detail;
-use mds_lines::{ReplayFault, run_with_detail};
+use mds_config_error::Detail;
+use mds_script::{ReplayFault, run_with_detail};
 use mds_verdict::Plain;
 use mds_world::World;
 use std::alloc::Global;

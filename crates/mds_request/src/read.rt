@@ -3,7 +3,7 @@ ghost use Rattle.std.specs.Prelude.{◌≡◌, ◌≤◌, map, vec_len, length, 
 ghost use Rattle.std.specs.List.{list_all};
 ghost use Rattle.mds_text.specs.Fault.{Gives, text_cause};
 ghost use Rattle.mds_text.specs.Fields.{each};
-ghost use Rattle.mds_reading.specs.Node.{node_view};
+ghost use Rattle.mds_json.specs.Node.{node_view};
 ghost use Rattle.mds_match.specs.declared.vehicle.TheConstants.{MOST_VEHICLES};
 ghost use Rattle.mds_request.specs.declared.config.TheConstants.{MOST_OPERATORS};
 ghost use Rattle.mds_request.specs.Configuration.{configuration, operator, is_access_byte, is_access_token, access_of, access_at, in_limits, limit_at, operator_of, operators_at, zone_at, configuration_of, read_configuration};
@@ -12,11 +12,11 @@ ghost use Rattle.mds_request.specs.Fault.{config_cause};
 use crate::config::{Config, MOST_OPERATORS, MOST_TOKEN, Operator};
 use crate::fault::ConfigFault;
 use crate::lookup::are_alike;
-use mds_match::{MOST_VEHICLES, Zone};
-use mds_reading::{
+use mds_json::{
     Node, NodeBuffer, document_of, int_of, object_of, required_id, required_list, required_member,
     required_text, text_of,
 };
+use mds_match::{MOST_VEHICLES, Zone};
 use mds_text::{Field, TextFault};
 use std::alloc::Global;
 

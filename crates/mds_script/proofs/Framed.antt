@@ -2,11 +2,11 @@
 use Rattle.std.proofs.Common.{◌≡◌, ℕ, ◌+◌, ◌≤◌, ◌<◌, Bool, true, false, ◌&&◌, cond, eqb, List, [], ◌∷◌, ◌++◌, length, refl, ap, ◌∙◌, arith}
 use Rattle.std.specs.List.{list_any, onto_first}
 use Rattle.std.proofs.lemmas.Bool.{or_parts, and_right}
-use Rattle.mds_lines.specs.Input.{is_feed, lines, feeds}
-use Rattle.mds_lines.specs.LineReading.{IsWithoutFeed}
-use Rattle.mds_lines.specs.declared.gather.TheConstants.{LINE_LIMIT}
-use Rattle.mds_lines.specs.declared.lines.NextLine.{NextLine}
-use Rattle.mds_lines.specs.declared.lines.NextLine.TheVariants.{Line, TooLong, End}
+use Rattle.mds_script.specs.Input.{is_feed, lines, feeds}
+use Rattle.mds_script.specs.LineReading.{IsWithoutFeed}
+use Rattle.mds_script.specs.declared.gather.TheConstants.{LINE_LIMIT}
+use Rattle.mds_script.specs.declared.lines.NextLine.{NextLine}
+use Rattle.mds_script.specs.declared.lines.NextLine.TheVariants.{Line, TooLong, End}
 
 -- the bytes without a carriage return at their end
 abbrev pub without_return : List ℕ → List ℕ

@@ -7,13 +7,13 @@ use Rattle.std.proofs.Math.Seq.{take-append-add}
 use Rattle.std.proofs.lemmas.Bool.{eqb-true, ne_eqb, ltb-true, ltb-false, lt-ltb, cond-true, cond-false}
 use Rattle.std.proofs.lemmas.List.{take-append-drop, take_min, drop_more, length-take-le}
 use Rattle.std.proofs.lemmas.List.Quantifiers.{position-Some}
-use Rattle.mds_lines.specs.declared.lines.NextLine.{NextLine}
-use Rattle.mds_lines.specs.declared.lines.NextLine.TheVariants.{Line, TooLong, End}
-use Rattle.mds_lines.specs.Input.{is_feed}
-use Rattle.mds_lines.specs.LineReading.{IsWithoutFeed}
-use Rattle.mds_lines.proofs.Framed.{without_return, Closes, ClosesLast}
-use Rattle.mds_lines.proofs.Positions.{word_found, word_missing, none_before}
-use Rattle.mds_lines.specs.declared.gather.TheConstants.{LINE_LIMIT}
+use Rattle.mds_script.specs.declared.lines.NextLine.{NextLine}
+use Rattle.mds_script.specs.declared.lines.NextLine.TheVariants.{Line, TooLong, End}
+use Rattle.mds_script.specs.Input.{is_feed}
+use Rattle.mds_script.specs.LineReading.{IsWithoutFeed}
+use Rattle.mds_script.proofs.Framed.{without_return, Closes, ClosesLast}
+use Rattle.mds_script.proofs.Positions.{word_found, word_missing, none_before}
+use Rattle.mds_script.specs.declared.gather.TheConstants.{LINE_LIMIT}
 
 -- what is appended where there is room for so many bytes
 pub keeps_front : (limit : ℕ) (line bytes : List ℕ) → length line ≤ limit → line ++ take (min (length bytes) (limit - length line)) bytes ≡ take limit (line ++ bytes)

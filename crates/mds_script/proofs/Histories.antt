@@ -15,12 +15,12 @@ use Rattle.mds_machine.specs.Step.{State, Exchange, Step, Run as History, new_st
 use Rattle.mds_machine.specs.Views.{is_of}
 use Rattle.mds_world.specs.World.{state_of}
 use Rattle.mds_world.specs.declared.world.World.{World}
-use Rattle.mds_lines.specs.Answering.{Replays, AreLines, Run, answer_line, answer_text, request_in}
-use Rattle.mds_lines.specs.Input.{asked_of, configuration_of, is_feed}
-use Rattle.mds_lines.specs.LineReading.{IsWithoutFeed}
-use Rattle.mds_lines.specs.Laws.{GivesHistories, IsolatesOperators, AnswersByViews, AreReplies, exchanges_on, answers_to}
-use Rattle.mds_lines.proofs.Framed.{no_feed_here, no_feed_later}
-use Rattle.mds_lines.proofs.Whole.{answer_plain, run_length}
+use Rattle.mds_script.specs.Answering.{Replays, AreLines, Run, answer_line, answer_text, request_in}
+use Rattle.mds_script.specs.Input.{asked_of, configuration_of, is_feed}
+use Rattle.mds_script.specs.LineReading.{IsWithoutFeed}
+use Rattle.mds_script.specs.Laws.{GivesHistories, IsolatesOperators, AnswersByViews, AreReplies, exchanges_on, answers_to}
+use Rattle.mds_script.proofs.Framed.{no_feed_here, no_feed_later}
+use Rattle.mds_script.proofs.Whole.{answer_plain, run_length}
 
 abbrev pub begins : {E : Type 0} → Configuration → World E → Type 0
 begins configuration world = state_of world ≡ new_state configuration

@@ -9,16 +9,16 @@ use Rattle.std.proofs.lemmas.List.Concat.{flat_map-append}
 use Rattle.mds_request.specs.declared.code.Code.TheVariants.{BadLine}
 use Rattle.mds_request.specs.Request.{Request}
 use Rattle.mds_request.specs.Reply.{Reply, is_line, refused}
-use Rattle.mds_lines.specs.declared.fault.ReplayFault.{ReplayFault}
-use Rattle.mds_lines.specs.declared.fault.ReplayFault.TheVariants.{Read, Write, BadConfig, NoMemory}
-use Rattle.mds_lines.specs.declared.lines.NextLine.TheVariants.{TooLong}
-use Rattle.mds_lines.specs.Input.{lines, is_filled, request_on}
-use Rattle.mds_lines.specs.Ends.{Writes}
-use Rattle.mds_lines.specs.LineReading.{BeginsWithLine, Finds}
-use Rattle.mds_lines.specs.Answering.{Answers, Run, Outputs, AreLines, answer_line, request_in}
-use Rattle.mds_lines.specs.Turning.{Replies, Turned, Turns, written_of, filled_lines}
-use Rattle.mds_lines.proofs.Written.{appends_more}
-use Rattle.mds_lines.specs.declared.gather.TheConstants.{LINE_LIMIT}
+use Rattle.mds_script.specs.declared.fault.ReplayFault.{ReplayFault}
+use Rattle.mds_script.specs.declared.fault.ReplayFault.TheVariants.{Read, Write, BadConfig, NoMemory}
+use Rattle.mds_script.specs.declared.lines.NextLine.TheVariants.{TooLong}
+use Rattle.mds_script.specs.Input.{lines, is_filled, request_on}
+use Rattle.mds_script.specs.Ends.{Writes}
+use Rattle.mds_script.specs.LineReading.{BeginsWithLine, Finds}
+use Rattle.mds_script.specs.Answering.{Answers, Run, Outputs, AreLines, answer_line, request_in}
+use Rattle.mds_script.specs.Turning.{Replies, Turned, Turns, written_of, filled_lines}
+use Rattle.mds_script.proofs.Written.{appends_more}
+use Rattle.mds_script.specs.declared.gather.TheConstants.{LINE_LIMIT}
 
 -- the lines that were answered between these two states of the input
 abbrev pub LinesBetween : Option (List ℕ) → Option (List ℕ) → List (List ℕ) → Type 0

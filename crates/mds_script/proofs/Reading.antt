@@ -5,13 +5,13 @@ use Rattle.std.specs.Io.KnownBytes.{Consumes, Keeps, IsAtEnd, prepend_known}
 use Rattle.std.proofs.lemmas.Bool.{or_from, cases_lt}
 use Rattle.std.proofs.lemmas.List.Folds.{list_any-append}
 use Rattle.std.proofs.lemmas.List.{take_all, length-take, length-take-le, length-append, append-nil, take-append-le, take-take, drop-take, drop-drop, drop_at}
-use Rattle.mds_lines.specs.declared.lines.NextLine.{NextLine}
-use Rattle.mds_lines.specs.declared.lines.NextLine.TheVariants.{Line, TooLong, End}
-use Rattle.mds_lines.specs.Input.{is_feed, lines}
-use Rattle.mds_lines.specs.LineReading.{IsWithoutFeed, BeginsWithLine, Finds, Advances, FailsReading}
-use Rattle.mds_lines.proofs.Framed.{Closes, ClosesLast, without_return, first_line, last_line, length-without_return}
-use Rattle.mds_lines.specs.declared.gather.TheConstants.{STORED_LIMIT}
-use Rattle.mds_lines.specs.declared.lines.TheConstants.{INPUT_LIMIT}
+use Rattle.mds_script.specs.declared.lines.NextLine.{NextLine}
+use Rattle.mds_script.specs.declared.lines.NextLine.TheVariants.{Line, TooLong, End}
+use Rattle.mds_script.specs.Input.{is_feed, lines}
+use Rattle.mds_script.specs.LineReading.{IsWithoutFeed, BeginsWithLine, Finds, Advances, FailsReading}
+use Rattle.mds_script.proofs.Framed.{Closes, ClosesLast, without_return, first_line, last_line, length-without_return}
+use Rattle.mds_script.specs.declared.gather.TheConstants.{STORED_LIMIT}
+use Rattle.mds_script.specs.declared.lines.TheConstants.{INPUT_LIMIT}
 
 -- Bytes without a line feed were consumed, and their prefix is stored.
 pub record Gathered (old now : Option (List ℕ)) (passed_old passed_now : ℕ) (kept : List ℕ) : Type 0 where

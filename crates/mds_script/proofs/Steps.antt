@@ -1,13 +1,13 @@
 -- What is gathered after each step of the line reader.
 use Rattle.std.proofs.Common.{◌≡◌, ℕ, ◌<◌, ◌⊎◌, ◌+◌, Bool, true, false, take, length, ◌∷◌, ◌++◌, List, [], Option, Some, None, sym, ap, subst, ◌∙◌}
 use Rattle.std.specs.Io.KnownBytes.{Keeps, IsAtEnd, prepend_known}
-use Rattle.mds_lines.specs.declared.lines.LineReader.{LineReader}
-use Rattle.mds_lines.specs.declared.lines.NextLine.{NextLine}
-use Rattle.mds_lines.specs.declared.lines.NextLine.TheVariants.{End}
-use Rattle.mds_lines.specs.LineReading.{ahead, held, passed, left, Finds, Advances, IsWithoutFeed}
-use Rattle.mds_lines.specs.declared.gather.TheConstants.{STORED_LIMIT}
-use Rattle.mds_lines.proofs.Framed.{Closes, ClosesLast}
-use Rattle.mds_lines.proofs.Reading.{Gathered, gathered_piece, gathered_kept, gathered_advances, feed_advances, found_at_feed, found_at_end, nearer_at_end}
+use Rattle.mds_script.specs.declared.lines.LineReader.{LineReader}
+use Rattle.mds_script.specs.declared.lines.NextLine.{NextLine}
+use Rattle.mds_script.specs.declared.lines.NextLine.TheVariants.{End}
+use Rattle.mds_script.specs.LineReading.{ahead, held, passed, left, Finds, Advances, IsWithoutFeed}
+use Rattle.mds_script.specs.declared.gather.TheConstants.{STORED_LIMIT}
+use Rattle.mds_script.proofs.Framed.{Closes, ClosesLast}
+use Rattle.mds_script.proofs.Reading.{Gathered, gathered_piece, gathered_kept, gathered_advances, feed_advances, found_at_feed, found_at_end, nearer_at_end}
 
 -- The stored line gained the buffered bytes up to their first line feed, or all where there is none, as many as there
 -- is room for.

@@ -7,11 +7,11 @@ use Rattle.std.proofs.lemmas.List.Sums.{sum_by-append, sum_by-cons}
 use Rattle.mds_request.specs.Configuration.{Configuration}
 use Rattle.mds_request.specs.Request.{Request}
 use Rattle.mds_request.specs.Reply.{Reply, is_line}
-use Rattle.mds_lines.specs.Input.{is_feed, lines, is_filled, asked_of}
-use Rattle.mds_lines.specs.LineReading.{IsWithoutFeed}
-use Rattle.mds_lines.specs.Answering.{Run, Outputs, AreLines, answer_line, answer_text, Answered, Started}
-use Rattle.mds_lines.specs.Turning.{Begins}
-use Rattle.mds_lines.proofs.Progress.{AnswersAll, AnswersSome}
+use Rattle.mds_script.specs.Input.{is_feed, lines, is_filled, asked_of}
+use Rattle.mds_script.specs.LineReading.{IsWithoutFeed}
+use Rattle.mds_script.specs.Answering.{Run, Outputs, AreLines, answer_line, answer_text, Answered, Started}
+use Rattle.mds_script.specs.Turning.{Begins}
+use Rattle.mds_script.proofs.Progress.{AnswersAll, AnswersSome}
 
 pub nothing_ahead : (remaining : Option (List ℕ)) → prepend_known [] remaining ≡ remaining
 nothing_ahead None = refl

@@ -1,7 +1,7 @@
 -- Laws of writing bytes in pieces.
 use Rattle.std.proofs.Common.{◌≡◌, ℕ, List, [], ◌++◌, Option, Some, None, take, drop, Result, Ok, Err, refl, sym, ap, subst, ◌∙◌, append_assoc}
 use Rattle.std.specs.Io.KnownBytes.{Appends, Keeps}
-use Rattle.mds_lines.specs.Ends.{Writes}
+use Rattle.mds_script.specs.Ends.{Writes}
 use Rattle.std.proofs.lemmas.List.{append-nil, take-append-drop}
 
 -- a prefix of these bytes was written between these states, and the rest is left

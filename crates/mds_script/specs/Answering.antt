@@ -5,12 +5,12 @@ use Rattle.mds_request.specs.declared.code.Code.TheVariants.{BadLine}
 use Rattle.mds_request.specs.Configuration.{Configuration, read_configuration}
 use Rattle.mds_request.specs.Request.{Request}
 use Rattle.mds_request.specs.Reply.{Reply, is_line, refused}
-use Rattle.mds_diagnosis.specs.declared.detail.Detail.{Detail}
-use Rattle.mds_diagnosis.specs.declared.detail.Detail.TheVariants.{TooLong}
-use Rattle.mds_diagnosis.specs.Wording.{IsFound}
-use Rattle.mds_lines.specs.Input.{is_feed, configuration_of, asked_of, request_on}
+use Rattle.mds_config_error.specs.declared.detail.Detail.{Detail}
+use Rattle.mds_config_error.specs.declared.detail.Detail.TheVariants.{TooLong}
+use Rattle.mds_config_error.specs.Wording.{IsFound}
+use Rattle.mds_script.specs.Input.{is_feed, configuration_of, asked_of, request_on}
 use Rattle.std.specs.Io.KnownBytes.{Appends}
-use Rattle.mds_lines.specs.declared.gather.TheConstants.{LINE_LIMIT}
+use Rattle.mds_script.specs.declared.gather.TheConstants.{LINE_LIMIT}
 
 -- the three digits of a status (RFC 9112, section 4)
 abbrev pub status_text : ℕ → List ℕ

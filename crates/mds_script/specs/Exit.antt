@@ -2,8 +2,8 @@
 use Rattle.std.specs.Prelude.{ℕ, List, codes, is_some, if◌then◌else◌}
 use Rattle.mds_request.specs.Fault.{config_cause}
 use Rattle.mds_request.specs.declared.fault.ConfigFault.{ConfigFault}
-use Rattle.mds_lines.specs.declared.fault.ReplayFault.{ReplayFault}
-use Rattle.mds_lines.specs.declared.fault.ReplayFault.TheVariants.{Read, Write, BadConfig, NoMemory}
+use Rattle.mds_script.specs.declared.fault.ReplayFault.{ReplayFault}
+use Rattle.mds_script.specs.declared.fault.ReplayFault.TheVariants.{Read, Write, BadConfig, NoMemory}
 
 -- the fault of a first line that isn't read: it is no configuration, or memory ran out
 abbrev pub fault_of : ConfigFault → ReplayFault

@@ -12,8 +12,8 @@ use Rattle.mds_machine.specs.Meaning.{IsAnswer}
 use Rattle.mds_machine.specs.Step.{State, Exchange, Run as History, new_state}
 use Rattle.mds_machine.specs.Views.{Seen, is_of, view}
 use Rattle.mds_world.specs.declared.world.World.{World}
-use Rattle.mds_lines.specs.Answering.{Replays, answer_line, answer_text, request_in}
-use Rattle.mds_lines.specs.Input.{asked_of, configuration_of, is_feed}
+use Rattle.mds_script.specs.Answering.{Replays, answer_line, answer_text, request_in}
+use Rattle.mds_script.specs.Input.{asked_of, configuration_of, is_feed}
 
 -- the requests on these lines with their replies; a line that is no request is left out
 abbrev pub exchanges_on : List (List ℕ) → List Reply → List Exchange

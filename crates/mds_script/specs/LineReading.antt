@@ -2,12 +2,12 @@
 use Rattle.std.specs.Prelude.{◌≡◌, ℕ, ◌+◌, ◌<◌, ◌≤◌, Bool, false, List, [], ◌∷◌, ◌++◌, length, take, Option, Some, None, ◌-◌, ◌⊎◌, true, drop, ⊤, IfSome}
 use Rattle.std.specs.List.{list_any}
 use Rattle.std.specs.Io.KnownBytes.{Consumes, IsAtEnd, prepend_known}
-use Rattle.mds_lines.specs.declared.lines.NextLine.{NextLine}
-use Rattle.mds_lines.specs.declared.lines.NextLine.TheVariants.{Line, TooLong, End}
-use Rattle.mds_lines.specs.Input.{is_feed, lines}
-use Rattle.mds_lines.specs.declared.lines.LineReader.{LineReader}
-use Rattle.mds_lines.specs.declared.gather.TheConstants.{LINE_LIMIT, STORED_LIMIT}
-use Rattle.mds_lines.specs.declared.lines.TheConstants.{INPUT_LIMIT}
+use Rattle.mds_script.specs.declared.lines.NextLine.{NextLine}
+use Rattle.mds_script.specs.declared.lines.NextLine.TheVariants.{Line, TooLong, End}
+use Rattle.mds_script.specs.Input.{is_feed, lines}
+use Rattle.mds_script.specs.declared.lines.LineReader.{LineReader}
+use Rattle.mds_script.specs.declared.gather.TheConstants.{LINE_LIMIT, STORED_LIMIT}
+use Rattle.mds_script.specs.declared.lines.TheConstants.{INPUT_LIMIT}
 
 -- no byte is a line feed
 abbrev pub IsWithoutFeed : List ℕ → Type 0

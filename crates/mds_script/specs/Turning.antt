@@ -4,12 +4,12 @@ use Rattle.std.specs.Io.KnownBytes.{Appends, IsAtEnd}
 use Rattle.mds_request.specs.Configuration.{Configuration}
 use Rattle.mds_request.specs.Request.{Request}
 use Rattle.mds_request.specs.Reply.{Reply, is_line}
-use Rattle.mds_lines.specs.declared.fault.ReplayFault.{ReplayFault}
-use Rattle.mds_lines.specs.declared.fault.ReplayFault.TheVariants.{Read, BadConfig, NoMemory}
-use Rattle.mds_lines.specs.Input.{lines, is_filled, configuration_of}
-use Rattle.mds_lines.specs.Answering.{Answers, Configures, answer_line}
-use Rattle.mds_lines.specs.Ends.{Writes}
-use Rattle.mds_lines.specs.LineReading.{BeginsWithLine}
+use Rattle.mds_script.specs.declared.fault.ReplayFault.{ReplayFault}
+use Rattle.mds_script.specs.declared.fault.ReplayFault.TheVariants.{Read, BadConfig, NoMemory}
+use Rattle.mds_script.specs.Input.{lines, is_filled, configuration_of}
+use Rattle.mds_script.specs.Answering.{Answers, Configures, answer_line}
+use Rattle.mds_script.specs.Ends.{Writes}
+use Rattle.mds_script.specs.LineReading.{BeginsWithLine}
 
 -- what is written for a line with a reply, or without one
 abbrev pub written_of : Option Reply → List ℕ

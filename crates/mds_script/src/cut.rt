@@ -1,6 +1,6 @@
 //! Splits a line of the script into the parts of a request.
 ghost use Rattle.std.specs.Prelude.{◌≡◌, ◌^◌, ◌<◌, ◌≤◌, length, Some, None, IfSome, option_map, if◌then◌else◌};
-ghost use Rattle.mds_lines.specs.Input.{word_of, behind_word, are_digits, decimal, is_moment, request_from, request_on};
+ghost use Rattle.mds_script.specs.Input.{word_of, behind_word, are_digits, decimal, is_moment, request_from, request_on};
 ghost use Rattle.mds_request.specs.Request.{request_of};
 
 use crate::gather::position_of;

@@ -1,6 +1,6 @@
 //! Why a replay ends before its input does.
 ghost use Rattle.std.specs.Prelude.{◌≡◌};
-ghost use Rattle.mds_lines.specs.Exit.{message_of, exit_status};
+ghost use Rattle.mds_script.specs.Exit.{message_of, exit_status};
 
 use mds_request::ConfigFault;
 use mds_text::TextFault;
@@ -47,7 +47,7 @@ impl ReplayFault {
 
 impl From<ConfigFault> for ReplayFault {
     ghost use Rattle.std.specs.Prelude.{◌≡◌};
-    ghost use Rattle.mds_lines.specs.Exit.{fault_of};
+    ghost use Rattle.mds_script.specs.Exit.{fault_of};
 
     ghost from_gives = { λ fault e. e ≡ fault_of fault };
 
@@ -61,7 +61,7 @@ impl From<ConfigFault> for ReplayFault {
 
 impl From<AllocError> for ReplayFault {
     ghost use Rattle.std.specs.Prelude.{◌≡◌};
-    ghost use Rattle.mds_lines.specs.declared.fault.ReplayFault.TheVariants.{NoMemory};
+    ghost use Rattle.mds_script.specs.declared.fault.ReplayFault.TheVariants.{NoMemory};
 
     ghost from_gives = { λ _ e. e ≡ NoMemory };
 

@@ -1,7 +1,7 @@
 //! Gathers the bytes of one line from pieces of the input.
 ghost use Rattle.std.specs.Prelude.{◌≡◌, ◌==◌, ◌+◌, ◌<◌, ◌≤◌, ◌++◌, position, take, length, nat_lt, if◌then◌else◌, vec_len, vec_capacity};
 ghost use Rattle.std.specs.Io.BufRead.{ends_with_byte, strip_last};
-ghost use Rattle.mds_lines.specs.LineReading.{Gathers};
+ghost use Rattle.mds_script.specs.LineReading.{Gathers};
 
 use crate::lines::NextLine;
 use memchr::memchr;

@@ -1,6 +1,6 @@
 //! Laws of a replay by the server's machine. Each function's contract is the law; the functions do nothing but call the
 //! laws of the machine that they follow from.
-ghost use Rattle.mds_lines.specs.Laws.{AnswersByViews, GivesHistories, IsolatesOperators};
+ghost use Rattle.mds_script.specs.Laws.{AnswersByViews, GivesHistories, IsolatesOperators};
 
 use crate::machine::Machine;
 use mds_machine::laws;

@@ -2,7 +2,6 @@
 #![tactic(auto)]
 
 mod cut;
-mod source_sink;
 mod fault;
 mod gather;
 pub mod laws;
@@ -10,14 +9,15 @@ mod line_end;
 mod lines;
 mod machine;
 mod replay;
+mod source_sink;
 mod streams;
 mod world;
 mod write;
 
-pub use source_sink::{Failed, Sink, Source};
 pub use fault::ReplayFault;
 pub use gather::LINE_LIMIT;
 pub use line_end::without_end;
 pub use lines::INPUT_LIMIT;
 pub use machine::Machine;
+pub use source_sink::{Failed, Sink, Source};
 pub use streams::{run, run_with_detail};

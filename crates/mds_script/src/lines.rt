@@ -1,10 +1,10 @@
 //! Reads an input line by line, in buffers allocated first.
 ghost use Rattle.std.specs.Prelude.{◌≡◌, ℕ, ◌+◌, ◌-◌, ◌<◌, ◌≤◌, vec_len, vec_capacity};
-ghost use Rattle.mds_lines.specs.declared.gather.TheConstants.{STORED_LIMIT, LINE_LIMIT};
-ghost use Rattle.mds_lines.specs.declared.lines.TheConstants.{INPUT_LIMIT};
+ghost use Rattle.mds_script.specs.declared.gather.TheConstants.{STORED_LIMIT, LINE_LIMIT};
+ghost use Rattle.mds_script.specs.declared.lines.TheConstants.{INPUT_LIMIT};
 
-use crate::source_sink::{Failed, Source};
 use crate::gather::{STORED_LIMIT, close, close_last, gather};
+use crate::source_sink::{Failed, Source};
 use std::alloc::{AllocError, Global};
 
 /// The most bytes of a whole input.
@@ -46,7 +46,7 @@ pub struct LineReader {
 impl LineReader {
     ghost use Rattle.std.specs.Prelude.{List, [], ◌∷◌, ◌++◌, take, ◌^◌, Bool, true, false, length, IfOk, OnOk, OnErr, IsTrue, IfSome, Some, ◌⊎◌, drop, MatchBool, ◌==◌, nat_lt, if◌then◌else◌};
     ghost use Rattle.std.specs.Io.KnownBytes.{Keeps, IsAtEnd};
-    ghost use Rattle.mds_lines.specs.LineReading.{ahead, held, passed, left, Advances, FailsReading, Finds, IsWithoutFeed};
+    ghost use Rattle.mds_script.specs.LineReading.{ahead, held, passed, left, Advances, FailsReading, Finds, IsWithoutFeed};
     ghost use Rattle.std.specs.Io.BufRead.{strip_last};
 
     /// A reader that has read nothing. The only error is out of memory.

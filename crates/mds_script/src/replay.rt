@@ -4,22 +4,22 @@ ghost use Rattle.std.specs.Io.KnownBytes.{Appends, IsAtEnd};
 ghost use Rattle.mds_request.specs.Configuration.{read_configuration};
 ghost use Rattle.mds_request.specs.Reply.{is_line, refused};
 ghost use Rattle.mds_request.specs.declared.code.Code.TheVariants.{BadLine};
-ghost use Rattle.mds_lines.specs.Ends.{Writes};
-ghost use Rattle.mds_lines.specs.LineReading.{left, passed, Advances, FailsReading};
-ghost use Rattle.mds_lines.specs.Turning.{Replies, Turns, Begins, filled_lines, written_of};
-ghost use Rattle.mds_lines.specs.Answering.{Configures, IsTold, IsUnconfigured, Outputs, Answered, Started};
-ghost use Rattle.mds_diagnosis.specs.Wording.{IsFound};
-ghost use Rattle.mds_lines.specs.declared.gather.TheConstants.{LINE_LIMIT};
-ghost use Rattle.mds_lines.specs.Input.{configuration_of};
-ghost use Rattle.mds_lines.specs.declared.lines.TheConstants.{INPUT_LIMIT};
+ghost use Rattle.mds_script.specs.Ends.{Writes};
+ghost use Rattle.mds_script.specs.LineReading.{left, passed, Advances, FailsReading};
+ghost use Rattle.mds_script.specs.Turning.{Replies, Turns, Begins, filled_lines, written_of};
+ghost use Rattle.mds_script.specs.Answering.{Configures, IsTold, IsUnconfigured, Outputs, Answered, Started};
+ghost use Rattle.mds_config_error.specs.Wording.{IsFound};
+ghost use Rattle.mds_script.specs.declared.gather.TheConstants.{LINE_LIMIT};
+ghost use Rattle.mds_script.specs.Input.{configuration_of};
+ghost use Rattle.mds_script.specs.declared.lines.TheConstants.{INPUT_LIMIT};
 
 use crate::cut::cut;
-use crate::source_sink::{Sink, Source};
 use crate::fault::ReplayFault;
-use crate::lines::{NextLine, LineReader};
+use crate::lines::{LineReader, NextLine};
 use crate::machine::Machine;
+use crate::source_sink::{Sink, Source};
 use crate::write::write_answer;
-use mds_diagnosis::Detail;
+use mds_config_error::Detail;
 use mds_request::{Code, Config, Reply};
 use std::alloc::Global;
 
@@ -103,7 +103,11 @@ fn begin<M: Machine, S: Source>(
 }
 
 /// The machine of the configuration that this text is.
-fn machine_for<M: Machine>(alloc: Global, text: &[u8], detail: &mut Detail) -> Result<M, ReplayFault>
+fn machine_for<M: Machine>(
+    alloc: Global,
+    text: &[u8],
+    detail: &mut Detail,
+) -> Result<M, ReplayFault>
     ensures begins { IfOk result (λ machine. length text.now ≤ LINE_LIMIT → Configures M.begins text.now machine) }
     ensures bad_config { IsErrOf result ReplayFault.BadConfig → is_ok (read_configuration text.now) ≡ false }
     ensures told { IsErrOf result ReplayFault.BadConfig → IsFound detail.new text.now }

@@ -2,7 +2,7 @@
 ghost use Rattle.std.specs.Prelude.{◌≡◌, ℕ, ◌+◌, ◌-◌, ◌^◌, ◌<◌, ◌≤◌, List, Option, length, IfOk};
 ghost use Rattle.std.specs.Io.Buffered.{writer_contents};
 ghost use Rattle.std.specs.Io.KnownBytes.{Keeps, ReadConsumes, WriteAppends};
-ghost use Rattle.mds_lines.specs.Ends.{read_failures, write_failures};
+ghost use Rattle.mds_script.specs.Ends.{read_failures, write_failures};
 
 use std::alloc::{AllocError, Global};
 use std::io::{BufWriter, Read, Write};

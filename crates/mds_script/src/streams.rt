@@ -1,13 +1,13 @@
 //! A replay from a reader of the standard library to a writer.
 ghost use Rattle.std.specs.Prelude.{◌≡◌, ◌≤◌, length, IfOk, IfSome, IsErrOf, OnOk};
-ghost use Rattle.mds_lines.specs.Answering.{Answered, IsTold, IsUnconfigured};
-ghost use Rattle.mds_lines.specs.declared.lines.TheConstants.{INPUT_LIMIT};
+ghost use Rattle.mds_script.specs.Answering.{Answered, IsTold, IsUnconfigured};
+ghost use Rattle.mds_script.specs.declared.lines.TheConstants.{INPUT_LIMIT};
 
-use crate::source_sink::{FromReader, ToWriter};
 use crate::fault::ReplayFault;
 use crate::machine::Machine;
 use crate::replay::replay;
-use mds_diagnosis::Detail;
+use crate::source_sink::{FromReader, ToWriter};
+use mds_config_error::Detail;
 use std::alloc::Global;
 use std::io::{Read, Write};
 

@@ -1,8 +1,8 @@
 //! Writes answer lines to a sink.
 ghost use Rattle.std.specs.Prelude.{◌≡◌, ◌+◌, ◌-◌, ◌^◌, ◌<◌, ◌∷◌, ◌++◌, [], IsTrue, is_ok, if◌then◌else◌};
 ghost use Rattle.mds_request.specs.Reply.{is_line};
-ghost use Rattle.mds_lines.specs.Ends.{Writes};
-ghost use Rattle.mds_lines.specs.Answering.{answer_line, status_text};
+ghost use Rattle.mds_script.specs.Ends.{Writes};
+ghost use Rattle.mds_script.specs.Answering.{answer_line, status_text};
 
 use crate::source_sink::{Failed, Sink};
 use mds_request::Reply;

@@ -1,6 +1,6 @@
 //! The arguments of the program.
 
-use mds_start::ServeFault;
+use server_start::ServeFault;
 use std::alloc::AllocGlobal;
 use std::env;
 use std::env::Env;

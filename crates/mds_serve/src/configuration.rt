@@ -1,10 +1,10 @@
 //! The configuration on standard input.
 
 use crate::failure::StartFailure;
-use mds_diagnosis::Detail;
-use mds_lines::{LINE_LIMIT, without_end};
+use mds_config_error::Detail;
 use mds_request::Config;
-use mds_start::ServeFault;
+use mds_script::{LINE_LIMIT, without_end};
+use server_start::ServeFault;
 use std::alloc::Global;
 use std::io::{BufRead, ErrorKind, Read};
 
@@ -14,7 +14,10 @@ use std::io::{BufRead, ErrorKind, Read};
 ///
 /// The line can't be read, is longer than the limit, or is no configuration (`BadConfig`, with
 /// which of these or what is wrong), or there was no memory (`NotOpened`).
-pub fn read_configuration<S: BufRead + Drop>(alloc: Global, source: S) -> Result<Config, StartFailure> {
+pub fn read_configuration<S: BufRead + Drop>(
+    alloc: Global,
+    source: S,
+) -> Result<Config, StartFailure> {
     let mut line = Vec::new(alloc);
     let mut front = source.take(LINE_LIMIT as u64 + 2);
     if let Err(error) = front.read_until(b'\n', &mut line) {

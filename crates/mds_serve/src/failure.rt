@@ -1,7 +1,7 @@
 //! Why the program ends without serving, with what is wrong.
 
-use mds_diagnosis::Detail;
-use mds_start::ServeFault;
+use mds_config_error::Detail;
+use server_start::ServeFault;
 
 /// Why the program ends without serving.
 #[derive(Clone, Copy)]

@@ -8,8 +8,8 @@ mod failure;
 mod running;
 mod runtime;
 
-use mds_start::{ServeFault, USAGE};
 use running::run;
+use server_start::{ServeFault, USAGE};
 use std::process::ExitCode;
 
 /// Serves, and ends with the status 0; 1 where nothing can be listened to, 2 for wrong arguments or

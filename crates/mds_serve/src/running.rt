@@ -7,11 +7,13 @@ use crate::arguments::{Arguments, read_words};
 use crate::configuration::read_configuration;
 use crate::failure::StartFailure;
 use crate::runtime::ServerRuntime;
-use mds_connections::{MachineClock, Moments, Queues, bind_first};
-use mds_hall::{Hall, HallName};
 use mds_request::Config;
 use mds_snapshot::{Blank, prepare};
-use mds_start::{ServeCommand, HELP, HallService, ServeFault, VERSION, command_of, serve, workers};
+use server_http::{MachineClock, Moments, Queues, bind_first};
+use server_start::{
+    HELP, HallService, ServeCommand, ServeFault, VERSION, command_of, serve, workers,
+};
+use server_state::{Hall, HallName};
 use std::env::Env;
 use std::io::{self, Input};
 use std::marker::Brand;

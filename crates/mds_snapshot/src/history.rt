@@ -218,11 +218,21 @@ impl<K: OpeningName> PublishedFront<K> {
         ensures { MatchBool result (self.new ≡ self.old ++ publication_of batch.now ∷ []) (IsPrefix self.old self.new) }
     {
         let UnnamedFront { count, mut seen } = self.trail.again();
-        let mut offer: Offer<LoggedBatch, u64, PublicationsRule, NoSnapshotGain> = seen.plain::<NoSnapshotGain, Batch, AddPublication>(batch);
+        let mut offer: Offer<LoggedBatch, u64, PublicationsRule, NoSnapshotGain> = seen.plain::<
+            NoSnapshotGain,
+            Batch,
+            AddPublication,
+        >(batch);
         let mut pen = seen.no_pen();
         let found = ledger
             .head
-            .compare_exchange::<AddPublication, NoSnapshotGain>(count, count + 1, &mut seen, &mut offer, &mut pen);
+            .compare_exchange::<AddPublication, NoSnapshotGain>(
+                count,
+                count + 1,
+                &mut seen,
+                &mut offer,
+                &mut pen,
+            );
         let added = found == count;
         let count = if added { count + 1 } else { found };
         self.trail = UnnamedFront { count, seen };

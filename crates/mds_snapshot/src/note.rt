@@ -3,7 +3,7 @@ ghost use Rattle.std.specs.Prelude.{◌≡◌, ◌≢◌, MatchBool};
 ghost use mathlib.Core.List.{IsPrefix};
 ghost use Rattle.mds_snapshot.specs.Publishing.{IsShorterFront};
 
-use crate::history::{PublishedFront, OpeningName};
+use crate::history::{OpeningName, PublishedFront};
 use std::marker::Model;
 
 /// A version of what is published, for a pane to learn. Contracts see its list of publications.

@@ -4,7 +4,7 @@ ghost use mathlib.Core.List.{IsPrefix};
 ghost use Rattle.mds_catalog.specs.Catalogue.{publications_of};
 ghost use Rattle.mds_catalog.specs.Laws.{AreLawful};
 
-use crate::history::{PublishedFront, LoggedBatch, OpeningName};
+use crate::history::{LoggedBatch, OpeningName, PublishedFront};
 use crate::note::Note;
 use crate::rule::Fronts;
 use crate::snapshot_copy::SnapshotCopy;
@@ -63,7 +63,10 @@ pub struct NotShown<K: OpeningName> {
 }
 
 impl<K: OpeningName> Pane<K> {
-    pub(crate) fn over(reader: Reader<SnapshotCopy, [LoggedBatch; 0], Fronts<K>>, known: PublishedFront<K>) -> Pane<K>
+    pub(crate) fn over(
+        reader: Reader<SnapshotCopy, [LoggedBatch; 0], Fronts<K>>,
+        known: PublishedFront<K>,
+    ) -> Pane<K>
         ensures { result ≡ known }
     {
         Pane { reader, known }

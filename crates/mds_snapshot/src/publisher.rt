@@ -7,7 +7,7 @@ ghost use Rattle.mds_catalog.specs.Laws.{AreLawful};
 ghost use Rattle.mds_snapshot.specs.Copies.{IsFrontOf};
 ghost use Rattle.mds_snapshot.specs.Publishing.{IsShorterFront};
 
-use crate::history::{PublishedFront, PublicationsHead, LoggedBatch, OpeningName, UnnamedFront};
+use crate::history::{LoggedBatch, OpeningName, PublicationsHead, PublishedFront, UnnamedFront};
 use crate::note::Note;
 use crate::pane::Pane;
 use crate::rule::Fronts;

@@ -35,7 +35,11 @@ impl Absorb<CopyOperation> for SnapshotCopy {
 
     ghost applied = { applied };
 
-    fn absorb_first(&mut self, operation: &CopyOperation, _other: &SnapshotCopy) -> Result<(), AllocError> {
+    fn absorb_first(
+        &mut self,
+        operation: &CopyOperation,
+        _other: &SnapshotCopy,
+    ) -> Result<(), AllocError> {
         match operation {
             CopyOperation::Rest => Ok(()),
             CopyOperation::Publish(batch, trail) => {
@@ -46,7 +50,11 @@ impl Absorb<CopyOperation> for SnapshotCopy {
         }
     }
 
-    fn absorb_second(&mut self, operation: CopyOperation, _other: &SnapshotCopy) -> Result<(), CopyOperation> {
+    fn absorb_second(
+        &mut self,
+        operation: CopyOperation,
+        _other: &SnapshotCopy,
+    ) -> Result<(), CopyOperation> {
         match operation {
             CopyOperation::Rest => {}
             CopyOperation::Publish(batch, trail) => {

@@ -99,7 +99,11 @@ impl VerdictTally {
 }
 
 /// The verdicts on a policy's rules where there is no vehicle.
-fn initial_verdicts(alloc: Global, rules: &[Rule], local: Local) -> Result<Vec<RuleVerdict>, AllocError>
+fn initial_verdicts(
+    alloc: Global,
+    rules: &[Rule],
+    local: Local,
+) -> Result<Vec<RuleVerdict>, AllocError>
     ensures { IfOk result (λ v. map verdict_document v.items ≡ map (λ r. gathered_rule (rule_document r) local []) rules.now) }
 {
     let mut held = Vec::with_capacity(alloc, rules.len())?;

@@ -13,10 +13,10 @@ use Rattle.mds_policy.specs.Policy.{Policy, Rule}
 use Rattle.mds_match.specs.Matching.{in_place, is_evaluated}
 use Rattle.mds_match.specs.Resolved.{is_meant}
 use Rattle.mds_match.specs.Row.{Row}
-use Rattle.mds_kept.specs.Masks.{matches}
-use Rattle.mds_kept.specs.Index as kept
-use Rattle.mds_kept.specs.Index.{Grows, IsPublished}
-use Rattle.mds_kept.proofs.Keeping.{grown}
+use Rattle.mds_bitmaps.specs.Masks.{matches}
+use Rattle.mds_bitmaps.specs.Index as kept
+use Rattle.mds_bitmaps.specs.Index.{Grows, IsPublished}
+use Rattle.mds_bitmaps.proofs.Keeping.{grown}
 use Rattle.mds_fleet.specs.Fleet.{Fits, Fleet}
 use Rattle.mds_catalog.specs.Publication.{Publication, Published, dated, extended, find_geography, find_policy, is_geography_published, is_lawful, published_area, published_geographies, published_policies}
 use Rattle.mds_catalog.specs.Laws.{AreLawful}

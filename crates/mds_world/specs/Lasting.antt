@@ -5,10 +5,10 @@ use Rattle.std.specs.Coded.{Π_prop}
 use Rattle.std.specs.List.{list_all}
 use Rattle.std.specs.Option.{option_map_or}
 use Rattle.mds_policy.specs.Policy.{Policy}
-use Rattle.mds_kept.specs.Masks.{matches}
-use Rattle.mds_kept.specs.Index as kept
-use Rattle.mds_kept.specs.Index.{IsListed}
-use Rattle.mds_kept.specs.declared.bitmap_index.IndexedFleet.{IndexedFleet}
+use Rattle.mds_bitmaps.specs.Masks.{matches}
+use Rattle.mds_bitmaps.specs.Index as kept
+use Rattle.mds_bitmaps.specs.Index.{IsListed}
+use Rattle.mds_bitmaps.specs.declared.bitmap_index.IndexedFleet.{IndexedFleet}
 use Rattle.mds_fleet.specs.Fleet.{Fits, Fleet, Vehicles}
 use Rattle.mds_catalog.specs.Publication.{Publication, find_policy, is_geography_published, published_area}
 

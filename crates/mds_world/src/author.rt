@@ -14,7 +14,7 @@ ghost use Rattle.mds_world.specs.Acts.{outcome, IsOpen};
 ghost use Rattle.mds_world.specs.Denied.{Meets};
 ghost use Rattle.mds_world.specs.declared.bodies.TheConstants.{SHORT_BODY};
 
-use crate::bodies::{draft_reply, success_in, published_reply, removed_reply, body_buffer};
+use crate::bodies::{body_buffer, draft_reply, published_reply, removed_reply, success_in};
 use crate::call_fault::CallFault;
 use crate::published::{geographies, geography, policies, policy};
 use mds_catalog::{Batch, Catalogue};
@@ -113,7 +113,12 @@ fn show_draft(alloc: Global, drafts: &Drafts, kind: DraftKind, id: Id) -> Result
 }
 
 /// Drops a draft. The reply is made before the change.
-fn drop_draft(alloc: Global, drafts: &mut Drafts, kind: DraftKind, id: Id) -> Result<Reply, CallFault>
+fn drop_draft(
+    alloc: Global,
+    drafts: &mut Drafts,
+    kind: DraftKind,
+    id: Id,
+) -> Result<Reply, CallFault>
     ensures answer { Meets (λ r. (r, drafts_of drafts.new)) result (drop_draft (drafts_of drafts.old) kind id) }
     ensures refused { OnErr result (drafts_of drafts.new ≡ drafts_of drafts.old) }
 {

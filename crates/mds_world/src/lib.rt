@@ -4,8 +4,8 @@
 
 mod author;
 mod bodies;
-mod compliance;
 mod call_fault;
+mod compliance;
 mod operator;
 mod published;
 mod texts;

@@ -3,7 +3,7 @@ ghost use Rattle.std.specs.Prelude.{◌≡◌, ◌<◌, ◌≤◌, length, IfOk,
 ghost use Rattle.std.specs.FinMap as finite;
 ghost use Rattle.mds_text.specs.Printed.{printed};
 ghost use Rattle.mds_fleet.specs.Fleet.{Fits};
-ghost use Rattle.mds_kept.specs.Index.{Published};
+ghost use Rattle.mds_bitmaps.specs.Index.{Published};
 ghost use Rattle.mds_catalog.specs.Catalogue.{publications_of};
 ghost use Rattle.mds_catalog.specs.Laws.{AreLawful};
 ghost use Rattle.mds_request.specs.Configuration.{configuration, operator as operator_of, Operator as Configured};
@@ -16,9 +16,9 @@ ghost use Rattle.mds_world.specs.Denied.{Meets};
 ghost use Rattle.mds_world.specs.Lasting.{lasting_in};
 ghost use Rattle.mds_world.specs.declared.bodies.TheConstants.{SHORT_BODY};
 
-use crate::bodies::{success_in, removed_reply, body_buffer, vehicles_reply};
-use crate::compliance::{OperatorRequest, compliance, policy_compliance};
+use crate::bodies::{body_buffer, removed_reply, success_in, vehicles_reply};
 use crate::call_fault::CallFault;
+use crate::compliance::{OperatorRequest, compliance, policy_compliance};
 use crate::published::{geographies, geography, policies, policy};
 use mds_catalog::Catalogue;
 use mds_fleet::{Book, Taken};

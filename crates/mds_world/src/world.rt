@@ -1,7 +1,7 @@
 //! The whole state machine in one value.
 ghost use Rattle.std.specs.Prelude.{◌≡◌, All, map, length, IfOk, OnErr};
 ghost use Rattle.std.specs.FinMap.{empty};
-ghost use Rattle.mds_kept.specs.Index.{Published};
+ghost use Rattle.mds_bitmaps.specs.Index.{Published};
 ghost use Rattle.mds_fleet.specs.Fleet.{Fits};
 ghost use Rattle.mds_catalog.specs.Catalogue.{publications_of};
 ghost use Rattle.mds_catalog.specs.Laws.{AreLawful};

@@ -1,8 +1,8 @@
 -- The room and desks of a server that is started from a log are those of its configuration.
 use Rattle.mds_request.specs.Configuration.{Configuration}
-use Rattle.mds_hall.specs.Turn.{AreDesksOf}
-use Rattle.mds_recovery.specs.Laws.{IsServerOf}
-use Rattle.mds_recovery.specs.Recovery.{Server}
+use Rattle.server_state.specs.Turn.{AreDesksOf}
+use Rattle.journal_recovery.specs.Laws.{IsServerOf}
+use Rattle.journal_recovery.specs.Recovery.{Server}
 
 pub desks_of_server : (configuration : Configuration) (s : Server) → IsServerOf configuration s → AreDesksOf configuration s.desks
 desks_of_server configuration s is = record {

@@ -1,11 +1,11 @@
 -- A server that replays a journal's entries is started from the journal's payloads.
 use Rattle.std.proofs.Common.{◌≡◌, ℕ, List, [], ◌∷◌, map, refl, sym, ap, subst, Result, Ok, Err, IfOk}
 use Rattle.mds_request.specs.Configuration.{Configuration}
-use Rattle.mds_entries.specs.Entries.{Entry, entry_of, entry_text}
-use Rattle.mds_entries.specs.declared.entry.JournalEntry.{JournalEntry as Lent}
-use Rattle.mds_folder.specs.Choosing.{without}
-use Rattle.mds_recovery.specs.Laws.{IsStartedAgain}
-use Rattle.mds_recovery.specs.Recovery.{Server}
+use Rattle.journal_entry.specs.Entries.{Entry, entry_of, entry_text}
+use Rattle.journal_entry.specs.declared.entry.JournalEntry.{JournalEntry as Lent}
+use Rattle.journal_folder.specs.Choosing.{without}
+use Rattle.journal_recovery.specs.Laws.{IsStartedAgain}
+use Rattle.journal_recovery.specs.Recovery.{Server}
 use Rattle.ruffletuff.specs.Starting.{HasHead, IsStartedFrom}
 
 -- a weaker property of a result holds where a stronger one does

@@ -3,13 +3,13 @@ use Rattle.std.specs.Prelude.{◌≡◌, ℕ, Bool, true, false, List, ◌∷◌
 use Rattle.mds_request.specs.Configuration.{Configuration}
 use Rattle.mds_request.specs.declared.request.Verb.{Verb}
 use Rattle.mds_request.specs.declared.request.Verb.TheVariants.{Post}
-use Rattle.mds_entries.specs.declared.entry.EntryClient.{EntryClient}
-use Rattle.mds_entries.specs.declared.entry.EntryClient.TheVariants.{Author}
-use Rattle.mds_entries.specs.Entries.{Entry, entry_text}
-use Rattle.mds_entries.specs.Heads.{Share, AreShares, head_text, unfit}
-use Rattle.mds_recovery.specs.Laws.{IsStartedAgain}
-use Rattle.mds_recovery.specs.Recovery.{Server}
-use Rattle.mds_folder.specs.Choosing.{needed, without}
+use Rattle.journal_entry.specs.declared.entry.EntryClient.{EntryClient}
+use Rattle.journal_entry.specs.declared.entry.EntryClient.TheVariants.{Author}
+use Rattle.journal_entry.specs.Entries.{Entry, entry_text}
+use Rattle.journal_entry.specs.Heads.{Share, AreShares, head_text, unfit}
+use Rattle.journal_recovery.specs.Laws.{IsStartedAgain}
+use Rattle.journal_recovery.specs.Recovery.{Server}
+use Rattle.journal_folder.specs.Choosing.{needed, without}
 
 -- The first payload is a head, for whose operators the configuration has room, but for those that are left out; behind
 -- it stand these.

@@ -1,7 +1,7 @@
 //! The admin state of a server.
 
-use mds_connections::ShutdownHandle;
-use mds_control::{Control, Counters};
+use server_control::{Control, Counters};
+use server_http::ShutdownHandle;
 use std::sync::Arc;
 
 /// The admin state of a server: what its control port shows, what ends it, and the text of its

@@ -1,13 +1,13 @@
 //! Compacts the journal of a city while the city is served.
 
-use crate::thread_job::ThreadJob;
 use crate::folders::Folders;
 use crate::journal_swap::{FileJournal, JournalHandoff};
+use crate::thread_job::ThreadJob;
 use cli_journal::moment;
-use mds_folder::{FolderFault, lock_file};
-use mds_records::{Journal, LogEnd, FileStorage};
-use mds_rolling::{CatchUpFault, CompactedLog, is_small_lag};
-use mds_thinning::{AnswersAgree, JournalPrefix, CompactFault, check_empty, compact_prefix};
+use journal_compaction::{AnswersAgree, CompactFault, JournalPrefix, check_empty, compact_prefix};
+use journal_file::{FileStorage, Journal, LogEnd};
+use journal_folder::{FolderFault, lock_file};
+use journal_swap::{CatchUpFault, CompactedLog, is_small_lag};
 use std::alloc::{AllocError, AllocGlobal, Global};
 use std::fs::File;
 use std::io::{Eprint, Read};
@@ -33,7 +33,7 @@ impl From<CompactFault> for NotOffered {
 }
 
 /// Compacts the journal of a city's folder while the city is served, in a thread of its own: it waits until the journal
-/// is due, writes a shorter one next to it, as `mds_thinning` does, brings that up to what is appended meanwhile, and
+/// is due, writes a shorter one next to it, as `journal_compaction` does, brings that up to what is appended meanwhile, and
 /// hands it to the flusher.
 #[derive(Drop)]
 pub struct Compactor<'a, R> {
@@ -105,7 +105,11 @@ impl<R: Folders + Wait + Clock + AllocGlobal + Eprint + Copy> Compactor<'_, R> {
     }
 
     /// A compacted journal of what a journal's file has up to a log end.
-    fn shorten(&self, file: &mut File, seal: LogEnd) -> Result<CompactedLog<FileJournal, AnswersAgree>, CompactFault> {
+    fn shorten(
+        &self,
+        file: &mut File,
+        seal: LogEnd,
+    ) -> Result<CompactedLog<FileJournal, AnswersAgree>, CompactFault> {
         let alloc = self.rt.alloc();
         let bytes = next_bytes(alloc, file, seal.position)?;
         let log = match Journal::open(alloc, FileStorage::new(self.create_compacted()?)) {
@@ -188,7 +192,8 @@ impl<R: Folders + Wait + Clock + AllocGlobal + Eprint + Copy> Compactor<'_, R> {
     }
 }
 
-impl<R: Folders + Wait + Clock + AllocGlobal + Eprint + Copy + Drop> ThreadJob for Compactor<'_, R> {
+impl<R: Folders + Wait + Clock + AllocGlobal + Eprint + Copy + Drop> ThreadJob
+    for Compactor<'_, R> {
     type Outcome = ();
 
     fn run(self) {

@@ -1,13 +1,13 @@
 //! Serves a city with a control port.
 
 use crate::admin::AdminState;
-use crate::thread_job::{ThreadJob, run_concurrently};
 use crate::host::ThreadHost;
 use crate::opening::{ConfigWithText, serve_city};
+use crate::thread_job::{ThreadJob, run_concurrently};
+use cli_args::ServeOptions;
 use cli_journal::ExitCause;
-use mds_command::ServeOptions;
-use mds_connections::ShutdownHandle;
-use mds_control::{Port, PortWaker, StopServer, serve_control};
+use server_control::{Port, PortWaker, StopServer, serve_control};
+use server_http::ShutdownHandle;
 use std::alloc::AllocGlobal;
 use std::fs::{File, Files};
 use std::net::{Net, TcpListener, TcpStream};
@@ -89,7 +89,11 @@ pub fn serve_controlled<R>(
     board: AdminState<'_>,
 ) -> Result<(), ExitCause>
 where
-    R: ThreadHost + Wait + Threads + Net<Listener = TcpListener, Stream = TcpStream> + Files<File = File>,
+    R: ThreadHost
+        + Wait
+        + Threads
+        + Net<Listener = TcpListener, Stream = TcpStream>
+        + Files<File = File>,
 {
     let Ok(port) = Port::bind(rt, address, service.control_host) else {
         return Err(ExitCause::NoControl);
@@ -108,6 +112,10 @@ where
         board,
         waker,
     };
-    let ((), (served, _waker)) = run_concurrently(rt, controlling, move || serve_and_end(rt, controlled));
+    let ((), (served, _waker)) = run_concurrently(
+        rt,
+        controlling,
+        move || serve_and_end(rt, controlled),
+    );
     served
 }

@@ -1,9 +1,9 @@
 //! Counters of a city's connections, and of its operators' vehicles.
 
-use mds_connections::ShutdownHandle;
-use mds_control::{Counters, Fleet};
-use mds_hall::{Hall, HallName};
 use mds_request::Config;
+use server_control::{Counters, Fleet};
+use server_http::ShutdownHandle;
+use server_state::{Hall, HallName};
 use std::alloc::{AllocError, Global};
 use std::sync::Wait;
 

@@ -2,11 +2,11 @@
 
 use crate::folders::Folders;
 use cli_journal::ExitCause;
-use mds_control::{Counters, Figure};
-use mds_folder::FolderFault;
-use mds_records::{Journal, LogEnd, FileStorage};
-use mds_rolling::{CompactionSource, Handoff, ReplaceFault, CompactedLog};
-use mds_thinning::AnswersAgree;
+use journal_compaction::AnswersAgree;
+use journal_file::{FileStorage, Journal, LogEnd};
+use journal_folder::FolderFault;
+use journal_swap::{CompactedLog, CompactionSource, Handoff, ReplaceFault};
+use server_control::{Counters, Figure};
 use std::alloc::Global;
 use std::fs::File;
 use std::sync::{Arc, Wait};

@@ -4,7 +4,7 @@ ghost use Rattle.cli_journal.specs.declared.exit_cause.ExitCause.TheVariants.{No
 
 use crate::host::ThreadHost;
 use cli_journal::ExitCause;
-use mds_connections::bind_first;
+use server_http::bind_first;
 use std::net::Net;
 use tokio::net::TcpListener;
 use tokio::runtime::Runtime;
@@ -24,7 +24,11 @@ pub struct BoundListener {
 /// # Errors
 ///
 /// `NoListener` where the address can't be listened to, or the polling of events couldn't be had.
-pub fn listen<R: ThreadHost + Net>(rt: &R, address: &str, threads: usize) -> Result<BoundListener, ExitCause>
+pub fn listen<R: ThreadHost + Net>(
+    rt: &R,
+    address: &str,
+    threads: usize,
+) -> Result<BoundListener, ExitCause>
     ensures { IfErr result (λ ending. ending ≡ NoListener) }
 {
     let Ok(runtime) = Runtime::with_worker_threads(rt, threads.max(1)) else {

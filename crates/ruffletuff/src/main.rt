@@ -2,22 +2,22 @@
 //! answered. It also checks how a journal ends, prints one as a script, compacts one, and stops a server.
 #![tactic(auto)]
 
-mod arguments;
 mod admin;
+mod arguments;
+mod compactor;
 mod controlling;
 mod counting;
-mod thread_job;
 mod folders;
 mod host;
+mod journal_swap;
 mod listening;
 mod opening;
 mod progress;
 mod reporting_space;
 mod running;
 mod serving;
-mod journal_swap;
 mod starting;
-mod compactor;
+mod thread_job;
 
 use running::run;
 use std::process::ExitCode;

@@ -2,34 +2,34 @@
 ghost use Rattle.std.specs.Prelude.{◌≡◌, ℕ, List, IfOk};
 ghost use Rattle.mds_request.specs.Configuration.{configuration};
 ghost use Rattle.mds_snapshot.specs.Opening.{book_of};
-ghost use Rattle.mds_recovery.specs.Recovery.{server_of};
+ghost use Rattle.journal_recovery.specs.Recovery.{server_of};
 ghost use Rattle.ruffletuff.specs.Starting.{IsStartedFromLog};
 
 use crate::admin::AdminState;
-use crate::thread_job::run_concurrently;
+use crate::compactor::Compactor;
 use crate::folders::Folders;
 use crate::host::ThreadHost;
+use crate::journal_swap::{FileJournal, JournalHandoff, JournalSwapper};
 use crate::listening::{BoundListener, listen};
 use crate::reporting_space::ReportingSpace;
 use crate::serving::{ServingParts, persist_and_serve};
-use crate::journal_swap::{FileJournal, JournalSwapper, JournalHandoff};
 use crate::starting::{dropped_ids, start};
-use crate::compactor::Compactor;
+use crate::thread_job::run_concurrently;
+use cli_args::ServeOptions;
 use cli_journal::{ExitCause, clear, journal_length};
-use mds_command::ServeOptions;
-use mds_commit::{Ballast, UnnamedHistory, Space};
-use mds_connections::Queues;
-use mds_control::{Counters, Figure};
+use journal_commit::{Ballast, Space, UnnamedHistory};
+use journal_compaction::AnswersAgree;
+use journal_file::{CutTail, FileStorage, HasLogEnd, Journal, Log};
+use journal_folder::{CutFiles, Folder, FolderFault, begin_journal, open_folder};
+use journal_swap::{CompactionSchedule, CompactionSource, Handoff, SwapLog};
 use mds_desk::{AuthorRoom, Desk};
-use mds_folder::{CutFiles, Folder, FolderFault, begin_journal, open_folder};
-use mds_hall::{Hall, HallName};
-use mds_records::{CutTail, Journal, Log, HasLogEnd, FileStorage};
 use mds_request::Config;
-use mds_rolling::{CompactionSource, Handoff, CompactionSchedule, SwapLog};
 use mds_snapshot::{Blank, prepare};
-use mds_start::workers;
 use mds_text::Id;
-use mds_thinning::AnswersAgree;
+use server_control::{Counters, Figure};
+use server_http::Queues;
+use server_start::workers;
+use server_state::{Hall, HallName};
 use std::alloc::AllocGlobal;
 use std::fs::{File, Files};
 use std::io::Eprint;
@@ -127,7 +127,10 @@ where
     } = open_folder(rt, rt.alloc(), service.state)?;
     let listening = listen(rt, service.listen, threads_for(rt, &config))?;
     clear(rt, service.state);
-    let Ok(meeting) = Arc::new(rt.alloc(), Handoff::new(CompactionSchedule::new(service.thin_at))) else {
+    let Ok(meeting) = Arc::new(
+        rt.alloc(),
+        Handoff::new(CompactionSchedule::new(service.thin_at)),
+    ) else {
         return Err(ExitCause::NoMemory);
     };
     let thinner = Compactor {
@@ -186,11 +189,10 @@ fn open_and_serve<R: ThreadHost + Wait + Threads + Files<File = File>>(
 /// # Errors
 ///
 /// As `serve_city`.
-fn serve_with_swaps<B: CompactionSource<FileJournal, AnswersAgree> + Send, R: ThreadHost + Wait + Threads + Files<File = File>>(
-    rt: &R,
-    opening: CityOpening<'_>,
-    beside: B,
-) -> Result<(), ExitCause> {
+fn serve_with_swaps<
+    B: CompactionSource<FileJournal, AnswersAgree> + Send,
+    R: ThreadHost + Wait + Threads + Files<File = File>,
+>(rt: &R, opening: CityOpening<'_>, beside: B) -> Result<(), ExitCause> {
     let CityOpening {
         folder,
         listening,
@@ -249,7 +251,12 @@ where
 /// # Errors
 ///
 /// As `serve_opening`, and `NoMemory`.
-fn serve_swap_log<L: HasLogEnd + Send, B: CompactionSource<L, AnswersAgree> + Send, S: Space + Send, R>(
+fn serve_swap_log<
+    L: HasLogEnd + Send,
+    B: CompactionSource<L, AnswersAgree> + Send,
+    S: Space + Send,
+    R,
+>(
     rt: &R,
     log: L,
     beside: B,

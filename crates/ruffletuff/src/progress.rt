@@ -2,7 +2,7 @@
 ghost use Rattle.std.specs.Prelude.{◌≡◌};
 ghost use Rattle.ruffletuff.specs.Progress.{is_told};
 
-use mds_recovery::Progress;
+use journal_recovery::Progress;
 use std::io::Eprint;
 
 /// Progress is reported after every so many entries.

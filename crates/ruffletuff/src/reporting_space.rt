@@ -2,7 +2,7 @@
 ghost use Rattle.std.specs.Prelude.{◌≡◌};
 ghost use Rattle.ruffletuff.specs.Full.{is_full, is_told};
 
-use mds_commit::{NoRoom, Space};
+use journal_commit::{NoRoom, Space};
 use std::io::Eprint;
 
 /// How many bytes are asked for at once. Where they are refused, only what is needed is asked for.

@@ -2,19 +2,20 @@
 ghost use Rattle.std.specs.Prelude.{◌≡◌};
 ghost use Rattle.cli_journal.specs.Exit.{status_of};
 
-use crate::arguments::read_words;
 use crate::admin::AdminState;
+use crate::arguments::read_words;
 use crate::controlling::serve_controlled;
 use crate::counting::counters_of;
 use crate::host::ThreadHost;
 use crate::opening::{ConfigWithText, serve_city};
+use cli_args::{COMMIT, CliCommand, HELP, ServeOptions, VERSION, parse_command, version_line};
 use cli_journal::{
-    ExitCause, ConfigFile, audit, check, configuration_in, report_exit, report_usage, compact, read_text_and_report,
+    ConfigFile, ExitCause, audit, check, compact, configuration_in, read_text_and_report,
+    report_exit, report_usage,
 };
-use mds_command::{CliCommand, COMMIT, HELP, ServeOptions, VERSION, parse_command, version_line};
-use mds_connections::ShutdownHandle;
-use mds_control::{Control, stop};
-use mds_errands::run_transfer;
+use cli_transfer::run_transfer;
+use server_control::{Control, stop};
+use server_http::ShutdownHandle;
 use std::alloc::AllocGlobal;
 use std::env::Env;
 use std::fs::{File, Files};
@@ -65,7 +66,11 @@ where
 /// Runs what the arguments ask for, and gives the exit status.
 fn carry_out<R>(rt: &R, asked: &CliCommand<'_>) -> Result<u8, ExitCause>
 where
-    R: ThreadHost + Wait + Threads + Net<Listener = TcpListener, Stream = TcpStream> + Files<File = File>,
+    R: ThreadHost
+        + Wait
+        + Threads
+        + Net<Listener = TcpListener, Stream = TcpStream>
+        + Files<File = File>,
 {
     let done = match asked {
         CliCommand::Help => print_text(rt, HELP),
@@ -144,7 +149,11 @@ fn stop_server<R: Net + AllocGlobal>(rt: &R, address: &str) -> Result<(), ExitCa
 /// The configuration's, the control port's, or the fault with which the city can't be opened or its server ends.
 fn serve<R>(rt: &R, service: &ServeOptions<'_>) -> Result<(), ExitCause>
 where
-    R: ThreadHost + Wait + Threads + Net<Listener = TcpListener, Stream = TcpStream> + Files<File = File>,
+    R: ThreadHost
+        + Wait
+        + Threads
+        + Net<Listener = TcpListener, Stream = TcpStream>
+        + Files<File = File>,
 {
     let text = read_text_and_report(rt, rt.alloc(), service.config)?;
     let config = configuration_in(rt.alloc(), &text)?;

@@ -1,23 +1,23 @@
 //! Serves an open city: one thread writes its journal, others answer.
 ghost use Rattle.std.specs.Prelude.{◌≡◌, ℕ, List, IfOk, Ok};
-ghost use Rattle.mds_app.specs.OperatorNames.{badges_view, read_badges};
+ghost use Rattle.server_app.specs.OperatorNames.{badges_view, read_badges};
 ghost use Rattle.ruffletuff.specs.Ends.{outcome_of};
 
 use crate::admin::AdminState;
 use crate::counting::count_vehicles;
-use crate::thread_job::{ThreadJob, run_concurrently};
 use crate::host::ThreadHost;
 use crate::listening::BoundListener;
+use crate::thread_job::{ThreadJob, run_concurrently};
 use cli_journal::ExitCause;
-use mds_app::OperatorNames;
-use mds_city::DurableHall;
-use mds_commit::{FlushFault, Flusher, CommitLog, LogName, UnnamedHistory, Space, open};
-use mds_connections::{ShutdownHandle, ServeOutcome, Queues, serve_by};
-use mds_hall::{Hall, HallName};
+use journal_commit::{CommitLog, FlushFault, Flusher, LogName, Space, UnnamedHistory, open};
+use journal_file::Log;
 use mds_parallel::Chunked;
-use mds_records::Log;
-use mds_site::Site;
 use mds_text::Id;
+use server_app::OperatorNames;
+use server_durable::DurableHall;
+use server_http::{Queues, ServeOutcome, ShutdownHandle, serve_by};
+use server_site::Site;
+use server_state::{Hall, HallName};
 use std::alloc::Global;
 use std::io::{self, Print};
 use std::sync::{Arc, Wait};
@@ -101,7 +101,7 @@ where
     ended
 }
 
-/// Reads the operators' names for people in a configuration's text: see `mds_app::laws::configurations_have_names`.
+/// Reads the operators' names for people in a configuration's text: see `server_app::laws::configurations_have_names`.
 ///
 /// # Errors
 ///

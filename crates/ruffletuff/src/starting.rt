@@ -2,22 +2,22 @@
 ghost use Rattle.std.specs.Prelude.{◌≡◌, map, count_by, IfOk, option_to_list};
 ghost use Rattle.mds_request.specs.Configuration.{configuration};
 ghost use Rattle.mds_snapshot.specs.Opening.{book_of};
-ghost use Rattle.mds_entries.specs.Entries.{entry_of};
-ghost use Rattle.mds_recovery.specs.Laws.{IsStartedAgain};
-ghost use Rattle.mds_recovery.specs.Recovery.{server_of};
+ghost use Rattle.journal_entry.specs.Entries.{entry_of};
+ghost use Rattle.journal_recovery.specs.Laws.{IsStartedAgain};
+ghost use Rattle.journal_recovery.specs.Recovery.{server_of};
 ghost use Rattle.ruffletuff.specs.Starting.{HasHead, IsStartedFrom, is_publication};
 
 use crate::progress::ReplayProgress;
+use cli_config::Limits;
 use cli_journal::ExitCause;
-use mds_configuration::Limits;
-use mds_control::{Counters, Figure};
+use journal_entry::{EntryClient, JournalEntry};
+use journal_folder::{Damage, FolderFault, entries_in, suits, without_operators};
+use journal_recovery::{Cause, StartFault, start_again};
 use mds_desk::{AuthorRoom, Desk};
-use mds_entries::{EntryClient, JournalEntry};
-use mds_folder::{Damage, FolderFault, entries_in, suits, without_operators};
-use mds_recovery::{Cause, StartFault, start_again};
 use mds_request::{Config, Verb};
 use mds_snapshot::{Blank, OpeningName};
 use mds_text::Id;
+use server_control::{Counters, Figure};
 use std::alloc::{AllocError, AllocGlobal, Global};
 use std::io::Eprint;
 use std::sync::Wait;
@@ -151,7 +151,14 @@ fn replay_entries<K: OpeningName, R: Wait + Eprint + AllocGlobal + Copy>(
     counters.set(Figure::Revision, publications(entries) as u64);
     let limits = Limits::of(rt.alloc(), &config)?;
     let mut progress = ReplayProgress(*rt);
-    match start_again::<K, R, ReplayProgress<R>>(rt, rt.alloc(), config, blank, entries, &mut progress) {
+    match start_again::<K, R, ReplayProgress<R>>(
+        rt,
+        rt.alloc(),
+        config,
+        blank,
+        entries,
+        &mut progress,
+    ) {
         Ok(started) => Ok(started),
         Err(fault) => {
             if let Some(id) = full_fleet(entries, &fault) {

@@ -12,11 +12,13 @@ pub trait ThreadJob {
 }
 
 /// Runs a job in a thread of its own and `meanwhile` in this one, and gives both results.
-pub fn run_concurrently<R: Threads, E: ThreadJob<Outcome = A> + Send + Drop, A: Send, B, F: FnOnce() -> B>(
-    rt: &R,
-    errand: E,
-    meanwhile: F,
-) -> (A, B)
+pub fn run_concurrently<
+    R: Threads,
+    E: ThreadJob<Outcome = A> + Send + Drop,
+    A: Send,
+    B,
+    F: FnOnce() -> B,
+>(rt: &R, errand: E, meanwhile: F) -> (A, B)
     requires { F.pre meanwhile }
 {
     join(rt, move || -> A { errand.run() }, meanwhile)

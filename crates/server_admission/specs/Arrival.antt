@@ -1,13 +1,13 @@
 -- How a request body arrives.
 use Rattle.std.specs.Prelude.{ℕ, ◌+◌, List, [], length, Bool, true, false, nat_le, if◌then◌else◌}
 use Rattle.mds_request.specs.declared.call.TheConstants.{MOST_BODY}
-use Rattle.mds_limits.specs.declared.limits.TheConstants.{MOST_DISCARDED}
-use Rattle.mds_limits.specs.declared.arrival.Piece.{Piece}
-use Rattle.mds_limits.specs.declared.arrival.Piece.TheVariants as piece
-use Rattle.mds_limits.specs.declared.arrival.BodyEnd.{BodyEnd}
-use Rattle.mds_limits.specs.declared.arrival.BodyEnd.TheVariants as end
-use Rattle.mds_limits.specs.declared.arrival.Arrived.{Arrived}
-use Rattle.mds_limits.specs.declared.arrival.Arrived.TheVariants.{Whole, Broken, TooLong, NoMemory}
+use Rattle.server_admission.specs.declared.limits.TheConstants.{MOST_DISCARDED}
+use Rattle.server_admission.specs.declared.arrival.Piece.{Piece}
+use Rattle.server_admission.specs.declared.arrival.Piece.TheVariants as piece
+use Rattle.server_admission.specs.declared.arrival.BodyEnd.{BodyEnd}
+use Rattle.server_admission.specs.declared.arrival.BodyEnd.TheVariants as end
+use Rattle.server_admission.specs.declared.arrival.Arrived.{Arrived}
+use Rattle.server_admission.specs.declared.arrival.Arrived.TheVariants.{Whole, Broken, TooLong, NoMemory}
 
 -- of a body that is too long, so many bytes more are read and discarded
 abbrev pub piece_at : ℕ → ℕ → Piece

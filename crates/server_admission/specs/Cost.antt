@@ -6,9 +6,9 @@ use Rattle.mds_request.specs.declared.call.OperatorCall.{OperatorCall}
 use Rattle.mds_request.specs.declared.call.OperatorCall.TheVariants as operator
 use Rattle.mds_request.specs.declared.call.Call.{Call}
 use Rattle.mds_request.specs.declared.call.Call.TheVariants.{Author, Operator}
-use Rattle.mds_limits.specs.declared.cost.Cost.{Cost}
-use Rattle.mds_limits.specs.declared.cost.Cost.TheVariants.{Shared, Exclusive}
-use Rattle.mds_limits.specs.declared.limits.TheConstants.{SMALL_BODY}
+use Rattle.server_admission.specs.declared.cost.Cost.{Cost}
+use Rattle.server_admission.specs.declared.cost.Cost.TheVariants.{Shared, Exclusive}
+use Rattle.server_admission.specs.declared.limits.TheConstants.{SMALL_BODY}
 
 -- published documents are cached; every other answer to the author may take long
 abbrev pub author_cost : AuthorCall → Cost

@@ -1,7 +1,7 @@
 -- By when a head has to come.
 use Rattle.std.specs.Prelude.{ℕ, Bool, not, ◌&&◌, ◌||◌, ◌==◌, if◌then◌else◌}
-use Rattle.mds_limits.specs.declared.head_phase.HeadPhase.{HeadPhase}
-use Rattle.mds_limits.specs.declared.limits.TheConstants.{HEAD_SECONDS, IDLE_SECONDS}
+use Rattle.server_admission.specs.declared.head_phase.HeadPhase.{HeadPhase}
+use Rattle.server_admission.specs.declared.limits.TheConstants.{HEAD_SECONDS, IDLE_SECONDS}
 
 abbrev pub seconds_of : HeadPhase → ℕ
 seconds_of stage = if stage.is_head then HEAD_SECONDS else IDLE_SECONDS

@@ -2,7 +2,7 @@
 -- connection
 -- that wants a slot.
 use Rattle.std.specs.Prelude.{ℕ, ◌-◌, ◌==◌, ◌≤◌, List, drop, Bool, nat_lt, slice_index, EachIndex, count_by, if◌then◌else◌}
-use Rattle.mds_limits.specs.declared.limits.TheConstants.{MOST_CONNECTIONS, MOST_ANONYMOUS, MOST_OF_CLIENT}
+use Rattle.server_admission.specs.declared.limits.TheConstants.{MOST_CONNECTIONS, MOST_ANONYMOUS, MOST_OF_CLIENT}
 
 -- anonymous comes first
 abbrev pub most_of : ℕ → ℕ

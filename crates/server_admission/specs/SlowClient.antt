@@ -1,6 +1,6 @@
 -- Whether a client reads a response too slowly.
 use Rattle.std.specs.Prelude.{ℕ, ◌*◌, Bool, ◌&&◌, ◌||◌, nat_lt, nat_le}
-use Rattle.mds_limits.specs.declared.limits.TheConstants.{SLOW_SECONDS, LEAST_RATE}
+use Rattle.server_admission.specs.declared.limits.TheConstants.{SLOW_SECONDS, LEAST_RATE}
 
 -- nothing was written for too long, or, after some time, too little on average
 abbrev pub is_untaken : Bool → ℕ → ℕ → Bool

@@ -1,8 +1,8 @@
 -- How much may wait.
 use Rattle.std.specs.Prelude.{ℕ, ◌+◌, min, Bool, ◌&&◌, nat_lt, nat_le, Option, unwrap_or}
 use Rattle.mds_request.specs.declared.call.TheConstants.{MOST_BODY}
-use Rattle.mds_limits.specs.declared.limits.TheConstants.{MOST_HELD, MOST_HELD_BY_ALL, MOST_WAITING}
-use Rattle.mds_limits.specs.declared.waiting.Load.{Load}
+use Rattle.server_admission.specs.declared.limits.TheConstants.{MOST_HELD, MOST_HELD_BY_ALL, MOST_WAITING}
+use Rattle.server_admission.specs.declared.waiting.Load.{Load}
 
 -- a body without a declared length (RFC 9112, section 7.1), or with more than a body may have, counts as one of the
 -- maximum

@@ -1,6 +1,6 @@
 //! The index of a client among all clients.
 ghost use Rattle.std.specs.Prelude.{◌≡◌};
-ghost use Rattle.mds_limits.specs.Actor.{index_of};
+ghost use Rattle.server_admission.specs.Actor.{index_of};
 
 use mds_request::Actor;
 

@@ -1,6 +1,6 @@
 //! How a request body arrives.
 ghost use Rattle.std.specs.Prelude.{◌≡◌};
-ghost use Rattle.mds_limits.specs.Arrival.{arrived_of, body_in, closes_after, piece_at};
+ghost use Rattle.server_admission.specs.Arrival.{arrived_of, body_in, closes_after, piece_at};
 
 use crate::limits::MOST_DISCARDED;
 use bytes::Bytes;

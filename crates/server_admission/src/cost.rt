@@ -1,6 +1,6 @@
 //! What an answer takes of its client's queue.
 ghost use Rattle.std.specs.Prelude.{◌≡◌};
-ghost use Rattle.mds_limits.specs.Cost.{author_cost, cost_of, operator_cost};
+ghost use Rattle.server_admission.specs.Cost.{author_cost, cost_of, operator_cost};
 
 use crate::limits::SMALL_BODY;
 use mds_request::{AuthorCall, Call, OperatorCall};

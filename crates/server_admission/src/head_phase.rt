@@ -1,6 +1,6 @@
 //! By when a head has to come.
 ghost use Rattle.std.specs.Prelude.{◌≡◌, ◌==◌, ◌%◌};
-ghost use Rattle.mds_limits.specs.HeadPhase.{seconds_of, goes_on};
+ghost use Rattle.server_admission.specs.HeadPhase.{seconds_of, goes_on};
 
 use crate::limits::{HEAD_SECONDS, IDLE_SECONDS};
 

@@ -5,24 +5,24 @@
 mod actor;
 mod arrival;
 mod cost;
+mod head_phase;
 mod limits;
 mod moment;
 mod slot;
-mod head_phase;
 mod slow_client;
 mod waiting;
 
 pub use actor::index_of;
 pub use arrival::{Arrived, BodyEnd, Piece};
 pub use cost::{Cost, cost_of};
+pub use head_phase::{HeadPhase, is_answering};
 pub use limits::{
-    ACCEPT_PAUSE_MILLIS, BODY_SECONDS, CROWDED_PAUSE_MILLIS, HEAD_SECONDS, IDLE_SECONDS,
-    LEAST_RATE, MOST_CONNECTIONS, MOST_HELD, MOST_HELD_BY_ALL, MOST_OF_CLIENT, MOST_DISCARDED,
-    MOST_SHORT, MOST_ANONYMOUS, MOST_WAITING, DISCARD_SECONDS, SLOW_SECONDS, SMALL_BODY,
+    ACCEPT_PAUSE_MILLIS, BODY_SECONDS, CROWDED_PAUSE_MILLIS, DISCARD_SECONDS, HEAD_SECONDS,
+    IDLE_SECONDS, LEAST_RATE, MOST_ANONYMOUS, MOST_CONNECTIONS, MOST_DISCARDED, MOST_HELD,
+    MOST_HELD_BY_ALL, MOST_OF_CLIENT, MOST_SHORT, MOST_WAITING, SLOW_SECONDS, SMALL_BODY,
     STALL_SECONDS, limits_of_bodies, limits_of_connections, limits_of_times,
 };
 pub use moment::moment_of;
 pub use slot::{Decision, slot_for};
-pub use head_phase::{HeadPhase, is_answering};
 pub use slow_client::is_too_slow;
 pub use waiting::{Load, load_bytes_of, may_wait};

@@ -1,9 +1,9 @@
 //! Who gets a connection slot.
 ghost use Rattle.std.specs.Prelude.{◌≡◌, ◌≤◌, ℕ, IsTrue, IsFalse};
-ghost use Rattle.mds_limits.specs.Slot.{most_of, without_any, is_over, is_full, HasMost};
-ghost use Rattle.mds_limits.specs.declared.slot.Decision.TheVariants.{Take, Close};
+ghost use Rattle.server_admission.specs.Slot.{most_of, without_any, is_over, is_full, HasMost};
+ghost use Rattle.server_admission.specs.declared.slot.Decision.TheVariants.{Take, Close};
 
-use crate::limits::{MOST_CONNECTIONS, MOST_OF_CLIENT, MOST_ANONYMOUS};
+use crate::limits::{MOST_ANONYMOUS, MOST_CONNECTIONS, MOST_OF_CLIENT};
 
 /// What to do for a connection that wants a slot.
 #[derive(Clone, Copy, Debug, PartialEq, Eq)]

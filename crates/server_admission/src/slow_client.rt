@@ -1,6 +1,6 @@
 //! Whether a client reads a response too slowly.
 ghost use Rattle.std.specs.Prelude.{◌≡◌};
-ghost use Rattle.mds_limits.specs.SlowClient.{is_untaken};
+ghost use Rattle.server_admission.specs.SlowClient.{is_untaken};
 
 use crate::limits::{LEAST_RATE, SLOW_SECONDS};
 

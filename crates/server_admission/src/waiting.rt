@@ -1,6 +1,6 @@
 //! How much may wait.
 ghost use Rattle.std.specs.Prelude.{◌≡◌, ◌+◌, nat_le};
-ghost use Rattle.mds_limits.specs.Waiting.{counted_of, may_wait_beside};
+ghost use Rattle.server_admission.specs.Waiting.{counted_of, may_wait_beside};
 
 use crate::limits::{MOST_HELD, MOST_HELD_BY_ALL, MOST_WAITING};
 use mds_request::MOST_BODY;

@@ -8,8 +8,8 @@ use Rattle.mds_text.specs.declared.field.Field.TheVariants.{Author as AuthorName
 use Rattle.mds_match.specs.Zone.{zone_of}
 use Rattle.mds_request.specs.Configuration.{Configuration, Operator, access_at, configuration_of, has_alike, ids, limit_at, operator_of, operators_at, operators_of, read_configuration, unlike, zone_at}
 use Rattle.mds_request.specs.declared.config.TheConstants.{MOST_OPERATORS}
-use Rattle.mds_app.specs.OperatorNames.{Badge, Badges, as_name, badge_of, badges_of, name_at, read_badges}
-use Rattle.mds_app.specs.Laws.{IsBadged}
+use Rattle.server_app.specs.OperatorNames.{Badge, Badges, as_name, badge_of, badges_of, name_at, read_badges}
+use Rattle.server_app.specs.Laws.{IsBadged}
 
 -- of two readings one after another that succeed, the first does
 first_ok : {A B : Type 0} (r : Result A Fault) (f : A → Result B Fault) (b : B) → (r >>= f) ≡ Ok b → (a : A) × (r ≡ Ok a) × (f a ≡ Ok b)

@@ -7,7 +7,7 @@ use Rattle.std.proofs.lemmas.Bool.Decides.{nat_tests}
 use Rattle.std.proofs.lemmas.List.{map-append}
 use Rattle.std.proofs.lemmas.List.Elements.{filter_map-append}
 use Rattle.mds_catalog.specs.Publication.{Publication, Published, is_among, is_withdrawn, IsWithdrawnFrom}
-use Rattle.mds_app.specs.Withdrawals.{earlier, withdrawn_from}
+use Rattle.server_app.specs.Withdrawals.{earlier, withdrawn_from}
 
 -- a moment, where there is one, isn't after t
 abbrev come : ℕ → Option ℕ → Bool

@@ -16,7 +16,7 @@ use Rattle.mds_drafts.specs.declared.draft.Draft.{Draft}
 use Rattle.mds_drafts.specs.declared.draft.Draft.TheVariants as drafts
 use Rattle.mds_drafts.specs.Drafts.{id_cmp}
 use Rattle.mds_drafts.specs.Entries.{document_of, drafts_in, policy_entry, geography_entry}
-use Rattle.mds_app.specs.DraftList.{ids_of, own_id}
+use Rattle.server_app.specs.DraftList.{ids_of, own_id}
 
 -- identifiers with one more in its order
 abbrev pub placed : List ℕ → List (List ℕ) → List (List ℕ)

@@ -3,9 +3,9 @@ use Rattle.std.specs.Prelude.{◌≡◌, ℕ, List, map, slice_get, Result, Ok}
 use Rattle.mds_catalog.specs.Publication.{Publication, IsWithdrawnFrom}
 use Rattle.mds_request.specs.Configuration.{Configuration, ids, read_configuration}
 use Rattle.mds_request.specs.declared.config.Actor.TheVariants.{Operator}
-use Rattle.mds_app.specs.OperatorNames.{Badges, read_badges}
-use Rattle.mds_app.specs.Whoami.{who_reply}
-use Rattle.mds_app.specs.Withdrawals.{withdrawn_from}
+use Rattle.server_app.specs.OperatorNames.{Badges, read_badges}
+use Rattle.server_app.specs.Whoami.{who_reply}
+use Rattle.server_app.specs.Withdrawals.{withdrawn_from}
 
 -- A policy is withdrawn at a moment exactly if that isn't before the moment that is reported.
 abbrev pub WithdrawnFromIsRight : Type 0

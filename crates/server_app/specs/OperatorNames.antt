@@ -5,9 +5,9 @@ use Rattle.mds_text.specs.Fields.{object_of, document_of, member_at, required_at
 use Rattle.mds_text.specs.Reading.{read_text}
 use Rattle.mds_text.specs.Tree.{Json, text}
 use Rattle.mds_text.specs.declared.field.Field.TheVariants.{Operators, Id, Name, Zone}
-use Rattle.mds_app.specs.declared.operator_names.OperatorName as program
-use Rattle.mds_app.specs.declared.operator_names.OperatorNames as program'
-use Rattle.mds_app.specs.declared.operator_names.TheConstants.{MOST_NAME}
+use Rattle.server_app.specs.declared.operator_names.OperatorName as program
+use Rattle.server_app.specs.declared.operator_names.OperatorNames as program'
+use Rattle.server_app.specs.declared.operator_names.TheConstants.{MOST_NAME}
 
 -- an operator's identifier, and its name, where it has one
 pub record OperatorName : Type 0 where

@@ -10,7 +10,7 @@ use Rattle.mds_request.specs.declared.config.Actor.{Actor}
 use Rattle.mds_request.specs.declared.config.Actor.TheVariants.{Author, Operator, Nobody}
 use Rattle.mds_machine.specs.Answer.{told}
 use Rattle.mds_machine.specs.Bodies.{list_json}
-use Rattle.mds_app.specs.OperatorNames.{Badge, Badges}
+use Rattle.server_app.specs.OperatorNames.{Badge, Badges}
 
 -- a name, where there is one
 abbrev pub name_members : Option (List ℕ) → List (List ℕ × Json)

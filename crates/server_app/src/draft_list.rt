@@ -5,7 +5,7 @@ ghost use Rattle.mds_text.specs.View.{view};
 ghost use Rattle.mds_drafts.specs.Drafts.{id_cmp};
 ghost use Rattle.mds_drafts.specs.Entries.{document_of, drafts_in};
 ghost use Rattle.mds_drafts.specs.Values.{drafts_of};
-ghost use Rattle.mds_app.specs.DraftList.{drafts_reply, ids_of, kind_word, listed_json, own_id};
+ghost use Rattle.server_app.specs.DraftList.{drafts_reply, ids_of, kind_word, listed_json, own_id};
 
 use crate::bodies::list_reply;
 use mds_drafts::{Draft, Drafts};

@@ -1,11 +1,11 @@
 //! Who the client is.
 ghost use Rattle.std.specs.Prelude.{◌≡◌, ◌++◌, IfOk, OnOk, map, option_map, string_bytes};
 ghost use Rattle.mds_text.specs.View.{view, member_view};
-ghost use Rattle.mds_app.specs.OperatorNames.{badge_view, badges_view};
-ghost use Rattle.mds_app.specs.Whoami.{author_json, badge_json, badge_members, name_members, operator_json, role_members, told_operator, who_reply};
+ghost use Rattle.server_app.specs.OperatorNames.{badge_view, badges_view};
+ghost use Rattle.server_app.specs.Whoami.{author_json, badge_json, badge_members, name_members, operator_json, role_members, told_operator, who_reply};
 
-use crate::operator_names::{OperatorName, OperatorNames};
 use crate::bodies::json_reply;
+use crate::operator_names::{OperatorName, OperatorNames};
 use mds_request::{Actor, Code, Reply};
 use mds_text::{Member, Tree, add_member, id_tree, list_tree, object_tree, text_tree};
 use std::alloc::{AllocError, Global};
@@ -80,7 +80,11 @@ fn operator_tree(alloc: Global, zone: &str, badge: &OperatorName) -> Result<Tree
 }
 
 /// The reply to the operator with this identifier and name; a refusal where there is none.
-fn operator_reply(alloc: Global, zone: &str, badge: Option<&OperatorName>) -> Result<Reply, AllocError>
+fn operator_reply(
+    alloc: Global,
+    zone: &str,
+    badge: Option<&OperatorName>,
+) -> Result<Reply, AllocError>
     ensures { IfOk result (λ r. r ≡ told_operator zone.now (option_map (λ b. badge_view b.now) badge.entry)) }
 {
     match badge {

@@ -1,5 +1,5 @@
 //! Laws of the answers for people. The functions do nothing: their contracts are the laws.
-ghost use Rattle.mds_app.specs.Laws.{ConfigurationsAreBadged, WhoGoesByOwnBadge, WithdrawnFromIsRight};
+ghost use Rattle.server_app.specs.Laws.{ConfigurationsAreBadged, WhoGoesByOwnBadge, WithdrawnFromIsRight};
 
 /// A policy is withdrawn at a moment exactly if that isn't before the moment that is reported.
 pub fn withdrawal_moment_is_right()

@@ -2,10 +2,10 @@
 ghost use Rattle.std.specs.Prelude.{◌≡◌, IfSome, map, option_and_then, option_map, string_bytes};
 ghost use Rattle.mds_text.specs.Fault.{Gives, text_cause};
 ghost use Rattle.mds_text.specs.Fields.{each};
-ghost use Rattle.mds_reading.specs.Node.{node_view};
-ghost use Rattle.mds_app.specs.OperatorNames.{as_name, badge_of, badge_view, badges_of, badges_view, name_at, read_badges};
+ghost use Rattle.mds_json.specs.Node.{node_view};
+ghost use Rattle.server_app.specs.OperatorNames.{as_name, badge_of, badge_view, badges_of, badges_view, name_at, read_badges};
 
-use mds_reading::{
+use mds_json::{
     Node, NodeBuffer, document_of, member_at, object_of, required_id, required_list, required_text,
 };
 use mds_text::{Field, Id, TextFault};

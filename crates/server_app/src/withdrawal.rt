@@ -3,7 +3,7 @@ ghost use Rattle.std.specs.Prelude.{◌≡◌, ◌++◌, IfOk, OnOk, map, option
 ghost use Rattle.mds_text.specs.View.{view};
 ghost use Rattle.std.specs.List.{filter_map};
 ghost use Rattle.mds_catalog.specs.Catalogue.{lent_policy, publications_of};
-ghost use Rattle.mds_app.specs.Withdrawals.{withdrawal_json, withdrawal_of, withdrawals_reply, withdrawn_from};
+ghost use Rattle.server_app.specs.Withdrawals.{withdrawal_json, withdrawal_of, withdrawals_reply, withdrawn_from};
 
 use crate::bodies::list_reply;
 use mds_catalog::{Catalogue, Published};

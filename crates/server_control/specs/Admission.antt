@@ -1,10 +1,10 @@
 -- Which requests are let in at a control port: the rules, of which the first that holds decides.
 use Rattle.std.specs.Prelude.{ℕ, ◌||◌, ◌==◌, List, [], ◌∷◌, map, Bool, false, true, codes, if◌then◌else◌, Option, Some, None, string_bytes}
-use Rattle.mds_control.specs.Hosts.{same_name, is_known}
-use Rattle.mds_control.specs.declared.admission.Admission.{Admission}
-use Rattle.mds_control.specs.declared.admission.Admission.TheVariants.{Admitted, Malformed, Forbidden}
-use Rattle.mds_control.specs.declared.hosts.Hosts.{Hosts}
-use Rattle.mds_control.specs.declared.hosts.Hosts.TheVariants.{Any, Named}
+use Rattle.server_control.specs.Hosts.{same_name, is_known}
+use Rattle.server_control.specs.declared.admission.Admission.{Admission}
+use Rattle.server_control.specs.declared.admission.Admission.TheVariants.{Admitted, Malformed, Forbidden}
+use Rattle.server_control.specs.declared.hosts.Hosts.{Hosts}
+use Rattle.server_control.specs.declared.hosts.Hosts.TheVariants.{Any, Named}
 
 -- the value of the first field of this name
 abbrev pub field_of : List ℕ → List (List ℕ × List ℕ) → Option (List ℕ)

@@ -1,11 +1,11 @@
 -- The kinds of what is counted, and their rows.
 use Rattle.std.specs.Prelude.{ℕ, ◌+◌, ◌*◌, nat_lt, if◌then◌else◌}
-use Rattle.mds_control.specs.declared.counters.CallKind.{CallKind}
-use Rattle.mds_control.specs.declared.counters.CallKind.TheVariants.{Read, Change, Publish}
-use Rattle.mds_control.specs.declared.counters.StatusClass.{StatusClass}
-use Rattle.mds_control.specs.declared.counters.StatusClass.TheVariants.{Done, Refused, Failed}
-use Rattle.mds_control.specs.declared.counters.Figure.{Figure}
-use Rattle.mds_control.specs.declared.counters.Figure.TheVariants.{JournalBytes, Syncs, Pending, Revision}
+use Rattle.server_control.specs.declared.counters.CallKind.{CallKind}
+use Rattle.server_control.specs.declared.counters.CallKind.TheVariants.{Read, Change, Publish}
+use Rattle.server_control.specs.declared.counters.StatusClass.{StatusClass}
+use Rattle.server_control.specs.declared.counters.StatusClass.TheVariants.{Done, Refused, Failed}
+use Rattle.server_control.specs.declared.counters.Figure.{Figure}
+use Rattle.server_control.specs.declared.counters.Figure.TheVariants.{JournalBytes, Syncs, Pending, Revision}
 
 -- the class of a status (RFC 9110, section 15): 4xx is the client's fault, 5xx the server's
 abbrev pub outcome_of : ℕ → StatusClass

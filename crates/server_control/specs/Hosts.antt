@@ -2,8 +2,8 @@
 use Rattle.std.specs.Prelude.{◌≡◌, ℕ, List, [], ◌∷◌, ◌++◌, map, Bool, bytes_eq, codes, decimal, Option, None, Some, string_bytes}
 use Rattle.std.specs.Char.{to_ascii_lowercase}
 use Rattle.std.specs.List.{list_any}
-use Rattle.mds_control.specs.declared.hosts.Hosts.{Hosts}
-use Rattle.mds_control.specs.declared.hosts.Hosts.TheVariants.{Any, Named}
+use Rattle.server_control.specs.declared.hosts.Hosts.{Hosts}
+use Rattle.server_control.specs.declared.hosts.Hosts.TheVariants.{Any, Named}
 
 -- the same name, whatever the case of its letters (RFC 9110, sections 4.2.3 and 5.1)
 abbrev pub same_name : List ℕ → List ℕ → Bool

@@ -1,9 +1,9 @@
 -- The pages of the control port: each has a path and takes one method.
 use Rattle.std.specs.Prelude.{ℕ, List, Option, Some, None, Bool, bytes_eq, codes, if◌then◌else◌}
-use Rattle.mds_control.specs.declared.pages.ControlPage.{ControlPage}
-use Rattle.mds_control.specs.declared.pages.ControlPage.TheVariants as page
-use Rattle.mds_control.specs.declared.pages.ControlAnswer.{ControlAnswer}
-use Rattle.mds_control.specs.declared.pages.ControlAnswer.TheVariants.{Healthy, Unready, Metrics, Stops, Unread, Forbidden, NotFound, NotAllowed}
+use Rattle.server_control.specs.declared.pages.ControlPage.{ControlPage}
+use Rattle.server_control.specs.declared.pages.ControlPage.TheVariants as page
+use Rattle.server_control.specs.declared.pages.ControlAnswer.{ControlAnswer}
+use Rattle.server_control.specs.declared.pages.ControlAnswer.TheVariants.{Healthy, Unready, Metrics, Stops, Unread, Forbidden, NotFound, NotAllowed}
 
 abbrev pub page_of : List ℕ → Option ControlPage
 page_of path =

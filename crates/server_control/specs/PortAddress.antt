@@ -1,7 +1,7 @@
 -- Where a control port listens, by its address.
 use Rattle.std.specs.Prelude.{◌≡◌, ℕ, List, ◌++◌, codes}
-use Rattle.mds_control.specs.declared.port.PortAddress.{PortAddress}
-use Rattle.mds_control.specs.declared.port.PortAddress.TheVariants.{Tcp, Unix}
+use Rattle.server_control.specs.declared.port.PortAddress.{PortAddress}
+use Rattle.server_control.specs.declared.port.PortAddress.TheVariants.{Tcp, Unix}
 
 -- an address that begins with `unix:` is that of a Unix socket, and any other is one of TCP
 abbrev pub PlaceOf : List ℕ → PortAddress → Type 0

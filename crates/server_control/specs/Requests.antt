@@ -2,16 +2,16 @@
 use Rattle.std.specs.Prelude.{◌≡◌, ℕ, ◌||◌, map, List, Bool, nat_lt, if◌then◌else◌, Option, Some, None}
 use Rattle.httparse.specs.Grammar.{RequestHead, ReadsRequest, HasNoRequest}
 use Rattle.httparse.specs.Spans.{name_and_value, RequestOverflows}
-use Rattle.mds_control.specs.Admission.{admission_of}
-use Rattle.mds_control.specs.Pages.{answer_of}
-use Rattle.mds_control.specs.declared.admission.Admission.{Admission}
-use Rattle.mds_control.specs.declared.admission.Admission.TheVariants.{Admitted, Malformed, Forbidden}
-use Rattle.mds_control.specs.declared.hosts.Hosts.{Hosts}
-use Rattle.mds_control.specs.declared.pages.ControlAnswer.{ControlAnswer}
-use Rattle.mds_control.specs.declared.pages.ControlAnswer.TheVariants as answers
-use Rattle.mds_control.specs.declared.request.ControlHead.{ControlHead}
-use Rattle.mds_control.specs.declared.request.ControlHead.TheVariants.{Whole, Partial, Broken}
-use Rattle.mds_control.specs.declared.request.TheConstants.{MOST_FIELDS, MOST_OF_HEAD}
+use Rattle.server_control.specs.Admission.{admission_of}
+use Rattle.server_control.specs.Pages.{answer_of}
+use Rattle.server_control.specs.declared.admission.Admission.{Admission}
+use Rattle.server_control.specs.declared.admission.Admission.TheVariants.{Admitted, Malformed, Forbidden}
+use Rattle.server_control.specs.declared.hosts.Hosts.{Hosts}
+use Rattle.server_control.specs.declared.pages.ControlAnswer.{ControlAnswer}
+use Rattle.server_control.specs.declared.pages.ControlAnswer.TheVariants as answers
+use Rattle.server_control.specs.declared.request.ControlHead.{ControlHead}
+use Rattle.server_control.specs.declared.request.ControlHead.TheVariants.{Whole, Partial, Broken}
+use Rattle.server_control.specs.declared.request.TheConstants.{MOST_FIELDS, MOST_OF_HEAD}
 
 -- a request gets its own answer only where it is let in
 abbrev pub answer_if : Admission → ControlAnswer → ControlAnswer

@@ -1,7 +1,7 @@
 //! Which requests are let in.
 ghost use Rattle.std.specs.Prelude.{◌≡◌, map, option_map, string_bytes, All, length};
 ghost use Rattle.httparse.specs.Spans.{IsHeaderWithin, header_bytes};
-ghost use Rattle.mds_control.specs.Admission.{field_of, has_field, has_several, is_from_page, admission_at, host_admission, admission_of};
+ghost use Rattle.server_control.specs.Admission.{field_of, has_field, has_several, is_from_page, admission_at, host_admission, admission_of};
 
 use crate::hosts::{Hosts, is_known, is_name};
 use httparse::spans::HeaderSpan;

@@ -1,6 +1,6 @@
 //! The client of a control port, which stops a server.
 ghost use Rattle.std.specs.Prelude.{◌≡◌, IfOk, string_bytes};
-ghost use Rattle.mds_control.specs.PortAddress.{stop_request};
+ghost use Rattle.server_control.specs.PortAddress.{stop_request};
 
 use crate::port::{PortAddress, port_address_of};
 use std::alloc::{AllocError, AllocGlobal, Global};

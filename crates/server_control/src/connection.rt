@@ -56,7 +56,9 @@ impl ReplyWriter {
             match stream.write(rest) {
                 Ok(0) => return Err(ErrorKind::WriteZero.into()),
                 Ok(count) => self.written = self.written.saturating_add(count),
-                Err(error) if error.kind() == ErrorKind::WouldBlock => return Ok(ConnProgress::Waits),
+                Err(error) if error.kind() == ErrorKind::WouldBlock => return Ok(
+                    ConnProgress::Waits,
+                ),
                 Err(error) => return Err(error),
             }
         }
@@ -113,7 +115,11 @@ impl<C: Read + Write> Connection<C> {
     /// # Errors
     ///
     /// `TimedOut` where its time is over, the connection's, or memory ran out.
-    pub(crate) fn advance<R, S>(&mut self, rt: &R, server: &ControlledServer<'_, S>) -> io::Result<ConnProgress>
+    pub(crate) fn advance<R, S>(
+        &mut self,
+        rt: &R,
+        server: &ControlledServer<'_, S>,
+    ) -> io::Result<ConnProgress>
     where
         R: Clock + AllocGlobal,
         S: StopServer,

@@ -1,10 +1,10 @@
 //! The counters of a server, which any thread may change.
 ghost use Rattle.std.specs.Prelude.{◌≡◌};
-ghost use Rattle.mds_control.specs.Counted.{outcome_of, place_of, request_place};
+ghost use Rattle.server_control.specs.Counted.{outcome_of, place_of, request_place};
 
 use crate::families::{BOUNDS, CONNECTIONS, COUNT, FIRST_BUCKET, PLACES, ROWS, SUM, VEHICLES};
 use crate::fleets::Fleet;
-use crate::lines::{MetricLine, Metadata};
+use crate::lines::{Metadata, MetricLine};
 use std::alloc::{AllocError, Global};
 use std::sync::Arc;
 use std::sync::atomic::{AtomicU64, Ordering};

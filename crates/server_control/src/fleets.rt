@@ -1,6 +1,6 @@
 //! How many vehicles each operator has, in numbers that any thread may change.
 ghost use Rattle.std.specs.Prelude.{◌≡◌, IfOk, string_bytes};
-ghost use Rattle.mds_control.specs.Lines.{operator_label};
+ghost use Rattle.server_control.specs.Lines.{operator_label};
 
 use std::alloc::{AllocError, Global};
 use std::sync::Arc;

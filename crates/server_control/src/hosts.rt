@@ -1,6 +1,6 @@
 //! The host names of a control port.
 ghost use Rattle.std.specs.Prelude.{◌≡◌, ◌++◌, map, option_map, IfOk, string_bytes};
-ghost use Rattle.mds_control.specs.Hosts.{same_name, authorities, hosts_of, AreHosts, is_known};
+ghost use Rattle.server_control.specs.Hosts.{same_name, authorities, hosts_of, AreHosts, is_known};
 
 use std::alloc::{AllocError, Global};
 

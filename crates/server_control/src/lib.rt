@@ -19,11 +19,11 @@ mod serving;
 
 pub use client::stop;
 pub use control::{Control, StopServer};
-pub use counters::{Counters, Figure, CallKind, StatusClass};
+pub use counters::{CallKind, Counters, Figure, StatusClass};
 pub use families::Family;
 pub use fleets::Fleet;
 pub use hosts::Hosts;
-pub use lines::{MetricLine, Metadata, metrics};
+pub use lines::{Metadata, MetricLine, metrics};
 pub use metered::{MeteredReply, RequestTimer};
 pub use pages::{ControlAnswer, answer_for};
 pub use port::{Port, PortWaker};

@@ -1,6 +1,6 @@
 //! The metrics, in Prometheus' text format.
 ghost use Rattle.std.specs.Prelude.{◌≡◌, IfOk, string_bytes, flat_map};
-ghost use Rattle.mds_control.specs.Lines.{metadata_of, line_text};
+ghost use Rattle.server_control.specs.Lines.{metadata_of, line_text};
 
 use crate::families::Family;
 use std::alloc::{AllocError, Global};
@@ -43,7 +43,7 @@ impl Metadata {
 
 impl fmt::Display for Metadata {
     ghost use Rattle.std.specs.Prelude.{Some};
-    ghost use Rattle.mds_control.specs.Lines.{metadata_text};
+    ghost use Rattle.server_control.specs.Lines.{metadata_text};
 
     ghost output = { λ metadata. Some (metadata_text metadata) };
 
@@ -59,7 +59,7 @@ impl fmt::Display for Metadata {
 
 impl fmt::Display for MetricLine<'_> {
     ghost use Rattle.std.specs.Prelude.{Some};
-    ghost use Rattle.mds_control.specs.Lines.{line_text};
+    ghost use Rattle.server_control.specs.Lines.{line_text};
 
     ghost output = { λ line. Some (line_text line) };
 

@@ -1,10 +1,10 @@
 //! A pending response that is counted as it leaves.
 ghost use Rattle.std.specs.Prelude.{◌≡◌};
 
-use crate::counters::{Counters, Figure, CallKind};
+use crate::counters::{CallKind, Counters, Figure};
 use futures::Future;
 use futures::task::{Context, Poll};
-use mds_responses::HttpResult;
+use server_responses::HttpResult;
 use std::time::{Clock, Instant};
 
 /// The status of a success.

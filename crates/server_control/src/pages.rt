@@ -1,6 +1,6 @@
 //! The pages of the control port, and their answers.
 ghost use Rattle.std.specs.Prelude.{◌≡◌};
-ghost use Rattle.mds_control.specs.Pages.{page_of, takes, answer_at, answer_of, status_of};
+ghost use Rattle.server_control.specs.Pages.{page_of, takes, answer_at, answer_of, status_of};
 
 /// A page of the control port.
 #[derive(Clone, Copy, PartialEq, Eq)]

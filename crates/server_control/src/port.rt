@@ -1,5 +1,5 @@
 //! Where a control port listens.
-ghost use Rattle.mds_control.specs.PortAddress.{PlaceOf};
+ghost use Rattle.server_control.specs.PortAddress.{PlaceOf};
 
 use crate::hosts::Hosts;
 use libc::net::listen;

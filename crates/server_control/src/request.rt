@@ -1,6 +1,6 @@
 //! A request's head, and the answer to it.
 ghost use Rattle.std.specs.Prelude.{◌≡◌};
-ghost use Rattle.mds_control.specs.Requests.{answer_if, HeadingOf, due_of};
+ghost use Rattle.server_control.specs.Requests.{answer_if, HeadingOf, due_of};
 
 use crate::admission::{Admission, admission_of};
 use crate::hosts::Hosts;

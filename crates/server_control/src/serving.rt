@@ -1,5 +1,5 @@
 //! The control port, served by one thread.
-use crate::connection::{Connection, ConnProgress};
+use crate::connection::{ConnProgress, Connection};
 use crate::control::{Control, ControlledServer, StopServer};
 use crate::counters::Counters;
 use crate::port::{Port, Stream};
@@ -39,7 +39,9 @@ impl AcceptBacklog {
         match self {
             AcceptBacklog::Remains => Some(Duration::ZERO),
             AcceptBacklog::Empty if open == 0 => None,
-            AcceptBacklog::Empty | AcceptBacklog::Refused => Some(Duration::from_millis(TICK_MILLIS)),
+            AcceptBacklog::Empty | AcceptBacklog::Refused => Some(Duration::from_millis(
+                TICK_MILLIS,
+            )),
         }
     }
 }

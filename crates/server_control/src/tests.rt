@@ -1,9 +1,9 @@
 //! Tests of the control port over loopback.
-use crate::counters::{Counters, Figure, CallKind};
+use crate::counters::{CallKind, Counters, Figure};
 use crate::fleets::Fleet;
 use crate::{
-    ControlAnswer, Control, ControlHead, Hosts, Port, StopServer, answer_due, control_head_of, metrics, serve_control,
-    stop,
+    Control, ControlAnswer, ControlHead, Hosts, Port, StopServer, answer_due, control_head_of,
+    metrics, serve_control, stop,
 };
 use std::alloc::{AllocError, AllocGlobal, Global};
 use std::fs::{self, Files};
@@ -72,7 +72,11 @@ fn refuses_another_host(rt: HostRuntime) -> Result<(), Fail> {
     ] {
         let lines = format!(in rt.alloc(); "POST /stop HTTP/1.1\r\nhost: {host}\r\n\r\n")?;
         let found = heading_in(rt.alloc(), &lines)?;
-        assert_eq!(rt; found, ControlHead::Whole(ControlAnswer::Forbidden), "{host}");
+        assert_eq!(rt;
+            found,
+            ControlHead::Whole(ControlAnswer::Forbidden),
+            "{host}"
+        );
     }
     Ok(())
 }
@@ -90,9 +94,17 @@ fn refuses_a_page(rt: HostRuntime) -> Result<(), Fail> {
             "POST /stop HTTP/1.1\r\nhost: localhost\r\n{field}\r\n\r\n"
         )?;
         let found = heading_in(rt.alloc(), &lines)?;
-        assert_eq!(rt; found, ControlHead::Whole(ControlAnswer::Forbidden), "{field}");
+        assert_eq!(rt;
+            found,
+            ControlHead::Whole(ControlAnswer::Forbidden),
+            "{field}"
+        );
         let anywhere = control_head_of(lines.as_bytes(), &Hosts::Any, true);
-        assert_eq!(rt; anywhere, ControlHead::Whole(ControlAnswer::Forbidden), "{field}");
+        assert_eq!(rt;
+            anywhere,
+            ControlHead::Whole(ControlAnswer::Forbidden),
+            "{field}"
+        );
     }
     Ok(())
 }

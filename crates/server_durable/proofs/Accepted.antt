@@ -2,14 +2,14 @@
 use Rattle.std.proofs.Common.{◌≡◌, ◌==◌, ℕ, ◌+◌, ◌<◌, Bool, true, false, cond, List, [], ◌∷◌, ◌++◌, length, map, take, get_or, refl, sym, ap, subst, ◌∙◌, add-one, append_assoc}
 use Rattle.std.proofs.Math.Seq.{take-suc}
 use Rattle.std.specs.List.{AllByRecursion}
-use Rattle.mds_commit.specs.Durable.{chosen}
+use Rattle.journal_commit.specs.Durable.{chosen}
 use Rattle.mds_machine.specs.Step.{Exchange}
 use Rattle.mds_request.specs.Configuration.{Configuration}
 use Rattle.mds_request.specs.Request.{Request}
 use Rattle.mds_request.specs.Reply.{Reply}
-use Rattle.mds_restarts.specs.Persisted.{requests_in}
-use Rattle.mds_city.specs.Many.{AreRecordsOf, accepted, exchanges}
-use Rattle.mds_city.specs.Records.{HasRecord, IsRecordOf}
+use Rattle.journal_laws.specs.Persisted.{requests_in}
+use Rattle.server_durable.specs.Many.{AreRecordsOf, accepted, exchanges}
+use Rattle.server_durable.specs.Records.{HasRecord, IsRecordOf}
 
 pub taken_more : {A : Type 0} (items : List A) (i : ℕ) (item : A) → i < length items → item ≡ get_or items i item → take (i + 1) items ≡ take i items ++ item ∷ []
 taken_more items i item within here =

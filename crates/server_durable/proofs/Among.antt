@@ -1,8 +1,8 @@
 -- A payload among others.
 use Rattle.std.proofs.Common.{ℕ, List, [], ◌∷◌, ◌++◌, sym, ap, ◌∙◌, append_assoc}
 use mathlib.Core.List.{IsPrefix}
-use Rattle.mds_commit.specs.Durable.{IsLast}
-use Rattle.mds_city.specs.Records.{IsAmong}
+use Rattle.journal_commit.specs.Durable.{IsLast}
+use Rattle.server_durable.specs.Records.{IsAmong}
 
 -- the last one is among them
 pub last_among : (text : List ℕ) (texts : List (List ℕ)) → IsLast text texts → IsAmong text texts

@@ -1,9 +1,9 @@
 -- The client that makes a call, and the records of requests by client.
 use Rattle.std.proofs.Common.{◌≡◌, ◌<◌, ◌+◌, ℕ, zero, suc, List, [], ◌∷◌, ◌++◌, length, map, take, drop, get_or, Option, Some, None, option_map, Ok, refl, sym, ap, subst, ◌∙◌}
 use Rattle.std.proofs.lemmas.List.{map-append}
-use Rattle.mds_entries.specs.Requests.{asked_by, asker_at}
-use Rattle.mds_entries.specs.declared.entry.EntryClient.{EntryClient}
-use Rattle.mds_entries.specs.declared.entry.EntryClient.TheVariants.{Operator as OperatorBy}
+use Rattle.journal_entry.specs.Requests.{asked_by, asker_at}
+use Rattle.journal_entry.specs.declared.entry.EntryClient.{EntryClient}
+use Rattle.journal_entry.specs.declared.entry.EntryClient.TheVariants.{Operator as OperatorBy}
 use Rattle.mds_request.specs.Call.{call_of}
 use Rattle.mds_request.specs.Configuration.{Configuration, Operator as Named, actor_of}
 use Rattle.mds_request.specs.Request.{Request}
@@ -12,11 +12,11 @@ use Rattle.mds_request.specs.declared.call.Call.TheVariants as call
 use Rattle.mds_request.specs.declared.config.Actor.{Actor}
 use Rattle.mds_request.specs.declared.config.Actor.TheVariants.{Operator}
 use Rattle.mds_request.proofs.Callers.{call_of-caller, caller}
-use Rattle.mds_hall.specs.Client.{IsWithin}
-use Rattle.mds_hall.proofs.Clients.{is_within}
-use Rattle.mds_city.specs.Many.{AreAskedBy, AreRecordsOf, report_of}
-use Rattle.mds_city.specs.Records.{IsRecordOf, caller_of, record_by}
-use Rattle.mds_city.proofs.Accepted.{taken_more}
+use Rattle.server_state.specs.Client.{IsWithin}
+use Rattle.server_state.proofs.Clients.{is_within}
+use Rattle.server_durable.specs.Many.{AreAskedBy, AreRecordsOf, report_of}
+use Rattle.server_durable.specs.Records.{IsRecordOf, caller_of, record_by}
+use Rattle.server_durable.proofs.Accepted.{taken_more}
 
 -- an operator in a record, by its identifier
 pub asker_named : (operator : Option Named) (id : List ℕ) → option_map (λ o. o.id) operator ≡ Some id → option_map (λ o. OperatorBy o.id) operator ≡ Some (OperatorBy id)

@@ -6,16 +6,16 @@ use denote.Param.Send.{IsSend, IsSync, sendable}
 use denote.Param.SendFields.{as_row_send, as_row_sync, declared_send, declared_sync}
 use Rattle.std.proofs.Crossing.{crosses, send, sync}
 use Rattle.mds_snapshot.specs.declared.history.OpeningName.{Ghosts as Openings}
-use Rattle.mds_hall.specs.declared.hall_name.HallName.{Ghosts as Names}
-use Rattle.mds_hall.proofs.Halls.{hall_send, hall_sync}
-use Rattle.mds_app.proofs.operator_names.OperatorNames.TheSendSync as badges
-use Rattle.mds_records.specs.declared.log.Log.{Ghosts as Logs}
-use Rattle.mds_commit.specs.declared.history.LogName.{Ghosts as Books}
-use Rattle.mds_commit.specs.declared.space.Space.{Ghosts as Spaces}
-use Rattle.mds_commit.proofs.history.LogPosition.TheSendSync as stamp
-use Rattle.mds_commit.proofs.commit_log.CommitLog.TheSendSync as keeper
-use Rattle.mds_city.specs.contracts.durable_hall.DurableHall as DurableHall
-use Rattle.mds_city.specs.contracts.service.DurableService as DurableService
+use Rattle.server_state.specs.declared.hall_name.HallName.{Ghosts as Names}
+use Rattle.server_state.proofs.Halls.{hall_send, hall_sync}
+use Rattle.server_app.proofs.operator_names.OperatorNames.TheSendSync as badges
+use Rattle.journal_file.specs.declared.log.Log.{Ghosts as Logs}
+use Rattle.journal_commit.specs.declared.history.LogName.{Ghosts as Books}
+use Rattle.journal_commit.specs.declared.space.Space.{Ghosts as Spaces}
+use Rattle.journal_commit.proofs.history.LogPosition.TheSendSync as stamp
+use Rattle.journal_commit.proofs.commit_log.CommitLog.TheSendSync as keeper
+use Rattle.server_durable.specs.contracts.durable_hall.DurableHall as DurableHall
+use Rattle.server_durable.specs.contracts.service.DurableService as DurableService
 
 module _ (K N L S : RattleType) (k : Names K.Denot) (o : Openings K.Denot) (n : Books N.Denot) (l : Logs L.Denot) (s : Spaces S.Denot) where
   pub city_send : IsSend S → IsSend (DurableHall.the_row K N L S k o n l s)

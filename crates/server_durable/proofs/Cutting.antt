@@ -2,9 +2,9 @@
 use Rattle.std.proofs.Common.{◌≡◌, ℕ, ◌+◌, ◌≤◌, ◌<◌, Bool, true, false, cond, List, [], ◌∷◌, ◌++◌, length, map, filter, take, drop, position, Some, None, refl, sym, ap, ◌∙◌, arith, append_assoc, length-append}
 use Rattle.std.specs.Io.BufRead.{strip_last}
 use Rattle.std.proofs.lemmas.List.{append-nil, map-append}
-use Rattle.mds_lines.specs.Input.{is_feed, is_filled, lines}
-use Rattle.mds_lines.proofs.Framed.{first_line, last_line}
-use Rattle.mds_lines.proofs.Gathered.{feed_splits, feed_first, feed_missing, strip_is}
+use Rattle.mds_script.specs.Input.{is_feed, is_filled, lines}
+use Rattle.mds_script.proofs.Framed.{first_line, last_line}
+use Rattle.mds_script.proofs.Gathered.{feed_splits, feed_first, feed_missing, strip_is}
 
 -- a line feed ends the first line
 pub first_is : (text : List ℕ) (place : ℕ) → position is_feed text ≡ Some place

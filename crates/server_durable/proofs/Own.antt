@@ -1,18 +1,18 @@
 -- An operator's answers outside the protocol's calls, by its own place.
 use Rattle.std.proofs.Common.{◌≡◌, ◌⊎◌, ℕ, List, Option, Some, None, option_map, Result, Ok, Err, IfOk, IfErr, inl, inr, refl, sym, ap, subst, ◌∙◌}
 use Rattle.std.specs.List.{slice_get}
-use Rattle.mds_app.specs.OperatorNames.{Badges}
-use Rattle.mds_app.specs.Whoami.{told_operator}
-use Rattle.mds_app.specs.Withdrawals.{withdrawals_reply}
+use Rattle.server_app.specs.OperatorNames.{Badges}
+use Rattle.server_app.specs.Whoami.{told_operator}
+use Rattle.server_app.specs.Withdrawals.{withdrawals_reply}
 use Rattle.mds_catalog.specs.Publication.{Publication}
 use Rattle.mds_request.specs.Configuration.{Configuration, Operator as Named}
 use Rattle.mds_request.specs.Reply.{Reply, refused}
 use Rattle.mds_request.specs.declared.code.Code.{Code}
 use Rattle.mds_request.specs.declared.code.Code.TheVariants.{NoMemory, NoSnapshot}
-use Rattle.mds_hall.specs.Query.{DeskTells}
-use Rattle.mds_city.specs.People.{IsToldReply, operator_told, own_withdrawals}
-use Rattle.mds_routes.specs.declared.app.Question.{Question}
-use Rattle.mds_routes.specs.declared.app.Question.TheVariants.{Whoami, Withdrawals, Drafts}
+use Rattle.server_state.specs.Query.{DeskTells}
+use Rattle.server_durable.specs.People.{IsToldReply, operator_told, own_withdrawals}
+use Rattle.server_routes.specs.declared.app.Question.{Question}
+use Rattle.server_routes.specs.declared.app.Question.TheVariants.{Whoami, Withdrawals, Drafts}
 
 pub told_own : (one other : Configuration) (named renamed : Badges) (place : ℕ) (publications : List Publication) (question : Question)
     → slice_get one.operators place ≡ slice_get other.operators place → slice_get named.operators place ≡ slice_get renamed.operators place → named.zone ≡ renamed.zone

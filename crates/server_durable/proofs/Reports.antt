@@ -7,27 +7,27 @@ use Rattle.std.proofs.lemmas.List.{append-nil, length-map, map-append}
 use Rattle.http.specs.declared.response.Response.{Response}
 use Rattle.http_body_util.specs.declared.full.Full.{Full}
 use Rattle.mds_catalog.specs.Publication.{Publication}
-use Rattle.mds_commit.specs.Durable.{AreLast, chosen}
+use Rattle.journal_commit.specs.Durable.{AreLast, chosen}
 use Rattle.mds_machine.specs.Step.{Exchange}
 use Rattle.mds_request.specs.Configuration.{Configuration}
 use Rattle.mds_request.specs.Request.{Request}
 use Rattle.mds_request.specs.Reply.{Reply, refused}
 use Rattle.mds_request.specs.declared.code.Code.{Code}
-use Rattle.mds_restarts.specs.Persisted.{requests_in}
+use Rattle.journal_laws.specs.Persisted.{requests_in}
 use Rattle.mds_desk.specs.Desk.{DeskState, TakesRun}
 use Rattle.mds_desk.proofs.Running.{begins}
-use Rattle.mds_hall.specs.Response.{Says}
-use Rattle.mds_hall.specs.Turn.{IsDeskAt, TakesToldRun}
-use Rattle.mds_city.specs.Many.{AreRecorded, AreRecordsOf, AreRefusedBehind, Continues, IsAnsweredInPart, IsHalted, IsRecordedRun, IsRefusedWhole, ManyAreAnswered, SaysAll, accepted, exchanges, reports_of}
-use Rattle.mds_city.specs.CacheControl.{Waits}
-use Rattle.mds_city.specs.declared.many.Halt.{Halt}
-use Rattle.mds_city.specs.declared.many.Halt.TheVariants.{Unheld, NotTold}
-use Rattle.mds_city.specs.declared.pending.NoResponse.{NoResponse}
-use Rattle.mds_city.proofs.Accepted.{all_recorded, chosen_are_theirs, taken_more}
-use Rattle.mds_city.proofs.Among.{later_among}
-use Rattle.mds_city.proofs.Responses.{ok_more, waits_more}
-use Rattle.mds_city.proofs.Runs.{desk_run_on, same_told}
-use Rattle.mds_city.proofs.Turns.{first_true, second_true}
+use Rattle.server_state.specs.Response.{Says}
+use Rattle.server_state.specs.Turn.{IsDeskAt, TakesToldRun}
+use Rattle.server_durable.specs.Many.{AreRecorded, AreRecordsOf, AreRefusedBehind, Continues, IsAnsweredInPart, IsHalted, IsRecordedRun, IsRefusedWhole, ManyAreAnswered, SaysAll, accepted, exchanges, reports_of}
+use Rattle.server_durable.specs.CacheControl.{Waits}
+use Rattle.server_durable.specs.declared.many.Halt.{Halt}
+use Rattle.server_durable.specs.declared.many.Halt.TheVariants.{Unheld, NotTold}
+use Rattle.server_durable.specs.declared.pending.NoResponse.{NoResponse}
+use Rattle.server_durable.proofs.Accepted.{all_recorded, chosen_are_theirs, taken_more}
+use Rattle.server_durable.proofs.Among.{later_among}
+use Rattle.server_durable.proofs.Responses.{ok_more, waits_more}
+use Rattle.server_durable.proofs.Runs.{desk_run_on, same_told}
+use Rattle.server_durable.proofs.Turns.{first_true, second_true}
 
 -- a list from a place on
 pub rest_is : {A : Type 0} (n : ℕ) (items : List A) → take (length items - n) (drop n items) ≡ drop n items

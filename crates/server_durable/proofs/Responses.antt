@@ -2,21 +2,21 @@
 use Rattle.std.proofs.Common.{◌≡◌, ◌⊎◌, ℕ, List, Option, Some, None, IfSome, MatchOption, Result, Ok, Err, IfOk, inl, inr, sym, subst}
 use Rattle.http.specs.declared.response.Response.{Response}
 use Rattle.http_body_util.specs.declared.full.Full.{Full}
-use Rattle.mds_app.specs.OperatorNames.{Badges}
+use Rattle.server_app.specs.OperatorNames.{Badges}
 use Rattle.mds_request.specs.Configuration.{Configuration, actor_of}
 use Rattle.mds_request.specs.Request.{Request}
 use Rattle.mds_request.specs.Reply.{Reply, refused}
 use Rattle.mds_request.specs.declared.code.Code.{Code}
 use Rattle.mds_request.specs.declared.config.Actor.{Actor}
 use Rattle.mds_request.specs.declared.config.Actor.{Actor}
-use Rattle.mds_hall.specs.Respond as hall
-use Rattle.mds_hall.specs.Response.{Says}
-use Rattle.mds_routes.specs.App.{app_of}
-use Rattle.mds_city.specs.DurableResponse.{IsAnswered, IsAnsweredBy, IsRecordedTurn, IsTold}
-use Rattle.mds_city.specs.People.{IsToldReply, SaysTold}
-use Rattle.mds_city.specs.Refusals.{SaysUnheld}
-use Rattle.mds_city.specs.CacheControl.{Waits}
-use Rattle.mds_routes.specs.declared.app.AppCall.{AppCall}
+use Rattle.server_state.specs.Respond as hall
+use Rattle.server_state.specs.Response.{Says}
+use Rattle.server_routes.specs.App.{app_of}
+use Rattle.server_durable.specs.DurableResponse.{IsAnswered, IsAnsweredBy, IsRecordedTurn, IsTold}
+use Rattle.server_durable.specs.People.{IsToldReply, SaysTold}
+use Rattle.server_durable.specs.Refusals.{SaysUnheld}
+use Rattle.server_durable.specs.CacheControl.{Waits}
+use Rattle.server_routes.specs.declared.app.AppCall.{AppCall}
 
 -- one reply of the protocol is a hall's
 one_is : (configuration : Configuration) (request : Request) (stamp : List (List ℕ)) (response : Response (Full (List ℕ)))

@@ -13,7 +13,7 @@ use Rattle.mds_machine.specs.Fronts.{Turn, last_front, replies_in, requests_in}
 use Rattle.mds_machine.proofs.Runs.{turns_are_joined, turns_are_meant}
 use Rattle.mds_machine.proofs.Views.{last_on, prefix_self}
 use Rattle.mds_desk.specs.Desk.{DeskState, IsSameDesk, TakesRun}
-use Rattle.mds_hall.specs.Turn.{IsTold, TakesToldRun}
+use Rattle.server_state.specs.Turn.{IsTold, TakesToldRun}
 
 -- a note leaves it the same desk, with its rows, and it knows no less
 pub same_told : (d : DeskState) (note : Option (List Publication)) (told : DeskState) → IsTold d note told → IsSameDesk d told

@@ -2,7 +2,7 @@
 use Rattle.std.proofs.Common.{◌≡◌, ℕ, Bool, true, false, List, Option, Some, None, IfSome, IfNone, IsSome, option_map, Err, refl, sym, ap, subst}
 use Rattle.std.specs.Prelude.{◌&&◌, ◌==◌}
 use Rattle.std.proofs.lemmas.Bool.{eqb-true}
-use Rattle.mds_commit.specs.declared.backlog.Reservation.{Reservation}
+use Rattle.journal_commit.specs.declared.backlog.Reservation.{Reservation}
 use Rattle.mds_request.specs.Call.{call_of}
 use Rattle.mds_request.specs.Configuration.{Configuration, actor_of}
 use Rattle.mds_request.specs.Request.{Request}
@@ -10,14 +10,14 @@ use Rattle.mds_request.specs.Reply.{Reply, refused}
 use Rattle.mds_request.specs.declared.code.Code.{Code}
 use Rattle.mds_request.specs.declared.config.Actor.{Actor}
 use Rattle.mds_request.specs.declared.config.Actor.TheVariants.{Author, Operator, Nobody}
-use Rattle.mds_restarts.specs.Persisted.{is_kept, may_change}
-use Rattle.mds_hall.specs.Early.{unknown}
-use Rattle.mds_hall.specs.Respond.{TurnGives}
-use Rattle.mds_hall.proofs.Refusing.{IsSomebody, table_refuses}
-use Rattle.mds_city.specs.DurableResponse.{IsRecordedTurn}
-use Rattle.mds_city.specs.Records.{HasRecord, IsAmong, IsReserved, IsSettled, IsTitled, place_of}
-use Rattle.mds_city.specs.declared.records.CallReservation.{CallReservation}
-use Rattle.mds_city.specs.declared.records.CallReservation.TheVariants.{Reads, Holds}
+use Rattle.journal_laws.specs.Persisted.{is_kept, may_change}
+use Rattle.server_state.specs.Early.{unknown}
+use Rattle.server_state.specs.Respond.{TurnGives}
+use Rattle.server_state.proofs.Refusing.{IsSomebody, table_refuses}
+use Rattle.server_durable.specs.DurableResponse.{IsRecordedTurn}
+use Rattle.server_durable.specs.Records.{HasRecord, IsAmong, IsReserved, IsSettled, IsTitled, place_of}
+use Rattle.server_durable.specs.declared.records.CallReservation.{CallReservation}
+use Rattle.server_durable.specs.declared.records.CallReservation.TheVariants.{Reads, Holds}
 
 pub first_true : (a b : Bool) → (a && b) ≡ true → a ≡ true
 first_true true b is = refl

@@ -8,9 +8,9 @@ use Rattle.mds_request.specs.declared.code.Code.TheVariants.{NoRoute, TooLarge}
 use Rattle.mds_request.specs.declared.config.Actor.{Actor}
 use Rattle.mds_request.specs.declared.config.Actor.TheVariants.{Author, Operator, Nobody}
 use Rattle.mds_request.specs.declared.request.Verb.{Verb}
-use Rattle.mds_restarts.specs.Persisted.{may_change}
-use Rattle.mds_routes.specs.App.{app_of, by_verb, call_at}
-use Rattle.mds_routes.proofs.Apart.{by_app}
+use Rattle.journal_laws.specs.Persisted.{may_change}
+use Rattle.server_routes.specs.App.{app_of, by_verb, call_at}
+use Rattle.server_routes.proofs.Apart.{by_app}
 
 some_call : {A B : Type 0} (f : A → B) (o : Option A) → IsSome (option_map f o) → IsSome o
 some_call f None some = absurd cc

@@ -3,9 +3,9 @@ use Rattle.std.proofs.Common.{◌≡◌, ◌<◌, ℕ, List, length, Option, Som
 use Rattle.http.specs.declared.request.Parts.{Parts}
 use Rattle.http.specs.declared.response.Response.{Response}
 use Rattle.http_body_util.specs.declared.full.Full.{Full}
-use Rattle.mds_app.specs.OperatorNames.{Badges}
-use Rattle.mds_limits.specs.Arrival.{body_in}
-use Rattle.mds_limits.specs.declared.arrival.Arrived.{Arrived}
+use Rattle.server_app.specs.OperatorNames.{Badges}
+use Rattle.server_admission.specs.Arrival.{body_in}
+use Rattle.server_admission.specs.declared.arrival.Arrived.{Arrived}
 use Rattle.mds_request.specs.Call.{call_of, called_at, segments_of}
 use Rattle.mds_request.specs.Configuration.{Configuration, actor_of}
 use Rattle.mds_request.specs.Request.{Request, verb_of}
@@ -15,28 +15,28 @@ use Rattle.mds_request.specs.declared.code.Code.{Code}
 use Rattle.mds_request.specs.declared.code.Code.TheVariants.{Role}
 use Rattle.mds_request.specs.declared.config.Actor.{Actor}
 use Rattle.mds_request.specs.declared.config.Actor.TheVariants.{Author, Operator, Nobody}
-use Rattle.mds_hall.specs.HttpRequest.{request_in, target_of, token_of}
-use Rattle.mds_hall.specs.Client.{IsWithin}
-use Rattle.mds_hall.specs.Early.{or_else, unheard, unknown}
-use Rattle.mds_hall.specs.WholeRequest.{IsHeard, request_heard}
-use Rattle.mds_hall.specs.Response.{Says}
-use Rattle.mds_hall.specs.declared.whole_request.WholeRequest.{WholeRequest}
-use Rattle.mds_hall.proofs.Clients.{is_within}
-use Rattle.mds_hall.proofs.Resolving.{heard_call}
-use Rattle.mds_routes.specs.App.{app_of}
-use Rattle.mds_routes.specs.State.{app_call, own_call, state_call}
-use Rattle.mds_routes.specs.declared.app.AppCall.{AppCall}
-use Rattle.mds_routes.specs.declared.app.AppCall.TheVariants.{Events, Told}
-use Rattle.mds_routes.specs.declared.app.Question.{Question}
-use Rattle.mds_routes.specs.declared.app.Question.TheVariants.{Whoami, Withdrawals, Drafts}
-use Rattle.mds_routes.specs.declared.state.StateCall.{StateCall}
-use Rattle.mds_routes.specs.declared.state.StateCall.TheVariants.{Call as OfProtocol, Reports, AuthorAsks, OperatorAsks}
-use Rattle.mds_city.specs.DurableResponse.{Answers, IsAnswered, IsAnsweredBy, IsRecordedTurn, IsTold}
-use Rattle.mds_city.specs.Many.{ManyAreAnswered}
-use Rattle.mds_city.specs.People.{SaysTold, TellsAuthor, TellsOperator}
-use Rattle.mds_city.specs.CacheControl.{Waits}
-use Rattle.mds_city.proofs.Responses.{ok_more, waits_more}
-use Rattle.mds_city.proofs.Turns.{refused_turn}
+use Rattle.server_state.specs.HttpRequest.{request_in, target_of, token_of}
+use Rattle.server_state.specs.Client.{IsWithin}
+use Rattle.server_state.specs.Early.{or_else, unheard, unknown}
+use Rattle.server_state.specs.WholeRequest.{IsHeard, request_heard}
+use Rattle.server_state.specs.Response.{Says}
+use Rattle.server_state.specs.declared.whole_request.WholeRequest.{WholeRequest}
+use Rattle.server_state.proofs.Clients.{is_within}
+use Rattle.server_state.proofs.Resolving.{heard_call}
+use Rattle.server_routes.specs.App.{app_of}
+use Rattle.server_routes.specs.State.{app_call, own_call, state_call}
+use Rattle.server_routes.specs.declared.app.AppCall.{AppCall}
+use Rattle.server_routes.specs.declared.app.AppCall.TheVariants.{Events, Told}
+use Rattle.server_routes.specs.declared.app.Question.{Question}
+use Rattle.server_routes.specs.declared.app.Question.TheVariants.{Whoami, Withdrawals, Drafts}
+use Rattle.server_routes.specs.declared.state.StateCall.{StateCall}
+use Rattle.server_routes.specs.declared.state.StateCall.TheVariants.{Call as OfProtocol, Reports, AuthorAsks, OperatorAsks}
+use Rattle.server_durable.specs.DurableResponse.{Answers, IsAnswered, IsAnsweredBy, IsRecordedTurn, IsTold}
+use Rattle.server_durable.specs.Many.{ManyAreAnswered}
+use Rattle.server_durable.specs.People.{SaysTold, TellsAuthor, TellsOperator}
+use Rattle.server_durable.specs.CacheControl.{Waits}
+use Rattle.server_durable.proofs.Responses.{ok_more, waits_more}
+use Rattle.server_durable.proofs.Turns.{refused_turn}
 
 -- by its path a request is a call outside the protocol, or one of it
 abbrev way : Actor → Option (Result AppCall Code) → Result Call Code → Result StateCall Code

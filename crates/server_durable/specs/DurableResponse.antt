@@ -3,7 +3,7 @@ use Rattle.std.specs.Prelude.{◌≡◌, ◌⊎◌, ℕ, true, List, Option, IfS
 use Rattle.http.specs.declared.request.Parts.{Parts}
 use Rattle.http.specs.declared.response.Response.{Response}
 use Rattle.http_body_util.specs.declared.full.Full.{Full}
-use Rattle.mds_app.specs.OperatorNames.{Badges}
+use Rattle.server_app.specs.OperatorNames.{Badges}
 use Rattle.mds_request.specs.declared.code.Code.TheVariants.{Role}
 use Rattle.mds_request.specs.Configuration.{Configuration, actor_of}
 use Rattle.mds_request.specs.Request.{Request}
@@ -11,21 +11,21 @@ use Rattle.mds_request.specs.Reply.{Reply, refused}
 use Rattle.mds_request.specs.declared.code.Code.{Code}
 use Rattle.mds_request.specs.declared.config.Actor.{Actor}
 use Rattle.mds_request.specs.declared.config.Actor.TheVariants.{Author, Operator, Nobody}
-use Rattle.mds_limits.specs.Arrival.{body_in}
-use Rattle.mds_limits.specs.declared.arrival.Arrived.{Arrived}
-use Rattle.mds_restarts.specs.Persisted.{is_kept}
-use Rattle.mds_hall.specs.HttpRequest.{request_in}
-use Rattle.mds_hall.specs.Early.{early}
-use Rattle.mds_hall.specs.Respond.{TurnGives}
-use Rattle.mds_hall.specs.Response.{Says}
-use Rattle.mds_routes.specs.App.{app_of}
-use Rattle.mds_city.specs.Many.{ManyAreAnswered}
-use Rattle.mds_city.specs.Records.{HasRecord}
-use Rattle.mds_city.specs.People.{SaysTold, TellsAuthor, TellsOperator}
-use Rattle.mds_city.specs.Refusals.{SaysUnheld}
-use Rattle.mds_city.specs.CacheControl.{Waits}
-use Rattle.mds_routes.specs.declared.app.AppCall.{AppCall}
-use Rattle.mds_routes.specs.declared.app.AppCall.TheVariants.{Events, Told}
+use Rattle.server_admission.specs.Arrival.{body_in}
+use Rattle.server_admission.specs.declared.arrival.Arrived.{Arrived}
+use Rattle.journal_laws.specs.Persisted.{is_kept}
+use Rattle.server_state.specs.HttpRequest.{request_in}
+use Rattle.server_state.specs.Early.{early}
+use Rattle.server_state.specs.Respond.{TurnGives}
+use Rattle.server_state.specs.Response.{Says}
+use Rattle.server_routes.specs.App.{app_of}
+use Rattle.server_durable.specs.Many.{ManyAreAnswered}
+use Rattle.server_durable.specs.Records.{HasRecord}
+use Rattle.server_durable.specs.People.{SaysTold, TellsAuthor, TellsOperator}
+use Rattle.server_durable.specs.Refusals.{SaysUnheld}
+use Rattle.server_durable.specs.CacheControl.{Waits}
+use Rattle.server_routes.specs.declared.app.AppCall.{AppCall}
+use Rattle.server_routes.specs.declared.app.AppCall.TheVariants.{Events, Told}
 
 -- One turn for the client gives the reply. If a journal persists that exchange, its record is among these payloads.
 pub record IsRecordedTurn (configuration : Configuration) (actor : Actor) (request : Request) (reply : Reply) (stamp : List (List ℕ)) : Type 0 where

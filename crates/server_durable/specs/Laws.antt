@@ -4,27 +4,27 @@ use Rattle.std.specs.List.{AllByRecursion, filter_map}
 use Rattle.http.specs.declared.request.Parts.{Parts}
 use Rattle.http.specs.declared.response.Response.{Response}
 use Rattle.http_body_util.specs.declared.full.Full.{Full}
-use Rattle.mds_commit.specs.Durable.{AreDurable}
-use Rattle.mds_hall.specs.HttpRequest.{target_of}
-use Rattle.mds_hall.specs.Respond.{Responds, TurnGives}
-use Rattle.mds_hall.specs.Response.{Says}
-use Rattle.mds_hall.specs.Turn.{DeskRuns}
-use Rattle.mds_limits.specs.declared.arrival.Arrived.{Arrived}
+use Rattle.journal_commit.specs.Durable.{AreDurable}
+use Rattle.server_state.specs.HttpRequest.{target_of}
+use Rattle.server_state.specs.Respond.{Responds, TurnGives}
+use Rattle.server_state.specs.Response.{Says}
+use Rattle.server_state.specs.Turn.{DeskRuns}
+use Rattle.server_admission.specs.declared.arrival.Arrived.{Arrived}
 use Rattle.mds_request.specs.Call.{path_of}
 use Rattle.mds_request.specs.Configuration.{Configuration, actor_of}
 use Rattle.mds_request.specs.Request.{Request, verb_of}
 use Rattle.mds_request.specs.Reply.{Reply}
-use Rattle.mds_restarts.specs.Persisted.{is_kept}
-use Rattle.mds_app.specs.OperatorNames.{Badges}
-use Rattle.mds_app.specs.Withdrawals.{withdrawal_of, withdrawals}
+use Rattle.journal_laws.specs.Persisted.{is_kept}
+use Rattle.server_app.specs.OperatorNames.{Badges}
+use Rattle.server_app.specs.Withdrawals.{withdrawal_of, withdrawals}
 use Rattle.mds_catalog.specs.Publication.{Publication, is_meant_for, published_policies}
-use Rattle.mds_routes.specs.App.{app_at, app_of}
-use Rattle.mds_city.specs.DurableResponse.{Answers, IsCarriedOut}
-use Rattle.mds_city.specs.Many.{AreCarriedOutBy, AreRefusedBehind, SaysAll, exchanges}
-use Rattle.mds_city.specs.Records.{HasRecord}
-use Rattle.mds_city.specs.People.{operator_told}
-use Rattle.mds_city.specs.Refusals.{SaysUnheld}
-use Rattle.mds_routes.specs.declared.app.Question.{Question}
+use Rattle.server_routes.specs.App.{app_at, app_of}
+use Rattle.server_durable.specs.DurableResponse.{Answers, IsCarriedOut}
+use Rattle.server_durable.specs.Many.{AreCarriedOutBy, AreRefusedBehind, SaysAll, exchanges}
+use Rattle.server_durable.specs.Records.{HasRecord}
+use Rattle.server_durable.specs.People.{operator_told}
+use Rattle.server_durable.specs.Refusals.{SaysUnheld}
+use Rattle.server_routes.specs.declared.app.Question.{Question}
 
 module _ {L : Type 0} (may_be : L → List (List ℕ) → Type 0) (is_synced : L → Type 0) where
   -- a synced log may be of a list that has the request's record

@@ -6,8 +6,8 @@ use Rattle.http_header.specs.FieldValue.{plain_value}
 use Rattle.http.specs.Response.{head_of, body_of}
 use Rattle.http.specs.declared.response.Response.{Response}
 use Rattle.http_body_util.specs.declared.full.Full.{Full}
-use Rattle.mds_lines.specs.Answering.{status_text}
-use Rattle.mds_lines.specs.Input.{is_filled, lines}
+use Rattle.mds_script.specs.Answering.{status_text}
+use Rattle.mds_script.specs.Input.{is_filled, lines}
 use Rattle.mds_machine.specs.Step.{Exchange}
 use Rattle.mds_request.specs.Configuration.{Configuration, actor_of}
 use Rattle.mds_request.specs.Request.{Request}
@@ -16,19 +16,19 @@ use Rattle.mds_request.specs.declared.code.Code.{Code}
 use Rattle.mds_request.specs.declared.code.Code.TheVariants as code
 use Rattle.mds_request.specs.declared.config.Actor.TheVariants.{Operator}
 use Rattle.mds_request.specs.declared.request.Verb.TheVariants.{Post}
-use Rattle.mds_hall.specs.Response.{Says, bytes_of}
-use Rattle.mds_hall.specs.Turn.{DeskRuns, TakesToldRun}
+use Rattle.server_state.specs.Response.{Says, bytes_of}
+use Rattle.server_state.specs.Turn.{DeskRuns, TakesToldRun}
 use Rattle.mds_desk.specs.Desk.{DeskState}
 use Rattle.mds_catalog.specs.Publication.{Publication}
-use Rattle.mds_city.specs.Records.{HasRecord, IsRecordOf}
-use Rattle.mds_city.specs.Refusals.{SaysUnheld, SaysUnheldFor}
-use Rattle.mds_city.specs.CacheControl.{Waits}
-use Rattle.mds_city.specs.declared.lines.TheConstants.{MOST_REPORTS}
-use Rattle.mds_city.specs.declared.many.Halt.{Halt}
-use Rattle.mds_city.specs.declared.many.Halt.TheVariants.{Unheld, NotTold}
-use Rattle.mds_city.specs.declared.pending.NoResponse.{NoResponse}
-use Rattle.mds_city.specs.declared.pending.NoResponse.TheVariants.{NotTold as Untold}
-use Rattle.mds_city.specs.declared.records.NoReservation.TheVariants.{Crowded, NoRoom, Stopping, Failed, NoMemory}
+use Rattle.server_durable.specs.Records.{HasRecord, IsRecordOf}
+use Rattle.server_durable.specs.Refusals.{SaysUnheld, SaysUnheldFor}
+use Rattle.server_durable.specs.CacheControl.{Waits}
+use Rattle.server_durable.specs.declared.lines.TheConstants.{MOST_REPORTS}
+use Rattle.server_durable.specs.declared.many.Halt.{Halt}
+use Rattle.server_durable.specs.declared.many.Halt.TheVariants.{Unheld, NotTold}
+use Rattle.server_durable.specs.declared.pending.NoResponse.{NoResponse}
+use Rattle.server_durable.specs.declared.pending.NoResponse.TheVariants.{NotTold as Untold}
+use Rattle.server_durable.specs.declared.records.NoReservation.TheVariants.{Crowded, NoRoom, Stopping, Failed, NoMemory}
 
 -- the report on a line: by the same client, at the same moment
 abbrev pub report_of : Request → List ℕ → Request

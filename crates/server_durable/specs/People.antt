@@ -2,22 +2,22 @@
 use Rattle.std.specs.Prelude.{◌≡◌, ◌⊎◌, ℕ, List, Option, Some, None, slice_get}
 use Rattle.http.specs.declared.response.Response.{Response}
 use Rattle.http_body_util.specs.declared.full.Full.{Full}
-use Rattle.mds_app.specs.OperatorNames.{Badges}
-use Rattle.mds_app.specs.DraftList.{drafts_reply}
-use Rattle.mds_app.specs.Whoami.{who_reply}
-use Rattle.mds_app.specs.Withdrawals.{withdrawals_reply}
+use Rattle.server_app.specs.OperatorNames.{Badges}
+use Rattle.server_app.specs.DraftList.{drafts_reply}
+use Rattle.server_app.specs.Whoami.{who_reply}
+use Rattle.server_app.specs.Withdrawals.{withdrawals_reply}
 use Rattle.mds_catalog.specs.Publication.{Publication}
 use Rattle.mds_drafts.specs.Drafts.{Drafts as Held}
 use Rattle.mds_request.specs.Configuration.{Configuration, Operator as Named}
 use Rattle.mds_request.specs.Reply.{Reply, refused}
 use Rattle.mds_request.specs.declared.code.Code.TheVariants.{NoMemory, NoSnapshot, Role, Token}
 use Rattle.mds_request.specs.declared.config.Actor.TheVariants.{Author, Operator}
-use Rattle.mds_hall.specs.Query.{DeskTells, RoomTells}
-use Rattle.mds_hall.specs.Turn.{SaysOne}
-use Rattle.mds_routes.specs.declared.app.Question.{Question}
-use Rattle.mds_routes.specs.declared.app.Question.TheVariants.{Whoami, Withdrawals, Drafts}
-use Rattle.mds_city.specs.declared.people.RoomQuestion.{RoomQuestion}
-use Rattle.mds_city.specs.declared.people.RoomQuestion.TheVariants as room
+use Rattle.server_state.specs.Query.{DeskTells, RoomTells}
+use Rattle.server_state.specs.Turn.{SaysOne}
+use Rattle.server_routes.specs.declared.app.Question.{Question}
+use Rattle.server_routes.specs.declared.app.Question.TheVariants.{Whoami, Withdrawals, Drafts}
+use Rattle.server_durable.specs.declared.people.RoomQuestion.{RoomQuestion}
+use Rattle.server_durable.specs.declared.people.RoomQuestion.TheVariants as room
 
 -- which of an operator's policies are withdrawn
 abbrev pub own_withdrawals : List Publication → Option Named → Reply

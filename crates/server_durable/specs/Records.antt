@@ -1,21 +1,21 @@
 -- Records of requests, and their reservations in a log.
 use Rattle.std.specs.Prelude.{◌≡◌, ℕ, false, List, [], ◌∷◌, ◌++◌, Option, Some, None, IfSome, Result, Ok}
-use Rattle.mds_commit.specs.Durable.{AreDurable}
-use Rattle.mds_commit.specs.declared.backlog.Reservation.{Reservation}
-use Rattle.mds_entries.specs.Entries.{Entry, entry_text}
-use Rattle.mds_entries.specs.Requests.{asked_by, entry_by}
-use Rattle.mds_entries.specs.declared.entry.EntryClient.{EntryClient}
+use Rattle.journal_commit.specs.Durable.{AreDurable}
+use Rattle.journal_commit.specs.declared.backlog.Reservation.{Reservation}
+use Rattle.journal_entry.specs.Entries.{Entry, entry_text}
+use Rattle.journal_entry.specs.Requests.{asked_by, entry_by}
+use Rattle.journal_entry.specs.declared.entry.EntryClient.{EntryClient}
 use Rattle.mds_request.specs.Configuration.{Configuration}
 use Rattle.mds_request.specs.Request.{Request}
 use Rattle.mds_request.specs.Call.{call_of}
 use Rattle.mds_request.specs.declared.call.Call.{Call}
 use Rattle.mds_request.specs.declared.call.Call.TheVariants.{Author, Operator}
-use Rattle.mds_restarts.specs.Persisted.{may_change}
-use Rattle.mds_limits.specs.Actor.{index_of}
+use Rattle.journal_laws.specs.Persisted.{may_change}
+use Rattle.server_admission.specs.Actor.{index_of}
 use Rattle.mds_request.specs.declared.config.Actor.{Actor}
 use Rattle.mds_request.specs.declared.config.Actor.TheVariants as actor
-use Rattle.mds_city.specs.declared.records.CallReservation.{CallReservation}
-use Rattle.mds_city.specs.declared.records.CallReservation.TheVariants.{Reads, Holds}
+use Rattle.server_durable.specs.declared.records.CallReservation.{CallReservation}
+use Rattle.server_durable.specs.declared.records.CallReservation.TheVariants.{Reads, Holds}
 
 -- the client that makes a call
 abbrev pub caller_of : Call → Actor

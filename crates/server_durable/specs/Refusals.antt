@@ -3,17 +3,17 @@
 use Rattle.std.specs.Prelude.{◌≡◌, ℕ, List, Result, Ok, Err}
 use Rattle.http.specs.declared.response.Response.{Response}
 use Rattle.http_body_util.specs.declared.full.Full.{Full}
-use Rattle.mds_commit.specs.declared.backlog.ReserveFault.{ReserveFault}
-use Rattle.mds_commit.specs.declared.backlog.ReserveFault.TheVariants as fault
-use Rattle.mds_commit.specs.declared.commit_log.CommitFault.TheVariants as untold
+use Rattle.journal_commit.specs.declared.backlog.ReserveFault.{ReserveFault}
+use Rattle.journal_commit.specs.declared.backlog.ReserveFault.TheVariants as fault
+use Rattle.journal_commit.specs.declared.commit_log.CommitFault.TheVariants as untold
 use Rattle.mds_request.specs.Reply.{refused}
 use Rattle.mds_request.specs.declared.code.Code.{Code}
 use Rattle.mds_request.specs.declared.code.Code.TheVariants as code
-use Rattle.mds_hall.specs.Response.{Says}
-use Rattle.mds_city.specs.declared.pending.NoResponse.{NoResponse}
-use Rattle.mds_city.specs.declared.pending.NoResponse.TheVariants as unanswered
-use Rattle.mds_city.specs.declared.records.NoReservation.{NoReservation}
-use Rattle.mds_city.specs.declared.records.NoReservation.TheVariants.{Crowded, NoRoom, Stopping, Failed, NoMemory}
+use Rattle.server_state.specs.Response.{Says}
+use Rattle.server_durable.specs.declared.pending.NoResponse.{NoResponse}
+use Rattle.server_durable.specs.declared.pending.NoResponse.TheVariants as unanswered
+use Rattle.server_durable.specs.declared.records.NoReservation.{NoReservation}
+use Rattle.server_durable.specs.declared.records.NoReservation.TheVariants.{Crowded, NoRoom, Stopping, Failed, NoMemory}
 
 -- by the fault of the reservation; a record that no log takes counts as out of memory
 abbrev pub unreserved_by : ReserveFault → NoReservation

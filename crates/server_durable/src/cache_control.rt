@@ -1,6 +1,6 @@
 //! Responses that no cache may store.
 ghost use Rattle.std.specs.Prelude.{IfOk};
-ghost use Rattle.mds_city.specs.CacheControl.{IsUnstored};
+ghost use Rattle.server_durable.specs.CacheControl.{IsUnstored};
 
 use bytes::Bytes;
 use http::header::CACHE_CONTROL;

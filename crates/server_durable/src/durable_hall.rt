@@ -5,32 +5,33 @@ ghost use Rattle.mds_request.specs.Configuration.{configuration};
 ghost use Rattle.mds_request.specs.Reply.{refused};
 ghost use Rattle.mds_request.specs.declared.call.Call.TheVariants.{Author as ByAuthor, Operator as OperatorAt};
 ghost use Rattle.mds_request.specs.declared.config.Actor.TheVariants.{Author, Operator};
-ghost use Rattle.mds_hall.specs.WholeRequest.{request_heard};
-ghost use Rattle.mds_hall.specs.Response.{Says};
-ghost use Rattle.mds_city.specs.DurableResponse.{IsRecordedTurn};
-ghost use Rattle.mds_city.specs.Records.{IsReserved, IsTitled};
-ghost use Rattle.mds_city.specs.Refusals.{SaysUnheldFor, refusal_for};
-ghost use Rattle.mds_city.specs.CacheControl.{Waits};
+ghost use Rattle.server_state.specs.WholeRequest.{request_heard};
+ghost use Rattle.server_state.specs.Response.{Says};
+ghost use Rattle.server_durable.specs.DurableResponse.{IsRecordedTurn};
+ghost use Rattle.server_durable.specs.Records.{IsReserved, IsTitled};
+ghost use Rattle.server_durable.specs.Refusals.{SaysUnheldFor, refusal_for};
+ghost use Rattle.server_durable.specs.CacheControl.{Waits};
 
+use crate::cache_control::mark_unstored;
 use crate::context::Context;
-use crate::pending::{ResponseAfterSync, NoResponse};
+use crate::pending::{NoResponse, ResponseAfterSync};
 use crate::record_commit::{RecordCommit, RecordPayload};
 use crate::records::{
-    CallReservation, NoReservation, client_of, give_back, record_text, refusal_for, append_or_release, share_index,
+    CallReservation, NoReservation, append_or_release, client_of, give_back, record_text,
+    refusal_for, share_index,
 };
-use crate::cache_control::mark_unstored;
 use bytes::Bytes;
 use http::Response;
 use http_body_util::Full;
-use mds_app::OperatorNames;
+use journal_commit::{AwaitSync, CommitFault, CommitLog, LogName, LogPosition, Space};
+use journal_file::Log;
+use journal_laws::may_change;
 use mds_catalog::Catalogue;
-use mds_commit::{CommitLog, LogName, CommitFault, AwaitSync, Space, LogPosition};
-use mds_desk::{SharedReply, OpenGate};
-use mds_hall::{Hall, WholeRequest, HallName, response};
-use mds_records::Log;
+use mds_desk::{OpenGate, SharedReply};
 use mds_request::{AuthorCall, Call, Code, OperatorCall};
-use mds_restarts::may_change;
 use mds_verdict::Evaluator;
+use server_app::OperatorNames;
+use server_state::{Hall, HallName, WholeRequest, response};
 use std::alloc::Global;
 use std::marker::Brand;
 use std::sync::{Arc, Wait};
@@ -128,7 +129,11 @@ impl<K: HallName, N: LogName, L: Log, S: Space> DurableHall<K, N, L, S> {
     /// # Errors
     ///
     /// Out of memory for the response.
-    pub(crate) fn refuse(&self, alloc: Global, code: Code) -> Result<ResponseAfterSync<N, L, S>, NoResponse>
+    pub(crate) fn refuse(
+        &self,
+        alloc: Global,
+        code: Code,
+    ) -> Result<ResponseAfterSync<N, L, S>, NoResponse>
         ensures { IfOk result (λ s. Waits (λ response. Says response (refused code)) s.reply) }
     {
         let stamp = self.nothing.again();

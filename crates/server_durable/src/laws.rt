@@ -1,7 +1,7 @@
 //! Laws of a city's responses. The functions do nothing: their contracts are the laws.
-ghost use Rattle.mds_city.specs.Laws.{AppCallsAreNotKept, ManyAreKept, OperatorsAreToldTheirOwn, RecordedAreKept, RespondsAsAHall, WithdrawalsAreOfOwnPolicies};
+ghost use Rattle.server_durable.specs.Laws.{AppCallsAreNotKept, ManyAreKept, OperatorsAreToldTheirOwn, RecordedAreKept, RespondsAsAHall, WithdrawalsAreOfOwnPolicies};
 
-use mds_records::Log;
+use journal_file::Log;
 
 /// If a journal persists an exchange and its response was sent, a synced log has its record.
 pub fn recorded_are_persisted<L: Log>()

@@ -2,27 +2,27 @@
 //! shows is synced.
 #![tactic(auto)]
 
-mod durable_hall;
+mod cache_control;
 mod context;
+mod durable_hall;
 pub mod laws;
-mod pending_response;
 mod lines;
 mod many;
 mod pending;
+mod pending_response;
 mod people;
 mod published;
-mod service;
 mod record_commit;
 mod records;
-mod responding;
 mod report_lines;
-mod cache_control;
+mod responding;
+mod service;
 
-pub use durable_hall::DurableHall;
 pub use context::Context;
-pub use pending_response::PendingResponse;
+pub use durable_hall::DurableHall;
 pub use lines::MOST_REPORTS;
-pub use pending::{ResponseAfterSync, NoResponse};
-pub use service::DurableService;
+pub use pending::{NoResponse, ResponseAfterSync};
+pub use pending_response::PendingResponse;
 pub use records::is_accepted;
 pub use responding::respond;
+pub use service::DurableService;

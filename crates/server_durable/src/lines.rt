@@ -1,10 +1,10 @@
 //! Many reports, one on each line of a body.
 ghost use Rattle.std.specs.Prelude.{◌≡◌, ◌⊎◌, ◌++◌, ◌∷◌, [], ◌≤◌, ◌<◌, true, IfOk, IfErr, IfSome, OnOk, filter, length, map, position};
 ghost use Rattle.std.specs.Io.BufRead.{strip_last};
-ghost use Rattle.mds_lines.specs.Input.{is_feed, is_filled, lines};
+ghost use Rattle.mds_script.specs.Input.{is_feed, is_filled, lines};
 ghost use Rattle.mds_request.specs.Request.{request_of};
-ghost use Rattle.mds_city.specs.Many.{IsRefusedWhole, report_of, reports_of};
-ghost use Rattle.mds_city.specs.declared.lines.TheConstants.{MOST_REPORTS};
+ghost use Rattle.server_durable.specs.Many.{IsRefusedWhole, report_of, reports_of};
+ghost use Rattle.server_durable.specs.declared.lines.TheConstants.{MOST_REPORTS};
 ghost use Rattle.mds_request.specs.declared.code.Code.TheVariants.{NoMemory, TooLarge};
 
 use mds_request::{Code, Request, Verb};

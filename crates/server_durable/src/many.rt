@@ -5,27 +5,29 @@ ghost use Rattle.mds_request.specs.Configuration.{actor_of};
 ghost use Rattle.mds_request.specs.Request.{request_of};
 ghost use Rattle.mds_request.specs.Reply.{Reply, refused};
 ghost use Rattle.mds_desk.specs.Desk.{state_of};
-ghost use Rattle.mds_hall.specs.WholeRequest.{request_heard};
+ghost use Rattle.server_state.specs.WholeRequest.{request_heard};
 ghost use Rattle.mds_request.specs.declared.config.Actor.TheVariants.{Operator};
-ghost use Rattle.mds_city.specs.Many.{AreAskedBy, AreRecordsOf, AreRefusedBehind, Continues, IsAnsweredInPart, IsHalted, ManyAreAnswered, SaysAll, refusal_behind};
-ghost use Rattle.mds_city.specs.Records.{record_by};
-ghost use Rattle.mds_city.specs.CacheControl.{Waits};
+ghost use Rattle.server_durable.specs.Many.{AreAskedBy, AreRecordsOf, AreRefusedBehind, Continues, IsAnsweredInPart, IsHalted, ManyAreAnswered, SaysAll, refusal_behind};
+ghost use Rattle.server_durable.specs.Records.{record_by};
+ghost use Rattle.server_durable.specs.CacheControl.{Waits};
 
-use crate::durable_hall::DurableHall;
 use crate::context::Context;
+use crate::durable_hall::DurableHall;
 use crate::lines::{chunk_length, may_be_report, reports};
-use crate::pending::{ResponseAfterSync, NoResponse};
+use crate::pending::{NoResponse, ResponseAfterSync};
 use crate::records::{NoReservation, is_accepted, operator_client, record_text};
 use crate::report_lines::response_of_all;
+use journal_commit::{
+    CommitFault, LogName, LogPosition, MOST_TEXTS_OF_ONE, Reservations, Space, Usage,
+};
+use journal_entry::EntryClient;
+use journal_file::Log;
 use mds_catalog::Catalogue;
-use mds_commit::{MOST_TEXTS_OF_ONE, LogName, CommitFault, Reservations, Space, LogPosition, Usage};
-use mds_desk::{SharedReply, OpenGate};
-use mds_entries::EntryClient;
-use mds_hall::{HallDesk, WholeRequest, HallName};
-use mds_limits::index_of;
-use mds_records::Log;
+use mds_desk::{OpenGate, SharedReply};
 use mds_request::{Actor, Code, Request};
 use mds_verdict::Evaluator;
+use server_admission::index_of;
+use server_state::{HallDesk, HallName, WholeRequest};
 use std::alloc::{AllocError, Global};
 use std::sync::Wait;
 
@@ -79,7 +81,11 @@ fn refusal_behind(halt: Halt) -> Option<Code>
 }
 
 /// A refusal of each of these requests.
-fn refusals(alloc: Global, code: Code, requests: &[Request<'_>]) -> Result<Vec<SharedReply>, AllocError>
+fn refusals(
+    alloc: Global,
+    code: Code,
+    requests: &[Request<'_>],
+) -> Result<Vec<SharedReply>, AllocError>
     ensures { IfOk result (λ answers. answers.items ≡ map (λ _. refused code) (map request_of requests.now)) }
 {
     let mut answers = Vec::with_capacity(alloc, requests.len())?;
@@ -261,7 +267,9 @@ impl<K: HallName, N: LogName, L: Log, S: Space> DurableHall<K, N, L, S> {
             return Err(Halt::Unheld(NoReservation::NoMemory));
         };
         push_flags(&mut accepted, &answers);
-        let stamp = self.keeper.append_chosen(context.rt, known, places, &accepted)?;
+        let stamp = self
+            .keeper
+            .append_chosen(context.rt, known, places, &accepted)?;
         Ok(Replies { answers, stamp })
     }
 
@@ -407,7 +415,11 @@ impl<K: HallName, N: LogName, L: Log, S: Space> DurableHall<K, N, L, S> {
     ///
     /// They aren't refused, since they may be tried again or no response may be sent; or out of memory for the
     /// response.
-    fn refuse_all(&self, alloc: Global, halt: Halt) -> Result<ResponseAfterSync<N, L, S>, NoResponse>
+    fn refuse_all(
+        &self,
+        alloc: Global,
+        halt: Halt,
+    ) -> Result<ResponseAfterSync<N, L, S>, NoResponse>
         ensures { IsHalted (λ s. s.reply) halt result }
     {
         match halt {
@@ -424,7 +436,14 @@ impl<K: HallName, N: LogName, L: Log, S: Space> DurableHall<K, N, L, S> {
 ///
 /// The client's share of the log is used up, and none was carried out; or no response may be sent, and reports may have
 /// been accepted.
-pub(crate) fn many_reports<K: HallName, N: LogName, R: Wait, E: Evaluator<Catalogue>, L: Log, S: Space>(
+pub(crate) fn many_reports<
+    K: HallName,
+    N: LogName,
+    R: Wait,
+    E: Evaluator<Catalogue>,
+    L: Log,
+    S: Space,
+>(
     context: &Context<'_, R, E>,
     place: usize,
     heard: &WholeRequest<'_>,

@@ -2,7 +2,7 @@
 use bytes::Bytes;
 use http::Response;
 use http_body_util::Full;
-use mds_commit::{CommitFault, AwaitSync};
+use journal_commit::{AwaitSync, CommitFault};
 use std::alloc::AllocError;
 
 /// A response that waits until all that it shows is synced.

@@ -7,8 +7,8 @@ use futures::Future;
 use futures::task::{Context, Poll};
 use http::Response;
 use http_body_util::Full;
-use mds_commit::{LogName, Space};
-use mds_records::Log;
+use journal_commit::{LogName, Space};
+use journal_file::Log;
 use std::alloc::AllocError;
 
 /// A response that waits until all that it shows is synced. Where no response may be sent it is an error, and the
@@ -40,7 +40,7 @@ impl<N: LogName, L: Log, S: Space> PendingResponse<N, L, S> {
 impl<N: LogName, L: Log, S: Space> Future for PendingResponse<N, L, S> {
     ghost use Rattle.std.specs.Prelude.{◌≡◌, Some, IfOk, IfSome};
     ghost use Rattle.tokio.specs.Locks.{owned_notified_source};
-    ghost use Rattle.mds_commit.specs.Durable.{AreDurable};
+    ghost use Rattle.journal_commit.specs.Durable.{AreDurable};
 
     type Output = Result<Response<Full<Bytes>>, AllocError>;
 

@@ -1,28 +1,28 @@
 //! Answers for people, outside the protocol's calls. They are read under the lock of the desk or of the room, and have
 //! no record.
 ghost use Rattle.std.specs.Prelude.{◌≡◌, ◌<◌, IfErr, IfOk, length};
-ghost use Rattle.mds_app.specs.OperatorNames.{badges_view};
-ghost use Rattle.mds_app.specs.Whoami.{who_reply};
+ghost use Rattle.server_app.specs.OperatorNames.{badges_view};
+ghost use Rattle.server_app.specs.Whoami.{who_reply};
 ghost use Rattle.mds_request.specs.Reply.{refused};
 ghost use Rattle.mds_request.specs.declared.code.Code.TheVariants.{NoMemory};
-ghost use Rattle.mds_hall.specs.Query.{RoomTells};
-ghost use Rattle.mds_city.specs.People.{IsToldReply, SaysTold, TellsAuthor, TellsOperator, room_told};
-ghost use Rattle.mds_city.specs.CacheControl.{Waits};
-ghost use Rattle.mds_routes.specs.declared.app.Question.TheVariants.{Withdrawals};
+ghost use Rattle.server_state.specs.Query.{RoomTells};
+ghost use Rattle.server_durable.specs.People.{IsToldReply, SaysTold, TellsAuthor, TellsOperator, room_told};
+ghost use Rattle.server_durable.specs.CacheControl.{Waits};
+ghost use Rattle.server_routes.specs.declared.app.Question.TheVariants.{Withdrawals};
 
 use crate::durable_hall::{AnswerAtPosition, DurableHall};
-use crate::pending::{ResponseAfterSync, NoResponse};
+use crate::pending::{NoResponse, ResponseAfterSync};
 use crate::records::id_at;
-use mds_app::{list_drafts, whoami, withdrawals};
+use journal_commit::{CommitFault, LogName, Space};
+use journal_file::Log;
 use mds_catalog::Catalogue;
-use mds_commit::{LogName, CommitFault, Space};
-use mds_desk::{SharedReply, RoomQuery, DeskQuery};
+use mds_desk::{DeskQuery, RoomQuery, SharedReply};
 use mds_drafts::Drafts;
-use mds_hall::HallName;
-use mds_records::Log;
 use mds_request::{Actor, Code, Reply};
-use mds_routes::Question;
 use mds_text::Id;
+use server_app::{list_drafts, whoami, withdrawals};
+use server_routes::Question;
+use server_state::HallName;
 use std::alloc::{AllocError, Global};
 use std::sync::Wait;
 
@@ -34,7 +34,7 @@ pub(crate) struct OperatorWithdrawals {
 
 impl DeskQuery for OperatorWithdrawals {
     ghost use Rattle.std.specs.Prelude.{◌≡◌, Some};
-    ghost use Rattle.mds_app.specs.Withdrawals.{withdrawals_reply};
+    ghost use Rattle.server_app.specs.Withdrawals.{withdrawals_reply};
 
     type Told = Reply;
 
@@ -56,7 +56,7 @@ pub(crate) enum RoomQuestion {
 
 impl RoomQuery for RoomQuestion {
     ghost use Rattle.std.specs.Prelude.{◌≡◌};
-    ghost use Rattle.mds_city.specs.People.{room_told};
+    ghost use Rattle.server_durable.specs.People.{room_told};
 
     type Told = Reply;
 
@@ -103,7 +103,11 @@ impl<K: HallName, N: LogName, L: Log, S: Space> DurableHall<K, N, L, S> {
     /// # Errors
     ///
     /// Out of memory for the response.
-    fn answer_whoami(&self, alloc: Global, asker: Actor) -> Result<ResponseAfterSync<N, L, S>, NoResponse>
+    fn answer_whoami(
+        &self,
+        alloc: Global,
+        asker: Actor,
+    ) -> Result<ResponseAfterSync<N, L, S>, NoResponse>
         ensures { IfOk result (λ s. Waits (SaysTold (λ reply. reply ≡ who_reply (badges_view self.now.badges) asker)) s.reply) }
     {
         let stamp = self.current_position();
@@ -117,7 +121,11 @@ impl<K: HallName, N: LogName, L: Log, S: Space> DurableHall<K, N, L, S> {
     /// # Errors
     ///
     /// Out of memory.
-    fn withdrawals_at<R: Wait>(&self, rt: &R, place: usize) -> Result<AnswerAtPosition<N, L>, CommitFault>
+    fn withdrawals_at<R: Wait>(
+        &self,
+        rt: &R,
+        place: usize,
+    ) -> Result<AnswerAtPosition<N, L>, CommitFault>
         requires { place < length K.configuration.operators }
         ensures { IfOk result (λ answered. IsToldReply (TellsOperator K.configuration (badges_view self.now.badges)
             place Withdrawals) answered.answer) }

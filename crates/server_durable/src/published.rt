@@ -1,15 +1,15 @@
 //! What is published, read under the room's lock, and nothing else.
 ghost use Rattle.std.specs.Prelude.{IfOk};
-ghost use Rattle.mds_hall.specs.Query.{RoomTells};
+ghost use Rattle.server_state.specs.Query.{RoomTells};
 
 use crate::durable_hall::DurableHall;
+use journal_commit::{LogName, Space};
+use journal_file::Log;
 use mds_catalog::Catalogue;
-use mds_commit::{LogName, Space};
-use mds_desk::{RoomQuery, DeskQuery};
+use mds_desk::{DeskQuery, RoomQuery};
 use mds_drafts::Drafts;
-use mds_hall::HallName;
-use mds_records::Log;
 use mds_snapshot::Note;
+use server_state::HallName;
 use std::alloc::{AllocError, Global};
 use std::sync::Wait;
 
@@ -46,7 +46,11 @@ impl<K: HallName, N: LogName, L: Log, S: Space> DurableHall<K, N, L, S> {
     /// # Errors
     ///
     /// Out of memory.
-    pub fn read_publications<T: DeskQuery, R: Wait>(&self, rt: &R, telling: &T) -> Result<T::Told, AllocError>
+    pub fn read_publications<T: DeskQuery, R: Wait>(
+        &self,
+        rt: &R,
+        telling: &T,
+    ) -> Result<T::Told, AllocError>
         ensures { IfOk result (RoomTells K.configuration (λ drafts publications told. T.tells telling.now publications told)) }
     {
         let room = self.hall.room(rt);

@@ -1,11 +1,11 @@
 //! Commits a publication: its record is appended and synced before anybody sees it.
 ghost use Rattle.std.specs.Prelude.{◌≡◌, None, IfOk, IfNone, IfSome, option_map};
-ghost use Rattle.mds_city.specs.Records.{IsAmong, IsShown, IsTitled, place_of};
+ghost use Rattle.server_durable.specs.Records.{IsAmong, IsShown, IsTitled, place_of};
 
-use crate::records::{CallReservation, give_back, append_or_release};
-use mds_commit::{CommitLog, LogName, CommitFault, Reservation, Space, LogPosition};
+use crate::records::{CallReservation, append_or_release, give_back};
+use journal_commit::{CommitFault, CommitLog, LogName, LogPosition, Reservation, Space};
+use journal_file::Log;
 use mds_desk::PublishGuard;
-use mds_records::Log;
 use std::marker::{Brand, PhantomData};
 use std::sync::{Arc, Wait};
 
@@ -41,8 +41,9 @@ pub(crate) struct RecordCommit<T: RecordPayload, R, N: LogName, L: Log, S: Space
     pub shown: Option<Result<LogPosition<N, L>, CommitFault>>,
 }
 
-impl<T: RecordPayload, R: Wait + Drop, N: LogName, L: Log, S: Space> PublishGuard for RecordCommit<T, R, N, L, S> {
-    ghost use Rattle.mds_city.specs.Records.{IsShown};
+impl<T: RecordPayload, R: Wait + Drop, N: LogName, L: Log, S: Space> PublishGuard
+    for RecordCommit<T, R, N, L, S> {
+    ghost use Rattle.server_durable.specs.Records.{IsShown};
 
     ghost given = { λ recording. IsShown L.may_be L.is_synced T.text recording.shown };
 

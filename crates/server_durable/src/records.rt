@@ -1,20 +1,22 @@
 //! The record of a request, and its reservation in the log.
 ghost use Rattle.std.specs.Prelude.{◌≡◌, ◌<◌, ◌==◌, IfOk, Some, length, option_map, slice_get};
-ghost use Rattle.mds_entries.specs.Requests.{asker_at};
-ghost use Rattle.mds_hall.specs.Client.{IsWithin};
+ghost use Rattle.journal_entry.specs.Requests.{asker_at};
+ghost use Rattle.server_state.specs.Client.{IsWithin};
 ghost use Rattle.mds_request.specs.Configuration.{configuration};
 ghost use Rattle.mds_request.specs.Request.{request_of};
 ghost use Rattle.mds_request.specs.declared.config.Actor.TheVariants.{Operator};
-ghost use Rattle.mds_city.specs.Records.{IsSettled, caller_of, record_by, sharer_of};
-ghost use Rattle.mds_city.specs.Refusals.{refusal_for};
+ghost use Rattle.server_durable.specs.Records.{IsSettled, caller_of, record_by, sharer_of};
+ghost use Rattle.server_durable.specs.Refusals.{refusal_for};
 
 use crate::pending::NoResponse;
-use mds_commit::{CommitLog, LogName, CommitFault, Reservation, ReserveFault, Space, LogPosition};
-use mds_entries::{EntryClient, JournalEntry, entry_text};
-use mds_limits::index_of;
-use mds_records::Log;
+use journal_commit::{
+    CommitFault, CommitLog, LogName, LogPosition, Reservation, ReserveFault, Space,
+};
+use journal_entry::{EntryClient, JournalEntry, entry_text};
+use journal_file::Log;
 use mds_request::{Actor, Call, Code, Config, Request};
 use mds_text::Id;
+use server_admission::index_of;
 use std::alloc::{AllocError, Global};
 use std::sync::Wait;
 
@@ -47,7 +49,7 @@ pub(crate) enum NoReservation {
 
 impl From<ReserveFault> for NoReservation {
     ghost use Rattle.std.specs.Prelude.{◌≡◌};
-    ghost use Rattle.mds_city.specs.Refusals.{unreserved_by};
+    ghost use Rattle.server_durable.specs.Refusals.{unreserved_by};
 
     ghost from_gives = { λ fault why. why ≡ unreserved_by fault };
 

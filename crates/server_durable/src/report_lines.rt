@@ -1,8 +1,8 @@
 //! The response to many reports.
 ghost use Rattle.std.specs.Prelude.{◌≡◌, ◌++◌, IfOk, OnOk};
 ghost use Rattle.std.specs.List.{flat_map};
-ghost use Rattle.mds_lines.specs.Answering.{status_text};
-ghost use Rattle.mds_city.specs.Many.{SaysAll, told_line};
+ghost use Rattle.mds_script.specs.Answering.{status_text};
+ghost use Rattle.server_durable.specs.Many.{SaysAll, told_line};
 
 use bytes::Bytes;
 use http::header::CONTENT_TYPE;

@@ -2,27 +2,27 @@
 ghost use Rattle.std.specs.Prelude.{◌≡◌, Ok, IfOk};
 ghost use Rattle.mds_request.specs.Call.{call_of};
 ghost use Rattle.mds_request.specs.Configuration.{actor_of};
-ghost use Rattle.mds_hall.specs.WholeRequest.{request_heard};
-ghost use Rattle.mds_app.specs.OperatorNames.{badges_view};
-ghost use Rattle.mds_city.specs.DurableResponse.{CityResponds, IsAnsweredBy, IsRecordedTurn};
-ghost use Rattle.mds_city.specs.Records.{IsReserved};
-ghost use Rattle.mds_city.specs.CacheControl.{Waits};
+ghost use Rattle.server_state.specs.WholeRequest.{request_heard};
+ghost use Rattle.server_app.specs.OperatorNames.{badges_view};
+ghost use Rattle.server_durable.specs.DurableResponse.{CityResponds, IsAnsweredBy, IsRecordedTurn};
+ghost use Rattle.server_durable.specs.Records.{IsReserved};
+ghost use Rattle.server_durable.specs.CacheControl.{Waits};
 
-use crate::durable_hall::{AnswerAtPosition, DurableHall};
 use crate::context::Context;
+use crate::durable_hall::{AnswerAtPosition, DurableHall};
 use crate::many::many_reports;
-use crate::pending::{ResponseAfterSync, NoResponse};
-use crate::people::{answer_operator, answer_author};
+use crate::pending::{NoResponse, ResponseAfterSync};
+use crate::people::{answer_author, answer_operator};
 use crate::records::CallReservation;
+use journal_commit::{CommitFault, LogName, Space};
+use journal_file::Log;
 use mds_catalog::Catalogue;
-use mds_commit::{LogName, CommitFault, Space};
-use mds_hall::{WholeRequest, HallName, read_whole};
-use mds_limits::Arrived;
-use mds_records::Log;
 use mds_request::Call;
-use mds_routes::{ResolvedState, StateCall};
 use mds_text::Moment;
 use mds_verdict::Evaluator;
+use server_admission::Arrived;
+use server_routes::{ResolvedState, StateCall};
+use server_state::{HallName, WholeRequest, read_whole};
 use std::sync::Wait;
 
 /// Answers the request of a head and the body that arrived for it, at this moment of the machine's clock. The head
@@ -102,7 +102,14 @@ fn answer_call<
 /// # Errors
 ///
 /// The log failed.
-fn carry_out<K: HallName, N: LogName, R: Wait + Copy + Drop, E: Evaluator<Catalogue>, L: Log, S: Space>(
+fn carry_out<
+    K: HallName,
+    N: LogName,
+    R: Wait + Copy + Drop,
+    E: Evaluator<Catalogue>,
+    L: Log,
+    S: Space,
+>(
     context: &Context<'_, R, E>,
     call: Call,
     heard: WholeRequest<'_>,

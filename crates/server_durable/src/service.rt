@@ -1,24 +1,24 @@
 //! A city that answers at the moments of a clock.
 ghost use Rattle.std.specs.Prelude.{◌≡◌, Option, ℕ, IfOk, IfSome};
-ghost use Rattle.mds_app.specs.OperatorNames.{badges_view};
-ghost use Rattle.mds_routes.specs.Endpoint.{AsksFile, AsksPublic, AsksState};
-ghost use Rattle.mds_routes.specs.declared.resolved.ResolvedHead.TheVariants.{Asset, Public, State};
-ghost use Rattle.mds_city.specs.DurableResponse.{CityResponds};
+ghost use Rattle.server_app.specs.OperatorNames.{badges_view};
+ghost use Rattle.server_routes.specs.Endpoint.{AsksFile, AsksPublic, AsksState};
+ghost use Rattle.server_routes.specs.declared.resolved.ResolvedHead.TheVariants.{Asset, Public, State};
+ghost use Rattle.server_durable.specs.DurableResponse.{CityResponds};
 
-use crate::durable_hall::DurableHall;
 use crate::context::Context;
-use crate::pending_response::PendingResponse;
+use crate::durable_hall::DurableHall;
 use crate::pending::NoResponse;
+use crate::pending_response::PendingResponse;
 use crate::responding::respond;
 use http::request::Parts;
+use journal_commit::{LogName, Space};
+use journal_file::Log;
 use mds_catalog::Catalogue;
-use mds_commit::{LogName, Space};
-use mds_connections::{Crowded, Moments};
-use mds_hall::HallName;
-use mds_limits::Arrived;
-use mds_records::Log;
-use mds_routes::{ResolvedHead, ResolvedState, resolve};
 use mds_verdict::Evaluator;
+use server_admission::Arrived;
+use server_http::{Crowded, Moments};
+use server_routes::{ResolvedHead, ResolvedState, resolve};
+use server_state::HallName;
 use std::alloc::Global;
 use std::sync::Wait;
 
@@ -46,7 +46,7 @@ impl<
     L: Log,
     S: Space,
 > DurableService<K, N, R, E, M, L, S> {
-    /// Resolves a head to its client and what it asks for, as `mds_routes::resolve` says.
+    /// Resolves a head to its client and what it asks for, as `server_routes::resolve` says.
     pub fn resolve(&self, is_public: bool, parts: Parts) -> ResolvedHead<K>
         ensures { elim result [
           | Asset own file ↦ (own ≡ parts) × AsksFile parts file

@@ -4,7 +4,7 @@ use Rattle.http_header.specs.FieldValue.{plain_value}
 use Rattle.http.specs.Response.{head_of, body_of}
 use Rattle.http.specs.declared.response.Response.{Response}
 use Rattle.http_body_util.specs.declared.full.Full.{Full}
-use Rattle.mds_responses.specs.Field.{HasField}
+use Rattle.server_responses.specs.Field.{HasField}
 
 -- the same response, which says that the connection is closed after it (RFC 9112, section 9.6)
 abbrev pub Closes : Response (Full (List ℕ)) → Response (Full (List ℕ)) → Type 0

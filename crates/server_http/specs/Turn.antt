@@ -2,10 +2,10 @@
 use Rattle.std.specs.Prelude.{◌≡◌, ℕ, ⊤, Bool, true, false, Result, IfOk}
 use Rattle.tokio.specs.Locks.{CanAcquire, OwnedAcquireNeeds, owned_num_permits, owned_permits_wanted}
 use Rattle.tokio.specs.declared.sync.semaphore.AcquireError.{AcquireError}
-use Rattle.mds_connections.specs.declared.turn.LineState.{LineState}
-use Rattle.mds_connections.specs.declared.turn.LineState.TheVariants.{Open, Waiting, Held}
-use Rattle.mds_connections.specs.declared.turn.Permits.{Permits}
-use Rattle.mds_connections.specs.declared.turn.Turn.{Turn}
+use Rattle.server_http.specs.declared.turn.LineState.{LineState}
+use Rattle.server_http.specs.declared.turn.LineState.TheVariants.{Open, Waiting, Held}
+use Rattle.server_http.specs.declared.turn.Permits.{Permits}
+use Rattle.server_http.specs.declared.turn.Turn.{Turn}
 
 -- the line is for long answers: one alone at a time waits for the permits
 abbrev pub is_for_line : LineState → Bool

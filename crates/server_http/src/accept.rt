@@ -1,7 +1,7 @@
 //! Accepted connections, and the pause after an accept that failed.
 use futures::Future;
 use futures::task::{Context, Poll};
-use mds_limits::ACCEPT_PAUSE_MILLIS;
+use server_admission::ACCEPT_PAUSE_MILLIS;
 use std::io;
 use std::time::{Clock, Duration};
 use tokio::net::TcpStream;
@@ -19,7 +19,11 @@ impl AcceptOrPause {
     /// The outcome of an accept. What is written to the connection is sent at once (`TCP_NODELAY`),
     /// so that no response waits until the one before it was acknowledged (RFC 9293, section
     /// 3.7.4); where the system refuses that, the connection is served all the same.
-    pub fn new<C: Clock>(accepted: io::Result<TcpStream>, clock: &C, timers: &Handle) -> AcceptOrPause {
+    pub fn new<C: Clock>(
+        accepted: io::Result<TcpStream>,
+        clock: &C,
+        timers: &Handle,
+    ) -> AcceptOrPause {
         match accepted {
             Ok(socket) => {
                 socket.set_nodelay(true).ok();

@@ -1,16 +1,16 @@
 //! Reads a request body.
 ghost use Rattle.std.specs.Prelude.{◌≡◌, ◌≢◌, ◌⊎◌, None, [], IfSome};
 ghost use Rattle.futures.specs.Task.{Keeps};
-ghost use Rattle.mds_limits.specs.Arrival.{arrived_of};
-ghost use Rattle.mds_limits.specs.declared.arrival.Arrived.TheVariants.{TooLong, NoMemory};
-ghost use Rattle.mds_limits.specs.declared.arrival.BodyEnd.TheVariants.{Over};
+ghost use Rattle.server_admission.specs.Arrival.{arrived_of};
+ghost use Rattle.server_admission.specs.declared.arrival.Arrived.TheVariants.{TooLong, NoMemory};
+ghost use Rattle.server_admission.specs.declared.arrival.BodyEnd.TheVariants.{Over};
 
 use bytes::{Bytes, BytesQueue};
 use futures::task::{Context, Poll};
 use futures::{Future, ready};
 use http_body::{Body, Frame};
 use hyper::body::Incoming;
-use mds_limits::{Arrived, BodyEnd, Piece, load_bytes_of};
+use server_admission::{Arrived, BodyEnd, Piece, load_bytes_of};
 use std::alloc::Global;
 
 /// How many pieces are read in a row before other tasks may run.

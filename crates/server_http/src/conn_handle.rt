@@ -1,14 +1,14 @@
 //! The handles of a server's connections, and that of its acceptor.
 ghost use Rattle.std.specs.Prelude.{IfOk};
 
-use crate::server_context::{RequestService, Crowded, ServerContext};
-use crate::slots::{Admittance, ConnSlot};
-use crate::server_conn::ServerConn;
-use crate::turn::Turn;
 use crate::keepalive::ReactorNudge;
+use crate::server_conn::ServerConn;
+use crate::server_context::{Crowded, RequestService, ServerContext};
+use crate::slots::{Admittance, ConnSlot};
+use crate::turn::Turn;
 use http::request::Parts;
-use mds_limits::{Arrived, CROWDED_PAUSE_MILLIS, Cost};
 use mds_request::Actor;
+use server_admission::{Arrived, CROWDED_PAUSE_MILLIS, Cost};
 use std::alloc::{AllocError, Global};
 use std::sync::atomic::Ordering;
 use std::sync::{Arc, Wait};
@@ -28,7 +28,11 @@ pub struct ConnHandle<A, C> {
 
 impl<A, C> ConnHandle<A, C> {
     /// The acceptor's handle.
-    pub fn acceptor(house: Arc<ServerContext<A, C>>, seat: Arc<ConnSlot>, bell: Arc<ReactorNudge>) -> ConnHandle<A, C> {
+    pub fn acceptor(
+        house: Arc<ServerContext<A, C>>,
+        seat: Arc<ConnSlot>,
+        bell: Arc<ReactorNudge>,
+    ) -> ConnHandle<A, C> {
         ConnHandle {
             house,
             seat,
@@ -154,7 +158,10 @@ impl<A: RequestService, C: Clock + Wait + Drop> ServerConn for ConnHandle<A, C> 
     fn finish_request(&self) {
         self.seat.pace.fetch_add(1, Ordering::SeqCst);
         if let Some(key) = self.key {
-            self.house.register.lock(&self.house.clock).finish_request(key);
+            self.house
+                .register
+                .lock(&self.house.clock)
+                .finish_request(key);
         }
     }
 

@@ -1,13 +1,13 @@
 //! A queue for each client: its short answers run concurrently, a long one alone.
 ghost use Rattle.std.specs.Prelude.{◌≡◌, None, IfSome, true, false};
-ghost use Rattle.mds_limits.specs.declared.cost.Cost.TheVariants.{Free, Shared, Exclusive};
-ghost use Rattle.mds_limits.specs.declared.limits.TheConstants.{MOST_SHORT};
+ghost use Rattle.server_admission.specs.declared.cost.Cost.TheVariants.{Free, Shared, Exclusive};
+ghost use Rattle.server_admission.specs.declared.limits.TheConstants.{MOST_SHORT};
 ghost use Rattle.mds_request.specs.declared.config.Actor.TheVariants.{Nobody};
-ghost use Rattle.mds_connections.specs.Turn.{IsWaiting, is_for_line, permits_of};
+ghost use Rattle.server_http.specs.Turn.{IsWaiting, is_for_line, permits_of};
 
 use crate::turn::Turn;
-use mds_limits::{Cost, MOST_SHORT, index_of};
 use mds_request::{Actor, Config};
+use server_admission::{Cost, MOST_SHORT, index_of};
 use std::alloc::{AllocError, Global};
 use std::sync::Arc;
 use tokio::sync::Semaphore;

@@ -1,15 +1,15 @@
 //! Responses that only the connection layer gives: that the server is busy, and that the connection
 //! closes.
 ghost use Rattle.std.specs.Prelude.{◌≡◌, IfOk, Ok, IsTrue, IsFalse};
-ghost use Rattle.mds_limits.specs.Arrival.{closes_after};
-ghost use Rattle.mds_connections.specs.Busy.{Closes, SaysBusy};
+ghost use Rattle.server_admission.specs.Arrival.{closes_after};
+ghost use Rattle.server_http.specs.Busy.{Closes, SaysBusy};
 
 use bytes::Bytes;
 use http::header::CONNECTION;
 use http::{HeaderValue, Response, StatusCode};
 use http_body_util::Full;
-use mds_limits::Arrived;
-use mds_responses::{HttpResult, json_response, with_field};
+use server_admission::Arrived;
+use server_responses::{HttpResult, json_response, with_field};
 use std::alloc::Global;
 
 /// The response that says that too much waits: nothing was asked, and nothing has changed.

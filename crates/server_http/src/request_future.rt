@@ -3,25 +3,25 @@
 ghost use Rattle.std.specs.Prelude.{◌≡◌, ◌+◌, ◌≤◌, None, [], IfSome, IfOk, OnOk, IsSome};
 ghost use Rattle.futures.specs.Task.{Covers, Keeps};
 ghost use Rattle.futures.specs.Poll.{IfReady, OnPending};
-ghost use Rattle.mds_limits.specs.Arrival.{body_in, closes_after};
-ghost use Rattle.mds_connections.specs.Busy.{SaysBusy};
-ghost use Rattle.mds_connections.specs.Turn.{IsWaiting};
-ghost use Rattle.mds_connections.specs.declared.slots.Admittance.TheVariants.{Busy};
+ghost use Rattle.server_admission.specs.Arrival.{body_in, closes_after};
+ghost use Rattle.server_http.specs.Busy.{SaysBusy};
+ghost use Rattle.server_http.specs.Turn.{IsWaiting};
+ghost use Rattle.server_http.specs.declared.slots.Admittance.TheVariants.{Busy};
 
-use crate::server_context::Crowded;
 use crate::body_reader::BodyReader;
 use crate::replies::{busy, close_unless_whole};
-use crate::slots::Admittance;
 use crate::server_conn::ServerConn;
+use crate::server_context::Crowded;
+use crate::slots::Admittance;
 use crate::turn::Turn;
 use bytes::Bytes;
 use futures::task::{Context, Poll};
 use futures::{Future, ready};
 use http::request::Parts;
 use hyper::body::Incoming;
-use mds_limits::{Arrived, BODY_SECONDS, DISCARD_SECONDS};
 use mds_request::Actor;
-use mds_responses::HttpResult;
+use server_admission::{Arrived, BODY_SECONDS, DISCARD_SECONDS};
+use server_responses::HttpResult;
 use std::alloc::AllocError;
 use tokio::time::Sleep;
 
@@ -51,7 +51,11 @@ pub struct RequestFuture<P, H, F, I> {
 
 impl<P: ServerConn, I: Drop> RequestFuture<P, P::Head, P::Reply, I> {
     /// The future of a request whose head has come.
-    pub fn new(sitting: &P, parts: Parts, body: Incoming<I>) -> RequestFuture<P, P::Head, P::Reply, I>
+    pub fn new(
+        sitting: &P,
+        parts: Parts,
+        body: Incoming<I>,
+    ) -> RequestFuture<P, P::Head, P::Reply, I>
         ensures turn { result.turn ≡ None }
         ensures reply { result.reply ≡ None }
     {

@@ -1,19 +1,22 @@
 //! Serves a listener by any service, until so many connections are over or the server is to end.
 
 use crate::accept::AcceptOrPause;
-use crate::shutdown::ShutdownHandle;
-use crate::server_context::{RequestService, ServerContext};
 use crate::queues::Queues;
-use crate::runtime::ConnectionRuntime;
-use crate::slots::ConnTable;
+use crate::server_context::{RequestService, ServerContext};
 use crate::serving::{AcceptorParts, serve_all};
+use crate::shutdown::ShutdownHandle;
+use crate::slots::ConnTable;
 use futures::StreamExt;
 use hyper::rt::TokioTimer;
 use hyper::server::conn::http1::Builder;
+use std::alloc::AllocGlobal;
 use std::hash::RandomState;
 use std::io;
 use std::net::{Net, ToSocketAddrs};
-use std::sync::{Arc, Mutex};
+use std::random::RandomSource;
+use std::sync::{Arc, Mutex, Wait};
+use std::thread::Threads;
+use std::time::Clock;
 use tokio::net::TcpListener;
 use tokio::reactor;
 use tokio::runtime::Runtime;
@@ -24,7 +27,11 @@ use tokio::time::Handle;
 /// # Errors
 ///
 /// The name stands for no address, or none of them can be listened to.
-pub fn bind_first<N: Net>(net: &N, address: &str, reactor: &reactor::Handle) -> io::Result<TcpListener> {
+pub fn bind_first<N: Net>(
+    net: &N,
+    address: &str,
+    reactor: &reactor::Handle,
+) -> io::Result<TcpListener> {
     for address in address.to_socket_addrs(net)? {
         if let Ok(listener) = TcpListener::bind(net, address, reactor) {
             return Ok(listener);
@@ -42,7 +49,7 @@ struct HttpParts<R> {
     seating: AcceptorParts,
 }
 
-impl<R: ConnectionRuntime + Copy> HttpParts<R> {
+impl<R: Clock + RandomSource + AllocGlobal + Copy> HttpParts<R> {
     fn new(rt: &R, runtime: &Runtime) -> io::Result<HttpParts<R>> {
         let timers = runtime.handle().time().clone()?;
         let pauses = timers.clone()?;
@@ -69,7 +76,7 @@ struct ServerParts<A, R> {
 }
 
 /// What connections share, for this service and these queues, with no connection yet.
-fn open_server<A: Drop, R: ConnectionRuntime + Copy>(
+fn open_server<A: Drop, R: Clock + RandomSource + AllocGlobal + Copy + Drop>(
     rt: &R,
     runtime: &Runtime,
     answers: A,
@@ -128,7 +135,7 @@ where
     A: RequestService + Send + Sync,
     A::Head: Send,
     A::Reply: Send,
-    R: ConnectionRuntime + Copy,
+    R: Wait + Threads + Clock + RandomSource + AllocGlobal + Sync + Send + Copy + Drop,
     requires ready { A.may_answer }
 {
     let ServerParts {
@@ -165,7 +172,7 @@ where
     A: RequestService + Send + Sync,
     A::Head: Send,
     A::Reply: Send,
-    R: ConnectionRuntime + Copy,
+    R: Wait + Threads + Clock + RandomSource + AllocGlobal + Sync + Send + Copy + Drop,
     requires ready { A.may_answer }
 {
     let ServerParts {

@@ -4,9 +4,9 @@ use crate::slots::Admittance;
 use crate::turn::Turn;
 use futures::Future;
 use http::request::Parts;
-use mds_limits::{Arrived, Cost};
 use mds_request::Actor;
-use mds_responses::HttpResult;
+use server_admission::{Arrived, Cost};
+use server_responses::HttpResult;
 use std::alloc::{AllocError, Global};
 use std::time::Instant;
 use tokio::sync::OwnedNotified;
@@ -17,8 +17,8 @@ use tokio::time::Sleep;
 /// in a type, and so nothing of what is shared.
 pub trait ServerConn: Drop {
     ghost use Rattle.std.specs.Prelude.{◌≡◌, ⊤, None, IfOk, IfSome};
-    ghost use Rattle.mds_limits.specs.declared.cost.Cost.TheVariants.{Free};
-    ghost use Rattle.mds_connections.specs.Turn.{IsWaiting};
+    ghost use Rattle.server_admission.specs.declared.cost.Cost.TheVariants.{Free};
+    ghost use Rattle.server_http.specs.Turn.{IsWaiting};
 
     /// A head with what it was resolved to: which client asks, and for what.
     type Head: Drop;

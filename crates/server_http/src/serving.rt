@@ -2,15 +2,14 @@
 ghost use Rattle.std.specs.Prelude.{IfSome, ⊤};
 ghost use Rattle.futures.specs.declared.future.either.Either.TheVariants.{Left, Right};
 
-use crate::http_service::HttpService;
-use crate::shutdown::GracePeriod;
-use crate::server_context::{RequestService, ServerContext};
-use crate::timed_io::TimedIo;
-use crate::runtime::ConnectionRuntime;
-use crate::slots::ConnSlot;
-use crate::server_conn::ServerConn;
 use crate::conn_handle::ConnHandle;
-use crate::keepalive::{ReactorNudge, ReactorKeepalive, keepalive_pair};
+use crate::http_service::HttpService;
+use crate::keepalive::{ReactorKeepalive, ReactorNudge, keepalive_pair};
+use crate::server_conn::ServerConn;
+use crate::server_context::{RequestService, ServerContext};
+use crate::shutdown::GracePeriod;
+use crate::slots::ConnSlot;
+use crate::timed_io::TimedIo;
 use bytes::Bytes;
 use futures::future::Either;
 use futures::task::{Context, Poll};
@@ -18,9 +17,12 @@ use futures::{Future, Stream};
 use http_body_util::Full;
 use hyper::rt::Timer;
 use hyper::server::conn::http1::{Builder, Connection};
-use std::alloc::{AllocError, Global};
+use std::alloc::{AllocError, AllocGlobal, Global};
 use std::io;
-use std::sync::Arc;
+use std::random::RandomSource;
+use std::sync::{Arc, Wait};
+use std::thread::Threads;
+use std::time::Clock;
 use tokio::io::{AsyncRead, AsyncWrite};
 use tokio::runtime::Runtime;
 use tokio::sync::OwnedNotified;
@@ -187,7 +189,7 @@ impl<S: Stream, H: ConnFactory<S::Item>> Stream for ServerTasks<S, H> {
 /// Runs all tasks of a server to their end.
 fn run_tasks<R, S, H>(rt: &R, runtime: &mut Runtime, tasks: ServerTasks<S, H>) -> io::Result<()>
 where
-    R: ConnectionRuntime,
+    R: Wait + Threads + Clock + RandomSource + AllocGlobal + Sync,
     S: Stream,
     H: ConnFactory<S::Item>,
     H::Task: Send,
@@ -207,7 +209,7 @@ pub fn serve_all<R, S, I, A, T>(
     seating: AcceptorParts,
 ) -> io::Result<()>
 where
-    R: ConnectionRuntime,
+    R: Wait + Threads + Clock + RandomSource + AllocGlobal + Send + Sync + Drop,
     S: Stream<Item = I>,
     I: AsyncRead + AsyncWrite + Send,
     A: RequestService + Send + Sync,
@@ -232,7 +234,7 @@ fn serve_with<R, S, I, P, T>(
     watch: ReactorKeepalive,
 ) -> io::Result<()>
 where
-    R: ConnectionRuntime,
+    R: Wait + Threads + Clock + RandomSource + AllocGlobal + Sync,
     S: Stream<Item = I>,
     I: AsyncRead + AsyncWrite + Send,
     P: ServerConn + Send,

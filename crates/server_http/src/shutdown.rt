@@ -1,8 +1,8 @@
 //! Graceful shutdown: what has begun is answered, within a deadline.
 ghost use Rattle.futures.specs.Task.{Keeps};
 
-use crate::server_context::ServerContext;
 use crate::server_conn::ServerConn;
+use crate::server_context::ServerContext;
 use futures::Future;
 use futures::task::{Context, Poll};
 use std::alloc::{AllocError, Global};

@@ -1,9 +1,9 @@
 //! The table of a server's connections: whose they are, and what waits of each client.
 ghost use Rattle.std.specs.Prelude.{◌≡◌, None, true, false};
-ghost use Rattle.mds_connections.specs.declared.slots.Admittance.TheVariants.{Busy};
+ghost use Rattle.server_http.specs.declared.slots.Admittance.TheVariants.{Busy};
 
-use mds_limits::{Decision, Load, index_of, may_wait, slot_for};
 use mds_request::Actor;
+use server_admission::{Decision, Load, index_of, may_wait, slot_for};
 use slab::Slab;
 use std::alloc::{AllocError, Global};
 use std::collections::BTreeMap;

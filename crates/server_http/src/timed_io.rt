@@ -2,11 +2,11 @@
 ghost use Rattle.std.specs.Prelude.{◌≡◌};
 ghost use Rattle.futures.specs.Task.{Keeps};
 
-use crate::write_progress::WriteProgress;
 use crate::server_conn::ServerConn;
+use crate::write_progress::WriteProgress;
 use futures::Future;
 use futures::task::{Context, Poll};
-use mds_limits::{HeadPhase, is_answering};
+use server_admission::{HeadPhase, is_answering};
 use std::alloc::AllocError;
 use std::io;
 use tokio::io::{AsyncRead, AsyncWrite};

@@ -1,11 +1,11 @@
 //! The turn of an answer in its client's queue.
 ghost use Rattle.std.specs.Prelude.{◌≡◌, true, false};
-ghost use Rattle.mds_limits.specs.declared.limits.TheConstants.{MOST_SHORT};
-ghost use Rattle.mds_connections.specs.Turn.{IsWaiting, Holds, is_for_line, needs_of, permits_of};
+ghost use Rattle.server_admission.specs.declared.limits.TheConstants.{MOST_SHORT};
+ghost use Rattle.server_http.specs.Turn.{IsWaiting, Holds, is_for_line, needs_of, permits_of};
 
 use futures::task::{Context, Poll};
 use futures::{Future, ready};
-use mds_limits::MOST_SHORT;
+use server_admission::MOST_SHORT;
 use std::mem;
 use std::sync::Arc;
 use tokio::sync::{AcquireError, AcquireOwned, OwnedSemaphorePermit, Semaphore};

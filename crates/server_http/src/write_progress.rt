@@ -4,7 +4,7 @@ ghost use Rattle.futures.specs.Task.{Keeps};
 use crate::server_conn::ServerConn;
 use futures::Future;
 use futures::task::Context;
-use mds_limits::{STALL_SECONDS, is_too_slow};
+use server_admission::{STALL_SECONDS, is_too_slow};
 use std::time::Instant;
 use tokio::time::Sleep;
 

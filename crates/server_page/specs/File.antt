@@ -1,22 +1,22 @@
 -- The files of the page: the path, media type and bytes of each.
 use Rattle.std.specs.Prelude.{◌≢◌, ℕ, List, [], ◌∷◌, bytes_eq, codes, find, Option}
-use Rattle.mds_page.specs.declared.file.File.{File}
-use Rattle.mds_page.specs.declared.file.File.TheVariants.{IndexHtml, PageCss, AuthorJs, CardsJs, DomJs, FleetJs, GeometryJs, LayersJs, MapJs, PageJs, RulesJs, ServerJs, SettingsJson, StateJs, ZoneJs}
-use Rattle.mds_page.specs.declared.texts.index_html.TheConstants.{INDEX_HTML}
-use Rattle.mds_page.specs.declared.texts.page_css.TheConstants.{PAGE_CSS}
-use Rattle.mds_page.specs.declared.texts.author_js.TheConstants.{AUTHOR_JS}
-use Rattle.mds_page.specs.declared.texts.cards_js.TheConstants.{CARDS_JS}
-use Rattle.mds_page.specs.declared.texts.dom_js.TheConstants.{DOM_JS}
-use Rattle.mds_page.specs.declared.texts.fleet_js.TheConstants.{FLEET_JS}
-use Rattle.mds_page.specs.declared.texts.geometry_js.TheConstants.{GEOMETRY_JS}
-use Rattle.mds_page.specs.declared.texts.layers_js.TheConstants.{LAYERS_JS}
-use Rattle.mds_page.specs.declared.texts.map_js.TheConstants.{MAP_JS}
-use Rattle.mds_page.specs.declared.texts.page_js.TheConstants.{PAGE_JS}
-use Rattle.mds_page.specs.declared.texts.rules_js.TheConstants.{RULES_JS}
-use Rattle.mds_page.specs.declared.texts.server_js.TheConstants.{SERVER_JS}
-use Rattle.mds_page.specs.declared.texts.settings_json.TheConstants.{SETTINGS_JSON}
-use Rattle.mds_page.specs.declared.texts.state_js.TheConstants.{STATE_JS}
-use Rattle.mds_page.specs.declared.texts.zone_js.TheConstants.{ZONE_JS}
+use Rattle.server_page.specs.declared.file.File.{File}
+use Rattle.server_page.specs.declared.file.File.TheVariants.{IndexHtml, PageCss, AuthorJs, CardsJs, DomJs, FleetJs, GeometryJs, LayersJs, MapJs, PageJs, RulesJs, ServerJs, SettingsJson, StateJs, ZoneJs}
+use Rattle.server_page.specs.declared.texts.index_html.TheConstants.{INDEX_HTML}
+use Rattle.server_page.specs.declared.texts.page_css.TheConstants.{PAGE_CSS}
+use Rattle.server_page.specs.declared.texts.author_js.TheConstants.{AUTHOR_JS}
+use Rattle.server_page.specs.declared.texts.cards_js.TheConstants.{CARDS_JS}
+use Rattle.server_page.specs.declared.texts.dom_js.TheConstants.{DOM_JS}
+use Rattle.server_page.specs.declared.texts.fleet_js.TheConstants.{FLEET_JS}
+use Rattle.server_page.specs.declared.texts.geometry_js.TheConstants.{GEOMETRY_JS}
+use Rattle.server_page.specs.declared.texts.layers_js.TheConstants.{LAYERS_JS}
+use Rattle.server_page.specs.declared.texts.map_js.TheConstants.{MAP_JS}
+use Rattle.server_page.specs.declared.texts.page_js.TheConstants.{PAGE_JS}
+use Rattle.server_page.specs.declared.texts.rules_js.TheConstants.{RULES_JS}
+use Rattle.server_page.specs.declared.texts.server_js.TheConstants.{SERVER_JS}
+use Rattle.server_page.specs.declared.texts.settings_json.TheConstants.{SETTINGS_JSON}
+use Rattle.server_page.specs.declared.texts.state_js.TheConstants.{STATE_JS}
+use Rattle.server_page.specs.declared.texts.zone_js.TheConstants.{ZONE_JS}
 
 -- the files, each once
 abbrev pub files : List File

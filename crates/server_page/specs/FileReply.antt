@@ -2,9 +2,9 @@
 use Rattle.std.specs.Prelude.{ℕ, List, Bool, ◌||◌, bytes_eq, codes, if◌then◌else◌}
 use Rattle.http_header.specs.FieldValue.{FieldValue}
 use Rattle.http_header.specs.HeaderMap.{Entries}
-use Rattle.mds_page.specs.Tag.{is_named_in}
-use Rattle.mds_page.specs.declared.file_reply.FileReply.{FileReply}
-use Rattle.mds_page.specs.declared.file_reply.FileReply.TheVariants.{Whole, Unchanged, WrongMethod}
+use Rattle.server_page.specs.Tag.{is_named_in}
+use Rattle.server_page.specs.declared.file_reply.FileReply.{FileReply}
+use Rattle.server_page.specs.declared.file_reply.FileReply.TheVariants.{Whole, Unchanged, WrongMethod}
 
 -- a method by which a file is read (RFC 9110, sections 9.3.1 and 9.3.2)
 abbrev pub reads : List ℕ → Bool

@@ -5,11 +5,11 @@ use Rattle.http_header.specs.HeaderMap.{Entry}
 use Rattle.http.specs.Response.{head_of, body_of}
 use Rattle.http.specs.declared.response.Response.{Response}
 use Rattle.http_body_util.specs.declared.full.Full.{Full}
-use Rattle.mds_page.specs.File.{text_of, type_of}
-use Rattle.mds_page.specs.Tag.{tag_of}
-use Rattle.mds_page.specs.declared.file.File.{File}
-use Rattle.mds_page.specs.declared.file_reply.FileReply.{FileReply}
-use Rattle.mds_page.specs.declared.file_reply.FileReply.TheVariants.{Whole, Unchanged, WrongMethod}
+use Rattle.server_page.specs.File.{text_of, type_of}
+use Rattle.server_page.specs.Tag.{tag_of}
+use Rattle.server_page.specs.declared.file.File.{File}
+use Rattle.server_page.specs.declared.file_reply.FileReply.{FileReply}
+use Rattle.server_page.specs.declared.file_reply.FileReply.TheVariants.{Whole, Unchanged, WrongMethod}
 
 -- RFC 9110, sections 15.3.1, 15.4.5 and 15.5.6
 abbrev pub status_of : FileReply → ℕ

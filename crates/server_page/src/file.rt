@@ -1,7 +1,7 @@
 //! The files of the page.
 ghost use Rattle.std.specs.Prelude.{◌≡◌, IsTrue, MatchOption, slice_get};
 ghost use Rattle.http_header.specs.FieldValue.{is_visible_text};
-ghost use Rattle.mds_page.specs.File.{IsNoFile, file_at, files, path_of, text_of, type_of};
+ghost use Rattle.server_page.specs.File.{IsNoFile, file_at, files, path_of, text_of, type_of};
 
 use crate::texts;
 

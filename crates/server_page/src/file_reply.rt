@@ -1,6 +1,6 @@
 //! Which response a request for a file gets.
 ghost use Rattle.std.specs.Prelude.{◌≡◌};
-ghost use Rattle.mds_page.specs.FileReply.{told_of};
+ghost use Rattle.server_page.specs.FileReply.{told_of};
 
 use crate::tag::is_named_in;
 use http::HeaderMap;

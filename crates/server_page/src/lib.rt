@@ -2,14 +2,14 @@
 #![tactic(auto)]
 
 mod file;
-mod tagged_file;
+mod file_reply;
 mod page;
 mod response;
 mod tag;
+mod tagged_file;
 #[cfg(test)]
 mod tests;
 mod texts;
-mod file_reply;
 
 pub use file::{FILES, File};
 pub use page::Page;

@@ -1,16 +1,16 @@
 //! The page: its files with their tags.
 ghost use Rattle.std.specs.Prelude.{◌≡◌, map, IfOk};
-ghost use Rattle.mds_page.specs.File.{files, text_of};
-ghost use Rattle.mds_page.specs.Response.{Says};
-ghost use Rattle.mds_page.specs.Tag.{tag_of};
-ghost use Rattle.mds_page.specs.FileReply.{told_of};
+ghost use Rattle.server_page.specs.File.{files, text_of};
+ghost use Rattle.server_page.specs.Response.{Says};
+ghost use Rattle.server_page.specs.Tag.{tag_of};
+ghost use Rattle.server_page.specs.FileReply.{told_of};
 
 use crate::file::{FILES, File};
-use crate::tagged_file::TaggedFile;
-use crate::response::response_of;
 use crate::file_reply::file_reply_of;
+use crate::response::response_of;
+use crate::tagged_file::TaggedFile;
 use http::HeaderMap;
-use mds_responses::HttpResult;
+use server_responses::HttpResult;
 use std::alloc::{AllocError, Global};
 
 /// The page's files, each with its tag.

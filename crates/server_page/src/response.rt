@@ -1,12 +1,12 @@
 //! The responses to requests for a file.
 ghost use Rattle.std.specs.Prelude.{◌≡◌, IfOk, OnOk, ◌++◌, [], map};
 ghost use Rattle.http_header.specs.FieldValue.{plain_value};
-ghost use Rattle.mds_page.specs.Response.{Says, field, fields_of, version_of};
-ghost use Rattle.mds_page.specs.declared.file.File.{File};
-ghost use Rattle.mds_page.specs.declared.file_reply.FileReply.TheVariants.{Whole, Unchanged, WrongMethod};
+ghost use Rattle.server_page.specs.Response.{Says, field, fields_of, version_of};
+ghost use Rattle.server_page.specs.declared.file.File.{File};
+ghost use Rattle.server_page.specs.declared.file_reply.FileReply.TheVariants.{Whole, Unchanged, WrongMethod};
 
-use crate::tagged_file::TaggedFile;
 use crate::file_reply::FileReply;
+use crate::tagged_file::TaggedFile;
 use bytes::Bytes;
 use http::header::{
     ALLOW, CACHE_CONTROL, CONTENT_SECURITY_POLICY, CONTENT_TYPE, ETAG, REFERRER_POLICY,
@@ -14,7 +14,7 @@ use http::header::{
 };
 use http::{HeaderMap, HeaderValue, Response, StatusCode};
 use http_body_util::Full;
-use mds_responses::{HttpResult, json_response, set_field, with_field};
+use server_responses::{HttpResult, json_response, set_field, with_field};
 use std::alloc::{AllocError, Global};
 
 /// What a browser may load for the page: what comes from the same origin, and pictures inside the

@@ -2,7 +2,7 @@
 ghost use Rattle.std.specs.Prelude.{◌≡◌, IfOk, codes};
 ghost use Rattle.std.specs.List.{list_any, slice_split};
 ghost use Rattle.http_header.specs.HeaderMap.{get_all};
-ghost use Rattle.mds_page.specs.Tag.{is_comma, is_named, is_member, is_named_in, opaque, tag_of, trimmed};
+ghost use Rattle.server_page.specs.Tag.{is_comma, is_named, is_member, is_named_in, opaque, tag_of, trimmed};
 
 use http::HeaderMap;
 use http::header::IF_NONE_MATCH;

@@ -1,7 +1,7 @@
 //! A file with its entity tag.
 ghost use Rattle.std.specs.Prelude.{◌≡◌, IfOk};
-ghost use Rattle.mds_page.specs.File.{text_of};
-ghost use Rattle.mds_page.specs.Tag.{tag_of};
+ghost use Rattle.server_page.specs.File.{text_of};
+ghost use Rattle.server_page.specs.Tag.{tag_of};
 
 use crate::file::File;
 use crate::tag::tag_of;

@@ -12,16 +12,16 @@ use Rattle.mds_desk.specs.Room.{RoomState}
 use Rattle.mds_policy.specs.Policy.{Policy}
 use Rattle.mds_policy.specs.Served as policy
 use Rattle.mds_text.specs.Printed.{printed}
-use Rattle.mds_public.specs.AcceptField.{line_takes}
-use Rattle.mds_public.specs.Answer.{found, reads}
-use Rattle.mds_public.specs.Documents.{Face, Notice, face_of, geography_notice, is_public, last, names, policy_notice, public_policies, touched}
-use Rattle.mds_public.specs.Withdrawal.{earlier, ended_at, ends, withdrawn_from}
-use Rattle.mds_public.specs.declared.public_target.PublicTarget.{PublicTarget}
-use Rattle.mds_public.specs.declared.refusal.Refusal.{Refusal}
-use Rattle.mds_public.specs.declared.refusal.Refusal.TheVariants.{Method, NotAcceptable}
-use Rattle.mds_public.specs.Laws.{for_everyone}
-use Rattle.mds_public.specs.Response.{query_of}
-use Rattle.mds_public.specs.CachedDocuments.{answer_to}
+use Rattle.server_public.specs.AcceptField.{line_takes}
+use Rattle.server_public.specs.Answer.{found, reads}
+use Rattle.server_public.specs.Documents.{Face, Notice, face_of, geography_notice, is_public, last, names, policy_notice, public_policies, touched}
+use Rattle.server_public.specs.Withdrawal.{earlier, ended_at, ends, withdrawn_from}
+use Rattle.server_public.specs.declared.public_target.PublicTarget.{PublicTarget}
+use Rattle.server_public.specs.declared.refusal.Refusal.{Refusal}
+use Rattle.server_public.specs.declared.refusal.Refusal.TheVariants.{Method, NotAcceptable}
+use Rattle.server_public.specs.Laws.{for_everyone}
+use Rattle.server_public.specs.Response.{query_of}
+use Rattle.server_public.specs.CachedDocuments.{answer_to}
 
 -- these lines of `accept` accept the response
 abbrev takes : List FieldValue → Bool

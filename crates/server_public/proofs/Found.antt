@@ -1,9 +1,9 @@
 -- A document that is found among the public documents.
 use Rattle.std.proofs.Common.{◌≡◌, ℕ, Bool, true, false, cond, List, [], ◌∷◌, map, find, bytes_eq, Option, Some, None, option_map, option_copied, refl, ap, ◌∙◌}
 use denote.Ref.{Bor}
-use Rattle.mds_public.specs.Documents.{Notice}
-use Rattle.mds_public.specs.View.{notice}
-use Rattle.mds_public.specs.declared.public_document.PublicDocument as program
+use Rattle.server_public.specs.Documents.{Notice}
+use Rattle.server_public.specs.View.{notice}
+use Rattle.server_public.specs.declared.public_document.PublicDocument as program
 
 pub seen_copied : (o : Option (Bor program.Notice)) → option_map (λ n. notice n.now) o ≡ option_map notice (option_copied o)
 seen_copied None = refl

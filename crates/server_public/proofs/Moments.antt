@@ -3,7 +3,7 @@ use Rattle.std.proofs.Common.{◌≡◌, ℕ, nat_le, min, ◌&&◌, ◌||◌, B
 use Rattle.std.specs.Option.{option_map_or}
 use Rattle.std.proofs.lemmas.Bool.Decides.{nat_tests}
 use Rattle.mds_catalog.specs.Publication.{Publication, is_among, is_withdrawn, IsWithdrawnFrom}
-use Rattle.mds_public.specs.Withdrawal.{earlier, withdrawn_from}
+use Rattle.server_public.specs.Withdrawal.{earlier, withdrawn_from}
 
 -- a moment, where there is one, isn't after t
 abbrev come : ℕ → Option ℕ → Bool

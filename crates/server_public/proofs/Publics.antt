@@ -4,11 +4,11 @@ use denote.Param.Send.{IsSend, IsSync, sendable}
 use denote.Param.SendFields.{declared_send, declared_sync}
 use Rattle.std.proofs.Crossing.{crosses}
 use Rattle.mds_snapshot.specs.declared.history.OpeningName.{Ghosts as Openings}
-use Rattle.mds_hall.specs.declared.hall_name.HallName.{Ghosts as Names}
+use Rattle.server_state.specs.declared.hall_name.HallName.{Ghosts as Names}
 use Rattle.mds_snapshot.proofs.note.Note.TheSendSync as note
-use Rattle.mds_public.proofs.public_documents.PublicDocuments.TheSendSync as face
-use Rattle.mds_public.specs.contracts.cached_documents.CachedDocuments as CachedDocuments
-use Rattle.mds_public.specs.contracts.public_cache.PublicCache as PublicCache
+use Rattle.server_public.proofs.public_documents.PublicDocuments.TheSendSync as face
+use Rattle.server_public.specs.contracts.cached_documents.CachedDocuments as CachedDocuments
+use Rattle.server_public.specs.contracts.public_cache.PublicCache as PublicCache
 
 module _ (K : RattleType) (k : Names K.Denot) (o : Openings K.Denot) where
   shown_send : IsSend (CachedDocuments.the_row K k o)

@@ -5,16 +5,16 @@ use Rattle.std.specs.declared.alloc.AllocError.{AllocError}
 use Rattle.http.specs.declared.request.Parts.{Parts}
 use Rattle.http.specs.declared.response.Response.{Response}
 use Rattle.http_body_util.specs.declared.full.Full.{Full}
-use Rattle.mds_public.specs.Answer.{Meets, answer_of}
-use Rattle.mds_public.specs.View.{face}
-use Rattle.mds_public.specs.declared.public_target.PublicTarget.{PublicTarget}
-use Rattle.mds_public.specs.declared.public_documents.PublicDocuments as program
-use Rattle.mds_public.specs.declared.refusal.PublicFault.{PublicFault}
-use Rattle.mds_public.specs.declared.refusal.PublicFault.TheVariants.{Refused}
-use Rattle.mds_public.specs.declared.refusal.Refusal.{Refusal}
+use Rattle.server_public.specs.Answer.{Meets, answer_of}
+use Rattle.server_public.specs.View.{face}
+use Rattle.server_public.specs.declared.public_target.PublicTarget.{PublicTarget}
+use Rattle.server_public.specs.declared.public_documents.PublicDocuments as program
+use Rattle.server_public.specs.declared.refusal.PublicFault.{PublicFault}
+use Rattle.server_public.specs.declared.refusal.PublicFault.TheVariants.{Refused}
+use Rattle.server_public.specs.declared.refusal.Refusal.{Refusal}
 use Rattle.mds_request.specs.Configuration.{Configuration}
-use Rattle.mds_public.specs.Response.{Says, query_of}
-use Rattle.mds_public.specs.CachedDocuments.{IsFace, IsTold}
+use Rattle.server_public.specs.Response.{Says, query_of}
+use Rattle.server_public.specs.CachedDocuments.{IsFace, IsTold}
 
 -- the refusal is the expected one
 pub refused_for : (expected : Result (List ℕ) Refusal) (answer : Result (List ℕ) PublicFault) (denied : PublicFault) (refusal : Refusal)

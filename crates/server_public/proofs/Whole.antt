@@ -1,10 +1,10 @@
 -- All documents, in a period without bounds.
 use Rattle.std.proofs.Common.{◌≡◌, ◌==◌, ℕ, Bool, true, List, [], ◌∷◌, length, map, filter, None, refl, ap, arith}
 use Rattle.std.proofs.lemmas.Bool.Decides.{nat_tests}
-use Rattle.mds_public.specs.Documents.{Notice}
-use Rattle.mds_public.specs.Period.{is_in}
-use Rattle.mds_public.specs.View.{notice}
-use Rattle.mds_public.specs.declared.public_document.PublicDocument as program
+use Rattle.server_public.specs.Documents.{Notice}
+use Rattle.server_public.specs.Period.{is_in}
+use Rattle.server_public.specs.View.{notice}
+use Rattle.server_public.specs.declared.public_document.PublicDocument as program
 
 pub all_in : (ns : List PublicDocument) → filter (is_in (record { from = None; to = None })) ns ≡ ns
 all_in [] = refl

@@ -2,17 +2,17 @@
 use Rattle.std.specs.Prelude.{◌≡◌, ⊤, ℕ, List, [], ◌∷◌, map, filter, find, Bool, true, ◌||◌, bytes_eq, codes, Option, Some, None, Result, Ok, Err, if◌then◌else◌}
 use Rattle.http_header.specs.FieldValue.{FieldValue}
 use Rattle.http_header.specs.HeaderMap.{Entries}
-use Rattle.mds_public.specs.AcceptField.{is_accepted}
-use Rattle.mds_public.specs.Body.{body_text}
-use Rattle.mds_public.specs.Documents.{Face, Notice}
-use Rattle.mds_public.specs.Period.{is_in, period_in}
-use Rattle.mds_public.specs.declared.public_target.PublicTarget.{PublicTarget}
-use Rattle.mds_public.specs.declared.public_target.PublicTarget.TheVariants.{Policies, Policy, Geographies, Geography}
-use Rattle.mds_public.specs.declared.period.Period.{Period}
-use Rattle.mds_public.specs.declared.refusal.Refusal.{Refusal}
-use Rattle.mds_public.specs.declared.refusal.Refusal.TheVariants.{BadParameter, NotFound, Method, NotAcceptable}
-use Rattle.mds_public.specs.declared.refusal.PublicFault.{PublicFault}
-use Rattle.mds_public.specs.declared.refusal.PublicFault.TheVariants.{NoMemory, Refused}
+use Rattle.server_public.specs.AcceptField.{is_accepted}
+use Rattle.server_public.specs.Body.{body_text}
+use Rattle.server_public.specs.Documents.{Face, Notice}
+use Rattle.server_public.specs.Period.{is_in, period_in}
+use Rattle.server_public.specs.declared.public_target.PublicTarget.{PublicTarget}
+use Rattle.server_public.specs.declared.public_target.PublicTarget.TheVariants.{Policies, Policy, Geographies, Geography}
+use Rattle.server_public.specs.declared.period.Period.{Period}
+use Rattle.server_public.specs.declared.refusal.Refusal.{Refusal}
+use Rattle.server_public.specs.declared.refusal.Refusal.TheVariants.{BadParameter, NotFound, Method, NotAcceptable}
+use Rattle.server_public.specs.declared.refusal.PublicFault.{PublicFault}
+use Rattle.server_public.specs.declared.refusal.PublicFault.TheVariants.{NoMemory, Refused}
 
 -- a method by which something is read (RFC 9110, sections 9.3.1 and 9.3.2)
 abbrev pub reads : List ℕ → Bool

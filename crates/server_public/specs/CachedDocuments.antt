@@ -4,15 +4,15 @@ use Rattle.http.specs.declared.request.Parts.{Parts}
 use Rattle.http.specs.declared.response.Response.{Response}
 use Rattle.http_body_util.specs.declared.full.Full.{Full}
 use Rattle.mds_catalog.specs.Publication.{Publication}
-use Rattle.mds_public.specs.Answer.{answer_of}
-use Rattle.mds_public.specs.Documents.{face_of}
-use Rattle.mds_public.specs.View.{face}
-use Rattle.mds_public.specs.declared.public_target.PublicTarget.{PublicTarget}
-use Rattle.mds_public.specs.declared.public_documents.PublicDocuments as program
-use Rattle.mds_public.specs.declared.refusal.Refusal.{Refusal}
+use Rattle.server_public.specs.Answer.{answer_of}
+use Rattle.server_public.specs.Documents.{face_of}
+use Rattle.server_public.specs.View.{face}
+use Rattle.server_public.specs.declared.public_target.PublicTarget.{PublicTarget}
+use Rattle.server_public.specs.declared.public_documents.PublicDocuments as program
+use Rattle.server_public.specs.declared.refusal.Refusal.{Refusal}
 use Rattle.mds_request.specs.Configuration.{Configuration}
-use Rattle.mds_hall.specs.Query.{RoomTells}
-use Rattle.mds_public.specs.Response.{Says, query_of}
+use Rattle.server_state.specs.Query.{RoomTells}
+use Rattle.server_public.specs.Response.{Says, query_of}
 
 -- all public documents of publications
 abbrev pub IsFaceOf : List Publication → program.Face → Type 0

@@ -8,7 +8,7 @@ use Rattle.mds_policy.specs.Policy.{Policy}
 use Rattle.mds_geography.specs.Geography.{Geography}
 use Rattle.mds_geography.specs.Served as geography
 use Rattle.mds_catalog.specs.Publication.{Publication, Published, is_among, published_geographies, published_policies}
-use Rattle.mds_public.specs.Withdrawal.{end_of, policy_json, withdrawn_from}
+use Rattle.server_public.specs.Withdrawal.{end_of, policy_json, withdrawn_from}
 
 -- a policy that is meant for everyone: it names no operator
 abbrev pub is_public : Published Policy → Bool

@@ -6,8 +6,8 @@ use Rattle.std.specs.List.{list_all, slice_split}
 use Rattle.std.specs.Option.{option_map_or}
 use Rattle.std.specs.Str.{is_utf8}
 use Rattle.std.specs.Str.Parse.{digits_value}
-use Rattle.mds_public.specs.Documents.{Notice}
-use Rattle.mds_public.specs.declared.period.Period.{Period}
+use Rattle.server_public.specs.Documents.{Notice}
+use Rattle.server_public.specs.declared.period.Period.{Period}
 
 abbrev pub is_ampersand : ℕ → Bool
 is_ampersand b = b == 38

@@ -7,8 +7,8 @@ use Rattle.http.specs.Response.{head_of, body_of}
 use Rattle.http.specs.declared.request.Parts.{Parts}
 use Rattle.http.specs.declared.response.Response.{Response}
 use Rattle.http_body_util.specs.declared.full.Full.{Full}
-use Rattle.mds_public.specs.declared.refusal.Refusal.{Refusal}
-use Rattle.mds_public.specs.declared.refusal.Refusal.TheVariants.{BadParameter, NotFound, Method, NotAcceptable}
+use Rattle.server_public.specs.declared.refusal.Refusal.{Refusal}
+use Rattle.server_public.specs.declared.refusal.Refusal.TheVariants.{BadParameter, NotFound, Method, NotAcceptable}
 
 -- RFC 9110, sections 15.5.1, 15.5.5, 15.5.6 and 15.5.7
 abbrev pub refusal_status : Refusal → ℕ

@@ -1,8 +1,8 @@
 -- The definition's values of the program's `PublicDocument` and `PublicDocuments`.
 use Rattle.std.specs.Prelude.{map}
-use Rattle.mds_public.specs.Documents.{Face, Notice}
-use Rattle.mds_public.specs.declared.public_document.PublicDocument as program
-use Rattle.mds_public.specs.declared.public_documents.PublicDocuments as program'
+use Rattle.server_public.specs.Documents.{Face, Notice}
+use Rattle.server_public.specs.declared.public_document.PublicDocument as program
+use Rattle.server_public.specs.declared.public_documents.PublicDocuments as program'
 
 abbrev pub notice : program.Notice → PublicDocument
 notice n = record { id = n.id; start = n.start; end = n.end; text = n.text.items }

@@ -2,8 +2,8 @@
 ghost use Rattle.std.specs.Prelude.{◌≡◌, ◌<◌, codes, length, position, IfSome};
 ghost use Rattle.std.specs.List.{list_any};
 ghost use Rattle.http_header.specs.HeaderMap.{get_all};
-ghost use Rattle.mds_public.specs.AcceptField.{has_this_version, is_accepted, is_any_version, is_semicolon, is_this_version};
-ghost use Rattle.mds_public.specs.AcceptField.{line_takes, takes, trimmed, type_of};
+ghost use Rattle.server_public.specs.AcceptField.{has_this_version, is_accepted, is_any_version, is_semicolon, is_this_version};
+ghost use Rattle.server_public.specs.AcceptField.{line_takes, takes, trimmed, type_of};
 
 use http::HeaderMap;
 use http::header::ACCEPT;

@@ -1,15 +1,15 @@
 //! The answer to a request for the public documents.
 ghost use Rattle.std.specs.Prelude.{◌≡◌, ◌∷◌, ◌++◌, [], bytes_eq, filter, find, map, option_copied, option_map, IfOk, OnOk};
-ghost use Rattle.mds_public.specs.Answer.{Meets, answer_of, found, one_told, policies_told, sought};
-ghost use Rattle.mds_public.specs.View.{face, notice};
-ghost use Rattle.mds_public.specs.Period.{is_in};
+ghost use Rattle.server_public.specs.Answer.{Meets, answer_of, found, one_told, policies_told, sought};
+ghost use Rattle.server_public.specs.View.{face, notice};
+ghost use Rattle.server_public.specs.Period.{is_in};
 
 use crate::accept_field::is_accepted;
-use crate::public_target::PublicTarget;
 use crate::body::body_of;
-use crate::public_documents::{PublicDocuments, GEOGRAPHIES, POLICIES};
-use crate::public_document::PublicDocument;
 use crate::period::Period;
+use crate::public_document::PublicDocument;
+use crate::public_documents::{GEOGRAPHIES, POLICIES, PublicDocuments};
+use crate::public_target::PublicTarget;
 use crate::refusal::{PublicFault, Refusal};
 use bytes::Bytes;
 use http::HeaderMap;
@@ -17,7 +17,11 @@ use mds_text::Id;
 use std::alloc::{AllocError, Global};
 
 /// Adds the text of a document, where it holds in the period.
-fn add<'a>(texts: &mut Vec<&'a [u8]>, sheet: &'a PublicDocument, period: &Period) -> Result<(), AllocError>
+fn add<'a>(
+    texts: &mut Vec<&'a [u8]>,
+    sheet: &'a PublicDocument,
+    period: &Period,
+) -> Result<(), AllocError>
     ensures { OnOk result (map (λ t. t.now) texts.new.items
         ≡ map (λ t. t.now) texts.old.items ++ map (λ n. n.text) (filter (is_in period.now) (notice sheet.now ∷ []))) }
 {
@@ -93,14 +97,24 @@ impl PublicDocuments {
     }
 
     /// The body that a request asks for.
-    fn body_for(&self, alloc: Global, asked: PublicTarget, query: &[u8]) -> Result<Bytes, PublicFault>
+    fn body_for(
+        &self,
+        alloc: Global,
+        asked: PublicTarget,
+        query: &[u8],
+    ) -> Result<Bytes, PublicFault>
         ensures { Meets (found (face self.now) asked query.now) result }
     {
         match asked {
             PublicTarget::Policies if query.is_empty() => Ok(self.all_policies.clone()?),
             PublicTarget::Policies => self.policies_body(alloc, Period::read(query)),
             PublicTarget::Policy(id) => {
-                document_body(alloc, POLICIES, document_with(&self.policies, id), self.updated)
+                document_body(
+                    alloc,
+                    POLICIES,
+                    document_with(&self.policies, id),
+                    self.updated,
+                )
             }
             PublicTarget::Geographies => Ok(self.all_geographies.clone()?),
             PublicTarget::Geography(id) => {

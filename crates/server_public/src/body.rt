@@ -2,7 +2,7 @@
 ghost use Rattle.std.specs.Prelude.{◌≡◌, ◌++◌, codes, map, IfOk, OnOk};
 ghost use Rattle.std.specs.Fmt.{decimal};
 ghost use Rattle.std.specs.List.{join_with_byte};
-ghost use Rattle.mds_public.specs.Body.{body_text};
+ghost use Rattle.server_public.specs.Body.{body_text};
 
 use bytes::Bytes;
 use std::alloc::{AllocError, Global};

@@ -1,16 +1,16 @@
 //! The public documents at one front of what is published.
 ghost use Rattle.std.specs.Prelude.{◌≡◌, IfOk};
-ghost use Rattle.mds_public.specs.Response.{query_of};
-ghost use Rattle.mds_public.specs.CachedDocuments.{IsFace, IsTold};
+ghost use Rattle.server_public.specs.Response.{query_of};
+ghost use Rattle.server_public.specs.CachedDocuments.{IsFace, IsTold};
 
-use crate::public_target::PublicTarget;
 use crate::public_documents::PublicDocuments;
+use crate::public_target::PublicTarget;
 use crate::refusal::PublicFault;
 use crate::response::response_of;
 use http::request::Parts;
-use mds_hall::HallName;
-use mds_responses::HttpResult;
 use mds_snapshot::Note;
+use server_responses::HttpResult;
+use server_state::HallName;
 use std::alloc::{AllocError, Global};
 
 /// The public documents of the publications of the author's room, and the latest note before they were made. If there
@@ -25,7 +25,7 @@ pub struct CachedDocuments<K: HallName> {
 /// A source of the public documents.
 pub trait DocumentSource<K: HallName> {
     ghost use Rattle.std.specs.Prelude.{IfOk};
-    ghost use Rattle.mds_public.specs.CachedDocuments.{IsFace};
+    ghost use Rattle.server_public.specs.CachedDocuments.{IsFace};
 
     /// The latest note; none where nothing was published since the start.
     fn note(&self) -> Option<Note<K>>;

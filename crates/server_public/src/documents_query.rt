@@ -10,13 +10,17 @@ use std::alloc::{AllocError, Global};
 pub struct PublicDocumentsQuery;
 
 impl DeskQuery for PublicDocumentsQuery {
-    ghost use Rattle.mds_public.specs.CachedDocuments.{IsFaceOf};
+    ghost use Rattle.server_public.specs.CachedDocuments.{IsFaceOf};
 
     type Told = PublicDocuments;
 
     ghost tells = { λ everyone publications told. IsFaceOf publications told };
 
-    fn run_query(&self, alloc: Global, catalogue: &Catalogue) -> Result<PublicDocuments, AllocError> {
+    fn run_query(
+        &self,
+        alloc: Global,
+        catalogue: &Catalogue,
+    ) -> Result<PublicDocuments, AllocError> {
         PublicDocuments::new(alloc, catalogue)
     }
 }

@@ -1,5 +1,5 @@
 //! Laws of the public documents. The functions do nothing: their contracts are the laws.
-ghost use Rattle.mds_public.specs.Laws.{EveryoneIsToldThePublications, OneOperatorsPoliciesAreNotTold};
+ghost use Rattle.server_public.specs.Laws.{EveryoneIsToldThePublications, OneOperatorsPoliciesAreNotTold};
 
 /// The answer to a request depends on the publications and on its method, target and `accept` alone.
 pub fn answers_are_of_publications()

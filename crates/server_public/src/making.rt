@@ -4,14 +4,14 @@ ghost use Rattle.std.specs.List.{list_any};
 ghost use Rattle.mds_catalog.specs.Catalogue.{lent_policy, lent_geography, publications_of};
 ghost use Rattle.mds_policy.specs.Policy.{rule_document};
 ghost use Rattle.mds_catalog.specs.Publication.{is_among};
-ghost use Rattle.mds_public.specs.Body.{body_text};
-ghost use Rattle.mds_public.specs.Documents.{face_of, geography_notice, is_public, last, names, policy_notice};
-ghost use Rattle.mds_public.specs.Documents.{public_geographies, public_policies, touched};
-ghost use Rattle.mds_public.specs.View.{face, notice};
+ghost use Rattle.server_public.specs.Body.{body_text};
+ghost use Rattle.server_public.specs.Documents.{face_of, geography_notice, is_public, last, names, policy_notice};
+ghost use Rattle.server_public.specs.Documents.{public_geographies, public_policies, touched};
+ghost use Rattle.server_public.specs.View.{face, notice};
 
 use crate::body::body_of;
-use crate::public_documents::{PublicDocuments, GEOGRAPHIES, POLICIES};
 use crate::public_document::{PublicDocument, millis, withdrawal_moment};
+use crate::public_documents::{GEOGRAPHIES, POLICIES, PublicDocuments};
 use bytes::Bytes;
 use mds_catalog::{Catalogue, Published};
 use mds_geography::Geography;
@@ -141,7 +141,12 @@ fn texts_of<'a>(alloc: Global, notices: &'a [PublicDocument]) -> Result<Vec<&'a 
 }
 
 /// A body of all of these documents.
-fn list_body(alloc: Global, name: &str, notices: &[PublicDocument], updated: u64) -> Result<Bytes, AllocError>
+fn list_body(
+    alloc: Global,
+    name: &str,
+    notices: &[PublicDocument],
+    updated: u64,
+) -> Result<Bytes, AllocError>
     ensures { IfOk result (λ b. b ≡ body_text name.now (map (λ n. n.text.items) notices.now) updated) }
 {
     let texts = texts_of(alloc, notices)?;

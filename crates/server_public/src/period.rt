@@ -2,9 +2,9 @@
 ghost use Rattle.std.specs.Prelude.{◌≡◌, find, option_copied};
 ghost use Rattle.std.specs.List.{list_all, slice_split};
 ghost use Rattle.std.specs.Char.{is_ascii_digit};
-ghost use Rattle.mds_public.specs.View.{notice};
-ghost use Rattle.mds_public.specs.Period.{as_given, begins, is_ampersand, is_in, moment_at, moment_in, number_in};
-ghost use Rattle.mds_public.specs.Period.{period_in, stripped, value_of};
+ghost use Rattle.server_public.specs.View.{notice};
+ghost use Rattle.server_public.specs.Period.{as_given, begins, is_ampersand, is_in, moment_at, moment_in, number_in};
+ghost use Rattle.server_public.specs.Period.{period_in, stripped, value_of};
 
 use crate::public_document::PublicDocument;
 

@@ -1,14 +1,14 @@
 //! The cache of the public documents.
 ghost use Rattle.std.specs.Prelude.{◌≡◌, is_some, IfOk};
-ghost use Rattle.mds_public.specs.Switch.{is_public};
-ghost use Rattle.mds_public.specs.CachedDocuments.{IsTold};
+ghost use Rattle.server_public.specs.Switch.{is_public};
+ghost use Rattle.server_public.specs.CachedDocuments.{IsTold};
 
+use crate::cached_documents::{CachedDocuments, DocumentSource};
 use crate::public_target::PublicTarget;
 use crate::switch::is_public;
-use crate::cached_documents::{CachedDocuments, DocumentSource};
 use http::request::Parts;
-use mds_hall::HallName;
-use mds_responses::HttpResult;
+use server_responses::HttpResult;
+use server_state::HallName;
 use std::alloc::{AllocError, Global};
 use std::sync::{Arc, Mutex, Wait};
 

@@ -1,9 +1,9 @@
 //! One public document.
 ghost use Rattle.std.specs.Prelude.{◌≡◌, IfOk};
 ghost use Rattle.mds_catalog.specs.Catalogue.{lent_policy, lent_geography, publications_of};
-ghost use Rattle.mds_public.specs.Documents.{geography_notice, policy_notice};
-ghost use Rattle.mds_public.specs.View.{notice};
-ghost use Rattle.mds_public.specs.Withdrawal.{earlier, ends, withdrawn_from};
+ghost use Rattle.server_public.specs.Documents.{geography_notice, policy_notice};
+ghost use Rattle.server_public.specs.View.{notice};
+ghost use Rattle.server_public.specs.Withdrawal.{earlier, ends, withdrawn_from};
 
 use crate::with_end::public_policy;
 use mds_catalog::{Catalogue, Published};

@@ -1,6 +1,6 @@
 //! The public documents.
 ghost use Rattle.std.specs.Prelude.{◌≡◌, codes, map};
-ghost use Rattle.mds_public.specs.Body.{body_text};
+ghost use Rattle.server_public.specs.Body.{body_text};
 
 use crate::public_document::PublicDocument;
 use bytes::Bytes;

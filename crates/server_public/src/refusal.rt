@@ -27,7 +27,7 @@ pub enum PublicFault {
 }
 
 impl From<AllocError> for PublicFault {
-    ghost use Rattle.mds_public.specs.declared.refusal.PublicFault.TheVariants.{NoMemory};
+    ghost use Rattle.server_public.specs.declared.refusal.PublicFault.TheVariants.{NoMemory};
 
     ghost from_gives = { λ fault denied. denied ≡ NoMemory };
 

@@ -1,14 +1,14 @@
 //! The responses with public documents, or with a refusal.
 ghost use Rattle.std.specs.Prelude.{◌≡◌, [], map, IfOk, OnOk, Ok, Err};
-ghost use Rattle.mds_public.specs.declared.refusal.Refusal.TheVariants.{Method};
-ghost use Rattle.mds_public.specs.Response.{Says, common_fields, field, fields_of, refusal_status, refusal_text};
+ghost use Rattle.server_public.specs.declared.refusal.Refusal.TheVariants.{Method};
+ghost use Rattle.server_public.specs.Response.{Says, common_fields, field, fields_of, refusal_status, refusal_text};
 
 use crate::refusal::Refusal;
 use bytes::Bytes;
 use http::header::{ACCESS_CONTROL_ALLOW_ORIGIN, ALLOW, CACHE_CONTROL, CONTENT_TYPE};
 use http::{HeaderMap, HeaderValue, Response, StatusCode};
 use http_body_util::Full;
-use mds_responses::{HttpResult, set_field};
+use server_responses::{HttpResult, set_field};
 use std::alloc::{AllocError, Global};
 
 /// The type of every response, with its version.

@@ -3,7 +3,7 @@ ghost use Rattle.std.specs.Prelude.{◌≡◌, codes, map, option_map, IfOk};
 ghost use Rattle.mds_text.specs.Fields.{find_member};
 ghost use Rattle.mds_text.specs.Tree.{members_of};
 ghost use Rattle.mds_text.specs.View.{member_view, view};
-ghost use Rattle.mds_public.specs.Switch.{is_public, is_true, says_public};
+ghost use Rattle.server_public.specs.Switch.{is_public, is_true, says_public};
 
 use mds_text::{Member, TextFault, Tree, read_tree};
 use std::alloc::{AllocError, Global};

@@ -4,7 +4,7 @@ ghost use Rattle.mds_text.specs.Tree.{int};
 ghost use Rattle.mds_text.specs.View.{view, member_view};
 ghost use Rattle.mds_policy.specs.Served.{served};
 ghost use Rattle.mds_catalog.specs.Catalogue.{lent_policy};
-ghost use Rattle.mds_public.specs.Withdrawal.{ended, ended_at, is_not_end};
+ghost use Rattle.server_public.specs.Withdrawal.{ended, ended_at, is_not_end};
 
 use crate::public_document::earlier;
 use mds_catalog::Published;
@@ -28,7 +28,11 @@ fn keep(alloc: Global, told: &mut Vec<Member>, member: &Member) -> Result<(), Al
 }
 
 /// The members, with this end.
-fn members_with_end(alloc: Global, members: &[Member], end: Moment) -> Result<Vec<Member>, AllocError>
+fn members_with_end(
+    alloc: Global,
+    members: &[Member],
+    end: Moment,
+) -> Result<Vec<Member>, AllocError>
     ensures { IfOk result (λ v. map member_view v.items
         ≡ filter is_not_end (map member_view members.now) ++ (codes "end_date", int (pos end)) ∷ []) }
 {

@@ -7,7 +7,7 @@ use Rattle.std.proofs.lemmas.List.Splits.{slice_split_none, slice_split_first, l
 use Rattle.std.proofs.lemmas.List.Sums.{fails_before_first}
 use Rattle.std.proofs.lemmas.Str.{is_utf8-from_IsUtf8}
 use Rattle.mds_request.specs.Call.{all_some, behind_slash, is_empty, is_slash, segments_in}
-use Rattle.mds_responses.specs.Methods.{methods_at}
+use Rattle.server_responses.specs.Methods.{methods_at}
 
 -- the methods of a path with these segments
 abbrev at : List (List ℕ) → Option (List ℕ)

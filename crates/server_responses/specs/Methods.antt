@@ -3,8 +3,8 @@ use Rattle.std.specs.Prelude.{ℕ, List, [], ◌∷◌, ◌++◌, codes, filter,
 use Rattle.mds_request.specs.Call.{Row, fits, row, table, word}
 use Rattle.mds_request.specs.declared.request.Verb.{Verb}
 use Rattle.mds_request.specs.declared.request.Verb.TheVariants.{Get, Put, Post, Delete, Other}
-use Rattle.mds_responses.specs.declared.methods.Methods.{Methods}
-use Rattle.mds_responses.specs.declared.methods.Methods.TheVariants as methods
+use Rattle.server_responses.specs.declared.methods.Methods.{Methods}
+use Rattle.server_responses.specs.declared.methods.Methods.TheVariants as methods
 
 -- the calls outside the protocol's, by method and path
 abbrev pub beside : List Row

@@ -7,8 +7,8 @@ use Rattle.http_header.specs.HeaderMap.{Entries, get, insert}
 use Rattle.http.specs.Response.{head_of, body_of}
 use Rattle.http.specs.declared.response.Response.{Response}
 use Rattle.http_body_util.specs.declared.full.Full.{Full}
-use Rattle.mds_responses.specs.Methods.{text_of}
-use Rattle.mds_responses.specs.declared.methods.Methods.{Methods}
+use Rattle.server_responses.specs.Methods.{text_of}
+use Rattle.server_responses.specs.declared.methods.Methods.{Methods}
 
 -- the fields with this one, where they hadn't the name
 abbrev pub with_missing : List ℕ → List ℕ → Entries FieldValue → Entries FieldValue

@@ -1,7 +1,7 @@
 //! Header fields of responses.
 ghost use Rattle.std.specs.Prelude.{◌≡◌, IfOk, OnErr, OnOk};
 ghost use Rattle.http_header.specs.HeaderMap.{insert};
-ghost use Rattle.mds_responses.specs.Field.{HasField};
+ghost use Rattle.server_responses.specs.Field.{HasField};
 
 use bytes::Bytes;
 use http::{HeaderMap, HeaderName, HeaderValue, Response};

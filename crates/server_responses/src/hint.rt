@@ -1,7 +1,7 @@
 //! What the refusal of a request names.
 ghost use Rattle.std.specs.Prelude.{◌≡◌, option_map};
 ghost use Rattle.mds_request.specs.Call.{segments_in};
-ghost use Rattle.mds_responses.specs.Methods.{methods_at, text_of};
+ghost use Rattle.server_responses.specs.Methods.{methods_at, text_of};
 
 use crate::methods::{Methods, methods_of};
 

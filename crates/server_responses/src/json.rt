@@ -1,6 +1,6 @@
 //! Responses with a body of JSON.
 ghost use Rattle.std.specs.Prelude.{IfOk};
-ghost use Rattle.mds_responses.specs.Json.{IsJson};
+ghost use Rattle.server_responses.specs.Json.{IsJson};
 
 use crate::fields::{HttpResult, with_field};
 use bytes::Bytes;

@@ -3,7 +3,7 @@ ghost use Rattle.std.specs.Prelude.{◌≡◌, ◌∷◌, [], IsTrue, codes, opt
 ghost use Rattle.std.specs.List.{slice_split};
 ghost use Rattle.http_header.specs.FieldValue.{is_visible_text};
 ghost use Rattle.mds_request.specs.Call.{all_some, is_slash, segments_in};
-ghost use Rattle.mds_responses.specs.Methods.{methods_at, text_of};
+ghost use Rattle.server_responses.specs.Methods.{methods_at, text_of};
 
 /// The methods of a path, which has one of these sets of them.
 #[derive(Clone, Copy, Debug, PartialEq, Eq)]

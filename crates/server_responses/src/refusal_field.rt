@@ -3,7 +3,7 @@ ghost use Rattle.std.specs.Prelude.{◌≡◌, IfOk, IsTrue};
 ghost use Rattle.std.specs.Option.{is_some};
 ghost use Rattle.http_header.specs.FieldValue.{is_visible_text};
 ghost use Rattle.http_header.specs.HeaderMap.{get};
-ghost use Rattle.mds_responses.specs.RefusalField.{IsGuided, IsNamed};
+ghost use Rattle.server_responses.specs.RefusalField.{IsGuided, IsNamed};
 
 use crate::fields::{HttpResult, with_field};
 use crate::hint::RefusalHint;

@@ -1,6 +1,6 @@
 //! A pending response that gets the header field of its refusal.
 ghost use Rattle.std.specs.Prelude.{◌≡◌};
-ghost use Rattle.mds_responses.specs.RefusalField.{Follows};
+ghost use Rattle.server_responses.specs.RefusalField.{Follows};
 
 use crate::fields::HttpResult;
 use crate::hint::RefusalHint;

@@ -6,16 +6,16 @@ use Rattle.std.specs.Option.{option_or}
 use Rattle.std.specs.Str.{is_utf8}
 use Rattle.std.proofs.lemmas.List.{take-append-drop}
 use Rattle.std.proofs.lemmas.Slice.Eq.{bytes_eq-Decides}
-use Rattle.mds_page.specs.File.{file_at, files, path_of}
-use Rattle.mds_page.specs.declared.file.File.{File}
-use Rattle.mds_page.specs.declared.file.File.TheVariants.{IndexHtml, PageCss, AuthorJs, CardsJs, DomJs, FleetJs, GeometryJs, LayersJs, MapJs, PageJs, RulesJs, ServerJs, SettingsJson, StateJs, ZoneJs}
-use Rattle.mds_public.specs.Target.{asked_by, geography_at, identifier, list_at, policy_at}
-use Rattle.mds_public.specs.declared.public_target.PublicTarget.TheVariants.{Policies, Policy, Geographies, Geography}
+use Rattle.server_page.specs.File.{file_at, files, path_of}
+use Rattle.server_page.specs.declared.file.File.{File}
+use Rattle.server_page.specs.declared.file.File.TheVariants.{IndexHtml, PageCss, AuthorJs, CardsJs, DomJs, FleetJs, GeometryJs, LayersJs, MapJs, PageJs, RulesJs, ServerJs, SettingsJson, StateJs, ZoneJs}
+use Rattle.server_public.specs.Target.{asked_by, geography_at, identifier, list_at, policy_at}
+use Rattle.server_public.specs.declared.public_target.PublicTarget.TheVariants.{Policies, Policy, Geographies, Geography}
 use Rattle.mds_request.specs.Call.{behind_slash, is_empty, is_slash, rows_at, segments_in}
-use Rattle.mds_routes.specs.App.{call_at, events_path, whoami_path, withdrawals_path, drafts_path}
-use Rattle.mds_routes.specs.Endpoint.{TablesAreApart}
-use Rattle.mds_routes.specs.declared.app.AppCall.TheVariants.{Events, Told}
-use Rattle.mds_routes.specs.declared.app.Question.TheVariants.{Whoami, Withdrawals, Drafts}
+use Rattle.server_routes.specs.App.{call_at, events_path, whoami_path, withdrawals_path, drafts_path}
+use Rattle.server_routes.specs.Endpoint.{TablesAreApart}
+use Rattle.server_routes.specs.declared.app.AppCall.TheVariants.{Events, Told}
+use Rattle.server_routes.specs.declared.app.Question.TheVariants.{Whoami, Withdrawals, Drafts}
 
 -- the table of calls has no row for this path
 abbrev NoRow : List ℕ → Type 0

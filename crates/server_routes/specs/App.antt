@@ -6,9 +6,9 @@ use Rattle.mds_request.specs.declared.code.Code.{Code}
 use Rattle.mds_request.specs.declared.code.Code.TheVariants.{Method}
 use Rattle.mds_request.specs.declared.request.Verb.{Verb}
 use Rattle.mds_request.specs.declared.request.Verb.TheVariants.{Get, Post}
-use Rattle.mds_routes.specs.declared.app.AppCall.{AppCall}
-use Rattle.mds_routes.specs.declared.app.AppCall.TheVariants.{Events, Told}
-use Rattle.mds_routes.specs.declared.app.Question.TheVariants.{Whoami, Withdrawals, Drafts}
+use Rattle.server_routes.specs.declared.app.AppCall.{AppCall}
+use Rattle.server_routes.specs.declared.app.AppCall.TheVariants.{Events, Told}
+use Rattle.server_routes.specs.declared.app.Question.TheVariants.{Whoami, Withdrawals, Drafts}
 
 -- the paths of these calls
 abbrev pub events_path : List ℕ

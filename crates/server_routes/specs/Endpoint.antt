@@ -3,12 +3,12 @@
 use Rattle.std.specs.Prelude.{◌≡◌, ℕ, List, [], Bool, IsSome, Option, Some, None, if◌then◌else◌}
 use Rattle.http.specs.declared.request.Parts.{Parts}
 use Rattle.http_uri.specs.Uri.{uri_path}
-use Rattle.mds_page.specs.File.{file_at}
-use Rattle.mds_page.specs.declared.file.File.{File}
-use Rattle.mds_public.specs.Target.{asked_by}
-use Rattle.mds_public.specs.declared.public_target.PublicTarget.{PublicTarget}
+use Rattle.server_page.specs.File.{file_at}
+use Rattle.server_page.specs.declared.file.File.{File}
+use Rattle.server_public.specs.Target.{asked_by}
+use Rattle.server_public.specs.declared.public_target.PublicTarget.{PublicTarget}
 use Rattle.mds_request.specs.Call.{rows_at, segments_in}
-use Rattle.mds_routes.specs.App.{call_at}
+use Rattle.server_routes.specs.App.{call_at}
 
 -- the public documents, where the configuration turns them on
 abbrev pub public_at : Bool → List ℕ → Option PublicTarget

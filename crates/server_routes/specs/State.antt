@@ -1,8 +1,8 @@
 -- What a head asks of the city's state: a call of the protocol, or one next to it.
 use Rattle.std.specs.Prelude.{ℕ, List, option_map, unwrap_or, Result, Ok, Err}
-use Rattle.mds_limits.specs.Cost.{cost_of}
-use Rattle.mds_limits.specs.declared.cost.Cost.{Cost}
-use Rattle.mds_limits.specs.declared.cost.Cost.TheVariants.{Free, Shared, Exclusive}
+use Rattle.server_admission.specs.Cost.{cost_of}
+use Rattle.server_admission.specs.declared.cost.Cost.{Cost}
+use Rattle.server_admission.specs.declared.cost.Cost.TheVariants.{Free, Shared, Exclusive}
 use Rattle.mds_request.specs.Call.{called_at, path_of, segments_of}
 use Rattle.mds_request.specs.declared.call.Call.{Call}
 use Rattle.mds_request.specs.declared.code.Code.{Code}
@@ -10,12 +10,12 @@ use Rattle.mds_request.specs.declared.code.Code.TheVariants.{Role, Token}
 use Rattle.mds_request.specs.declared.config.Actor.{Actor}
 use Rattle.mds_request.specs.declared.config.Actor.TheVariants.{Author, Operator, Nobody}
 use Rattle.mds_request.specs.declared.request.Verb.{Verb}
-use Rattle.mds_routes.specs.App.{app_at}
-use Rattle.mds_routes.specs.declared.app.AppCall.{AppCall}
-use Rattle.mds_routes.specs.declared.app.AppCall.TheVariants.{Events, Told}
-use Rattle.mds_routes.specs.declared.app.Question.TheVariants.{Whoami, Drafts}
-use Rattle.mds_routes.specs.declared.state.StateCall.{StateCall}
-use Rattle.mds_routes.specs.declared.state.StateCall.TheVariants.{Call as OfProtocol, Reports, AuthorAsks, OperatorAsks}
+use Rattle.server_routes.specs.App.{app_at}
+use Rattle.server_routes.specs.declared.app.AppCall.{AppCall}
+use Rattle.server_routes.specs.declared.app.AppCall.TheVariants.{Events, Told}
+use Rattle.server_routes.specs.declared.app.Question.TheVariants.{Whoami, Drafts}
+use Rattle.server_routes.specs.declared.state.StateCall.{StateCall}
+use Rattle.server_routes.specs.declared.state.StateCall.TheVariants.{Call as OfProtocol, Reports, AuthorAsks, OperatorAsks}
 
 -- A call outside the protocol's, by its client. Only an operator sends reports, and only the author sees drafts.
 abbrev pub app_call : Actor → Result AppCall Code → Result StateCall Code

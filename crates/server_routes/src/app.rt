@@ -1,7 +1,7 @@
 //! The calls outside the protocol's.
 ghost use Rattle.std.specs.Prelude.{◌≡◌, ◌<◌, IfSome, length, position};
 ghost use Rattle.mds_request.specs.Call.{is_query_mark, is_verb, path_of};
-ghost use Rattle.mds_routes.specs.App.{app_at, by_verb, call_at, verb_for};
+ghost use Rattle.server_routes.specs.App.{app_at, by_verb, call_at, verb_for};
 
 use mds_request::{Code, Verb};
 

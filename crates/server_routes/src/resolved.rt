@@ -1,24 +1,24 @@
 //! A head, and what it asks for.
 ghost use Rattle.std.specs.Prelude.{◌≡◌};
-ghost use Rattle.mds_limits.specs.declared.cost.Cost.TheVariants.{Free};
+ghost use Rattle.server_admission.specs.declared.cost.Cost.TheVariants.{Free};
 ghost use Rattle.mds_request.specs.declared.config.Actor.TheVariants.{Nobody};
 ghost use Rattle.mds_request.specs.Configuration.{actor_of};
 ghost use Rattle.mds_request.specs.Request.{verb_of};
-ghost use Rattle.mds_hall.specs.HttpRequest.{target_of, token_of};
-ghost use Rattle.mds_public.specs.declared.public_target.PublicTarget.{PublicTarget};
+ghost use Rattle.server_state.specs.HttpRequest.{target_of, token_of};
+ghost use Rattle.server_public.specs.declared.public_target.PublicTarget.{PublicTarget};
 ghost use Rattle.http_uri.specs.Uri.{uri_path};
-ghost use Rattle.mds_routes.specs.Endpoint.{AsksFile, AsksPublic, AsksState, public_at};
-ghost use Rattle.mds_routes.specs.State.{state_call, state_cost};
-ghost use Rattle.mds_routes.specs.declared.resolved.ResolvedHead.TheVariants.{Asset, Public, State};
+ghost use Rattle.server_routes.specs.Endpoint.{AsksFile, AsksPublic, AsksState, public_at};
+ghost use Rattle.server_routes.specs.State.{state_call, state_cost};
+ghost use Rattle.server_routes.specs.declared.resolved.ResolvedHead.TheVariants.{Asset, Public, State};
 
 use crate::app::{app_at, path_of};
 use crate::state::{ResolvedState, StateCall, app_call, own_call};
 use http::request::Parts;
-use mds_hall::{Hall, HallName, target};
-use mds_limits::Cost;
-use mds_page::File;
-use mds_public::PublicTarget;
 use mds_request::{Actor, Code, Verb};
+use server_admission::Cost;
+use server_page::File;
+use server_public::PublicTarget;
+use server_state::{Hall, HallName, target};
 
 /// A head, and what it asks for: resolved once, before its body is read.
 #[derive(Drop)]
@@ -35,7 +35,11 @@ pub enum ResolvedHead<K: HallName> {
 fn public_at(is_public: bool, path: &[u8]) -> Option<PublicTarget>
     ensures { result ≡ public_at is_public path.now }
 {
-    if is_public { PublicTarget::by(path) } else { None }
+    if is_public {
+        PublicTarget::by(path)
+    } else {
+        None
+    }
 }
 
 /// The client of a head, and its call of the city's state.

@@ -2,14 +2,14 @@
 ghost use Rattle.std.specs.Prelude.{◌≡◌};
 ghost use Rattle.mds_request.specs.Configuration.{actor_of};
 ghost use Rattle.mds_request.specs.Request.{verb_of};
-ghost use Rattle.mds_hall.specs.HttpRequest.{target_of, token_of};
-ghost use Rattle.mds_routes.specs.State.{app_call, own_call, state_call, state_cost};
+ghost use Rattle.server_state.specs.HttpRequest.{target_of, token_of};
+ghost use Rattle.server_routes.specs.State.{app_call, own_call, state_call, state_cost};
 
 use crate::app::{AppCall, Question};
 use http::request::Parts;
-use mds_hall::HallName;
-use mds_limits::{Cost, cost_of};
 use mds_request::{Actor, Call, Code};
+use server_admission::{Cost, cost_of};
+use server_state::HallName;
 use std::marker::PhantomData;
 
 /// A client's call of the city's state.

@@ -6,16 +6,16 @@ use denote.Param.Send.{IsSend, IsSync, sendable}
 use denote.Param.SendFields.{declared_send, declared_sync}
 use Rattle.std.proofs.Crossing.{crosses}
 use Rattle.mds_snapshot.specs.declared.history.OpeningName.{Ghosts as Openings}
-use Rattle.mds_hall.specs.declared.hall_name.HallName.{Ghosts as Names}
-use Rattle.mds_records.specs.declared.log.Log.{Ghosts as Logs}
-use Rattle.mds_commit.specs.declared.history.LogName.{Ghosts as Books}
-use Rattle.mds_commit.specs.declared.space.Space.{Ghosts as Spaces}
-use Rattle.mds_control.proofs.counters.Counters.TheSendSync as counters
-use Rattle.mds_page.proofs.page.Page.TheSendSync as page
-use Rattle.mds_connections.proofs.moments.MachineClock.TheSendSync as clock
-use Rattle.mds_public.proofs.Publics.{window_send, window_sync}
-use Rattle.mds_city.proofs.Cities.{reception_send, reception_sync}
-use Rattle.mds_site.specs.contracts.site.Site as Site
+use Rattle.server_state.specs.declared.hall_name.HallName.{Ghosts as Names}
+use Rattle.journal_file.specs.declared.log.Log.{Ghosts as Logs}
+use Rattle.journal_commit.specs.declared.history.LogName.{Ghosts as Books}
+use Rattle.journal_commit.specs.declared.space.Space.{Ghosts as Spaces}
+use Rattle.server_control.proofs.counters.Counters.TheSendSync as counters
+use Rattle.server_page.proofs.page.Page.TheSendSync as page
+use Rattle.server_http.proofs.moments.MachineClock.TheSendSync as clock
+use Rattle.server_public.proofs.Publics.{window_send, window_sync}
+use Rattle.server_durable.proofs.Cities.{reception_send, reception_sync}
+use Rattle.server_site.specs.contracts.site.Site as Site
 
 module _ (κ : NamedLft) (K N L S R E : RattleType) (k : Names K.Denot) (o : Openings K.Denot) (n : Books N.Denot) (l : Logs L.Denot) (s : Spaces S.Denot) where
   pub site_send : IsSend R → IsSend E → IsSend S → IsSend (Site.the_row κ K N L S R E k o n l s)

@@ -1,17 +1,17 @@
 -- How a call of the city's state is counted, and which methods its refusal names.
 use Rattle.std.specs.Prelude.{ℕ, List, Option, None, Result, Ok, Err, if◌then◌else◌}
-use Rattle.mds_control.specs.declared.counters.CallKind.{CallKind}
-use Rattle.mds_control.specs.declared.counters.CallKind.TheVariants.{Read, Change, Publish}
-use Rattle.mds_responses.specs.Methods.{methods_at}
+use Rattle.server_control.specs.declared.counters.CallKind.{CallKind}
+use Rattle.server_control.specs.declared.counters.CallKind.TheVariants.{Read, Change, Publish}
+use Rattle.server_responses.specs.Methods.{methods_at}
 use Rattle.mds_request.specs.Call.{segments_in}
 use Rattle.mds_request.specs.declared.call.AuthorCall.TheVariants as author
 use Rattle.mds_request.specs.declared.call.Call.{Call}
 use Rattle.mds_request.specs.declared.call.Call.TheVariants.{Author}
 use Rattle.mds_request.specs.declared.code.Code.{Code}
 use Rattle.mds_request.specs.declared.code.Code.TheVariants.{Method}
-use Rattle.mds_restarts.specs.Persisted.{may_change}
-use Rattle.mds_routes.specs.declared.state.StateCall.{StateCall}
-use Rattle.mds_routes.specs.declared.state.StateCall.TheVariants.{Call as OfProtocol, Reports, AuthorAsks, OperatorAsks}
+use Rattle.journal_laws.specs.Persisted.{may_change}
+use Rattle.server_routes.specs.declared.state.StateCall.{StateCall}
+use Rattle.server_routes.specs.declared.state.StateCall.TheVariants.{Call as OfProtocol, Reports, AuthorAsks, OperatorAsks}
 
 -- a call of the protocol: the author's call to publish, what may change the persisted state, or
 -- what reads

@@ -1,13 +1,13 @@
 //! How a call of the city's state is counted, and what its refusal names.
 ghost use Rattle.std.specs.Prelude.{◌≡◌, option_map};
-ghost use Rattle.mds_responses.specs.Methods.{text_of};
-ghost use Rattle.mds_site.specs.Calls.{kind_of, kind_of_own, methods_for};
+ghost use Rattle.server_responses.specs.Methods.{text_of};
+ghost use Rattle.server_site.specs.Calls.{kind_of, kind_of_own, methods_for};
 
-use mds_control::CallKind;
+use journal_laws::may_change;
 use mds_request::{AuthorCall, Call, Code};
-use mds_responses::RefusalHint;
-use mds_restarts::may_change;
-use mds_routes::StateCall;
+use server_control::CallKind;
+use server_responses::RefusalHint;
+use server_routes::StateCall;
 
 /// The kind as which a call of the protocol is counted.
 fn kind_of_own(call: &Call) -> CallKind

@@ -2,10 +2,10 @@
 //! resolved to.
 #![tactic(auto)]
 
-mod service;
 mod calls;
+mod service;
 mod site;
 
-pub use service::{ReadyReply, CityReply, SiteReply};
 pub use calls::{hint_for, kind_of};
+pub use service::{CityReply, ReadyReply, SiteReply};
 pub use site::Site;

@@ -1,16 +1,16 @@
 //! A site: all that answers the requests of a server.
 ghost use Rattle.std.specs.Prelude.{◌≡◌, is_some, IfOk};
-ghost use Rattle.mds_public.specs.Switch.{is_public};
+ghost use Rattle.server_public.specs.Switch.{is_public};
 
-use mds_city::{DurableHall, DurableService};
-use mds_commit::{LogName, Space};
-use mds_connections::MachineClock;
-use mds_control::Counters;
-use mds_hall::HallName;
-use mds_page::Page;
-use mds_public::{PublicDocumentsQuery, PublicDocuments, DocumentSource, PublicCache};
-use mds_records::Log;
+use journal_commit::{LogName, Space};
+use journal_file::Log;
 use mds_snapshot::Note;
+use server_control::Counters;
+use server_durable::{DurableHall, DurableService};
+use server_http::MachineClock;
+use server_page::Page;
+use server_public::{DocumentSource, PublicCache, PublicDocuments, PublicDocumentsQuery};
+use server_state::HallName;
 use std::alloc::{AllocError, AllocGlobal};
 use std::sync::Wait;
 
@@ -71,12 +71,15 @@ where
     }
 }
 
-impl<K: HallName, N: LogName, L: Log, S: Space, R: Wait, E> DocumentSource<K> for Site<'_, K, N, L, S, R, E> {
+impl<K: HallName, N: LogName, L: Log, S: Space, R: Wait, E> DocumentSource<K>
+    for Site<'_, K, N, L, S, R, E> {
     fn note(&self) -> Option<Note<K>> {
         self.state.city.note(&self.state.rt)
     }
 
     fn documents(&self) -> Result<PublicDocuments, AllocError> {
-        self.state.city.read_publications(&self.state.rt, &PublicDocumentsQuery)
+        self.state
+            .city
+            .read_publications(&self.state.rt, &PublicDocumentsQuery)
     }
 }

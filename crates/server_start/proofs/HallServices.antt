@@ -6,9 +6,9 @@ use denote.Param.Send.{IsSend, IsSync}
 use denote.Param.SendFields.{as_row_send, as_row_sync, declared_send, declared_sync}
 use Rattle.std.proofs.Crossing.{send, sync}
 use Rattle.mds_snapshot.specs.declared.history.OpeningName.{Ghosts}
-use Rattle.mds_hall.specs.declared.hall_name.HallName.{Ghosts as Names}
-use Rattle.mds_hall.proofs.Halls.{hall_send, hall_sync}
-use Rattle.mds_start.specs.contracts.hall_service.HallService as HallService
+use Rattle.server_state.specs.declared.hall_name.HallName.{Ghosts as Names}
+use Rattle.server_state.proofs.Halls.{hall_send, hall_sync}
+use Rattle.server_start.specs.contracts.hall_service.HallService as HallService
 
 module _ (K R E M : RattleType) (n : Names K.Denot) (g : Ghosts K.Denot) where
   pub reception_send : IsSend R → IsSend E → IsSend M → IsSend (HallService.the_row K R E M n g)

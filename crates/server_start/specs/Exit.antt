@@ -2,8 +2,8 @@
 use Rattle.std.specs.Prelude.{ℕ, List, codes, is_some, if◌then◌else◌}
 use Rattle.mds_request.specs.declared.fault.ConfigFault.{ConfigFault}
 use Rattle.mds_request.specs.Fault.{config_cause}
-use Rattle.mds_start.specs.declared.fault.ServeFault.{ServeFault}
-use Rattle.mds_start.specs.declared.fault.ServeFault.TheVariants.{Usage, BadConfig, NotOpened, NoListener}
+use Rattle.server_start.specs.declared.fault.ServeFault.{ServeFault}
+use Rattle.server_start.specs.declared.fault.ServeFault.TheVariants.{Usage, BadConfig, NotOpened, NoListener}
 
 -- the fault of a first line that gives no configuration: it is none, or memory ran out
 abbrev pub fault_of : ConfigFault → ServeFault

@@ -3,8 +3,8 @@ use Rattle.std.specs.Prelude.{ℕ, ◌==◌, List, [], ◌∷◌, Option, Some, 
 use Rattle.std.specs.List.{list_all}
 use Rattle.std.specs.Char.{is_ascii_digit}
 use Rattle.std.specs.Str.Parse.{digits_value}
-use Rattle.mds_start.specs.declared.command.ServeCommand.{ServeCommand}
-use Rattle.mds_start.specs.declared.command.ServeCommand.TheVariants.{Help, Version, Serve}
+use Rattle.server_start.specs.declared.command.ServeCommand.{ServeCommand}
+use Rattle.server_start.specs.declared.command.ServeCommand.TheVariants.{Help, Version, Serve}
 
 abbrev pub are_digits : List ℕ → Bool
 are_digits bytes = list_all is_ascii_digit bytes

@@ -1,6 +1,6 @@
 //! The arguments of the program.
 ghost use Rattle.std.specs.Prelude.{◌≡◌, map, string_bytes, option_map};
-ghost use Rattle.mds_start.specs.Input.{asked_by, asked_alone, serve_at, asked_view, is_flag};
+ghost use Rattle.server_start.specs.Input.{asked_by, asked_alone, serve_at, asked_view, is_flag};
 
 use crate::count::count_of;
 

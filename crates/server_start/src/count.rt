@@ -1,6 +1,6 @@
 //! The number of connections to serve.
 ghost use Rattle.std.specs.Prelude.{◌≡◌};
-ghost use Rattle.mds_start.specs.Input.{are_digits, count_in};
+ghost use Rattle.server_start.specs.Input.{are_digits, count_in};
 
 /// The most digits of a number of connections.
 const MOST_DIGITS: usize = 9;

@@ -1,6 +1,6 @@
 //! Why the server ends without serving.
 ghost use Rattle.std.specs.Prelude.{◌≡◌};
-ghost use Rattle.mds_start.specs.Exit.{message_of, exit_status};
+ghost use Rattle.server_start.specs.Exit.{message_of, exit_status};
 
 use mds_request::ConfigFault;
 use mds_snapshot::OpenFault;
@@ -48,7 +48,7 @@ impl ServeFault {
 
 impl From<ConfigFault> for ServeFault {
     ghost use Rattle.std.specs.Prelude.{◌≡◌};
-    ghost use Rattle.mds_start.specs.Exit.{fault_of};
+    ghost use Rattle.server_start.specs.Exit.{fault_of};
 
     ghost from_gives = { λ fault e. e ≡ fault_of fault };
 
@@ -62,7 +62,7 @@ impl From<ConfigFault> for ServeFault {
 
 impl From<OpenFault> for ServeFault {
     ghost use Rattle.std.specs.Prelude.{◌≡◌};
-    ghost use Rattle.mds_start.specs.declared.fault.ServeFault.TheVariants.{NotOpened};
+    ghost use Rattle.server_start.specs.declared.fault.ServeFault.TheVariants.{NotOpened};
 
     ghost from_gives = { λ _ e. e ≡ NotOpened };
 
@@ -73,7 +73,7 @@ impl From<OpenFault> for ServeFault {
 
 impl From<AllocError> for ServeFault {
     ghost use Rattle.std.specs.Prelude.{◌≡◌};
-    ghost use Rattle.mds_start.specs.declared.fault.ServeFault.TheVariants.{NotOpened};
+    ghost use Rattle.server_start.specs.declared.fault.ServeFault.TheVariants.{NotOpened};
 
     ghost from_gives = { λ _ e. e ≡ NotOpened };
 

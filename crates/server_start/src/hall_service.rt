@@ -1,20 +1,20 @@
 //! The service of a hall, which answers at the moments of a clock.
 ghost use Rattle.std.specs.Prelude.{◌≡◌, ℕ, Option, IfOk, IfSome, IsOk, IsSome};
 ghost use Rattle.mds_request.specs.Configuration.{actor_of};
-ghost use Rattle.mds_hall.specs.HttpRequest.{token_of};
-ghost use Rattle.mds_hall.specs.Resolved.{call_in, cost_in};
-ghost use Rattle.mds_hall.specs.Respond.{Responds};
+ghost use Rattle.server_state.specs.HttpRequest.{token_of};
+ghost use Rattle.server_state.specs.Resolved.{call_in, cost_in};
+ghost use Rattle.server_state.specs.Respond.{Responds};
 
 use futures::future::{Ready, ready};
 use http::request::Parts;
 use mds_catalog::Catalogue;
-use mds_connections::{RequestService, Crowded, Moments};
-use mds_hall::{Hall, HallContext, HallName, ResolvedCall};
-use mds_limits::{Arrived, Cost};
 use mds_parallel::Chunked;
 use mds_request::Actor;
-use mds_responses::HttpResult;
 use mds_verdict::Evaluator;
+use server_admission::{Arrived, Cost};
+use server_http::{Crowded, Moments, RequestService};
+use server_responses::HttpResult;
+use server_state::{Hall, HallContext, HallName, ResolvedCall};
 use std::alloc::{AllocGlobal, Global};
 use std::sync::Wait;
 use std::thread::Threads;

@@ -9,7 +9,7 @@ mod hall_service;
 mod serving;
 mod threads;
 
-pub use command::{ServeCommand, HELP, USAGE, VERSION, command_of};
+pub use command::{HELP, ServeCommand, USAGE, VERSION, command_of};
 pub use count::count_of;
 pub use fault::ServeFault;
 pub use hall_service::HallService;

@@ -1,10 +1,15 @@
 //! Serves a hall over a listener, and ends it.
 
 use crate::hall_service::HallService;
-use mds_connections::{ConnectionRuntime, ServeOutcome, Moments, Queues, serve_up_to};
-use mds_hall::HallName;
 use mds_parallel::Chunked;
+use server_http::{Moments, Queues, ServeOutcome, serve_up_to};
+use server_state::HallName;
+use std::alloc::AllocGlobal;
 use std::io;
+use std::random::RandomSource;
+use std::sync::Wait;
+use std::thread::Threads;
+use std::time::Clock;
 use tokio::net::TcpListener;
 use tokio::runtime::Runtime;
 
@@ -13,14 +18,19 @@ use tokio::runtime::Runtime;
 /// # Errors
 ///
 /// The server couldn't be started, or waiting for events failed.
-pub fn serve<K: HallName + Send + Sync, R: ConnectionRuntime + Copy, M: Moments + Send + Sync>(
+pub fn serve<K, R, M>(
     rt: &R,
     runtime: &mut Runtime,
     listener: TcpListener,
     reception: HallService<K, R, Chunked<R>, M>,
     queues: Queues,
     connections: Option<usize>,
-) -> io::Result<()> {
+) -> io::Result<()>
+where
+    K: HallName + Send + Sync,
+    R: Wait + Threads + Clock + RandomSource + AllocGlobal + Sync + Send + Copy + Drop,
+    M: Moments + Send + Sync,
+{
     let ended = serve_up_to(rt, runtime, listener, reception, queues, connections);
     let ServeOutcome { answers, outcome } = ended?;
     if let Some(reception) = answers {

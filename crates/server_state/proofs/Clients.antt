@@ -9,7 +9,7 @@ use Rattle.mds_request.specs.declared.call.OperatorCall.{OperatorCall}
 use Rattle.mds_request.specs.declared.call.Call.TheVariants as call
 use Rattle.mds_request.specs.declared.config.Actor.TheVariants.{Author}
 use Rattle.mds_request.proofs.Callers.{call_of-caller}
-use Rattle.mds_hall.specs.Client.{IsWithin}
+use Rattle.server_state.specs.Client.{IsWithin}
 
 found_within : (operators : List Operator) (token : List ℕ) (found : Option ℕ) → position (has_token token) operators ≡ found → IsWithin (length operators) (operator_at found)
 found_within operators token None is = tt

@@ -9,11 +9,11 @@ use Rattle.mds_desk.proofs.Desks.{desk_send, room_send}
 use Rattle.mds_desk.proofs.Routing.{routes_send, routes_sync}
 use Rattle.mds_request.proofs.config.Config.TheSendSync as config
 use Rattle.mds_snapshot.proofs.note.Note.TheSendSync as note
-use Rattle.mds_hall.specs.declared.hall_name.HallName.{Ghosts as Names}
-use Rattle.mds_hall.specs.contracts.locks.HallDesk as HallDesk
-use Rattle.mds_hall.specs.contracts.locks.DeskLock as DeskLock
-use Rattle.mds_hall.specs.contracts.locks.HallRoom as HallRoom
-use Rattle.mds_hall.specs.contracts.hall.Hall as Hall
+use Rattle.server_state.specs.declared.hall_name.HallName.{Ghosts as Names}
+use Rattle.server_state.specs.contracts.locks.HallDesk as HallDesk
+use Rattle.server_state.specs.contracts.locks.DeskLock as DeskLock
+use Rattle.server_state.specs.contracts.locks.HallRoom as HallRoom
+use Rattle.server_state.specs.contracts.hall.Hall as Hall
 
 module _ (K : RattleType) (n : Names K.Denot) (g : Ghosts K.Denot) where
   desk_crosses : IsSend (HallDesk.the_row K n g)

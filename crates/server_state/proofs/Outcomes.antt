@@ -17,11 +17,11 @@ use Rattle.mds_request.specs.declared.code.Code.TheVariants as code
 use Rattle.mds_request.specs.declared.config.Actor.{Actor}
 use Rattle.mds_request.specs.declared.config.Actor.TheVariants.{Author, Operator, Nobody}
 use Rattle.mds_request.proofs.Callers.{call_of-caller}
-use Rattle.mds_hall.specs.Early.{unknown}
-use Rattle.mds_hall.specs.Respond.{IsAnswered, TurnGives}
-use Rattle.mds_hall.specs.Response.{Says}
-use Rattle.mds_hall.specs.Turn.{DeskReplies, RoomReplies, SaysOne}
-use Rattle.mds_hall.proofs.Refusing.{desk_refused, room_refused}
+use Rattle.server_state.specs.Early.{unknown}
+use Rattle.server_state.specs.Respond.{IsAnswered, TurnGives}
+use Rattle.server_state.specs.Response.{Says}
+use Rattle.server_state.specs.Turn.{DeskReplies, RoomReplies, SaysOne}
+use Rattle.server_state.proofs.Refusing.{desk_refused, room_refused}
 
 -- how the client is answered: by a turn, or, where it is anonymous, that the access token is
 -- unknown

@@ -8,7 +8,7 @@ use Rattle.std.proofs.lemmas.List.{length-map, map-append, map-id}
 use Rattle.std.proofs.lemmas.List.FromFn.{length-range_with_len, get_or-range_with_len, get_or-map-range_with_len, length-map-range_with_len, map-range_with_len_more}
 use Rattle.mds_request.specs.Configuration.{Configuration}
 use Rattle.mds_desk.specs.Desk.{DeskState, new_desk, new_desks}
-use Rattle.mds_hall.specs.Turn.{AreDesksOf, IsDeskAt}
+use Rattle.server_state.specs.Turn.{AreDesksOf, IsDeskAt}
 
 -- there are as many locks as indices
 pub as_many : {L : Type 0} (place : L → ℕ) (locks : List L) (n : ℕ) → map place locks ≡ range_with_len 0 n → length locks ≡ n

@@ -14,8 +14,8 @@ use Rattle.mds_desk.specs.Room.{new_room}
 use Rattle.mds_desk.proofs.Resolved.{desk_refuses, is_its, room_refuses}
 use Rattle.mds_desk.proofs.RoomTurning.{refused_room_turn}
 use Rattle.mds_desk.proofs.Turning.{refused_turn}
-use Rattle.mds_hall.specs.Respond.{TurnGives}
-use Rattle.mds_hall.specs.Turn.{DeskReplies, RoomReplies}
+use Rattle.server_state.specs.Respond.{TurnGives}
+use Rattle.server_state.specs.Turn.{DeskReplies, RoomReplies}
 
 -- the client is the author or an operator
 abbrev pub IsSomebody : Actor → Type 0

@@ -13,10 +13,10 @@ use Rattle.mds_request.specs.declared.config.Actor.{Actor}
 use Rattle.mds_request.specs.declared.config.Actor.TheVariants.{Author, Operator, Nobody}
 use Rattle.mds_request.specs.declared.request.Verb.{Verb}
 use Rattle.mds_request.proofs.Callers.{call_of-caller, caller}
-use Rattle.mds_hall.specs.HttpRequest.{request_in, target_of, token_of}
-use Rattle.mds_hall.specs.WholeRequest.{request_heard}
-use Rattle.mds_hall.specs.Resolved.{call_in}
-use Rattle.mds_hall.specs.declared.whole_request.WholeRequest.{WholeRequest}
+use Rattle.server_state.specs.HttpRequest.{request_in, target_of, token_of}
+use Rattle.server_state.specs.WholeRequest.{request_heard}
+use Rattle.server_state.specs.Resolved.{call_in}
+use Rattle.server_state.specs.declared.whole_request.WholeRequest.{WholeRequest}
 
 -- the request of a head with a body within its limit calls for what the head calls for
 pub call_with_body : (configuration : Configuration) (parts : Parts) (body : List ℕ) (at : ℕ) → length body ≤ MOST_BODY

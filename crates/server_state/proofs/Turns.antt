@@ -5,8 +5,8 @@ use Rattle.mds_request.specs.Configuration.{Configuration}
 use Rattle.mds_request.specs.Request.{Request}
 use Rattle.mds_request.specs.Reply.{Reply}
 use Rattle.mds_desk.specs.Desk.{DeskState, IsSameDesk}
-use Rattle.mds_hall.specs.Query.{DeskTells, Looks}
-use Rattle.mds_hall.specs.Turn.{DeskReplies, DeskRuns, IsDeskAt, IsTold, TakesToldRun, TakesToldTurn}
+use Rattle.server_state.specs.Query.{DeskTells, Looks}
+use Rattle.server_state.specs.Turn.{DeskReplies, DeskRuns, IsDeskAt, IsTold, TakesToldRun, TakesToldTurn}
 
 -- a desk that learns a note stays the same desk
 pub same_told : (d : DeskState) (note : Option (List Publication)) (told : DeskState) → IsTold d note told → IsSameDesk d told

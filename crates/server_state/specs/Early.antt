@@ -1,15 +1,15 @@
 -- Refusals before a desk or the author's room is asked.
 use Rattle.std.specs.Prelude.{ℕ, length, nat_lt, if◌then◌else◌, Option, Some, None}
 use Rattle.http.specs.declared.request.Parts.{Parts}
-use Rattle.mds_limits.specs.declared.arrival.Arrived.{Arrived}
-use Rattle.mds_limits.specs.declared.arrival.Arrived.TheVariants.{Whole, Broken, TooLong, NoMemory}
+use Rattle.server_admission.specs.declared.arrival.Arrived.{Arrived}
+use Rattle.server_admission.specs.declared.arrival.Arrived.TheVariants.{Whole, Broken, TooLong, NoMemory}
 use Rattle.mds_request.specs.Configuration.{Configuration, actor_of}
 use Rattle.mds_request.specs.declared.call.TheConstants.{MOST_BODY}
 use Rattle.mds_request.specs.declared.code.Code.{Code}
 use Rattle.mds_request.specs.declared.code.Code.TheVariants as code
 use Rattle.mds_request.specs.declared.config.Actor.{Actor}
 use Rattle.mds_request.specs.declared.config.Actor.TheVariants.{Nobody}
-use Rattle.mds_hall.specs.HttpRequest.{token_of}
+use Rattle.server_state.specs.HttpRequest.{token_of}
 
 -- First a request without a moment is refused, then one without a body within its limit.
 abbrev pub unheard : Arrived → Option ℕ → Option Code

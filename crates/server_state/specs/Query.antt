@@ -5,7 +5,7 @@ use Rattle.mds_drafts.specs.Drafts.{Drafts}
 use Rattle.mds_request.specs.Configuration.{Configuration}
 use Rattle.mds_desk.specs.Desk.{DeskState, Learns}
 use Rattle.mds_desk.specs.Room.{RoomState}
-use Rattle.mds_hall.specs.Turn.{IsDeskAt, IsTold}
+use Rattle.server_state.specs.Turn.{IsDeskAt, IsTold}
 
 -- The desk learns a note, if there is one, and then takes a look at what is published: at a front that begins with all
 -- that it knew, and which it knows afterwards. Its rows stay.

@@ -1,15 +1,15 @@
 -- What a head is resolved to.
 use Rattle.std.specs.Prelude.{ℕ, Result, Ok, Err}
 use Rattle.http.specs.declared.request.Parts.{Parts}
-use Rattle.mds_limits.specs.Cost.{cost_of}
-use Rattle.mds_limits.specs.declared.cost.Cost.{Cost}
-use Rattle.mds_limits.specs.declared.cost.Cost.TheVariants.{Free}
+use Rattle.server_admission.specs.Cost.{cost_of}
+use Rattle.server_admission.specs.declared.cost.Cost.{Cost}
+use Rattle.server_admission.specs.declared.cost.Cost.TheVariants.{Free}
 use Rattle.mds_request.specs.Call.{called_at, segments_of}
 use Rattle.mds_request.specs.Configuration.{Configuration, actor_of}
 use Rattle.mds_request.specs.Request.{verb_of}
 use Rattle.mds_request.specs.declared.call.Call.{Call}
 use Rattle.mds_request.specs.declared.code.Code.{Code}
-use Rattle.mds_hall.specs.HttpRequest.{target_of, token_of}
+use Rattle.server_state.specs.HttpRequest.{target_of, token_of}
 
 -- what a head calls for, or the first refusal, whatever body within its limit follows it
 abbrev pub call_in : Configuration → Parts → Result Call Code

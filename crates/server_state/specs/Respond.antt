@@ -3,17 +3,17 @@ use Rattle.std.specs.Prelude.{ℕ, List, Option, IfSome, MatchOption}
 use Rattle.http.specs.declared.request.Parts.{Parts}
 use Rattle.http.specs.declared.response.Response.{Response}
 use Rattle.http_body_util.specs.declared.full.Full.{Full}
-use Rattle.mds_limits.specs.Arrival.{body_in}
-use Rattle.mds_limits.specs.declared.arrival.Arrived.{Arrived}
+use Rattle.server_admission.specs.Arrival.{body_in}
+use Rattle.server_admission.specs.declared.arrival.Arrived.{Arrived}
 use Rattle.mds_request.specs.Configuration.{Configuration, actor_of}
 use Rattle.mds_request.specs.Request.{Request}
 use Rattle.mds_request.specs.Reply.{Reply, refused}
 use Rattle.mds_request.specs.declared.config.Actor.{Actor}
 use Rattle.mds_request.specs.declared.config.Actor.TheVariants.{Author, Operator, Nobody}
-use Rattle.mds_hall.specs.HttpRequest.{request_in}
-use Rattle.mds_hall.specs.Early.{early, unknown}
-use Rattle.mds_hall.specs.Response.{Says}
-use Rattle.mds_hall.specs.Turn.{DeskReplies, RoomReplies, SaysOne}
+use Rattle.server_state.specs.HttpRequest.{request_in}
+use Rattle.server_state.specs.Early.{early, unknown}
+use Rattle.server_state.specs.Response.{Says}
+use Rattle.server_state.specs.Turn.{DeskReplies, RoomReplies, SaysOne}
 
 -- One turn of the client, on this request, gives the reply: of the operator's own desk or of the author's room. An
 -- anonymous client has none.

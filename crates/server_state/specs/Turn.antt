@@ -8,7 +8,7 @@ use Rattle.mds_request.specs.Request.{Request}
 use Rattle.mds_request.specs.Reply.{Reply}
 use Rattle.mds_desk.specs.Desk.{DeskState, Learns, TakesRun, TakesTurn}
 use Rattle.mds_desk.specs.Room.{RoomState, TakesRoomTurn}
-use Rattle.mds_hall.specs.Response.{Says}
+use Rattle.server_state.specs.Response.{Says}
 
 -- The desk learns a list of publications, if there is one.
 abbrev pub IsTold : DeskState → Option (List Publication) → DeskState → Type 0

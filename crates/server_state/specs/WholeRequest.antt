@@ -1,12 +1,12 @@
 -- A request whose body has arrived.
 use Rattle.std.specs.Prelude.{◌≡◌, ℕ, Option, None, IfSome}
 use Rattle.http.specs.declared.request.Parts.{Parts}
-use Rattle.mds_limits.specs.Arrival.{body_in}
-use Rattle.mds_limits.specs.declared.arrival.Arrived.{Arrived}
+use Rattle.server_admission.specs.Arrival.{body_in}
+use Rattle.server_admission.specs.declared.arrival.Arrived.{Arrived}
 use Rattle.mds_request.specs.Request.{Request}
-use Rattle.mds_hall.specs.HttpRequest.{request_in}
-use Rattle.mds_hall.specs.Early.{unheard}
-use Rattle.mds_hall.specs.declared.whole_request.WholeRequest.{WholeRequest}
+use Rattle.server_state.specs.HttpRequest.{request_in}
+use Rattle.server_state.specs.Early.{unheard}
+use Rattle.server_state.specs.declared.whole_request.WholeRequest.{WholeRequest}
 
 -- the request that a `WholeRequest` stands for
 abbrev pub request_heard : WholeRequest → Request

@@ -2,22 +2,22 @@
 ghost use Rattle.std.specs.Prelude.{◌≡◌, IfOk};
 ghost use Rattle.mds_request.specs.Call.{call_of};
 ghost use Rattle.mds_request.specs.Configuration.{configuration};
-ghost use Rattle.mds_hall.specs.WholeRequest.{request_heard};
-ghost use Rattle.mds_hall.specs.Respond.{IsAnswered, Responds};
+ghost use Rattle.server_state.specs.WholeRequest.{request_heard};
+ghost use Rattle.server_state.specs.Respond.{IsAnswered, Responds};
 
 use crate::early::read_whole;
 use crate::hall::Hall;
-use crate::whole_request::WholeRequest;
 use crate::hall_name::HallName;
 use crate::responding::response;
+use crate::whole_request::WholeRequest;
 use http::request::Parts;
 use mds_catalog::Catalogue;
-use mds_desk::{SharedReply, Gate, OpenGate};
-use mds_limits::Arrived;
+use mds_desk::{Gate, OpenGate, SharedReply};
 use mds_request::{Call, Code};
-use mds_responses::HttpResult;
 use mds_text::Moment;
 use mds_verdict::Evaluator;
+use server_admission::Arrived;
+use server_responses::HttpResult;
 use std::alloc::{AllocError, Global};
 use std::sync::Wait;
 

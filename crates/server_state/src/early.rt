@@ -1,13 +1,13 @@
 //! Refusals before a desk or the author's room is asked.
 ghost use Rattle.std.specs.Prelude.{◌≡◌, IfOk, Some, MatchResult};
-ghost use Rattle.mds_hall.specs.Early.{unheard};
-ghost use Rattle.mds_hall.specs.WholeRequest.{request_heard, IsHeard};
+ghost use Rattle.server_state.specs.Early.{unheard};
+ghost use Rattle.server_state.specs.WholeRequest.{request_heard, IsHeard};
 
 use crate::whole_request::WholeRequest;
 use http::request::Parts;
-use mds_limits::Arrived;
 use mds_request::{Code, MOST_BODY};
 use mds_text::Moment;
+use server_admission::Arrived;
 
 /// The request of a head, with its moment and its body.
 ///

@@ -8,19 +8,19 @@ ghost use Rattle.mds_request.specs.declared.call.Call.TheVariants.{Author as ByA
 ghost use Rattle.mds_desk.specs.Desk.{state_of};
 ghost use Rattle.mds_desk.specs.Room.{room_of};
 ghost use Rattle.mds_snapshot.specs.Opening.{book_of};
-ghost use Rattle.mds_hall.specs.HttpRequest.{token_of};
-ghost use Rattle.mds_hall.specs.Client.{IsWithin};
-ghost use Rattle.mds_hall.specs.WholeRequest.{request_heard};
-ghost use Rattle.mds_hall.specs.Resolved.{call_in};
-ghost use Rattle.mds_hall.specs.Turn.{AreDesksOf, RoomReplies};
+ghost use Rattle.server_state.specs.HttpRequest.{token_of};
+ghost use Rattle.server_state.specs.Client.{IsWithin};
+ghost use Rattle.server_state.specs.WholeRequest.{request_heard};
+ghost use Rattle.server_state.specs.Resolved.{call_in};
+ghost use Rattle.server_state.specs.Turn.{AreDesksOf, RoomReplies};
 
-use crate::http_request::{head_request, token};
-use crate::whole_request::WholeRequest;
 use crate::hall_name::HallName;
+use crate::http_request::{head_request, token};
 use crate::locks::{DeskLock, HallDesk, HallRoom};
 use crate::resolved::ResolvedCall;
+use crate::whole_request::WholeRequest;
 use http::request::Parts;
-use mds_desk::{AlwaysPublish, SharedReply, AuthorRoom, Desk, furnish};
+use mds_desk::{AlwaysPublish, AuthorRoom, Desk, SharedReply, furnish};
 use mds_request::{Actor, AuthorCall, Call, Code, Config, Routes, read_call};
 use mds_snapshot::{Blank, Note, OpenFault};
 use std::alloc::{AllocError, Global};
@@ -47,7 +47,10 @@ pub struct Hall<K: HallName> {
 /// # Errors
 ///
 /// Out of memory.
-fn lock_each<K: HallName>(alloc: Global, desks: Vec<Desk<K>>) -> Result<Vec<DeskLock<K>>, AllocError>
+fn lock_each<K: HallName>(
+    alloc: Global,
+    desks: Vec<Desk<K>>,
+) -> Result<Vec<DeskLock<K>>, AllocError>
     requires { AreDesksOf K.configuration (map state_of desks.items) }
     ensures { IfOk result (λ locked. map (λ desk. desk.place) locked.items ≡ range_with_len 0 (length K.configuration.operators)) }
 {

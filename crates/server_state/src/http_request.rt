@@ -1,7 +1,7 @@
 //! The request of an HTTP request's head and body.
 ghost use Rattle.std.specs.Prelude.{◌≡◌, []};
 ghost use Rattle.mds_request.specs.Request.{request_of};
-ghost use Rattle.mds_hall.specs.HttpRequest.{token_in, token_of, target_of, request_in};
+ghost use Rattle.server_state.specs.HttpRequest.{token_in, token_of, target_of, request_in};
 
 use http::header::AUTHORIZATION;
 use http::request::Parts;

@@ -3,24 +3,24 @@
 #![tactic(auto)]
 
 mod answering;
-mod http_request;
 mod early;
 mod hall;
-mod whole_request;
 mod hall_name;
+mod http_request;
 mod locks;
 mod resolved;
 mod responding;
 mod turn;
+mod whole_request;
 
 pub use answering::{HallContext, respond, respond_with};
-pub use http_request::{target, token};
 pub use early::read_whole;
 pub use hall::Hall;
-pub use whole_request::WholeRequest;
-pub use mds_limits::Arrived;
 pub use hall_name::HallName;
+pub use http_request::{target, token};
 pub use locks::{HallDesk, HallRoom};
 pub use resolved::ResolvedCall;
 pub use responding::response;
+pub use server_admission::Arrived;
 pub use turn::desk_turn;
+pub use whole_request::WholeRequest;

@@ -9,15 +9,15 @@ ghost use Rattle.mds_request.specs.Reply.{refused};
 ghost use Rattle.mds_request.specs.declared.call.Call.TheVariants.{Author as ByAuthor, Operator as OperatorAt};
 ghost use Rattle.mds_request.specs.declared.code.Code.TheVariants.{NoMemory, NoSnapshot};
 ghost use Rattle.mds_desk.specs.Room.{room_of, TakesRoomTurn};
-ghost use Rattle.mds_hall.specs.WholeRequest.{request_heard};
-ghost use Rattle.mds_hall.specs.Query.{DeskTells, Looks, RoomTells};
-ghost use Rattle.mds_hall.specs.Turn.{DeskReplies, DeskRuns, IsDeskAt, IsTold, RoomReplies, TakesToldRun, TakesToldTurn};
+ghost use Rattle.server_state.specs.WholeRequest.{request_heard};
+ghost use Rattle.server_state.specs.Query.{DeskTells, Looks, RoomTells};
+ghost use Rattle.server_state.specs.Turn.{DeskReplies, DeskRuns, IsDeskAt, IsTold, RoomReplies, TakesToldRun, TakesToldTurn};
 
-use crate::whole_request::WholeRequest;
 use crate::hall_name::HallName;
-use crate::turn::{take_call_turn, query_desk, take_run, take_turn};
+use crate::turn::{query_desk, take_call_turn, take_run, take_turn};
+use crate::whole_request::WholeRequest;
 use mds_catalog::Catalogue;
-use mds_desk::{SharedReply, AuthorRoom, RoomQuery, Desk, Gate, PublishGuard, DeskQuery};
+use mds_desk::{AuthorRoom, Desk, DeskQuery, Gate, PublishGuard, RoomQuery, SharedReply};
 use mds_request::{AuthorCall, Code, OperatorCall, Request};
 use mds_snapshot::Note;
 use mds_verdict::Evaluator;
@@ -65,7 +65,11 @@ impl<K: HallName> HallDesk<K> {
     /// # Errors
     ///
     /// `NoSnapshot` where there is no snapshot, `NoMemory` where memory ran out.
-    pub fn query<T: DeskQuery>(&mut self, note: Option<&Note<K>>, telling: &T) -> Result<T::Told, Code>
+    pub fn query<T: DeskQuery>(
+        &mut self,
+        note: Option<&Note<K>>,
+        telling: &T,
+    ) -> Result<T::Told, Code>
         ensures looks { Looks (state_of self.old.desk) (option_copied note.entry) (state_of self.new.desk) }
         ensures told { IfOk result (T.tells telling.now (state_of self.new.desk).known) }
         ensures tells { IfOk result (DeskTells K.configuration self.old.place (T.tells telling.now)) }

@@ -2,24 +2,24 @@
 ghost use Rattle.std.specs.Prelude.{◌≡◌, IfOk};
 ghost use Rattle.mds_request.specs.Call.{call_of};
 ghost use Rattle.mds_request.specs.Configuration.{actor_of};
-ghost use Rattle.mds_hall.specs.HttpRequest.{token_of};
-ghost use Rattle.mds_hall.specs.WholeRequest.{request_heard};
-ghost use Rattle.mds_hall.specs.Resolved.{call_in, cost_in};
-ghost use Rattle.mds_hall.specs.Respond.{Responds};
+ghost use Rattle.server_state.specs.HttpRequest.{token_of};
+ghost use Rattle.server_state.specs.WholeRequest.{request_heard};
+ghost use Rattle.server_state.specs.Resolved.{call_in, cost_in};
+ghost use Rattle.server_state.specs.Respond.{Responds};
 
 use crate::answering::{HallContext, carry_out};
 use crate::early::read_whole;
-use crate::whole_request::WholeRequest;
 use crate::hall_name::HallName;
 use crate::responding::response;
+use crate::whole_request::WholeRequest;
 use http::request::Parts;
 use mds_catalog::Catalogue;
-use mds_desk::{SharedReply, OpenGate};
-use mds_limits::{Arrived, Cost, cost_of};
+use mds_desk::{OpenGate, SharedReply};
 use mds_request::{Actor, Call, Code};
-use mds_responses::HttpResult;
 use mds_text::Moment;
 use mds_verdict::Evaluator;
+use server_admission::{Arrived, Cost, cost_of};
+use server_responses::HttpResult;
 use std::marker::PhantomData;
 use std::sync::Wait;
 

@@ -1,10 +1,10 @@
 //! The HTTP response of an answer.
 ghost use Rattle.std.specs.Prelude.{IfOk};
-ghost use Rattle.mds_hall.specs.Response.{Says};
+ghost use Rattle.server_state.specs.Response.{Says};
 
 use http::StatusCode;
 use mds_desk::SharedReply;
-use mds_responses::{HttpResult, json_response};
+use server_responses::{HttpResult, json_response};
 use std::alloc::{AllocError, Global};
 
 /// The response with this answer's status and body, as JSON.

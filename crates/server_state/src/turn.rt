@@ -5,20 +5,20 @@ ghost use Rattle.mds_request.specs.Request.{request_of};
 ghost use Rattle.mds_request.specs.declared.call.Call.TheVariants.{Operator as OperatorAt};
 ghost use Rattle.mds_request.specs.declared.code.Code.TheVariants.{NoMemory, NoSnapshot};
 ghost use Rattle.mds_desk.specs.Desk.{state_of, IsSameDesk};
-ghost use Rattle.mds_hall.specs.HttpRequest.{request_in};
-ghost use Rattle.mds_hall.specs.Query.{Looks};
-ghost use Rattle.mds_hall.specs.Turn.{Answers, IsTold, TakesToldRun, TakesToldTurn};
+ghost use Rattle.server_state.specs.HttpRequest.{request_in};
+ghost use Rattle.server_state.specs.Query.{Looks};
+ghost use Rattle.server_state.specs.Turn.{Answers, IsTold, TakesToldRun, TakesToldTurn};
 
 use crate::http_request::request;
 use crate::responding::response;
 use http::request::Parts;
 use mds_catalog::Catalogue;
-use mds_desk::{SharedReply, Desk, Gate, DeskQuery};
+use mds_desk::{Desk, DeskQuery, Gate, SharedReply};
 use mds_request::{Code, OperatorCall, Request};
-use mds_responses::HttpResult;
-use mds_snapshot::{OpeningName, Note};
+use mds_snapshot::{Note, OpeningName};
 use mds_text::Moment;
 use mds_verdict::Evaluator;
+use server_responses::HttpResult;
 use std::alloc::{AllocError, Global};
 
 /// A desk learns a note, if there is one.

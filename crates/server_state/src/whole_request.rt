@@ -24,8 +24,8 @@ pub struct WholeRequest<'a> {
 impl<'a> WholeRequest<'a> {
     ghost use Rattle.std.specs.Prelude.{◌≡◌};
     ghost use Rattle.mds_request.specs.Request.{request_of};
-    ghost use Rattle.mds_hall.specs.HttpRequest.{request_in};
-    ghost use Rattle.mds_hall.specs.WholeRequest.{request_heard};
+    ghost use Rattle.server_state.specs.HttpRequest.{request_in};
+    ghost use Rattle.server_state.specs.WholeRequest.{request_heard};
 
     /// The request of this head and this body, at this moment.
     pub(crate) fn new(parts: &'a Parts, body: &'a [u8], at: Moment) -> WholeRequest<'a>

@@ -1,8 +1,7 @@
 //! Drafts and their publication, with one allocation refused.
-use crate::square::{instant, id_of, position};
+use crate::square::{id_of, instant, position};
 use mds_catalog::{Batch, Catalogue};
 use mds_drafts::{Draft, Drafts, PublishFault, PublishList, Put, PutFault};
-use mds_exchanges::{CAP, PUBLISH, SQUARE};
 use mds_geography::Geography;
 use mds_match::Places;
 use mds_policy::Policy;
@@ -10,6 +9,7 @@ use mds_text::DraftKind;
 use std::alloc::Global;
 use std::process::Abort;
 use std::sync::Arc;
+use tests_fixtures::{CAP, PUBLISH, SQUARE};
 
 const SQUARE_ID: &str = "00000000-0000-4000-8000-000000000101";
 

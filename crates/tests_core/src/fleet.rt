@@ -2,12 +2,12 @@
 //! compares a book of many vehicles with a plain list (`tests/replays.py`).
 
 use crate::square::{device, instant, position, word, words};
-use mds_exchanges::REPORT_FIRST;
 use mds_fleet::{Book, BookFault, Report, Taken};
 use mds_match::Words;
 use std::alloc::Global;
 use std::process::Abort;
 use std::sync::Arc;
+use tests_fixtures::REPORT_FIRST;
 
 /// More devices than a node of the book's map holds.
 const DEVICES: u32 = 40;

@@ -59,5 +59,10 @@ fn reads_and_serves_or_runs_out_of_memory(rt: HostRuntime) {
         assert!(rt; geography.holds(at) == *wanted && geography.area().holds(at) == *wanted);
     }
     let served = served_tree(&rt, alloc, &geography);
-    assert!(rt; print_at_last(alloc, &served).expect(&rt, "memory").as_slice() == SERVED);
+    assert!(rt;
+        print_at_last(alloc, &served)
+            .expect(&rt, "memory")
+            .as_slice()
+            == SERVED
+    );
 }

@@ -1,7 +1,7 @@
 //! Local times in zones, worked out by hand, and the first rule that a vehicle meets. Scripts test windows, words and
 //! bounds.
 
-use crate::square::{NOON, instant, id_of, one_square, position, words};
+use crate::square::{NOON, id_of, instant, one_square, position, words};
 use mds_match::{Local, ResolvedPolicy, Vehicle, Zone, ZoneFault, first, meets, open_at};
 use mds_policy::Policy;
 use std::alloc::Global;

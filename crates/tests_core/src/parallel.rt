@@ -2,7 +2,7 @@
 
 ghost use Rattle.std.specs.Thread.{IsSync};
 
-use crate::square::{NOON, Square, device, instant, id_of, one_square, position, words};
+use crate::square::{NOON, Square, device, id_of, instant, one_square, position, words};
 use mds_match::{LocalMoment, Vehicle, Words};
 use mds_parallel::{Chunked, by_threads};
 use mds_policy::Policy;
@@ -143,7 +143,11 @@ fn vehicle_refs<'a>(alloc: Global, city: &'a VerdictInput) -> Result<Vec<&'a Veh
     city.fleet.iter().collect::<Vec<&Vehicle>>(alloc)
 }
 
-fn vehicle_refs_at_last<'a>(rt: &impl Abort, alloc: Global, city: &'a VerdictInput) -> Vec<&'a Vehicle> {
+fn vehicle_refs_at_last<'a>(
+    rt: &impl Abort,
+    alloc: Global,
+    city: &'a VerdictInput,
+) -> Vec<&'a Vehicle> {
     match vehicle_refs(alloc, city) {
         Ok(vehicles) => vehicles,
         Err(_) => vehicle_refs(alloc, city).expect(rt, "memory"),

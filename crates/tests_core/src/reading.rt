@@ -1,6 +1,7 @@
 //! Trees by both readers, and documents whose texts are borrowed, with one allocation refused.
-use mds_reading::{
-    Node, NodeBuffer, document_of, entries_of, read_and_count, read_tree, required_member, required_text,
+use mds_json::{
+    Node, NodeBuffer, document_of, entries_of, read_and_count, read_tree, required_member,
+    required_text,
 };
 use mds_text::{Field, TextFault, Tree, print_tree};
 use std::alloc::Global;

@@ -1,5 +1,5 @@
 //! A whole script, read and written in small pieces, and with a read, a write or an allocation that fails.
-use mds_lines::{ReplayFault, run};
+use mds_script::{ReplayFault, run};
 use mds_verdict::Plain;
 use mds_world::World;
 use std::alloc::Global;
@@ -122,7 +122,11 @@ fn takes_pieces_of_any_size(rt: HostRuntime) {
 }
 
 /// Whether the replay ended with this fault, after a prefix of the answers was written.
-fn is_prefix_at_fault(ended: Result<(), ReplayFault>, fault: ReplayFault, sink: &SlowWriter) -> bool {
+fn is_prefix_at_fault(
+    ended: Result<(), ReplayFault>,
+    fault: ReplayFault,
+    sink: &SlowWriter,
+) -> bool {
     ended == Err(fault) && CAP_ANSWERS.starts_with(&sink.written)
 }
 

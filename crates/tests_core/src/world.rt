@@ -1,11 +1,11 @@
 //! A whole history of requests to a `World`, with one allocation refused, whichever it is.
 use crate::square::instant;
-use mds_exchanges::{CONFIGURATION, FixtureExchange, HISTORY};
 use mds_request::{Config, Reply, Request, Verb};
 use mds_verdict::Plain;
 use mds_world::World;
 use std::alloc::Global;
 use std::process::Abort;
+use tests_fixtures::{CONFIGURATION, FixtureExchange, HISTORY};
 
 const NO_MEMORY: &[u8] = br#"{"error":"no_memory"}"#;
 

@@ -5,9 +5,9 @@ use Rattle.std.specs.FinMap.{FinMap, empty, insert, remove, get, len, get-empty,
 use Rattle.mds_drafts.specs.Drafts.{id_cmp}
 use Rattle.mds_geography.specs.Geography.{Geography}
 use Rattle.mds_policy.specs.Policy.{Policy}
-use Rattle.mds_examples.specs.Geographies.{square_document}
-use Rattle.mds_examples.specs.Ids.{square_id, cap_id}
-use Rattle.mds_examples.specs.Policies.{cap}
+use Rattle.tests_examples_core.specs.Geographies.{square_document}
+use Rattle.tests_examples_core.specs.Ids.{square_id, cap_id}
+use Rattle.tests_examples_core.specs.Policies.{cap}
 
 abbrev no_geographies : FinMap id_cmp Geography
 no_geographies = empty

@@ -4,7 +4,7 @@ use Rattle.std.specs.Cmp.Lexicographic.{nat_list_cmp_total}
 use Rattle.std.specs.FinMap.{empty, remove, get, len, len-remove, put, entries, from_sorted, get-empty, get-insert, len-empty, len-insert, len-entries, empty_of_len, entries-from_sorted, entries-insert}
 use Rattle.mds_fleet.specs.Books.{Rows, device_cmp}
 use Rattle.mds_match.specs.Row.{Row}
-use Rattle.mds_examples.specs.Vehicles.{first_device, second_device, third_device, first_vehicle, second_inside, one_row, two_rows}
+use Rattle.tests_examples_core.specs.Vehicles.{first_device, second_device, third_device, first_vehicle, second_inside, one_row, two_rows}
 
 abbrev pub no_rows : Rows
 no_rows = empty

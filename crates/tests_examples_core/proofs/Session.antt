@@ -12,14 +12,14 @@ use Rattle.mds_request.specs.declared.call.Call.TheVariants.{Author, Operator}
 use Rattle.mds_request.specs.declared.call.OperatorCall.TheVariants.{Report}
 use Rattle.mds_request.specs.declared.request.Verb.TheVariants.{Put, Post}
 use Rattle.mds_machine.specs.Step.{answered}
-use Rattle.mds_examples.proofs.DraftCounts.{no_square, geography_count, no_cap, policy_count, the_cap}
-use Rattle.mds_examples.proofs.Rows.{none_first, none_count, one_second, one_count, two_third, two_count}
-use Rattle.mds_examples.specs.Geographies.{square_document}
-use Rattle.mds_examples.specs.Ids.{square_id, cap_id}
-use Rattle.mds_examples.specs.Machine.{done, error, start, after_square, after_cap, after_publication, after_first_vehicle, after_second_vehicle}
-use Rattle.mds_examples.specs.Policies.{cap}
-use Rattle.mds_examples.specs.Requests.{configuration, request}
-use Rattle.mds_examples.specs.Vehicles.{first_report, second_report, third_report}
+use Rattle.tests_examples_core.proofs.DraftCounts.{no_square, geography_count, no_cap, policy_count, the_cap}
+use Rattle.tests_examples_core.proofs.Rows.{none_first, none_count, one_second, one_count, two_third, two_count}
+use Rattle.tests_examples_core.specs.Geographies.{square_document}
+use Rattle.tests_examples_core.specs.Ids.{square_id, cap_id}
+use Rattle.tests_examples_core.specs.Machine.{done, error, start, after_square, after_cap, after_publication, after_first_vehicle, after_second_vehicle}
+use Rattle.tests_examples_core.specs.Policies.{cap}
+use Rattle.tests_examples_core.specs.Requests.{configuration, request}
+use Rattle.tests_examples_core.specs.Vehicles.{first_report, second_report, third_report}
 
 -- the call of a report by the operator at this index
 abbrev pub report_call : ℕ → Call

@@ -7,7 +7,7 @@ use Rattle.jiff_tz.proofs.YearLemmas.{years_within_is}
 use Rattle.jiff_tz.specs.PosixRule.{rule_day}
 use Rattle.jiff_tz.specs.Year.{years_within, year_of_nanos}
 use Rattle.mds_match.specs.Zone.{summer, rule_offset, offset_in, ruled, instant_of}
-use Rattle.mds_examples.specs.Zones.{pacific_summer, pacific, sydney_summer, sydney}
+use Rattle.tests_examples_core.specs.Zones.{pacific_summer, pacific, sydney_summer, sydney}
 
 -- 12023 years lie from the year -10000 to 2022
 year_is : (count : ℕ) → nat_le (days_of_years 12023) count ≡ true → nat_lt count (days_of_years 12024) ≡ true → years_within 20000 count ≡ 12023

@@ -7,7 +7,7 @@ use Rattle.mds_text.specs.Printed.{printed}
 use Rattle.mds_geography.specs.Geography.{Geography}
 use Rattle.mds_geography.specs.Reading.{read_geography}
 use Rattle.mds_geography.specs.Served.{served}
-use Rattle.mds_examples.specs.Ids.{id_text, square_id, wide_id}
+use Rattle.tests_examples_core.specs.Ids.{id_text, square_id, wide_id}
 
 -- a position so many degrees east or west of Greenwich and north of the equator
 abbrev pub east : ℕ → ℕ → Position

@@ -6,11 +6,11 @@ use Rattle.mds_request.specs.Reply.{Reply, success}
 use Rattle.mds_request.specs.Request.{Request}
 use Rattle.mds_request.specs.declared.request.Verb.TheVariants.{Get, Post, Delete}
 use Rattle.mds_machine.specs.Step.{State, Exchange}
-use Rattle.mds_examples.specs.Ids.{id_text}
-use Rattle.mds_examples.specs.Machine.{error, done, compliance, after_publication, put_square, put_cap, cap_path, publish, publish_alone, withdraw_cap, report, ask}
-use Rattle.mds_examples.specs.Requests.{request}
-use Rattle.mds_examples.specs.Vehicles.{in_the_square, one_row, other_row}
-use Rattle.mds_examples.specs.Verdicts.{kept_text}
+use Rattle.tests_examples_core.specs.Ids.{id_text}
+use Rattle.tests_examples_core.specs.Machine.{error, done, compliance, after_publication, put_square, put_cap, cap_path, publish, publish_alone, withdraw_cap, report, ask}
+use Rattle.tests_examples_core.specs.Requests.{request}
+use Rattle.tests_examples_core.specs.Vehicles.{in_the_square, one_row, other_row}
+use Rattle.tests_examples_core.specs.Verdicts.{kept_text}
 
 abbrev pub no_drafts : Drafts
 no_drafts = record { policies = empty; geographies = empty }

@@ -7,12 +7,12 @@ use Rattle.mds_request.specs.Reply.{Reply, success}
 use Rattle.mds_request.specs.Request.{Request}
 use Rattle.mds_request.specs.declared.request.Verb.TheVariants.{Get, Put, Post, Delete}
 use Rattle.mds_machine.specs.Step.{State, new_state}
-use Rattle.mds_examples.specs.Geographies.{square_text, square_document}
-use Rattle.mds_examples.specs.Ids.{id_text, square_id, cap_id}
-use Rattle.mds_examples.specs.Policies.{cap, cap_text}
-use Rattle.mds_examples.specs.Publications.{first_publication, then_withdrawn}
-use Rattle.mds_examples.specs.Requests.{configuration, request}
-use Rattle.mds_examples.specs.Vehicles.{in_the_square, one_row, two_rows}
+use Rattle.tests_examples_core.specs.Geographies.{square_text, square_document}
+use Rattle.tests_examples_core.specs.Ids.{id_text, square_id, cap_id}
+use Rattle.tests_examples_core.specs.Policies.{cap, cap_text}
+use Rattle.tests_examples_core.specs.Publications.{first_publication, then_withdrawn}
+use Rattle.tests_examples_core.specs.Requests.{configuration, request}
+use Rattle.tests_examples_core.specs.Vehicles.{in_the_square, one_row, two_rows}
 
 -- the reply with this word as its result
 abbrev pub done : List ℕ → Reply

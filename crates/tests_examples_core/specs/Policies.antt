@@ -10,7 +10,7 @@ use Rattle.mds_policy.specs.declared.rule.TimeUnit.TheVariants.{Minutes}
 use Rattle.mds_policy.specs.Reading.{read_policy}
 use Rattle.mds_text.specs.Fault.{Fault, ◌>>=◌}
 use Rattle.mds_policy.specs.declared.rule.Window.{Window}
-use Rattle.mds_examples.specs.Ids.{id, id_text, square_id, wide_id, cap_id, next_id, first_rule_id, second_rule_id}
+use Rattle.tests_examples_core.specs.Ids.{id, id_text, square_id, wide_id, cap_id, next_id, first_rule_id, second_rule_id}
 
 -- the text of the policy, with more members of its rule
 abbrev pub cap_with : List ℕ → List ℕ

@@ -2,9 +2,9 @@
 use Rattle.std.specs.Prelude.{ℕ, List, [], ◌∷◌, map, Option}
 use Rattle.mds_catalog.specs.Publication.{Publication, Published, in_force}
 use Rattle.mds_policy.specs.Policy.{Policy}
-use Rattle.mds_examples.specs.Geographies.{square_document}
-use Rattle.mds_examples.specs.Ids.{id, cap_id, next_id}
-use Rattle.mds_examples.specs.Policies.{cap}
+use Rattle.tests_examples_core.specs.Geographies.{square_document}
+use Rattle.tests_examples_core.specs.Ids.{id, cap_id, next_id}
+use Rattle.tests_examples_core.specs.Policies.{cap}
 
 abbrev pub first_operator : List ℕ
 first_operator = id 0 161

@@ -4,8 +4,8 @@ use Rattle.mds_match.specs.Zone.{fixed}
 use Rattle.mds_request.specs.Configuration.{Configuration, Operator}
 use Rattle.mds_request.specs.Request.{Request}
 use Rattle.mds_request.specs.declared.request.Verb.{Verb}
-use Rattle.mds_examples.specs.Ids.{id_text}
-use Rattle.mds_examples.specs.Publications.{first_operator, second_operator}
+use Rattle.tests_examples_core.specs.Ids.{id_text}
+use Rattle.tests_examples_core.specs.Publications.{first_operator, second_operator}
 
 -- the text of a configuration, with the author's access token, the first operator's limit and the zone
 abbrev pub configuration_text : List ℕ → List ℕ → List ℕ → List ℕ

@@ -4,8 +4,8 @@ use Rattle.std.specs.FinMap.{empty, insert}
 use Rattle.mds_fleet.specs.Books.{Report, Rows, row_from}
 use Rattle.mds_geometry.specs.declared.position.Position.{Position}
 use Rattle.mds_match.specs.Row.{Row}
-use Rattle.mds_examples.specs.Geographies.{east}
-use Rattle.mds_examples.specs.Ids.{id, id_text}
+use Rattle.tests_examples_core.specs.Geographies.{east}
+use Rattle.tests_examples_core.specs.Ids.{id, id_text}
 
 -- a report of an electric scooter that is available after a trip
 abbrev pub report_of : List ℕ → Position → ℕ → Report

@@ -3,7 +3,7 @@ use Rattle.std.specs.Prelude.{ℕ, List, [], ◌++◌, codes}
 use Rattle.mds_verdict.specs.Verdict.{Verdict}
 use Rattle.mds_verdict.specs.declared.verdict.Status.{Status}
 use Rattle.mds_verdict.specs.declared.verdict.Status.TheVariants.{Violated}
-use Rattle.mds_examples.specs.Ids.{id_text}
+use Rattle.tests_examples_core.specs.Ids.{id_text}
 
 -- the verdict on a rule that isn't violated
 abbrev pub verdict : List ℕ → Status → ℕ → Verdict

@@ -7,8 +7,8 @@ ghost use Rattle.mds_fleet.specs.Books.{outcome, rows_after, row_after, row_from
 ghost use Rattle.mds_fleet.specs.History.{arrival, removal, accepted_reports, row_by};
 ghost use Rattle.mds_fleet.specs.declared.book.Taken.TheVariants.{New, Changed, Same};
 ghost use Rattle.mds_fleet.specs.declared.book.BookFault.TheVariants.{Future, Stale, FleetFull};
-ghost use Rattle.mds_examples.specs.Geographies.{east};
-ghost use Rattle.mds_examples.specs.Vehicles.{report_of, first_device, second_device, third_device, first_report, busy_report, second_report, third_report, first_vehicle, one_row, two_rows};
+ghost use Rattle.tests_examples_core.specs.Geographies.{east};
+ghost use Rattle.tests_examples_core.specs.Vehicles.{report_of, first_device, second_device, third_device, first_report, busy_report, second_report, third_report, first_vehicle, one_row, two_rows};
 
 /// A report of a device that isn't held is new where there is room. The same report again changes
 /// nothing; a later one, and one of the same time that differs, is a change.

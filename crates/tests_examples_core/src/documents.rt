@@ -6,8 +6,8 @@ ghost use Rattle.mds_text.specs.Fault.{bad_field, bad_number, out_of_range, ring
 ghost use Rattle.mds_text.specs.declared.field.Field.TheVariants.{Coordinates, Features, Geometry, Lng};
 ghost use Rattle.mds_geography.specs.Reading.{read_geography};
 ghost use Rattle.mds_fleet.specs.Reading.{read_report};
-ghost use Rattle.mds_examples.specs.Geographies.{geography_text, polygon_text, feature_text, collection_text, with_ring, square_text, square_document, served_as, served_text};
-ghost use Rattle.mds_examples.specs.Vehicles.{first_report, report_text, in_the_square};
+ghost use Rattle.tests_examples_core.specs.Geographies.{geography_text, polygon_text, feature_text, collection_text, with_ring, square_text, square_document, served_as, served_text};
+ghost use Rattle.tests_examples_core.specs.Vehicles.{first_report, report_text, in_the_square};
 
 /// A geography is read from its text.
 pub fn geography()

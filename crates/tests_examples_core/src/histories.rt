@@ -8,12 +8,12 @@ ghost use Rattle.mds_machine.specs.History.{draft_after, publications_after};
 ghost use Rattle.mds_machine.specs.Meaning.{IsAnswer};
 ghost use Rattle.mds_machine.specs.Step.{Run};
 ghost use Rattle.mds_machine.specs.Views.{view, asked, published};
-ghost use Rattle.mds_examples.specs.Histories.{no_drafts, denied, square_put, cap_put, drop_cap, cap_dropped, ask_for_cap, other_report, before_question, question, answer, history, after_history, withdrawn_again_drafted};
-ghost use Rattle.mds_examples.specs.Ids.{cap_id};
-ghost use Rattle.mds_examples.specs.Machine.{start, publish, report};
-ghost use Rattle.mds_examples.specs.Policies.{cap};
-ghost use Rattle.mds_examples.specs.Publications.{first_publication, then_withdrawn};
-ghost use Rattle.mds_examples.specs.Requests.{alfa, configuration};
+ghost use Rattle.tests_examples_core.specs.Histories.{no_drafts, denied, square_put, cap_put, drop_cap, cap_dropped, ask_for_cap, other_report, before_question, question, answer, history, after_history, withdrawn_again_drafted};
+ghost use Rattle.tests_examples_core.specs.Ids.{cap_id};
+ghost use Rattle.tests_examples_core.specs.Machine.{start, publish, report};
+ghost use Rattle.tests_examples_core.specs.Policies.{cap};
+ghost use Rattle.tests_examples_core.specs.Publications.{first_publication, then_withdrawn};
+ghost use Rattle.tests_examples_core.specs.Requests.{alfa, configuration};
 
 /// A new machine gives the replies of the history.
 pub fn run()

@@ -5,12 +5,12 @@ ghost use Rattle.std.specs.Prelude.{◌≡◌, ◌++◌, [], codes};
 ghost use Rattle.mds_request.specs.Reply.{success};
 ghost use Rattle.mds_request.specs.declared.request.Verb.TheVariants.{Post};
 ghost use Rattle.mds_machine.specs.Step.{answered};
-ghost use Rattle.mds_examples.specs.Machine.{done, compliance, start, ask, put_square, after_square, put_cap, after_cap, publish, after_publication, report, after_first_vehicle, after_second_vehicle, error, get, cap_path, first_vehicle_text, put_elsewhere, publish_alone, remove_first, again_drafted, withdraw_cap, after_withdrawal};
-ghost use Rattle.mds_examples.specs.Geographies.{served_text};
-ghost use Rattle.mds_examples.specs.Ids.{id_text};
-ghost use Rattle.mds_examples.specs.Policies.{cap_served};
-ghost use Rattle.mds_examples.specs.Requests.{request};
-ghost use Rattle.mds_examples.specs.Verdicts.{kept_text, violated_text};
+ghost use Rattle.tests_examples_core.specs.Machine.{done, compliance, start, ask, put_square, after_square, put_cap, after_cap, publish, after_publication, report, after_first_vehicle, after_second_vehicle, error, get, cap_path, first_vehicle_text, put_elsewhere, publish_alone, remove_first, again_drafted, withdraw_cap, after_withdrawal};
+ghost use Rattle.tests_examples_core.specs.Geographies.{served_text};
+ghost use Rattle.tests_examples_core.specs.Ids.{id_text};
+ghost use Rattle.tests_examples_core.specs.Policies.{cap_served};
+ghost use Rattle.tests_examples_core.specs.Requests.{request};
+ghost use Rattle.tests_examples_core.specs.Verdicts.{kept_text, violated_text};
 
 /// A new machine reports no policy and no publication.
 pub fn nothing_published()

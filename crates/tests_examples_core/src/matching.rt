@@ -4,10 +4,10 @@
 ghost use Rattle.std.specs.Prelude.{◌≡◌, [], ◌∷◌, IsTrue, Some, None, codes};
 ghost use Rattle.mds_match.specs.Examples.{at};
 ghost use Rattle.mds_match.specs.Matching.{meets, first, caught};
-ghost use Rattle.mds_examples.specs.Geographies.{areas};
-ghost use Rattle.mds_examples.specs.Ids.{id, wide_id};
-ghost use Rattle.mds_examples.specs.Policies.{downtown, citywide, two_rules, with_rules, for_states, for_types, for_propulsion, for_geographies, on_sundays, state};
-ghost use Rattle.mds_examples.specs.Vehicles.{first_vehicle, second_vehicle, far_vehicle};
+ghost use Rattle.tests_examples_core.specs.Geographies.{areas};
+ghost use Rattle.tests_examples_core.specs.Ids.{id, wide_id};
+ghost use Rattle.tests_examples_core.specs.Policies.{downtown, citywide, two_rules, with_rules, for_states, for_types, for_propulsion, for_geographies, on_sundays, state};
+ghost use Rattle.tests_examples_core.specs.Vehicles.{first_vehicle, second_vehicle, far_vehicle};
 
 /// A vehicle that meets two rules is caught by the first alone; one that doesn't meet the first is
 /// caught by the second.

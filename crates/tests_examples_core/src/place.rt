@@ -4,7 +4,7 @@
 ghost use Rattle.std.specs.Prelude.{pos, [], ◌∷◌, IsTrue};
 ghost use Rattle.mds_geometry.specs.Area.{area_holds};
 ghost use Rattle.mds_geometry.specs.Inside.{holds};
-ghost use Rattle.mds_examples.specs.Geographies.{east, west, square, holed, diamond, triangle};
+ghost use Rattle.tests_examples_core.specs.Geographies.{east, west, square, holed, diamond, triangle};
 
 /// A square with a hole holds what lies between its rings, and both rings.
 pub fn between_the_rings()

@@ -9,8 +9,8 @@ ghost use Rattle.mds_policy.specs.Reading.{read_policy, kind_of};
 ghost use Rattle.mds_policy.specs.Served.{served};
 ghost use Rattle.mds_policy.specs.declared.rule.Kind.TheVariants.{Count, Time, Other};
 ghost use Rattle.mds_policy.specs.declared.rule.TimeUnit.TheVariants.{Hours};
-ghost use Rattle.mds_examples.specs.Ids.{square_id, first_rule_id};
-ghost use Rattle.mds_examples.specs.Policies.{cap, cap_text, full_text, full_policy, read_of, read_without_tree, cap_with, cap_served, in_the_square, with_rules, rule, below, more_than};
+ghost use Rattle.tests_examples_core.specs.Ids.{square_id, first_rule_id};
+ghost use Rattle.tests_examples_core.specs.Policies.{cap, cap_text, full_text, full_policy, read_of, read_without_tree, cap_with, cap_served, in_the_square, with_rules, rule, below, more_than};
 
 /// A policy is read from its text.
 pub fn policy()

@@ -3,9 +3,9 @@
 
 ghost use Rattle.std.specs.Prelude.{◌≡◌, [], ◌∷◌, ◌++◌, IsTrue, Some, None};
 ghost use Rattle.mds_catalog.specs.Publication.{is_lawful, policies_for};
-ghost use Rattle.mds_examples.specs.Ids.{cap_id, next_id};
-ghost use Rattle.mds_examples.specs.Policies.{cap};
-ghost use Rattle.mds_examples.specs.Publications.{first_operator, second_operator, next_policy, publication, first_publication, withdrawal, then_withdrawn, then_next, alone, ids_of, ids_in_force};
+ghost use Rattle.tests_examples_core.specs.Ids.{cap_id, next_id};
+ghost use Rattle.tests_examples_core.specs.Policies.{cap};
+ghost use Rattle.tests_examples_core.specs.Publications.{first_operator, second_operator, next_policy, publication, first_publication, withdrawal, then_withdrawn, then_next, alone, ids_of, ids_in_force};
 
 /// A policy is in force from its publication and its start on, whichever is later, until just before its end, for the
 /// operators that it names or for all.

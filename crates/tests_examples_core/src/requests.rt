@@ -12,8 +12,8 @@ ghost use Rattle.mds_request.specs.declared.call.AuthorCall.TheVariants as autho
 ghost use Rattle.mds_request.specs.declared.call.Call.TheVariants as call;
 ghost use Rattle.mds_request.specs.declared.call.OperatorCall.TheVariants.{Compliance, PolicyCompliance, RemoveVehicle};
 ghost use Rattle.mds_request.specs.declared.request.Verb.TheVariants.{Get, Post, Delete};
-ghost use Rattle.mds_examples.specs.Ids.{id, id_text, cap_id};
-ghost use Rattle.mds_examples.specs.Requests.{configuration_text, configuration, alfa, bravo, request};
+ghost use Rattle.tests_examples_core.specs.Ids.{id, id_text, cap_id};
+ghost use Rattle.tests_examples_core.specs.Requests.{configuration_text, configuration, alfa, bravo, request};
 
 /// A configuration is read from its text. Its faults come in the order of its table, and `alike` comes last.
 pub fn configurations()

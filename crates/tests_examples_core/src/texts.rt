@@ -8,7 +8,7 @@ ghost use Rattle.mds_text.specs.Printed.{printed};
 ghost use Rattle.mds_text.specs.Quoting.{quoted_text, quoted_count};
 ghost use Rattle.mds_text.specs.Reading.{read_text};
 ghost use Rattle.mds_text.specs.Tree.{null, boolean, int, text, degrees, list, object, no_items, no_members, items_of, members_of};
-ghost use Rattle.mds_examples.specs.Values.{nested};
+ghost use Rattle.tests_examples_core.specs.Values.{nested};
 
 /// A number that isn't plain is put between quotation marks, and the digits within a string stay.
 pub fn quoting()

@@ -5,7 +5,7 @@ ghost use Rattle.std.specs.Prelude.{◌≡◌, codes, Ok, Err};
 ghost use Rattle.mds_text.specs.Fault.{bad_zone};
 ghost use Rattle.mds_match.specs.Examples.{at};
 ghost use Rattle.mds_match.specs.Zone.{zone_of, local_of, ruled};
-ghost use Rattle.mds_examples.specs.Zones.{local_in, pacific, sydney};
+ghost use Rattle.tests_examples_core.specs.Zones.{local_in, pacific, sydney};
 
 /// The Unix epoch was a Thursday at midnight; a second lasts to its last millisecond.
 pub fn epoch()

@@ -8,11 +8,11 @@ ghost use Rattle.mds_policy.specs.declared.rule.TimeUnit.TheVariants.{Hours};
 ghost use Rattle.mds_text.specs.Printed.{printed};
 ghost use Rattle.mds_verdict.specs.Verdict.{verdicts, reported, dwell, listed};
 ghost use Rattle.mds_verdict.specs.declared.verdict.Status.TheVariants.{NotEvaluated, Inactive, Ok, Violated};
-ghost use Rattle.mds_examples.specs.Geographies.{areas};
-ghost use Rattle.mds_examples.specs.Ids.{square_id, first_rule_id, second_rule_id};
-ghost use Rattle.mds_examples.specs.Policies.{cap, two_rules, with_rules, rule, at_most, at_least, below, more_than, unbounded, citywide, on_sundays};
-ghost use Rattle.mds_examples.specs.Vehicles.{first_device, second_device, first_vehicle, second_vehicle, second_inside, late_vehicle};
-ghost use Rattle.mds_examples.specs.Verdicts.{verdict, violated, entry_text, report_text};
+ghost use Rattle.tests_examples_core.specs.Geographies.{areas};
+ghost use Rattle.tests_examples_core.specs.Ids.{square_id, first_rule_id, second_rule_id};
+ghost use Rattle.tests_examples_core.specs.Policies.{cap, two_rules, with_rules, rule, at_most, at_least, below, more_than, unbounded, citywide, on_sundays};
+ghost use Rattle.tests_examples_core.specs.Vehicles.{first_device, second_device, first_vehicle, second_vehicle, second_inside, late_vehicle};
+ghost use Rattle.tests_examples_core.specs.Verdicts.{verdict, violated, entry_text, report_text};
 
 /// A vehicle counts for the rule that catches it, and for no other.
 pub fn counts()

@@ -10,15 +10,15 @@ use Rattle.mds_request.specs.declared.request.Verb.TheVariants.{Post}
 use Rattle.mds_machine.specs.Desks.{desk_does, IsTurn, AreTurns, AreMeant}
 use Rattle.mds_machine.specs.Fronts.{AreAnswers}
 use Rattle.mds_machine.proofs.Runs.{turns_are_meant}
-use Rattle.mds_examples.proofs.Rows.{no_rows, none_first, none_count, one_entry}
-use Rattle.mds_examples.proofs.Session.{report_call}
-use Rattle.mds_examples.specs.Computed.{documents, places, zones}
-use Rattle.mds_examples.specs.Histories.{question, answer}
-use Rattle.mds_examples.specs.Machine.{ask, done}
-use Rattle.mds_examples.specs.Publications.{then_withdrawn}
-use Rattle.mds_examples.specs.Requests.{alfa, configuration, request}
-use Rattle.mds_examples.specs.Vehicles.{first_report, in_the_square, one_row}
-use Rattle.mds_server_examples.specs.Turns.{first_front, reported, counted, nothing_in_force, three_turns, two_turns, seen_by_three}
+use Rattle.tests_examples_core.proofs.Rows.{no_rows, none_first, none_count, one_entry}
+use Rattle.tests_examples_core.proofs.Session.{report_call}
+use Rattle.tests_examples_core.specs.Computed.{documents, places, zones}
+use Rattle.tests_examples_core.specs.Histories.{question, answer}
+use Rattle.tests_examples_core.specs.Machine.{ask, done}
+use Rattle.tests_examples_core.specs.Publications.{then_withdrawn}
+use Rattle.tests_examples_core.specs.Requests.{alfa, configuration, request}
+use Rattle.tests_examples_core.specs.Vehicles.{first_report, in_the_square, one_row}
+use Rattle.tests_examples_server.specs.Turns.{first_front, reported, counted, nothing_in_force, three_turns, two_turns, seen_by_three}
 
 -- for any text that is read as the report
 report_at : (target body : List ℕ) → call_of configuration (request 2000 (codes "alfa") Post target body) ≡ Ok (report_call 0) →

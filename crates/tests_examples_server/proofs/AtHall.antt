@@ -4,13 +4,13 @@ use Rattle.std.specs.Prelude.{unwrap_or, slice_get}
 use Rattle.mds_request.specs.Configuration.{Operator}
 use Rattle.mds_machine.specs.Desks.{IsTurn}
 use Rattle.mds_desk.specs.Desk.{IsAnsweredAt, Learns, TakesTurn}
-use Rattle.mds_examples.proofs.Rows.{no_rows}
-use Rattle.mds_examples.specs.Histories.{question, answer}
-use Rattle.mds_examples.specs.Requests.{alfa, configuration}
-use Rattle.mds_examples.specs.Vehicles.{one_row}
-use Rattle.mds_server_examples.specs.DeskStates.{desk}
-use Rattle.mds_server_examples.specs.Turns.{first_front, reported, counted}
-use Rattle.mds_server_examples.proofs.AtDesk.{reports, counts, first_turn, second_turn, known_turn}
+use Rattle.tests_examples_core.proofs.Rows.{no_rows}
+use Rattle.tests_examples_core.specs.Histories.{question, answer}
+use Rattle.tests_examples_core.specs.Requests.{alfa, configuration}
+use Rattle.tests_examples_core.specs.Vehicles.{one_row}
+use Rattle.tests_examples_server.specs.DeskStates.{desk}
+use Rattle.tests_examples_server.specs.Turns.{first_front, reported, counted}
+use Rattle.tests_examples_server.proofs.AtDesk.{reports, counts, first_turn, second_turn, known_turn}
 
 -- the operator at index 0 is alfa
 first : {operator : Operator} → slice_get configuration.operators 0 ≡ Some operator → alfa ≡ operator

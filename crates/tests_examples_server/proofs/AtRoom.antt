@@ -7,15 +7,15 @@ use Rattle.mds_request.specs.declared.request.Verb.TheVariants.{Put}
 use Rattle.mds_request.specs.Reply.{success}
 use Rattle.mds_machine.specs.Answer.{settled}
 use Rattle.mds_machine.specs.Room.{room_does, IsRoomTurn, AreRoomTurns}
-use Rattle.mds_examples.proofs.DraftCounts.{no_square, geography_count, no_cap, policy_count, the_square, the_cap, square_out, cap_out}
-use Rattle.mds_examples.proofs.Session.{square_call, cap_call}
-use Rattle.mds_examples.specs.Computed.{documents}
-use Rattle.mds_examples.specs.Geographies.{square_text, square_document}
-use Rattle.mds_examples.specs.Histories.{no_drafts}
-use Rattle.mds_examples.specs.Machine.{done, put_square, put_cap, publish, square_path, cap_path, square_drafted, both_drafted}
-use Rattle.mds_examples.specs.Policies.{cap, cap_text}
-use Rattle.mds_examples.specs.Requests.{configuration, request}
-use Rattle.mds_server_examples.specs.Turns.{first_front, at_the_room}
+use Rattle.tests_examples_core.proofs.DraftCounts.{no_square, geography_count, no_cap, policy_count, the_square, the_cap, square_out, cap_out}
+use Rattle.tests_examples_core.proofs.Session.{square_call, cap_call}
+use Rattle.tests_examples_core.specs.Computed.{documents}
+use Rattle.tests_examples_core.specs.Geographies.{square_text, square_document}
+use Rattle.tests_examples_core.specs.Histories.{no_drafts}
+use Rattle.tests_examples_core.specs.Machine.{done, put_square, put_cap, publish, square_path, cap_path, square_drafted, both_drafted}
+use Rattle.tests_examples_core.specs.Policies.{cap, cap_text}
+use Rattle.tests_examples_core.specs.Requests.{configuration, request}
+use Rattle.tests_examples_server.specs.Turns.{first_front, at_the_room}
 
 square_at : (target body : List ℕ) → call_of configuration (request 1000 (codes "city") Put target body) ≡ Ok square_call →
     read_geography body ≡ Ok square_document →

@@ -4,7 +4,7 @@ use Rattle.std.specs.FinMap.{empty}
 use Rattle.mds_catalog.specs.Publication.{Publication}
 use Rattle.mds_fleet.specs.Books.{Rows}
 use Rattle.mds_desk.specs.Desk.{DeskState}
-use Rattle.mds_examples.specs.Requests.{configuration}
+use Rattle.tests_examples_core.specs.Requests.{configuration}
 
 -- the first operator's desk, which knows this list and has these rows
 abbrev pub desk : List Publication → Rows → DeskState

@@ -6,10 +6,10 @@ use Rattle.mds_machine.specs.Step.{Exchange}
 use Rattle.mds_machine.specs.Views.{Seen, asked, published}
 use Rattle.mds_request.specs.Reply.{Reply}
 use Rattle.mds_request.specs.Request.{Request}
-use Rattle.mds_examples.specs.Histories.{cap_put, square_put, both_published, exchange, question, answer}
-use Rattle.mds_examples.specs.Ids.{cap_id}
-use Rattle.mds_examples.specs.Machine.{ask, compliance, done, error, report}
-use Rattle.mds_examples.specs.Publications.{first_publication, withdrawal, then_withdrawn}
+use Rattle.tests_examples_core.specs.Histories.{cap_put, square_put, both_published, exchange, question, answer}
+use Rattle.tests_examples_core.specs.Ids.{cap_id}
+use Rattle.tests_examples_core.specs.Machine.{ask, compliance, done, error, report}
+use Rattle.tests_examples_core.specs.Publications.{first_publication, withdrawal, then_withdrawn}
 
 abbrev pub turn : Request → List Publication → Reply → Turn
 turn request front reply = record { request = request; front = front; reply = reply }

@@ -2,7 +2,7 @@
 #![tactic(auto)]
 
 ghost use Rattle.std.specs.Prelude.{◌≡◌, codes, Some, None};
-ghost use Rattle.mds_start.specs.Input.{count_in};
+ghost use Rattle.server_start.specs.Input.{count_in};
 
 /// One to nine decimal digits are a number; leading zeros change nothing.
 pub fn counts()

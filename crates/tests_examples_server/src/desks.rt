@@ -1,5 +1,5 @@
 //! Turns of an operator's desk.
-#![tactic(auto, unfolding(mds_examples::specs::Computed::documents))]
+#![tactic(auto, unfolding(tests_examples_core::specs::Computed::documents))]
 
 ghost use Rattle.std.specs.Prelude.{◌≡◌, [], codes, Ok, Err};
 ghost use Rattle.std.specs.FinMap.{empty};
@@ -9,12 +9,12 @@ ghost use Rattle.mds_request.specs.declared.call.Call.TheVariants as call;
 ghost use Rattle.mds_request.specs.declared.call.OperatorCall.TheVariants.{Compliance};
 ghost use Rattle.mds_request.specs.declared.code.Code.TheVariants.{TooLarge, Token, NoRoute};
 ghost use Rattle.mds_machine.specs.Desks.{refusal_of, desk_does, IsTurn, AreTurns, IsRun};
-ghost use Rattle.mds_examples.specs.Machine.{ask, error};
-ghost use Rattle.mds_examples.specs.Publications.{then_withdrawn};
-ghost use Rattle.mds_examples.specs.Requests.{alfa, configuration};
-ghost use Rattle.mds_examples.specs.Vehicles.{one_row};
+ghost use Rattle.tests_examples_core.specs.Machine.{ask, error};
+ghost use Rattle.tests_examples_core.specs.Publications.{then_withdrawn};
+ghost use Rattle.tests_examples_core.specs.Requests.{alfa, configuration};
+ghost use Rattle.tests_examples_core.specs.Vehicles.{one_row};
 ghost use Rattle.mds_machine.specs.Fronts.{requests_in, replies_in};
-ghost use Rattle.mds_server_examples.specs.Turns.{turn, first_front, reported, counted, three_turns, seen_by_three, without_memory, without_snapshot, by_another};
+ghost use Rattle.tests_examples_server.specs.Turns.{turn, first_front, reported, counted, three_turns, seen_by_three, without_memory, without_snapshot, by_another};
 
 /// A report is accepted at a desk that knows of no publication, and a question is answered at a front that the desk
 /// didn't know before. A `no_memory` and a `no_snapshot` leave the rows unchanged, and another client's request is

@@ -2,16 +2,16 @@
 #![tactic(auto)]
 
 ghost use Rattle.std.specs.Prelude.{◌≡◌, ◌∷◌, [], codes, replicate, Some, None};
-ghost use Rattle.mds_hall.specs.Early.{early};
-ghost use Rattle.mds_hall.specs.Client.{IsWithin};
-ghost use Rattle.mds_hall.specs.Respond.{Responds};
-ghost use Rattle.mds_hall.specs.Response.{Says};
-ghost use Rattle.mds_limits.specs.declared.arrival.Arrived.TheVariants.{Whole, Broken, TooLong, NoMemory};
+ghost use Rattle.server_state.specs.Early.{early};
+ghost use Rattle.server_state.specs.Client.{IsWithin};
+ghost use Rattle.server_state.specs.Respond.{Responds};
+ghost use Rattle.server_state.specs.Response.{Says};
+ghost use Rattle.server_admission.specs.declared.arrival.Arrived.TheVariants.{Whole, Broken, TooLong, NoMemory};
 ghost use Rattle.mds_request.specs.declared.code.Code.TheVariants as code;
 ghost use Rattle.mds_request.specs.declared.config.Actor.TheVariants.{Author, Operator, Nobody};
-ghost use Rattle.mds_examples.specs.Machine.{error, done};
-ghost use Rattle.mds_examples.specs.Requests.{configuration};
-ghost use Rattle.mds_server_examples.specs.Heads.{origin, with_credentials, head, by_alfa, by_nobody, json_response, plain_response};
+ghost use Rattle.tests_examples_core.specs.Machine.{error, done};
+ghost use Rattle.tests_examples_core.specs.Requests.{configuration};
+ghost use Rattle.tests_examples_server.specs.Heads.{origin, with_credentials, head, by_alfa, by_nobody, json_response, plain_response};
 
 /// A request without a moment is refused first, then one without a body within its limit, then one without a known
 /// access token.

@@ -1,15 +1,15 @@
 //! Fronts, and the view that they continue.
-#![tactic(auto, unfolding(mds_examples::specs::Computed::documents))]
+#![tactic(auto, unfolding(tests_examples_core::specs::Computed::documents))]
 
 ghost use Rattle.std.specs.Prelude.{◌≡◌, ◌∷◌, [], true, false, codes};
 ghost use Rattle.mds_machine.specs.Views.{published};
 ghost use Rattle.mds_machine.specs.Fronts.{AreRising, AreAnswers, last_front, followed, continued, is_served, served_in, requests_in, replies_in};
-ghost use Rattle.mds_examples.specs.Histories.{question, answer};
-ghost use Rattle.mds_examples.specs.Ids.{cap_id};
-ghost use Rattle.mds_examples.specs.Machine.{done, report};
-ghost use Rattle.mds_examples.specs.Publications.{first_publication, withdrawal, then_withdrawn};
-ghost use Rattle.mds_examples.specs.Requests.{alfa, configuration};
-ghost use Rattle.mds_server_examples.specs.Turns.{first_front, reported, counted, nothing_in_force, three_turns, two_turns, seen_by_three, without_memory, without_snapshot, by_another, without_route};
+ghost use Rattle.tests_examples_core.specs.Histories.{question, answer};
+ghost use Rattle.tests_examples_core.specs.Ids.{cap_id};
+ghost use Rattle.tests_examples_core.specs.Machine.{done, report};
+ghost use Rattle.tests_examples_core.specs.Publications.{first_publication, withdrawal, then_withdrawn};
+ghost use Rattle.tests_examples_core.specs.Requests.{alfa, configuration};
+ghost use Rattle.tests_examples_server.specs.Turns.{first_front, reported, counted, nothing_in_force, three_turns, two_turns, seen_by_three, without_memory, without_snapshot, by_another, without_route};
 
 /// Each front begins with the one before it, and may be the same. The last front is that of the last turn.
 pub fn rising_fronts()

@@ -1,14 +1,14 @@
 //! Turns of desks and of the room as parts of one history.
-#![tactic(auto, unfolding(mds_examples::specs::Computed::documents))]
+#![tactic(auto, unfolding(tests_examples_core::specs::Computed::documents))]
 
 ghost use Rattle.std.specs.Prelude.{◌≡◌, ◌∷◌, [], codes};
 ghost use Rattle.mds_machine.specs.OneHistory.{exchanges_in, exchanges_of, exchanges_but_of, exchanges_of_none, IsPutInto, HasPart, HasServed};
 ghost use Rattle.mds_machine.specs.Room.{authors_in};
 ghost use Rattle.mds_machine.specs.Step.{new_state};
-ghost use Rattle.mds_examples.specs.Histories.{exchange};
-ghost use Rattle.mds_examples.specs.Machine.{ask, error};
-ghost use Rattle.mds_examples.specs.Requests.{configuration};
-ghost use Rattle.mds_server_examples.specs.Turns.{first_front, two_turns, turns_of, at_the_room, own_exchanges, whole};
+ghost use Rattle.tests_examples_core.specs.Histories.{exchange};
+ghost use Rattle.tests_examples_core.specs.Machine.{ask, error};
+ghost use Rattle.tests_examples_core.specs.Requests.{configuration};
+ghost use Rattle.tests_examples_server.specs.Turns.{first_front, two_turns, turns_of, at_the_room, own_exchanges, whole};
 
 /// The exchanges of an operator in a history, those of others, and those of no operator, which are the author's here.
 /// An anonymous client's isn't the author's.

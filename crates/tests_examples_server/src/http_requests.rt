@@ -2,12 +2,12 @@
 #![tactic(auto)]
 
 ghost use Rattle.std.specs.Prelude.{◌≡◌, ◌∷◌, [], codes};
-ghost use Rattle.mds_hall.specs.HttpRequest.{token_in, token_of, target_of, request_in};
+ghost use Rattle.server_state.specs.HttpRequest.{token_in, token_of, target_of, request_in};
 ghost use Rattle.mds_request.specs.Request.{verb_of};
 ghost use Rattle.mds_request.specs.declared.request.Verb.TheVariants.{Get, Post, Other};
-ghost use Rattle.mds_examples.specs.Machine.{ask};
-ghost use Rattle.mds_examples.specs.Requests.{request};
-ghost use Rattle.mds_server_examples.specs.Heads.{origin, with_scheme, host_alone, anonymous, with_credentials, head, by_alfa};
+ghost use Rattle.tests_examples_core.specs.Machine.{ask};
+ghost use Rattle.tests_examples_core.specs.Requests.{request};
+ghost use Rattle.tests_examples_server.specs.Heads.{origin, with_scheme, host_alone, anonymous, with_credentials, head, by_alfa};
 
 /// Credentials carry an access token by the scheme `Bearer`, in any letter case, after one space. The first is the
 /// example of RFC 6750, section 2.1.

@@ -1,19 +1,19 @@
 //! What a desk and the author's room hold, and how it changes.
-#![tactic(auto, unfolding(mds_examples::specs::Computed::documents))]
+#![tactic(auto, unfolding(tests_examples_core::specs::Computed::documents))]
 
 ghost use Rattle.std.specs.Prelude.{◌≡◌, ℕ, List, ◌∷◌, [], codes, Ok, Err, Some, None};
 ghost use Rattle.mds_desk.specs.Desk.{Learns, TakesTurn, new_desks};
 ghost use Rattle.mds_desk.specs.Room.{IsNoted};
-ghost use Rattle.mds_hall.specs.Turn.{IsTold, Answers};
-ghost use Rattle.mds_examples.specs.Histories.{question, answer};
-ghost use Rattle.mds_examples.specs.Machine.{done, report};
-ghost use Rattle.mds_examples.specs.Publications.{then_withdrawn};
-ghost use Rattle.mds_examples.specs.Requests.{configuration};
-ghost use Rattle.mds_examples.specs.Vehicles.{one_row};
+ghost use Rattle.server_state.specs.Turn.{IsTold, Answers};
+ghost use Rattle.tests_examples_core.specs.Histories.{question, answer};
+ghost use Rattle.tests_examples_core.specs.Machine.{done, report};
+ghost use Rattle.tests_examples_core.specs.Publications.{then_withdrawn};
+ghost use Rattle.tests_examples_core.specs.Requests.{configuration};
+ghost use Rattle.tests_examples_core.specs.Vehicles.{one_row};
 ghost use Rattle.std.specs.FinMap.{empty};
-ghost use Rattle.mds_server_examples.specs.Heads.{json_response};
-ghost use Rattle.mds_server_examples.specs.DeskStates.{desk, second_desk};
-ghost use Rattle.mds_server_examples.specs.Turns.{first_front};
+ghost use Rattle.tests_examples_server.specs.Heads.{json_response};
+ghost use Rattle.tests_examples_server.specs.DeskStates.{desk, second_desk};
+ghost use Rattle.tests_examples_server.specs.Turns.{first_front};
 
 /// Each operator has a new desk, which knows of no publication and has no row.
 pub fn new()

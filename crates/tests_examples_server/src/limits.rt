@@ -2,8 +2,8 @@
 #![tactic(auto)]
 
 ghost use Rattle.std.specs.Prelude.{◌≡◌};
-ghost use Rattle.mds_lines.specs.declared.gather.TheConstants.{LINE_LIMIT};
-ghost use Rattle.mds_lines.specs.declared.lines.TheConstants.{INPUT_LIMIT};
+ghost use Rattle.mds_script.specs.declared.gather.TheConstants.{LINE_LIMIT};
+ghost use Rattle.mds_script.specs.declared.lines.TheConstants.{INPUT_LIMIT};
 ghost use Rattle.mds_snapshot.specs.declared.opening.TheConstants.{READER_PLACES};
 
 /// An input has at most a gibibyte, and a line of it two mebibytes.

@@ -1,15 +1,15 @@
 //! What heads are resolved to, and what their answers take of the client's queue.
-#![tactic(auto, unfolding(mds_examples::specs::Computed::documents))]
+#![tactic(auto, unfolding(tests_examples_core::specs::Computed::documents))]
 
 ghost use Rattle.std.specs.Prelude.{◌≡◌, ◌∷◌, [], codes, Ok, Err};
-ghost use Rattle.mds_hall.specs.Resolved.{call_in, cost_in};
-ghost use Rattle.mds_limits.specs.declared.cost.Cost.TheVariants.{Free, Shared, Exclusive};
+ghost use Rattle.server_state.specs.Resolved.{call_in, cost_in};
+ghost use Rattle.server_admission.specs.declared.cost.Cost.TheVariants.{Free, Shared, Exclusive};
 ghost use Rattle.mds_request.specs.declared.call.AuthorCall.TheVariants as author;
 ghost use Rattle.mds_request.specs.declared.call.Call.TheVariants as call;
 ghost use Rattle.mds_request.specs.declared.call.OperatorCall.TheVariants as operator;
 ghost use Rattle.mds_request.specs.declared.code.Code.TheVariants.{Token, NoRoute, Method, Role, BadId};
-ghost use Rattle.mds_examples.specs.Requests.{configuration};
-ghost use Rattle.mds_server_examples.specs.Heads.{origin, with_credentials, head, by_alfa, by_nobody};
+ghost use Rattle.tests_examples_core.specs.Requests.{configuration};
+ghost use Rattle.tests_examples_server.specs.Heads.{origin, with_credentials, head, by_alfa, by_nobody};
 
 /// The call of a head is found by its access token, its method and its path. Its query doesn't count.
 pub fn calls()

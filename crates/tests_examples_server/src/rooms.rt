@@ -1,12 +1,12 @@
 //! Turns of the author's room.
-#![tactic(auto, unfolding(mds_examples::specs::Computed::documents))]
+#![tactic(auto, unfolding(tests_examples_core::specs::Computed::documents))]
 
 ghost use Rattle.std.specs.Prelude.{[], codes};
 ghost use Rattle.mds_machine.specs.Room.{IsRoomTurn, AreRoomTurns};
-ghost use Rattle.mds_examples.specs.Histories.{no_drafts};
-ghost use Rattle.mds_examples.specs.Machine.{ask, done, error, put_square, square_drafted};
-ghost use Rattle.mds_examples.specs.Requests.{configuration};
-ghost use Rattle.mds_server_examples.specs.Turns.{first_front, at_the_room};
+ghost use Rattle.tests_examples_core.specs.Histories.{no_drafts};
+ghost use Rattle.tests_examples_core.specs.Machine.{ask, done, error, put_square, square_drafted};
+ghost use Rattle.tests_examples_core.specs.Requests.{configuration};
+ghost use Rattle.tests_examples_server.specs.Turns.{first_front, at_the_room};
 
 /// The author's geography is put as a draft, or memory runs out; an operator's request is refused.
 pub fn turns()

@@ -296,7 +296,12 @@ pub const DRAFTS: &[FixtureExchange] = &[PUT_SQUARE, PUT_CAP];
 pub const SET_UP: &[FixtureExchange] = &[PUT_SQUARE, PUT_CAP, PUBLISH];
 
 /// After `SET_UP`, alfa's requests: its first vehicle is within the cap, its second exceeds it.
-pub const WITHIN_THEN_EXCEEDED: &[FixtureExchange] = &[REPORT_FIRST, WITHIN, REPORT_SECOND, EXCEEDED];
+pub const WITHIN_THEN_EXCEEDED: &[FixtureExchange] = &[
+    REPORT_FIRST,
+    WITHIN,
+    REPORT_SECOND,
+    EXCEEDED,
+];
 
 /// A whole history, from nothing published to the withdrawal.
 pub const HISTORY: &[FixtureExchange] = &[

@@ -2,11 +2,11 @@
 ghost use Rattle.std.specs.Prelude.{◌≡◌, ℕ, List};
 
 use futures::executor::block_on;
-use mds_commit::{
-    CountedSpace, FlushFault, CommitLog, MOST_TEXTS_OF_ONE, LogName, CommitFault, UnnamedHistory, ReserveFault,
-    AwaitSync, LogPosition, ResponseTiming, Usage, open,
+use journal_commit::{
+    AwaitSync, CommitFault, CommitLog, CountedSpace, FlushFault, LogName, LogPosition,
+    MOST_TEXTS_OF_ONE, ReserveFault, ResponseTiming, UnnamedHistory, Usage, open,
 };
-use mds_records::{AppendFault, Journal, Log, MemoryStorage};
+use journal_file::{AppendFault, Journal, Log, MemoryStorage};
 use std::alloc::{AllocError, AllocGlobal, Global};
 use std::marker::Brand;
 use std::process::Abort;
@@ -104,7 +104,11 @@ fn client_replies<K: LogName, L: Log, R: Wait + RandomSource + AllocGlobal>(
 }
 
 /// Serves one client, and returns how the flusher ended and what the client was answered.
-fn serve_client<K, L, R>(rt: &R, opened: UnnamedHistory<L>, log: L) -> Result<(Result<L, FlushFault>, ClientReplies), Fail>
+fn serve_client<K, L, R>(
+    rt: &R,
+    opened: UnnamedHistory<L>,
+    log: L,
+) -> Result<(Result<L, FlushFault>, ClientReplies), Fail>
 where
     K: LogName + Send + Sync,
     L: Log + Send + Sync,
@@ -220,7 +224,9 @@ fn expect_bounds<K: LogName, L: Log, R: Wait + Abort + AllocGlobal>(
     )?;
     assert!(rt; keeper.may_respond(&nothing) == ResponseTiming::Now && nothing.len() == 0);
     assert!(rt; reserve_fault(rt, &keeper, AUTHOR, text(rt, b"")?) == Some(ReserveFault::Untaken));
-    assert!(rt; reserve_fault(rt, &keeper, AUTHOR, text(rt, b"four")?) == Some(ReserveFault::NoRoom));
+    assert!(rt;
+        reserve_fault(rt, &keeper, AUTHOR, text(rt, b"four")?) == Some(ReserveFault::NoRoom)
+    );
     assert!(rt; reserve_fault(rt, &keeper, AUTHOR, text(rt, b"one")?) == None);
     let (first, second, third) = (text(rt, b"one")?, text(rt, b"two")?, text(rt, b"two")?);
     let Ok(place) = keeper.reserve(rt, AUTHOR, first) else {
@@ -279,7 +285,9 @@ fn expect_settlement<K: LogName, L: Log, R: Wait + Abort + AllocGlobal>(
         space,
         CLIENTS,
     )?;
-    assert!(rt; reserve_all_fault(rt, &keeper, AUTHOR, texts(rt, 3)?) == Some(ReserveFault::NoRoom));
+    assert!(rt;
+        reserve_all_fault(rt, &keeper, AUTHOR, texts(rt, 3)?) == Some(ReserveFault::NoRoom)
+    );
     assert!(rt; reserve_all_fault(rt, &keeper, AUTHOR, texts(rt, 2)?) == None);
     let (two, one) = (texts(rt, 2)?, text(rt, b"one")?);
     let Ok(places) = keeper.reserve_all(rt, AUTHOR, two) else {
@@ -366,7 +374,9 @@ fn expect_shares<K: LogName, L: Log, R: Wait + Abort + AllocGlobal>(
     assert!(rt; append_waiting(rt, &keeper, &nothing, CLIENTS, 1)? == Some(ReserveFault::Crowded));
     for asker in 1..4 {
         assert!(rt; append_waiting(rt, &keeper, &nothing, asker, 4_096)? == None);
-        assert!(rt; reserve_fault(rt, &keeper, asker, text(rt, b"one")?) == Some(ReserveFault::Crowded));
+        assert!(rt;
+            reserve_fault(rt, &keeper, asker, text(rt, b"one")?) == Some(ReserveFault::Crowded)
+        );
     }
     assert!(rt; append_waiting(rt, &keeper, &nothing, 4, 4_095)? == Some(ReserveFault::Crowded));
     assert!(rt; append_waiting(rt, &keeper, &nothing, 4, 4_094)? == None);

@@ -1,7 +1,7 @@
 //! A disk in memory, of which one call fails, or each one from a call on.
-use mds_folder::FolderFault;
-use mds_records::{Journal, Log, Storage, StorageFault, MemoryStorage};
-use mds_thinning::JournalLocation;
+use journal_compaction::JournalLocation;
+use journal_file::{Journal, Log, MemoryStorage, Storage, StorageFault};
+use journal_folder::FolderFault;
 use std::alloc::Global;
 use std::cell::{Cell, RefCell};
 

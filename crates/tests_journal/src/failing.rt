@@ -1,14 +1,14 @@
 //! Compaction of a journal on a disk that fails at each of its calls.
-use crate::disk::{NewFileStorage, Disk, FailingCalls, JournalOnDisk};
-use crate::journal::{OLD, COMPACTED, texts};
-use mds_exchanges::CONFIGURATION;
-use mds_folder::FolderFault;
-use mds_records::Journal;
+use crate::disk::{Disk, FailingCalls, JournalOnDisk, NewFileStorage};
+use crate::journal::{COMPACTED, OLD, texts};
+use journal_compaction::{CompactFault, Counts, SourceJournal, compact_at};
+use journal_file::Journal;
+use journal_folder::FolderFault;
 use mds_text::Moment;
-use mds_thinning::{Counts, SourceJournal, CompactFault, compact_at};
 use std::alloc::{AllocGlobal, Global};
 use std::process::Abort;
 use std::sync::Wait;
+use tests_fixtures::CONFIGURATION;
 
 /// How many calls on a disk succeed before the last one of a compaction: one to make an empty file, three to open and
 /// read it, two to append the head and the entries, one to read them back, one to sync them, and one to rename the
@@ -42,7 +42,8 @@ enum CompactionOutcome {
 /// The outcome that a fault stands for.
 fn outcome_of(fault: CompactFault) -> CompactionOutcome {
     match fault {
-        CompactFault::NotWritten | CompactFault::Folder(FolderFault::Unusable) => CompactionOutcome::NotAnswered,
+        CompactFault::NotWritten | CompactFault::Folder(FolderFault::Unusable) =>
+            CompactionOutcome::NotAnswered,
         CompactFault::NoMemory => CompactionOutcome::NoMemory,
         _ => CompactionOutcome::Refused,
     }
@@ -61,7 +62,12 @@ fn compact_payloads<R: Wait>(
         texts,
         at,
     };
-    match compact_at::<JournalOnDisk<'_>, Journal<NewFileStorage<'_>>, R>(rt, alloc, &mut JournalOnDisk { disk }, &old) {
+    match compact_at::<JournalOnDisk<'_>, Journal<NewFileStorage<'_>>, R>(
+        rt,
+        alloc,
+        &mut JournalOnDisk { disk },
+        &old,
+    ) {
         Ok(counts) => CompactionOutcome::Thinned(counts),
         Err(fault) => outcome_of(fault),
     }

@@ -1,9 +1,9 @@
 //! Journals of requests to a city.
-use mds_entries::{JournalEntry, entry_by, entry_text, head_text, shares};
-use mds_exchanges::{CONFIGURATION, FixtureExchange, PUBLISH, PUT_CAP, PUT_SQUARE, REPORT_FIRST};
+use journal_entry::{JournalEntry, entry_by, entry_text, head_text, shares};
 use mds_request::{Config, Request, Verb};
 use mds_text::Moment;
 use std::alloc::Global;
+use tests_fixtures::{CONFIGURATION, FixtureExchange, PUBLISH, PUT_CAP, PUT_SQUARE, REPORT_FIRST};
 
 /// A moment, in milliseconds since the Unix epoch, and the exchange whose request comes then.
 pub(crate) type TimedExchange<'a> = (i64, &'a FixtureExchange);

@@ -1,9 +1,9 @@
 //! Which entries of a journal stay when it is compacted, worked out by hand.
 use crate::journal::{TimedExchange, configuration, entries};
-use mds_exchanges::{FixtureExchange, PUT_CAP, REPORT_FIRST, REPORT_SECOND};
-use mds_thinning::compact_entries;
+use journal_compaction::compact_entries;
 use std::alloc::Global;
 use std::process::Abort;
+use tests_fixtures::{FixtureExchange, PUT_CAP, REPORT_FIRST, REPORT_SECOND};
 
 /// A report of alfa's first vehicle in another state.
 const FIRST_RESERVED: &FixtureExchange = &FixtureExchange {

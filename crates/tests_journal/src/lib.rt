@@ -12,8 +12,8 @@ mod failing;
 #[cfg(test)]
 mod journal;
 #[cfg(test)]
-mod rolling;
+mod kept_entries;
 #[cfg(test)]
 mod restart;
 #[cfg(test)]
-mod kept_entries;
+mod rolling;

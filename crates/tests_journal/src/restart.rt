@@ -3,12 +3,8 @@ ghost use Rattle.std.specs.Prelude.{◌≡◌};
 ghost use Rattle.mds_snapshot.specs.Opening.{book_of};
 
 use crate::journal::{TimedExchange, configuration, entries, request};
-use mds_desk::{SharedReply, AuthorRoom, Desk, OpenGate};
-use mds_exchanges::{
-    EXCEEDED, FixtureExchange, GEOGRAPHIES, NONE_FOR_BRAVO, PUBLISH, PUT_CAP, PUT_SQUARE, REPORT_FIRST,
-    REPORT_SECOND, VEHICLES, WITHDRAW,
-};
-use mds_recovery::{SilentProgress, start_again};
+use journal_recovery::{SilentProgress, start_again};
+use mds_desk::{AuthorRoom, Desk, OpenGate, SharedReply};
 use mds_request::Config;
 use mds_snapshot::{Blank, OpeningName, prepare};
 use mds_verdict::Plain;
@@ -16,6 +12,10 @@ use std::alloc::AllocGlobal;
 use std::marker::Brand;
 use std::process::Abort;
 use std::sync::Wait;
+use tests_fixtures::{
+    EXCEEDED, FixtureExchange, GEOGRAPHIES, NONE_FOR_BRAVO, PUBLISH, PUT_CAP, PUT_SQUARE,
+    REPORT_FIRST, REPORT_SECOND, VEHICLES, WITHDRAW,
+};
 
 /// A publication, and a report of each of alfa's vehicles.
 const JOURNAL: &[TimedExchange<'static>] = &[
@@ -32,7 +32,11 @@ fn is_reply(answer: &SharedReply, exchange: &FixtureExchange) -> bool {
 }
 
 /// Whether the room gives the exchange's reply.
-fn room_replies<K: OpeningName, R: Wait>(rt: &R, room: &mut AuthorRoom<K>, exchange: &FixtureExchange) -> bool {
+fn room_replies<K: OpeningName, R: Wait>(
+    rt: &R,
+    room: &mut AuthorRoom<K>,
+    exchange: &FixtureExchange,
+) -> bool {
     let Some(request) = request(exchange.at, exchange) else {
         return false;
     };
@@ -41,7 +45,11 @@ fn room_replies<K: OpeningName, R: Wait>(rt: &R, room: &mut AuthorRoom<K>, excha
 }
 
 /// Whether the desk at this index gives the exchange's reply.
-fn desk_replies<K: OpeningName>(desks: &mut [Desk<K>], place: usize, exchange: &FixtureExchange) -> bool {
+fn desk_replies<K: OpeningName>(
+    desks: &mut [Desk<K>],
+    place: usize,
+    exchange: &FixtureExchange,
+) -> bool {
     let Some(request) = request(exchange.at, exchange) else {
         return false;
     };
@@ -65,7 +73,14 @@ fn go_on<K: OpeningName, R: Wait + Abort + AllocGlobal>(
     let Some(entries) = entries(rt.alloc(), &config, journal) else {
         panic!(rt; "entries");
     };
-    let started = start_again::<K, R, SilentProgress>(rt, rt.alloc(), config, blank, &entries, &mut SilentProgress);
+    let started = start_again::<K, R, SilentProgress>(
+        rt,
+        rt.alloc(),
+        config,
+        blank,
+        &entries,
+        &mut SilentProgress,
+    );
     let Ok((mut room, mut desks)) = started else {
         panic!(rt; "a server");
     };

@@ -1,8 +1,13 @@
 //! Replacing a log's file by a compacted one, over journals in memory whose calls fail from the Nth on.
 ghost use Rattle.std.specs.Prelude.{ℕ, List, IfSome};
 
-use mds_records::{AppendFault, Journal, Log, MemoryStorage, SyncFault, ReadFault, LogEnd, HasLogEnd};
-use mds_rolling::{CompactionSource, Equivalence, ReplaceFault, CompactionSchedule, SwapLog, CompactedLog, is_small_lag};
+use journal_file::{
+    AppendFault, HasLogEnd, Journal, Log, LogEnd, MemoryStorage, ReadFault, SyncFault,
+};
+use journal_swap::{
+    CompactedLog, CompactionSchedule, CompactionSource, Equivalence, ReplaceFault, SwapLog,
+    is_small_lag,
+};
 use std::alloc::{AllocError, Global};
 use std::cell::{Cell, RefCell};
 
@@ -38,7 +43,11 @@ struct ProbeState<L: HasLogEnd> {
 #[derive(Drop)]
 struct CompactionProbe<'a, L: HasLogEnd>(&'a ProbeState<L>);
 
-type LogUnderTest<'a> = SwapLog<Journal<MemoryStorage>, Anything, CompactionProbe<'a, Journal<MemoryStorage>>>;
+type LogUnderTest<'a> = SwapLog<
+    Journal<MemoryStorage>,
+    Anything,
+    CompactionProbe<'a, Journal<MemoryStorage>>,
+>;
 
 impl<L: HasLogEnd> CompactionSource<L, Anything> for CompactionProbe<'_, L> {
     fn take_ready(&mut self) -> Option<CompactedLog<L, Anything>> {
@@ -119,7 +128,10 @@ fn memory(alloc: Global, calls_left: u32) -> MemoryStorage {
 }
 
 /// A compacted log, of "both", for a log of "one" and "two". So many calls succeed on its storage after that.
-fn compacted_log(alloc: Global, calls: u32) -> Option<CompactedLog<Journal<MemoryStorage>, Anything>> {
+fn compacted_log(
+    alloc: Global,
+    calls: u32,
+) -> Option<CompactedLog<Journal<MemoryStorage>, Anything>> {
     let Ok(long) = Journal::open(alloc, memory(alloc, MANY)) else {
         return None;
     };
@@ -158,7 +170,11 @@ fn append_and_sync(
 }
 
 /// A log of "one" and "two", synced. So many calls succeed on its storage after that.
-fn log_of_two(alloc: Global, board: &ProbeState<Journal<MemoryStorage>>, calls: u32) -> Option<LogUnderTest<'_>> {
+fn log_of_two(
+    alloc: Global,
+    board: &ProbeState<Journal<MemoryStorage>>,
+    calls: u32,
+) -> Option<LogUnderTest<'_>> {
     let Ok(log) = Journal::open(alloc, memory(alloc, calls.saturating_add(6))) else {
         return None;
     };

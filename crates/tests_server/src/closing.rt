@@ -6,9 +6,11 @@ use futures::future::{Ready, ready};
 use http::Response;
 use http::request::Parts;
 use http_body_util::Full;
-use mds_connections::{RequestService, ShutdownHandle, Crowded, ServeOutcome, Queues, bind_first, serve_by};
-use mds_limits::{Arrived, Cost};
 use mds_request::{Actor, Config};
+use server_admission::{Arrived, Cost};
+use server_http::{
+    Crowded, Queues, RequestService, ServeOutcome, ShutdownHandle, bind_first, serve_by,
+};
 use std::alloc::{AllocError, Global};
 use std::io::{self, Read, Write};
 use std::net::TcpStream;

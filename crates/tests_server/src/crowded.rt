@@ -6,9 +6,11 @@ use futures::future::{Ready, ready};
 use http::Response;
 use http::request::Parts;
 use http_body_util::Full;
-use mds_connections::{RequestService, ShutdownHandle, Crowded, ServeOutcome, Queues, bind_first, serve_by};
-use mds_limits::{Arrived, Cost};
 use mds_request::{Actor, Config};
+use server_admission::{Arrived, Cost};
+use server_http::{
+    Crowded, Queues, RequestService, ServeOutcome, ShutdownHandle, bind_first, serve_by,
+};
 use std::alloc::{AllocError, Global};
 use std::io::{self, Read, Write};
 use std::net::TcpStream;
@@ -77,7 +79,11 @@ fn send_request(stream: &mut TcpStream, alloc: Global) -> io::Result<Vec<u8>> {
 }
 
 /// Sends a request, shuts the server down, and returns the response.
-fn send_and_shut_down(mut stream: TcpStream, closing: &ShutdownHandle, alloc: Global) -> io::Result<Vec<u8>> {
+fn send_and_shut_down(
+    mut stream: TcpStream,
+    closing: &ShutdownHandle,
+    alloc: Global,
+) -> io::Result<Vec<u8>> {
     let told = send_request(&mut stream, alloc);
     closing.close();
     told

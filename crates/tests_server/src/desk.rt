@@ -4,9 +4,9 @@ ghost use Rattle.std.specs.Prelude.{◌≡◌};
 ghost use Rattle.mds_snapshot.specs.Opening.{book_of};
 
 use crate::city::{BOTH, CAP, CONFIGURATION, NEW, SQUARE};
-use mds_desk::{SharedReply, AuthorRoom, Desk, OpenGate, furnish};
+use mds_desk::{AuthorRoom, Desk, OpenGate, SharedReply, furnish};
 use mds_request::{Config, Request, Verb};
-use mds_snapshot::{Blank, OpeningName, Note, OpenFault, prepare};
+use mds_snapshot::{Blank, Note, OpenFault, OpeningName, prepare};
 use mds_text::Moment;
 use mds_verdict::Plain;
 use std::alloc::{AllocError, Global};
@@ -185,7 +185,11 @@ trait DeskTest {
 }
 
 /// Runs a test on a room and desks that are furnished for the configuration; false where memory ran out.
-fn furnish_and_run<S: DeskTest, R: Wait + Abort>(rt: &R, alloc: Global, scene: &S) -> Result<bool, Fail>
+fn furnish_and_run<S: DeskTest, R: Wait + Abort>(
+    rt: &R,
+    alloc: Global,
+    scene: &S,
+) -> Result<bool, Fail>
     requires { S.may_play }
 {
     let Ok(config) = Config::read(alloc, CONFIGURATION) else {
@@ -252,7 +256,11 @@ fn request(at: Moment, exchange: &DeskExchange) -> Request<'_> {
     }
 }
 
-fn desk_reply<K: OpeningName>(rt: &impl Abort, desk: &mut Desk<K>, exchange: &DeskExchange) -> SharedReply {
+fn desk_reply<K: OpeningName>(
+    rt: &impl Abort,
+    desk: &mut Desk<K>,
+    exchange: &DeskExchange,
+) -> SharedReply {
     let request = request(moment(rt, exchange), exchange);
     desk.answer(&request, &mut OpenGate, &Plain)
 }
@@ -280,7 +288,11 @@ fn assert_answers<K: OpeningName>(rt: &impl Abort, desk: &mut Desk<K>, exchange:
 }
 
 /// Checks that the desk gives the reply of each exchange.
-fn assert_answers_each<K: OpeningName>(rt: &impl Abort, desk: &mut Desk<K>, exchanges: &[&DeskExchange]) {
+fn assert_answers_each<K: OpeningName>(
+    rt: &impl Abort,
+    desk: &mut Desk<K>,
+    exchanges: &[&DeskExchange],
+) {
     for exchange in exchanges {
         assert_answers(rt, desk, exchange);
     }
@@ -348,6 +360,10 @@ pub(crate) fn set_up<K: OpeningName, R: Wait + Abort>(rt: &R, room: &mut AuthorR
 }
 
 /// Puts both documents and publishes them, and has a desk learn of it.
-fn set_up_for<K: OpeningName, R: Wait + Abort>(rt: &R, room: &mut AuthorRoom<K>, desk: &mut Desk<K>) {
+fn set_up_for<K: OpeningName, R: Wait + Abort>(
+    rt: &R,
+    room: &mut AuthorRoom<K>,
+    desk: &mut Desk<K>,
+) {
     desk.learn(&set_up(rt, room));
 }

@@ -3,12 +3,12 @@ ghost use Rattle.std.specs.Prelude.{◌≡◌};
 ghost use Rattle.mds_request.specs.Configuration.{configuration};
 ghost use Rattle.mds_snapshot.specs.Opening.{book_of};
 
-use mds_connections::{Moments, Queues, bind_first};
-use mds_hall::{Hall, HallName};
 use mds_request::Config;
 use mds_snapshot::{Blank, prepare};
-use mds_start::{HallService, serve};
 use mds_text::Moment;
+use server_http::{Moments, Queues, bind_first};
+use server_start::{HallService, serve};
+use server_state::{Hall, HallName};
 use std::alloc::{AllocGlobal, Global};
 use std::io::{self, Read, Write};
 use std::marker::Brand;

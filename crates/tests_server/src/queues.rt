@@ -1,14 +1,14 @@
 //! Turns in the queue of one client.
 ghost use Rattle.std.specs.Prelude.{IfSome};
 ghost use Rattle.futures.specs.Task.{Keeps};
-ghost use Rattle.mds_connections.specs.Turn.{IsWaiting};
+ghost use Rattle.server_http.specs.Turn.{IsWaiting};
 
 use futures::Future;
 use futures::executor::block_on;
 use futures::task::{Context, Poll};
-use mds_connections::{Permits, Queues, Turn};
-use mds_limits::Cost;
 use mds_request::{Actor, Config};
+use server_admission::Cost;
+use server_http::{Permits, Queues, Turn};
 use std::test::Fail;
 
 const CONFIGURATION: &[u8] =

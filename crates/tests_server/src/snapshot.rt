@@ -5,7 +5,7 @@ ghost use Rattle.mds_snapshot.specs.Opening.{book_of};
 use mds_catalog::{Batch, Catalogue};
 use mds_geography::Geography;
 use mds_policy::Policy;
-use mds_snapshot::{Blank, OpeningName, Note, OpenFault, Pane, Publisher, open, prepare};
+use mds_snapshot::{Blank, Note, OpenFault, OpeningName, Pane, Publisher, open, prepare};
 use mds_text::{Id, Moment};
 use std::alloc::{AllocError, Global};
 use std::marker::Brand;
@@ -115,7 +115,12 @@ fn expect_shown<K: OpeningName>(rt: &impl Abort, pane: Pane<K>, length: u64) -> 
 }
 
 /// Learns a note, and checks that the next look shows so many batches.
-fn learn_and_expect<K: OpeningName>(rt: &impl Abort, mut pane: Pane<K>, note: &Note<K>, length: u64) -> Pane<K> {
+fn learn_and_expect<K: OpeningName>(
+    rt: &impl Abort,
+    mut pane: Pane<K>,
+    note: &Note<K>,
+    length: u64,
+) -> Pane<K> {
     pane.learn(note);
     expect_shown(rt, pane, length)
 }
@@ -126,7 +131,11 @@ fn notes_reach_each_pane(rt: HostRuntime) -> Result<(), Fail> {
     open_two_panes::<Brand, _>(&rt, rt.alloc(), blank)
 }
 
-fn open_two_panes<K: OpeningName, R: Wait + Abort>(rt: &R, alloc: Global, blank: Blank) -> Result<(), Fail>
+fn open_two_panes<K: OpeningName, R: Wait + Abort>(
+    rt: &R,
+    alloc: Global,
+    blank: Blank,
+) -> Result<(), Fail>
     requires { book_of blank ≡ K.book }
 {
     let (mut publisher, panes) = open::<K, R>(rt, alloc, blank, 2)?;

@@ -6,7 +6,11 @@ use mds_parallel::Chunked;
 use mds_verdict::Evaluator;
 
 /// Runs a test, a second time where the first ran out of memory.
-fn furnish_and_run_at_last<S: DeskTest, R: Wait + Abort>(rt: &R, alloc: Global, scene: &S) -> Result<(), Fail>
+fn furnish_and_run_at_last<S: DeskTest, R: Wait + Abort>(
+    rt: &R,
+    alloc: Global,
+    scene: &S,
+) -> Result<(), Fail>
     requires { S.may_play }
 {
     if !furnish_and_run(rt, alloc, scene)? {

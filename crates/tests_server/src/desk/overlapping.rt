@@ -35,11 +35,13 @@ trait DeskJob {
 }
 
 /// Runs a job in a thread of its own, and something else concurrently.
-fn run_concurrently<R: Threads, E: DeskJob<Outcome = A> + Send + Drop, A: Send, B, F: FnOnce() -> B>(
-    rt: &R,
-    errand: E,
-    meanwhile: F,
-) -> (A, B)
+fn run_concurrently<
+    R: Threads,
+    E: DeskJob<Outcome = A> + Send + Drop,
+    A: Send,
+    B,
+    F: FnOnce() -> B,
+>(rt: &R, errand: E, meanwhile: F) -> (A, B)
     requires { F.pre meanwhile }
 {
     join(rt, move || -> A { errand.run() }, meanwhile)
@@ -165,7 +167,11 @@ impl<K: OpeningName> DeskJob for RunningDesk<'_, K> {
 /// The revisions of three replies, each of which has to list the policies at its revision.
 fn revisions(replies: &[SharedReply]) -> Option<[u64; 3]> {
     match replies {
-        [first, second, third] => Some([listed_revision(first)?, listed_revision(second)?, listed_revision(third)?]),
+        [first, second, third] => Some([
+            listed_revision(first)?,
+            listed_revision(second)?,
+            listed_revision(third)?,
+        ]),
         _ => None,
     }
 }
@@ -258,7 +264,11 @@ fn run_overlap<K: OpeningName + Send + Sync, R: Threads + Wait + Abort>(
 }
 
 /// Prepares a blank, and runs it on what is furnished with that.
-fn prepare_and_run<R: Threads + Wait + Abort>(rt: &R, alloc: Global, overlap: Overlap) -> Result<(), Fail> {
+fn prepare_and_run<R: Threads + Wait + Abort>(
+    rt: &R,
+    alloc: Global,
+    overlap: Overlap,
+) -> Result<(), Fail> {
     let config = Config::read(alloc, CONFIGURATION)?;
     let blank = prepare(alloc)?;
     run_overlap::<Brand, R>(rt, alloc, config, blank, overlap)

@@ -39,7 +39,11 @@ fn answers_alfa<K: HallName, R: HallRuntime + Sync>(
     gives(rt, hall, parts, arrived, at, answer)
 }
 
-pub(super) fn each_arrival<K: HallName, R: HallRuntime + Sync>(rt: &R, alloc: Global, hall: &Hall<K>) {
+pub(super) fn each_arrival<K: HallName, R: HallRuntime + Sync>(
+    rt: &R,
+    alloc: Global,
+    hall: &Hall<K>,
+) {
     assert!(rt;
         answers_alfa(
             rt,
@@ -99,7 +103,11 @@ fn answers_nobody<K: HallName, R: HallRuntime + Sync>(
     gives(rt, hall, parts, spaces, Moment::new(2000), answer)
 }
 
-pub(super) fn large_and_unknown<K: HallName, R: HallRuntime + Sync>(rt: &R, alloc: Global, hall: &Hall<K>) {
+pub(super) fn large_and_unknown<K: HallName, R: HallRuntime + Sync>(
+    rt: &R,
+    alloc: Global,
+    hall: &Hall<K>,
+) {
     assert!(rt; answers_nobody(rt, alloc, hall, MOST_BODY, TOKEN));
     assert!(rt; answers_nobody(rt, alloc, hall, MOST_BODY + 1, TOO_LARGE));
 }

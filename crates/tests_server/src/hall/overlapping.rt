@@ -2,8 +2,8 @@
 use super::*;
 use crate::waiting::is_set_in_time;
 use mds_desk::Gate;
-use mds_hall::respond_with;
 use mds_verdict::Plain;
+use server_state::respond_with;
 use std::sync::atomic::{AtomicBool, Ordering};
 use std::thread::join;
 
@@ -115,7 +115,11 @@ pub(super) fn during_a_held_question<K: HallName + Send + Sync, R: HallRuntime +
         hall,
         signals: &signals,
     };
-    let (held, answered) = run_concurrently(rt, question, || are_answered(rt, alloc, hall, &signals));
+    let (held, answered) = run_concurrently(
+        rt,
+        question,
+        || are_answered(rt, alloc, hall, &signals),
+    );
     assert!(rt; answered);
     assert!(rt; held);
 }

@@ -1,9 +1,9 @@
 //! What heads are resolved to: the client and the call.
 use super::*;
-use mds_hall::{HallContext, ResolvedCall};
-use mds_limits::{Cost, SMALL_BODY};
 use mds_request::{Actor, Verb};
 use mds_verdict::Plain;
+use server_admission::{Cost, SMALL_BODY};
+use server_state::{HallContext, ResolvedCall};
 
 /// A head, its client, what its answer takes of the client's queue where there is no body, and the answer's status
 /// then.
@@ -137,7 +137,11 @@ fn method(verb: Verb) -> Method {
 }
 
 /// What a head is resolved to.
-fn resolve_case<K: HallName>(alloc: Global, hall: &Hall<K>, head: &HeadCase) -> Option<ResolvedCall<K>> {
+fn resolve_case<K: HallName>(
+    alloc: Global,
+    hall: &Hall<K>,
+    head: &HeadCase,
+) -> Option<ResolvedCall<K>> {
     let parts = parts(alloc, method(head.verb), head.target, head.credentials)?;
     Some(hall.resolve(parts))
 }

@@ -6,8 +6,8 @@ use super::*;
 use crate::counting::CountingEvaluator;
 use crate::desk;
 use mds_desk::{Desk, OpenGate, furnish};
-use mds_hall::desk_turn;
-use mds_snapshot::{OpeningName, Note};
+use mds_snapshot::{Note, OpeningName};
+use server_state::desk_turn;
 
 /// A vehicle in the square.
 const VEHICLE: &str =
@@ -47,7 +47,11 @@ const QUESTIONS: &[&HallExchange] = &[
 ];
 
 /// Alfa has a vehicle in the square, and bravo has none.
-pub(super) fn own_questions<K: HallName, R: HallRuntime + Sync>(rt: &R, alloc: Global, hall: &Hall<K>) {
+pub(super) fn own_questions<K: HallName, R: HallRuntime + Sync>(
+    rt: &R,
+    alloc: Global,
+    hall: &Hall<K>,
+) {
     set_up(rt, alloc, hall);
     assert_answers(rt, alloc, hall, Method::POST, REPORT);
     for question in QUESTIONS {
@@ -74,7 +78,11 @@ const WITHDRAWAL: &HallExchange = &HallExchange {
 
 /// Checks that there is no note before the first publication and one after it, that a further publication's note
 /// covers more, and that a further call gives the same note.
-pub(super) fn latest_note<K: HallName, R: HallRuntime + Sync>(rt: &R, alloc: Global, hall: &Hall<K>) {
+pub(super) fn latest_note<K: HallName, R: HallRuntime + Sync>(
+    rt: &R,
+    alloc: Global,
+    hall: &Hall<K>,
+) {
     assert!(rt; hall.note(rt).is_none());
     set_up(rt, alloc, hall);
     let first = hall.note(rt).expect(rt, "a note");
@@ -92,7 +100,11 @@ fn keeps_the_latest_note(rt: HostRuntime) -> Result<(), Fail> {
 }
 
 /// Checks that bravo's question is evaluated by the given evaluator.
-pub(super) fn given_evaluator<K: HallName, R: HallRuntime + Sync>(rt: &R, alloc: Global, hall: &Hall<K>) {
+pub(super) fn given_evaluator<K: HallName, R: HallRuntime + Sync>(
+    rt: &R,
+    alloc: Global,
+    hall: &Hall<K>,
+) {
     set_up(rt, alloc, hall);
     let counting = CountingEvaluator::new();
     let asked = parts(alloc, Method::GET, COMPLIANCE, Some(BRAVO)).expect(rt, "a head");

@@ -1,6 +1,6 @@
 use Rattle.std.proofs.Common.{ℕ, ◌<◌, ◌≤◌, ◌^◌, lit<, arith}
 use Rattle.std.proofs.Math.Nat.{pow-le-pow_right}
-use Rattle.mds_command.proofs.moment.number_of.Goals as goal
+use Rattle.cli_args.proofs.moment.number_of.Goals as goal
 
 -- a number of fewer than 13 digits, or of at most 13
 below : (n i k : ℕ) → n < 10 ^ i → i ≤ k → n < 10 ^ k

@@ -1,6 +1,6 @@
 use Rattle.std.proofs.Common.{◌≡◌, true, ◌<◌, ◌^◌, take}
-use Rattle.mds_command.specs.Options.{are_digits, decimal}
-use Rattle.mds_command.proofs.moment.number_of.Given as goal
+use Rattle.cli_args.specs.Options.{are_digits, decimal}
+use Rattle.cli_args.proofs.moment.number_of.Given as goal
 
 abbrev pub invariant-loop-digit : goal.invariant-loop-digit
 invariant-loop-digit l = record {

@@ -1,6 +1,6 @@
 use Rattle.std.proofs.Common.{◌≡◌, map, length, string_bytes}
-use Rattle.mds_command.specs.Options.{are_options}
-use Rattle.mds_command.proofs.options.are_options.Given as goal
+use Rattle.cli_args.specs.Options.{are_options}
+use Rattle.cli_args.proofs.options.are_options.Given as goal
 
 -- all are options, if the words that are left are
 abbrev pub invariant-loop-word : goal.invariant-loop-word

@@ -1,6 +1,6 @@
 use Rattle.std.proofs.Common.{◌≡◌, map, drop, bytes_eq}
 use Rattle.std.specs.List.{list_any}
-use Rattle.mds_command.proofs.options.is_known.Given as goal
+use Rattle.cli_args.proofs.options.is_known.Given as goal
 
 -- the word is among the names that are left, if it is among all
 abbrev pub invariant-loop-name : goal.invariant-loop-name

@@ -1,6 +1,6 @@
 use Rattle.std.proofs.Common.{◌≡◌, map, length, string_bytes}
-use Rattle.mds_command.specs.Options.{value_of}
-use Rattle.mds_command.proofs.options.value_of.Given as goal
+use Rattle.cli_args.specs.Options.{value_of}
+use Rattle.cli_args.proofs.options.value_of.Given as goal
 
 -- the value is among the words that are left, if it is among all
 abbrev pub invariant-loop-word : goal.invariant-loop-word

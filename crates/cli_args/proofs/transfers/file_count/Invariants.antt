@@ -1,6 +1,6 @@
 use Rattle.std.proofs.Common.{◌≡◌, ◌+◌, map, drop, string_bytes}
-use Rattle.mds_command.specs.Transfers.{file_count}
-use Rattle.mds_command.proofs.transfers.file_count.Given as goal
+use Rattle.cli_args.specs.Transfers.{file_count}
+use Rattle.cli_args.proofs.transfers.file_count.Given as goal
 
 -- the words so far are before the first option, and as many more as are so among those that are left
 abbrev pub invariant-loop-word : goal.invariant-loop-word

@@ -1,6 +1,6 @@
 use Rattle.std.proofs.Common.{◌≡◌, ◌≤◌, map, length, string_bytes}
-use Rattle.mds_command.specs.Transfers.{is_dry}
-use Rattle.mds_command.proofs.transfers.is_dry.Given as goal
+use Rattle.cli_args.specs.Transfers.{is_dry}
+use Rattle.cli_args.proofs.transfers.is_dry.Given as goal
 
 -- the last word is among those that are left
 abbrev pub invariant-loop-word : goal.invariant-loop-word

@@ -1,7 +1,7 @@
 use Rattle.std.proofs.Common.{◌≡◌, ◌++◌, map, drop}
-use Rattle.mds_configuration.specs.Findings.{found_from, told}
-use Rattle.mds_configuration.specs.LocatedMembers.{seen}
-use Rattle.mds_configuration.proofs.gathering.add_each.Given as goal
+use Rattle.cli_config.specs.Findings.{found_from, told}
+use Rattle.cli_config.specs.LocatedMembers.{seen}
+use Rattle.cli_config.proofs.gathering.add_each.Given as goal
 
 -- the findings so far, and those for the members that are left
 abbrev pub invariant-loop-spot : goal.invariant-loop-spot

@@ -1,8 +1,8 @@
 use Rattle.std.proofs.Common.{arith}
 use Rattle.std.proofs.lemmas.Bool.{MatchBool-at_true}
-use Rattle.mds_configuration.specs.Grammar.{standing}
-use Rattle.mds_configuration.proofs.Turns.{fault_on}
-use Rattle.mds_configuration.proofs.grammar.fault_at.Goals as goal
+use Rattle.cli_config.specs.Grammar.{standing}
+use Rattle.cli_config.proofs.Turns.{fault_on}
+use Rattle.cli_config.proofs.grammar.fault_at.Goals as goal
 
 pub loop-place-preserved : goal.loop-place-preserved
 loop-place-preserved c =

@@ -1,6 +1,6 @@
 use Rattle.std.proofs.Common.{◌≡◌, drop}
-use Rattle.mds_configuration.specs.Grammar.{fault_from, fresh, standing}
-use Rattle.mds_configuration.proofs.grammar.fault_at.Given as goal
+use Rattle.cli_config.specs.Grammar.{fault_from, fresh, standing}
+use Rattle.cli_config.proofs.grammar.fault_at.Given as goal
 
 -- the rest stops where the whole does
 abbrev pub invariant-loop-place : goal.invariant-loop-place

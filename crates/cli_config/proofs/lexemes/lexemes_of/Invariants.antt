@@ -1,6 +1,6 @@
 use Rattle.std.proofs.Common.{◌≡◌, ◌++◌, drop}
-use Rattle.mds_configuration.specs.Lexemes.{marks_from, marks_of}
-use Rattle.mds_configuration.proofs.lexemes.lexemes_of.Given as goal
+use Rattle.cli_config.specs.Lexemes.{marks_from, marks_of}
+use Rattle.cli_config.proofs.lexemes.lexemes_of.Given as goal
 
 -- the lexemes so far and those of the rest are those of the text
 abbrev pub invariant-loop-at : goal.invariant-loop-at

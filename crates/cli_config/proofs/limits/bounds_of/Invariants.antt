@@ -1,7 +1,7 @@
 use Rattle.std.proofs.Common.{◌≡◌, ◌++◌, map, drop}
 use Rattle.mds_request.specs.Configuration.{operator}
-use Rattle.mds_configuration.specs.Limits.{bounds_in}
-use Rattle.mds_configuration.proofs.limits.bounds_of.Given as goal
+use Rattle.cli_config.specs.Limits.{bounds_in}
+use Rattle.cli_config.proofs.limits.bounds_of.Given as goal
 
 -- those so far, and those that are left
 abbrev pub invariant-loop-operator : goal.invariant-loop-operator

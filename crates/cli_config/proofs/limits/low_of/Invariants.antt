@@ -1,6 +1,6 @@
 use Rattle.std.proofs.Common.{◌≡◌, drop}
-use Rattle.mds_configuration.specs.Limits.{low_from}
-use Rattle.mds_configuration.proofs.limits.low_of.Given as goal
+use Rattle.cli_config.specs.Limits.{low_from}
+use Rattle.cli_config.proofs.limits.low_of.Given as goal
 
 -- a search from here on finds what the whole search finds
 abbrev pub invariant-loop-place : goal.invariant-loop-place

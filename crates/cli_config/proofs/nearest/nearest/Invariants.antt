@@ -1,6 +1,6 @@
 use Rattle.std.proofs.Common.{◌≡◌, None, drop}
-use Rattle.mds_configuration.specs.Nearest.{nearest_from}
-use Rattle.mds_configuration.proofs.nearest.nearest.Given as goal
+use Rattle.cli_config.specs.Nearest.{nearest_from}
+use Rattle.cli_config.proofs.nearest.nearest.Given as goal
 
 -- the nearest so far, and then those that are left
 abbrev pub invariant-loop-known : goal.invariant-loop-known

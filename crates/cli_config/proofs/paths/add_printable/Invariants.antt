@@ -1,6 +1,6 @@
 use Rattle.std.proofs.Common.{◌≡◌, ◌++◌, drop, string_bytes}
-use Rattle.mds_configuration.specs.Paths.{shown}
-use Rattle.mds_configuration.proofs.paths.add_printable.Given as goal
+use Rattle.cli_config.specs.Paths.{shown}
+use Rattle.cli_config.proofs.paths.add_printable.Given as goal
 
 -- the bytes so far, and those that are left
 abbrev pub invariant-loop-byte : goal.invariant-loop-byte

@@ -1,7 +1,7 @@
 use Rattle.std.proofs.Common.{◌≡◌, None, map, drop}
-use Rattle.mds_configuration.specs.Paths.{last_meant}
-use Rattle.mds_configuration.specs.LocatedMembers.{seen}
-use Rattle.mds_configuration.proofs.paths.last_value.Given as goal
+use Rattle.cli_config.specs.Paths.{last_meant}
+use Rattle.cli_config.specs.LocatedMembers.{seen}
+use Rattle.cli_config.proofs.paths.last_value.Given as goal
 
 -- the last so far, and then those that are left
 abbrev pub invariant-loop-spot : goal.invariant-loop-spot

@@ -1,6 +1,6 @@
 use Rattle.std.proofs.Common.{◌≡◌, ◌+◌, ◌≤◌, drop, take, min, length}
-use Rattle.mds_configuration.specs.Positions.{place_at, place_behind}
-use Rattle.mds_configuration.proofs.position.position_of.Given as goal
+use Rattle.cli_config.specs.Positions.{place_at, place_behind}
+use Rattle.cli_config.proofs.position.position_of.Given as goal
 
 -- the rest leads to where the whole leads, and neither count is beyond the bytes
 abbrev pub invariant-loop-byte : goal.invariant-loop-byte

@@ -1,6 +1,6 @@
 use Rattle.std.proofs.Common.{arith}
-use Rattle.mds_configuration.proofs.Turns.{walk_on}
-use Rattle.mds_configuration.proofs.walk.members_of_text.Goals as goal
+use Rattle.cli_config.proofs.Turns.{walk_on}
+use Rattle.cli_config.proofs.walk.members_of_text.Goals as goal
 
 pub loop-place-preserved : goal.loop-place-preserved
 loop-place-preserved c =

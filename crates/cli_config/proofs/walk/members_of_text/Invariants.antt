@@ -1,6 +1,6 @@
 use Rattle.std.proofs.Common.{◌≡◌, ◌≤◌, ◌++◌, map, drop}
-use Rattle.mds_configuration.specs.LocatedMembers.{seen, spots_from, start}
-use Rattle.mds_configuration.proofs.walk.members_of_text.Given as goal
+use Rattle.cli_config.specs.LocatedMembers.{seen, spots_from, start}
+use Rattle.cli_config.proofs.walk.members_of_text.Given as goal
 
 -- what was found and what is left to find are the whole, and neither count is beyond the lexemes
 abbrev pub invariant-loop-place : goal.invariant-loop-place

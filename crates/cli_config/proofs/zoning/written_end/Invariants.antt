@@ -1,7 +1,7 @@
 use Rattle.std.proofs.Common.{◌≡◌, ◌+◌, drop}
-use Rattle.mds_configuration.specs.Pieces.{piece}
-use Rattle.mds_configuration.specs.Zoning.{ended, written_end}
-use Rattle.mds_configuration.proofs.zoning.written_end.Given as goal
+use Rattle.cli_config.specs.Pieces.{piece}
+use Rattle.cli_config.specs.Zoning.{ended, written_end}
+use Rattle.cli_config.proofs.zoning.written_end.Given as goal
 
 -- the rest ends where the whole does
 abbrev pub invariant-loop-byte : goal.invariant-loop-byte

@@ -1,7 +1,7 @@
 use Rattle.std.proofs.Common.{◌≡◌, map, drop}
 use Rattle.mds_text.specs.View.{view}
-use Rattle.mds_import.specs.Documents.{fraction_among}
-use Rattle.mds_import.proofs.bounds.fraction_among.Given as goal
+use Rattle.cli_documents.specs.Documents.{fraction_among}
+use Rattle.cli_documents.proofs.bounds.fraction_among.Given as goal
 
 -- what was passed has none
 abbrev pub invariant-loop-rule : goal.invariant-loop-rule

@@ -1,8 +1,8 @@
 use Rattle.std.proofs.Common.{◌≡◌, ◌++◌, map, drop}
 use Rattle.std.specs.List.{filter_map}
 use Rattle.mds_text.specs.View.{view}
-use Rattle.mds_import.specs.Documents.{unjudged_id}
-use Rattle.mds_import.proofs.bounds.unjudged_rule_ids.Given as goal
+use Rattle.cli_documents.specs.Documents.{unjudged_id}
+use Rattle.cli_documents.proofs.bounds.unjudged_rule_ids.Given as goal
 
 -- the rules so far and those of what is left
 abbrev pub invariant-loop-rule : goal.invariant-loop-rule

@@ -1,8 +1,8 @@
 use Rattle.std.proofs.Common.{◌≡◌, map, drop}
 use Rattle.mds_text.specs.Tree.{items_of, members_of}
 use Rattle.mds_text.specs.View.{view, member_view}
-use Rattle.mds_import.specs.Documents.{decimal_in, decimal_among}
-use Rattle.mds_import.proofs.drafting.+decimal_at.Given as goal
+use Rattle.cli_documents.specs.Documents.{decimal_in, decimal_among}
+use Rattle.cli_documents.proofs.drafting.+decimal_at.Given as goal
 
 -- what was passed has no such number
 abbrev pub invariant-decimal_in-loop-entry : goal.invariant-decimal_in-loop-entry

@@ -1,8 +1,8 @@
 use Rattle.std.proofs.Common.{◌≡◌, ◌++◌, map, drop}
 use Rattle.std.specs.List.{filter_map}
 use Rattle.mds_text.specs.View.{view}
-use Rattle.mds_import.specs.Members.{as_id}
-use Rattle.mds_import.proofs.drafting.ids_in.Given as goal
+use Rattle.cli_documents.specs.Members.{as_id}
+use Rattle.cli_documents.proofs.drafting.ids_in.Given as goal
 
 -- the identifiers so far and those of what is left
 abbrev pub invariant-loop-value : goal.invariant-loop-value

@@ -4,8 +4,8 @@ use Rattle.sha1.specs.Sha1.{sha1}
 use Rattle.uuid.specs.Parts.{with_version, with_variant}
 use Rattle.uuid.specs.declared.Variant.TheVariants.{RFC4122}
 use Rattle.uuid.specs.declared.Version.TheVariants.{Sha1}
-use Rattle.mds_import.specs.Documents.{namespace, id_of_name}
-use Rattle.mds_import.proofs.features.id_of_name.Goals as goal
+use Rattle.cli_documents.specs.Documents.{namespace, id_of_name}
+use Rattle.cli_documents.proofs.features.id_of_name.Goals as goal
 
 pub returns : goal.returns
 unfolding id_of_name

@@ -1,8 +1,8 @@
 use Rattle.std.proofs.Common.{map, Some, sym, ap, ◌∙◌}
 use Rattle.mds_text.specs.View.{view}
 use Rattle.mds_text.proofs.Views.{view-List, entries-items_of}
-use Rattle.mds_import.specs.Members.{as_list}
-use Rattle.mds_import.proofs.member.as_list.Goals as goal
+use Rattle.cli_documents.specs.Members.{as_list}
+use Rattle.cli_documents.proofs.member.as_list.Goals as goal
 
 pub returns-in-List : goal.returns-in-List
 returns-in-List c =

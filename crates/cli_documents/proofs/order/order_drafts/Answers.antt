@@ -2,9 +2,9 @@ use Rattle.std.proofs.Common.{◌≡◌, List, [], ◌∷◌, ◌++◌, length, 
 use Rattle.std.proofs.lemmas.List.{append-nil}
 use Rattle.std.proofs.lemmas.Bool.Decides.{nat_tests}
 use Rattle.std.specs.List.{remove, slice_get}
-use Rattle.mds_import.specs.declared.drafting.ImportDraft.{ImportDraft}
-use Rattle.mds_import.specs.Order.{IsInTurn, next_place}
-use Rattle.mds_import.proofs.order.order_drafts.Goals as goal
+use Rattle.cli_documents.specs.declared.drafting.ImportDraft.{ImportDraft}
+use Rattle.cli_documents.specs.Order.{IsInTurn, next_place}
+use Rattle.cli_documents.proofs.order.order_drafts.Goals as goal
 
 -- one more of those that are left
 turned : (all left sent : List ImportDraft) (draft : ImportDraft) (later : List ImportDraft) → ((more : List ImportDraft) → IsInTurn left more → IsInTurn all (sent ++ more)) → slice_get left (next_place left) ≡ Some draft → IsInTurn (remove left (next_place left)) later → IsInTurn all ((sent ++ draft ∷ []) ++ later)

@@ -1,7 +1,7 @@
 use Rattle.std.proofs.Common.{List, ◌++◌, length}
-use Rattle.mds_import.specs.declared.drafting.ImportDraft.{ImportDraft}
-use Rattle.mds_import.specs.Order.{IsInTurn}
-use Rattle.mds_import.proofs.order.order_drafts.Given as goal
+use Rattle.cli_documents.specs.declared.drafting.ImportDraft.{ImportDraft}
+use Rattle.cli_documents.specs.Order.{IsInTurn}
+use Rattle.cli_documents.proofs.order.order_drafts.Given as goal
 
 -- what is in turn of those that are left is so behind those that were taken
 abbrev pub invariant-turns : goal.invariant-turns

@@ -1,7 +1,7 @@
 use Rattle.std.proofs.Common.{arith, sym, ◌∙◌}
 use Rattle.std.proofs.lemmas.Bool.{eqb-false}
-use Rattle.mds_zones.proofs.Lines.{footer_of}
-use Rattle.mds_zones.proofs.footer.footer_of.Goals as goal
+use Rattle.cli_timezone.proofs.Lines.{footer_of}
+use Rattle.cli_timezone.proofs.footer.footer_of.Goals as goal
 
 pub returns : goal.returns
 returns c =

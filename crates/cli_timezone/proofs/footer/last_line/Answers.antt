@@ -1,6 +1,6 @@
 use Rattle.std.proofs.Common.{arith}
-use Rattle.mds_zones.proofs.Lines.{behind, no_line}
-use Rattle.mds_zones.proofs.footer.last_line.Goals as goal
+use Rattle.cli_timezone.proofs.Lines.{behind, no_line}
+use Rattle.cli_timezone.proofs.footer.last_line.Goals as goal
 
 pub returns-in-Some : goal.returns-in-Some
 returns-in-Some c = behind c.args.text.now c.in-Some.place c.in-Some.ensures.0.high c.in-Some.ensures.1 (λ k low. c.in-Some.ensures.0.after k low)

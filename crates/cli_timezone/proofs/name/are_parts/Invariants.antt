@@ -1,6 +1,6 @@
 use Rattle.std.proofs.Common.{◌≡◌, false, drop}
-use Rattle.mds_zones.specs.Names.{are_parts}
-use Rattle.mds_zones.proofs.name.are_parts.Given as goal
+use Rattle.cli_timezone.specs.Names.{are_parts}
+use Rattle.cli_timezone.proofs.name.are_parts.Given as goal
 
 -- the rest decides as the whole does
 abbrev pub invariant-loop-byte : goal.invariant-loop-byte

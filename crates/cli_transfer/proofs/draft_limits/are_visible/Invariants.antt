@@ -1,7 +1,7 @@
 use Rattle.std.proofs.Common.{◌≡◌, drop}
 use Rattle.std.specs.List.{list_all}
-use Rattle.mds_errands.specs.DraftLimits.{is_visible_byte}
-use Rattle.mds_errands.proofs.draft_limits.are_visible.Given as goal
+use Rattle.cli_transfer.specs.DraftLimits.{is_visible_byte}
+use Rattle.cli_transfer.proofs.draft_limits.are_visible.Given as goal
 
 -- what was passed is visible
 abbrev pub invariant-loop-byte : goal.invariant-loop-byte

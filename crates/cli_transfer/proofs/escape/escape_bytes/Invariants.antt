@@ -1,6 +1,6 @@
 use Rattle.std.proofs.Common.{◌≡◌, ◌++◌, drop, string_bytes}
-use Rattle.mds_errands.specs.Escapes.{escaped}
-use Rattle.mds_errands.proofs.escape.escape_bytes.Given as goal
+use Rattle.cli_transfer.specs.Escapes.{escaped}
+use Rattle.cli_transfer.proofs.escape.escape_bytes.Given as goal
 
 -- the bytes so far, and those that are left
 abbrev pub invariant-loop-byte : goal.invariant-loop-byte

@@ -1,8 +1,8 @@
 use Rattle.std.proofs.Common.{◌≡◌, ◌++◌, map, drop, false}
 use Rattle.mds_text.specs.Tree.{items_of, members_of}
 use Rattle.mds_text.specs.View.{view, member_view}
-use Rattle.mds_feeds.specs.Published.{bare_items, bare_members}
-use Rattle.mds_feeds.proofs.bare.+push_bare.Given as goal
+use Rattle.cli_vehicles.specs.Published.{bare_items, bare_members}
+use Rattle.cli_vehicles.proofs.bare.+push_bare.Given as goal
 
 -- what was written and what is left are the whole list
 abbrev pub invariant-push_bare_list-loop-item : goal.invariant-push_bare_list-loop-item

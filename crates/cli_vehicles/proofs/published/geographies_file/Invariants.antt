@@ -1,7 +1,7 @@
 use Rattle.std.proofs.Common.{◌≡◌, ◌++◌, map, drop, false}
 use Rattle.mds_text.specs.View.{view}
-use Rattle.mds_feeds.specs.Published.{joined, geography_text}
-use Rattle.mds_feeds.proofs.published.geographies_file.Given as goal
+use Rattle.cli_vehicles.specs.Published.{joined, geography_text}
+use Rattle.cli_vehicles.proofs.published.geographies_file.Given as goal
 
 -- what was written and what is left are the whole list
 abbrev pub invariant-loop-geography : goal.invariant-loop-geography

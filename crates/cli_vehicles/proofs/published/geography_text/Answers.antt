@@ -1,8 +1,8 @@
 use Rattle.std.proofs.Common.{ℕ, List, ◌++◌, codes, ap, ◌∙◌}
 use Rattle.mds_text.specs.Printed.{printed}
-use Rattle.mds_feeds.specs.Published.{bare, or_null, geography_text}
-use Rattle.mds_feeds.proofs.Pieces.{behind}
-use Rattle.mds_feeds.proofs.published.geography_text.Goals as goal
+use Rattle.cli_vehicles.specs.Published.{bare, or_null, geography_text}
+use Rattle.cli_vehicles.proofs.Pieces.{behind}
+use Rattle.cli_vehicles.proofs.published.geography_text.Goals as goal
 
 pub returns : goal.returns
 unfolding geography_text

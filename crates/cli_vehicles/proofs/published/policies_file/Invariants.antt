@@ -1,8 +1,8 @@
 use Rattle.std.proofs.Common.{◌≡◌, ◌++◌, map, drop, false}
 use Rattle.mds_text.specs.View.{view}
 use Rattle.mds_text.specs.Printed.{printed}
-use Rattle.mds_feeds.specs.Published.{joined}
-use Rattle.mds_feeds.proofs.published.policies_file.Given as goal
+use Rattle.cli_vehicles.specs.Published.{joined}
+use Rattle.cli_vehicles.proofs.published.policies_file.Given as goal
 
 -- what was written and what is left are the whole list
 abbrev pub invariant-loop-policy : goal.invariant-loop-policy

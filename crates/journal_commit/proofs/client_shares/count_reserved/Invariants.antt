@@ -1,6 +1,6 @@
 use Rattle.std.proofs.Common.{◌≡◌, take}
-use Rattle.mds_commit.specs.Tables.{texts_held}
-use Rattle.mds_commit.proofs.client_shares.count_reserved.Given as goal
+use Rattle.journal_commit.specs.Tables.{texts_held}
+use Rattle.journal_commit.proofs.client_shares.count_reserved.Given as goal
 
 -- the reservations of those counted so far
 abbrev pub invariant-loop-share : goal.invariant-loop-share

@@ -1,9 +1,9 @@
 use Rattle.std.proofs.Common.{ap, arith}
-use Rattle.mds_commit.specs.declared.decisions.Usage.{Usage}
-use Rattle.mds_commit.specs.Shares.{texts_kept, bytes_kept}
-use Rattle.mds_commit.specs.Tables.{usage_of}
-use Rattle.mds_commit.proofs.Sharing.{texts_fit, bytes_fit, front_le, three_parts, nobody}
-use Rattle.mds_commit.proofs.client_shares.count_usage.Goals as goal
+use Rattle.journal_commit.specs.declared.decisions.Usage.{Usage}
+use Rattle.journal_commit.specs.Shares.{texts_kept, bytes_kept}
+use Rattle.journal_commit.specs.Tables.{usage_of}
+use Rattle.journal_commit.proofs.Sharing.{texts_fit, bytes_fit, front_le, three_parts, nobody}
+use Rattle.journal_commit.proofs.client_shares.count_usage.Goals as goal
 
 pub usage-usage-requires-clause-texts : goal.usage-usage-requires-clause-texts
 usage-usage-requires-clause-texts c = texts_fit c.args.shares.now c.loop-share.share-index _ (omega arith) c.requires

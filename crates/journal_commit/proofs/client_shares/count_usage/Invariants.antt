@@ -1,8 +1,8 @@
 use Rattle.std.proofs.Common.{◌≡◌, ◌+◌, ◌*◌, map, sum_by, take}
-use Rattle.mds_commit.specs.Shares.{texts_kept, bytes_kept}
-use Rattle.mds_commit.specs.Tables.{usage_of}
-use Rattle.mds_commit.specs.declared.decisions.TheConstants.{LEAST_BYTES}
-use Rattle.mds_commit.proofs.client_shares.count_usage.Given as goal
+use Rattle.journal_commit.specs.Shares.{texts_kept, bytes_kept}
+use Rattle.journal_commit.specs.Tables.{usage_of}
+use Rattle.journal_commit.specs.declared.decisions.TheConstants.{LEAST_BYTES}
+use Rattle.journal_commit.proofs.client_shares.count_usage.Given as goal
 
 -- what those counted so far take up
 abbrev pub invariant-loop-share : goal.invariant-loop-share

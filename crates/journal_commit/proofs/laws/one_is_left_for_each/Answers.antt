@@ -1,8 +1,8 @@
 use Rattle.std.proofs.Common.{◌≡◌, arith, ap}
 use Rattle.std.proofs.lemmas.List.Sums.{sum_by-append}
-use Rattle.mds_commit.specs.Shares.{texts_kept, bytes_kept, both}
-use Rattle.mds_commit.proofs.Sharing.{in_parts}
-use Rattle.mds_commit.proofs.laws.one_is_left_for_each.Goals as goal
+use Rattle.journal_commit.specs.Shares.{texts_kept, bytes_kept, both}
+use Rattle.journal_commit.proofs.Sharing.{in_parts}
+use Rattle.journal_commit.proofs.laws.one_is_left_for_each.Goals as goal
 
 pub returns : goal.returns
 returns c before after own all more without shared counted =

@@ -1,10 +1,10 @@
 use Rattle.std.proofs.Common.{◌≡◌, ◌+◌, ◌++◌, ◌∷◌, take, drop, reverse, sym, ap, subst, ◌∙◌, arith}
 use Rattle.std.specs.BTreeMap.{get}
-use Rattle.mds_thinning.specs.declared.kind.Device.{Device}
-use Rattle.mds_thinning.specs.Staying.{state_before}
-use Rattle.mds_thinning.specs.Passes.{device_cmp, begins_at, beginnings}
-use Rattle.mds_thinning.proofs.Loops.{reverse_more, begins_more}
-use Rattle.mds_thinning.proofs.choosing.beginnings.Goals as goal
+use Rattle.journal_compaction.specs.declared.kind.Device.{Device}
+use Rattle.journal_compaction.specs.Staying.{state_before}
+use Rattle.journal_compaction.specs.Passes.{device_cmp, begins_at, beginnings}
+use Rattle.journal_compaction.proofs.Loops.{reverse_more, begins_more}
+use Rattle.journal_compaction.proofs.choosing.beginnings.Goals as goal
 
 pub loop-kind-preserved : goal.loop-kind-preserved
 loop-kind-preserved c =

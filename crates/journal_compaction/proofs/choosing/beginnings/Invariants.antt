@@ -1,9 +1,9 @@
 use Rattle.std.proofs.Common.{◌≡◌, [], ◌++◌, take, drop, reverse}
 use Rattle.std.specs.BTreeMap.{get}
-use Rattle.mds_thinning.specs.declared.kind.Device.{Device}
-use Rattle.mds_thinning.specs.Staying.{state_before}
-use Rattle.mds_thinning.specs.Passes.{device_cmp, beginnings}
-use Rattle.mds_thinning.proofs.choosing.beginnings.Given as goal
+use Rattle.journal_compaction.specs.declared.kind.Device.{Device}
+use Rattle.journal_compaction.specs.Staying.{state_before}
+use Rattle.journal_compaction.specs.Passes.{device_cmp, beginnings}
+use Rattle.journal_compaction.proofs.choosing.beginnings.Given as goal
 
 -- what was found so far, and what is to be, are all
 abbrev pub invariant-loop-kind : goal.invariant-loop-kind

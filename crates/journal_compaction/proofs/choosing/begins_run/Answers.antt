@@ -1,10 +1,10 @@
 use Rattle.std.proofs.Common.{◌≡◌, Some, None, sym, subst, ◌∷◌}
 use Rattle.std.specs.BTreeMap.{get}
-use Rattle.mds_thinning.specs.declared.kind.Device.{Device}
-use Rattle.mds_thinning.specs.Staying.{state_before}
-use Rattle.mds_thinning.specs.Passes.{device_cmp}
-use Rattle.mds_thinning.proofs.Known.{updated}
-use Rattle.mds_thinning.proofs.choosing.begins_run.Goals as goal
+use Rattle.journal_compaction.specs.declared.kind.Device.{Device}
+use Rattle.journal_compaction.specs.Staying.{state_before}
+use Rattle.journal_compaction.specs.Passes.{device_cmp}
+use Rattle.journal_compaction.proofs.Known.{updated}
+use Rattle.journal_compaction.proofs.choosing.begins_run.Goals as goal
 
 pub returns-in_ok-insert-in-Report-clause-known : goal.returns-in_ok-insert-in-Report-clause-known
 returns-in_ok-insert-in-Report-clause-known c = λ before h.

@@ -1,9 +1,9 @@
 use Rattle.std.proofs.Common.{◌≡◌, ◌-◌, Bool, List, ◌∷◌, [], drop, reverse, get_or, length, sym, ap, subst, ◌∙◌, arith}
 use Rattle.std.specs.BTreeMap.{get}
-use Rattle.mds_thinning.specs.declared.kind.Device.{Device}
-use Rattle.mds_thinning.specs.Passes.{device_cmp, ahead_of, stays_at}
-use Rattle.mds_thinning.proofs.Loops.{length_beginnings, beginning_at, stays_more, drop_one_more}
-use Rattle.mds_thinning.proofs.choosing.stay_marks.Goals as goal
+use Rattle.journal_compaction.specs.declared.kind.Device.{Device}
+use Rattle.journal_compaction.specs.Passes.{device_cmp, ahead_of, stays_at}
+use Rattle.journal_compaction.proofs.Loops.{length_beginnings, beginning_at, stays_more, drop_one_more}
+use Rattle.journal_compaction.proofs.choosing.stay_marks.Goals as goal
 
 pub index-requires : goal.index-requires
 index-requires c =

@@ -1,9 +1,9 @@
 use Rattle.std.proofs.Common.{◌≡◌, take, drop, reverse}
 use Rattle.std.specs.BTreeMap.{get}
-use Rattle.mds_thinning.specs.declared.kind.Device.{Device}
-use Rattle.mds_thinning.specs.Staying.{staying}
-use Rattle.mds_thinning.specs.Passes.{device_cmp, ahead_of}
-use Rattle.mds_thinning.proofs.choosing.stay_marks.Given as goal
+use Rattle.journal_compaction.specs.declared.kind.Device.{Device}
+use Rattle.journal_compaction.specs.Staying.{staying}
+use Rattle.journal_compaction.specs.Passes.{device_cmp, ahead_of}
+use Rattle.journal_compaction.proofs.choosing.stay_marks.Given as goal
 
 -- what was found of those after this one
 abbrev pub invariant-loop-place : goal.invariant-loop-place

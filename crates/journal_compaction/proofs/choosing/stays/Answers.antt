@@ -1,10 +1,10 @@
 use Rattle.std.proofs.Common.{◌≡◌, cond, Some, sym, ap, subst, ◌∷◌, ◌∙◌}
 use Rattle.std.specs.BTreeMap.{get, is_at}
-use Rattle.mds_thinning.specs.declared.kind.Device.{Device}
-use Rattle.mds_thinning.specs.declared.kind.LaterEntries.TheVariants.{Settled}
-use Rattle.mds_thinning.specs.Passes.{device_cmp, ahead_of, joined}
-use Rattle.mds_thinning.proofs.Known.{updated, joins}
-use Rattle.mds_thinning.proofs.choosing.stays.Goals as goal
+use Rattle.journal_compaction.specs.declared.kind.Device.{Device}
+use Rattle.journal_compaction.specs.declared.kind.LaterEntries.TheVariants.{Settled}
+use Rattle.journal_compaction.specs.Passes.{device_cmp, ahead_of, joined}
+use Rattle.journal_compaction.proofs.Known.{updated, joins}
+use Rattle.journal_compaction.proofs.choosing.stays.Goals as goal
 
 pub returns-in_ok-insert-in-Report-clause-known : goal.returns-in_ok-insert-in-Report-clause-known
 returns-in_ok-insert-in-Report-clause-known c = λ kinds h.

@@ -1,11 +1,11 @@
 use Rattle.std.proofs.Common.{length, map, ap, [], ◌∙◌}
 use Rattle.std.proofs.lemmas.List.{length-map}
 use Rattle.mds_request.specs.Configuration.{configuration}
-use Rattle.mds_entries.specs.Entries.{entry_of}
-use Rattle.mds_thinning.specs.Kinds.{kind_of}
-use Rattle.mds_thinning.specs.Staying.{staying}
-use Rattle.mds_thinning.proofs.Loops.{length_staying}
-use Rattle.mds_thinning.proofs.compacting.compact_entries.Goals as goal
+use Rattle.journal_entry.specs.Entries.{entry_of}
+use Rattle.journal_compaction.specs.Kinds.{kind_of}
+use Rattle.journal_compaction.specs.Staying.{staying}
+use Rattle.journal_compaction.proofs.Loops.{length_staying}
+use Rattle.journal_compaction.proofs.compacting.compact_entries.Goals as goal
 
 pub marked_entries-requires : goal.marked_entries-requires
 marked_entries-requires c =

@@ -1,8 +1,8 @@
 use Rattle.std.proofs.Common.{◌≡◌, map, take}
 use Rattle.mds_request.specs.Configuration.{configuration}
-use Rattle.mds_entries.specs.Entries.{entry_of}
-use Rattle.mds_thinning.specs.Kinds.{kind_of}
-use Rattle.mds_thinning.proofs.compacting.kinds_of.Given as goal
+use Rattle.journal_entry.specs.Entries.{entry_of}
+use Rattle.journal_compaction.specs.Kinds.{kind_of}
+use Rattle.journal_compaction.proofs.compacting.kinds_of.Given as goal
 
 -- the kinds of the entries so far
 abbrev pub invariant-loop-entry : goal.invariant-loop-entry

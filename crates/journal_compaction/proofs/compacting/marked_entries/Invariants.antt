@@ -1,7 +1,7 @@
 use Rattle.std.proofs.Common.{◌≡◌, ◌++◌, map, drop}
-use Rattle.mds_entries.specs.Entries.{entry_of}
-use Rattle.mds_thinning.specs.Staying.{picked}
-use Rattle.mds_thinning.proofs.compacting.marked_entries.Given as goal
+use Rattle.journal_entry.specs.Entries.{entry_of}
+use Rattle.journal_compaction.specs.Staying.{picked}
+use Rattle.journal_compaction.proofs.compacting.marked_entries.Given as goal
 
 -- what is kept so far, and what is to be, are all
 abbrev pub invariant-loop-place : goal.invariant-loop-place

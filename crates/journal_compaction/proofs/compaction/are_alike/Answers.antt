@@ -1,8 +1,8 @@
 use Rattle.std.proofs.Common.{map, refl, subst, sym, ◌∙◌}
 use Rattle.mds_request.specs.Configuration.{configuration}
-use Rattle.mds_entries.specs.Entries.{entry_of}
-use Rattle.mds_thinning.specs.Replies.{AreReplies}
-use Rattle.mds_thinning.proofs.compaction.are_alike.Goals as goal
+use Rattle.journal_entry.specs.Entries.{entry_of}
+use Rattle.journal_compaction.specs.Replies.{AreReplies}
+use Rattle.journal_compaction.proofs.compaction.are_alike.Goals as goal
 
 pub returns-then-are_same : goal.returns-then-are_same
 returns-then-are_same g c =

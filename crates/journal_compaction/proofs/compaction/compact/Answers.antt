@@ -1,12 +1,12 @@
 use Rattle.std.proofs.Common.{◌≡◌, ◌∷◌, List, ℕ, length, map, ap, subst, sym, ◌∙◌}
 use Rattle.std.proofs.lemmas.List.{length-map}
 use Rattle.mds_request.specs.Configuration.{configuration}
-use Rattle.mds_entries.specs.Entries.{entry_of, entry_text}
-use Rattle.mds_thinning.specs.Questions.{questions}
-use Rattle.mds_thinning.specs.Compacting.{thinned}
-use Rattle.mds_thinning.specs.Compaction.{AreAlike}
-use Rattle.mds_thinning.proofs.Journals.{map_map}
-use Rattle.mds_thinning.proofs.compaction.compact.Goals as goal
+use Rattle.journal_entry.specs.Entries.{entry_of, entry_text}
+use Rattle.journal_compaction.specs.Questions.{questions}
+use Rattle.journal_compaction.specs.Compacting.{thinned}
+use Rattle.journal_compaction.specs.Compaction.{AreAlike}
+use Rattle.journal_compaction.proofs.Journals.{map_map}
+use Rattle.journal_compaction.proofs.compaction.compact.Goals as goal
 
 pub returns-clause-thinned : goal.returns-clause-thinned
 returns-clause-thinned g c =

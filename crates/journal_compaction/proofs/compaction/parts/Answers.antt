@@ -1,6 +1,6 @@
-use Rattle.mds_entries.specs.Entries.{entry_of, entry_text}
-use Rattle.mds_thinning.proofs.Journals.{head_and_rest}
-use Rattle.mds_thinning.proofs.compaction.parts.Goals as goal
+use Rattle.journal_entry.specs.Entries.{entry_of, entry_text}
+use Rattle.journal_compaction.proofs.Journals.{head_and_rest}
+use Rattle.journal_compaction.proofs.compaction.parts.Goals as goal
 
 pub returns-in-Ok : goal.returns-in-Ok
 returns-in-Ok c =

@@ -1,5 +1,5 @@
 use Rattle.std.proofs.Common.{◌≡◌, take}
-use Rattle.mds_thinning.proofs.comparing.are_same.Given as goal
+use Rattle.journal_compaction.proofs.comparing.are_same.Given as goal
 
 -- the answers so far are the same
 abbrev pub invariant-loop-place : goal.invariant-loop-place

@@ -1,5 +1,5 @@
 use Rattle.mds_snapshot.specs.Opening.{book_of}
-use Rattle.mds_thinning.proofs.journal_location.compact_named.Given as goal
+use Rattle.journal_compaction.proofs.journal_location.compact_named.Given as goal
 
 -- the book of the other blank
 abbrev pub ghosts-thin_both : goal.ghosts-thin_both

@@ -1,5 +1,5 @@
 use Rattle.mds_snapshot.specs.Opening.{book_of}
-use Rattle.mds_thinning.proofs.prefix.compact_prefix.Given as goal
+use Rattle.journal_compaction.proofs.prefix.compact_prefix.Given as goal
 
 -- the book of what was just prepared
 abbrev pub ghosts-shortened_named : goal.ghosts-shortened_named

@@ -1,4 +1,4 @@
-use Rattle.mds_thinning.proofs.prefix.compact_to.Goals as goal
+use Rattle.journal_compaction.proofs.prefix.compact_to.Goals as goal
 
 pub new-requires : goal.new-requires
 new-requires g c =

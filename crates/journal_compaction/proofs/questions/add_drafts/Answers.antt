@@ -1,7 +1,7 @@
 use Rattle.std.proofs.Common.{map, arith}
-use Rattle.mds_entries.specs.Entries.{entry_of}
-use Rattle.mds_thinning.proofs.Asked.{draft_more}
-use Rattle.mds_thinning.proofs.questions.add_drafts.Goals as goal
+use Rattle.journal_entry.specs.Entries.{entry_of}
+use Rattle.journal_compaction.proofs.Asked.{draft_more}
+use Rattle.journal_compaction.proofs.questions.add_drafts.Goals as goal
 
 pub loop-entry-preserved : goal.loop-entry-preserved
 loop-entry-preserved c =

@@ -1,7 +1,7 @@
 use Rattle.std.proofs.Common.{◌≡◌, ◌++◌, map, take}
-use Rattle.mds_entries.specs.Entries.{entry_of}
-use Rattle.mds_thinning.specs.Questions.{drafts}
-use Rattle.mds_thinning.proofs.questions.add_drafts.Given as goal
+use Rattle.journal_entry.specs.Entries.{entry_of}
+use Rattle.journal_compaction.specs.Questions.{drafts}
+use Rattle.journal_compaction.proofs.questions.add_drafts.Given as goal
 
 -- what was added so far
 abbrev pub invariant-loop-entry : goal.invariant-loop-entry

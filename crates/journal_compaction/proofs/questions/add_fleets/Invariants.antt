@@ -1,8 +1,8 @@
 use Rattle.std.proofs.Common.{◌≡◌, ◌++◌, map, take}
 use Rattle.mds_request.specs.Configuration.{operator}
-use Rattle.mds_entries.specs.Entries.{entry_of}
-use Rattle.mds_thinning.specs.Questions.{fleets}
-use Rattle.mds_thinning.proofs.questions.add_fleets.Given as goal
+use Rattle.journal_entry.specs.Entries.{entry_of}
+use Rattle.journal_compaction.specs.Questions.{fleets}
+use Rattle.journal_compaction.proofs.questions.add_fleets.Given as goal
 
 -- what was added so far
 abbrev pub invariant-loop-operator : goal.invariant-loop-operator

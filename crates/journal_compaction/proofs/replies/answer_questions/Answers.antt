@@ -1,9 +1,9 @@
 use Rattle.std.proofs.Common.{arith}
 use Rattle.mds_request.specs.Configuration.{configuration}
-use Rattle.mds_entries.specs.Entries.{entry_of}
-use Rattle.mds_recovery.specs.Recovery.{server_of}
-use Rattle.mds_thinning.proofs.Asked.{told_more}
-use Rattle.mds_thinning.proofs.replies.answer_questions.Goals as goal
+use Rattle.journal_entry.specs.Entries.{entry_of}
+use Rattle.journal_recovery.specs.Recovery.{server_of}
+use Rattle.journal_compaction.proofs.Asked.{told_more}
+use Rattle.journal_compaction.proofs.replies.answer_questions.Goals as goal
 
 pub loop-place-preserved : goal.loop-place-preserved
 loop-place-preserved g c =

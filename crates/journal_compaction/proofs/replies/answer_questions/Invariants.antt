@@ -1,9 +1,9 @@
 use Rattle.std.proofs.Common.{map, take}
 use Rattle.mds_request.specs.Configuration.{configuration}
-use Rattle.mds_entries.specs.Entries.{entry_of}
-use Rattle.mds_recovery.specs.Recovery.{server_of}
-use Rattle.mds_thinning.specs.Replies.{AreTold}
-use Rattle.mds_thinning.proofs.replies.answer_questions.Given as goal
+use Rattle.journal_entry.specs.Entries.{entry_of}
+use Rattle.journal_recovery.specs.Recovery.{server_of}
+use Rattle.journal_compaction.specs.Replies.{AreTold}
+use Rattle.journal_compaction.proofs.replies.answer_questions.Given as goal
 
 -- the questions so far are answered
 abbrev pub invariant-loop-place : goal.invariant-loop-place

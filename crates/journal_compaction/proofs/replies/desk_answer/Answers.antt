@@ -1,7 +1,7 @@
 use Rattle.mds_request.specs.Request.{request_of}
 use Rattle.mds_desk.specs.Desk.{state_of}
-use Rattle.mds_recovery.proofs.Learning.{desk_did}
-use Rattle.mds_thinning.proofs.replies.desk_answer.Goals as goal
+use Rattle.journal_recovery.proofs.Learning.{desk_did}
+use Rattle.journal_compaction.proofs.replies.desk_answer.Goals as goal
 
 pub returns : goal.returns
 returns g c = λ room.

@@ -1,10 +1,10 @@
 use Rattle.std.proofs.Common.{map, subst}
 use Rattle.mds_request.specs.Configuration.{configuration}
-use Rattle.mds_entries.specs.Entries.{entry_of}
-use Rattle.mds_recovery.specs.Laws.{IsStartedAgain}
-use Rattle.mds_recovery.specs.Recovery.{server_of}
-use Rattle.mds_thinning.specs.Replies.{AreTold}
-use Rattle.mds_thinning.proofs.replies.replies.Goals as goal
+use Rattle.journal_entry.specs.Entries.{entry_of}
+use Rattle.journal_recovery.specs.Laws.{IsStartedAgain}
+use Rattle.journal_recovery.specs.Recovery.{server_of}
+use Rattle.journal_compaction.specs.Replies.{AreTold}
+use Rattle.journal_compaction.proofs.replies.replies.Goals as goal
 
 pub returns-in-Ok-told : goal.returns-in-Ok-told
 returns-in-Ok-told g c =

@@ -1,6 +1,6 @@
 use Rattle.std.proofs.Common.{List, ℕ, subst, arith}
-use Rattle.mds_thinning.proofs.Groups.{group_more}
-use Rattle.mds_thinning.proofs.writing.append_all.Goals as goal
+use Rattle.journal_compaction.proofs.Groups.{group_more}
+use Rattle.journal_compaction.proofs.writing.append_all.Goals as goal
 
 pub loop-start-preserved : goal.loop-start-preserved
 loop-start-preserved g c =

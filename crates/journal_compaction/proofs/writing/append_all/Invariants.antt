@@ -1,6 +1,6 @@
 use Rattle.std.proofs.Common.{ℕ, ◌-◌, ◌≤◌, ◌++◌, List, length, map, take}
-use Rattle.mds_entries.specs.Entries.{entry_of, entry_text}
-use Rattle.mds_thinning.proofs.writing.append_all.Given as goal
+use Rattle.journal_entry.specs.Entries.{entry_of, entry_text}
+use Rattle.journal_compaction.proofs.writing.append_all.Given as goal
 
 -- the entries so far are appended
 abbrev pub invariant-loop-start : goal.invariant-loop-start

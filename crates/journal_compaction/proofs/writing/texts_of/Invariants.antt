@@ -1,6 +1,6 @@
 use Rattle.std.proofs.Common.{◌≡◌, map, take}
-use Rattle.mds_entries.specs.Entries.{entry_of, entry_text}
-use Rattle.mds_thinning.proofs.writing.texts_of.Given as goal
+use Rattle.journal_entry.specs.Entries.{entry_of, entry_text}
+use Rattle.journal_compaction.proofs.writing.texts_of.Given as goal
 
 -- the payloads of the entries so far
 abbrev pub invariant-loop-entry : goal.invariant-loop-entry

@@ -1,7 +1,7 @@
 use Rattle.std.proofs.Common.{◌≡◌, ℕ, ◌<◌, true, List, ◌∷◌, ◌++◌, length, ap, sym, ◌∙◌, arith}
-use Rattle.mds_entries.specs.Entries.{Entry, IsEntry, IsShort, moment_text, size_text, verb_code, asker_text, fields_text}
-use Rattle.mds_entries.proofs.Spelled.{same_moment, same_head, same_asker, same_fields}
-use Rattle.mds_entries.proofs.decoding.entry_in.Goals as goal
+use Rattle.journal_entry.specs.Entries.{Entry, IsEntry, IsShort, moment_text, size_text, verb_code, asker_text, fields_text}
+use Rattle.journal_entry.proofs.Spelled.{same_moment, same_head, same_asker, same_fields}
+use Rattle.journal_entry.proofs.decoding.entry_in.Goals as goal
 
 pub returns-in_default-clause-malformed : goal.returns-in_default-clause-malformed
 returns-in_default-clause-malformed c m entry is e =

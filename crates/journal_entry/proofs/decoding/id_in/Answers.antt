@@ -1,8 +1,8 @@
 use Rattle.std.proofs.Common.{◌≡◌, ℕ, ◌<◌, List, ◌++◌, length, take, ap, ◌∙◌, arith}
 use Rattle.std.proofs.lemmas.List.{length-append, take_at}
-use Rattle.mds_entries.specs.Entries.{id_text}
-use Rattle.mds_entries.proofs.Spelled.{id_length}
-use Rattle.mds_entries.proofs.decoding.id_in.Goals as goal
+use Rattle.journal_entry.specs.Entries.{id_text}
+use Rattle.journal_entry.proofs.Spelled.{id_length}
+use Rattle.journal_entry.proofs.decoding.id_in.Goals as goal
 
 pub returns-then-bytes-lt-ID_SIZE-clause-malformed : goal.returns-then-bytes-lt-ID_SIZE-clause-malformed
 returns-then-bytes-lt-ID_SIZE-clause-malformed c m id rest is e = absurd (omega (arith, c.if-bytes-lt-ID_SIZE.true, ap length e, length-append (id_text id) rest, id_length id))

@@ -4,8 +4,8 @@ use Rattle.std.proofs.lemmas.Str.{IsUtf8-from_ascii}
 use Rattle.std.proofs.lemmas.Slice.Eq.{bytes_eq-Decides}
 use Rattle.uuid.specs.Text.{lower, parsed}
 use Rattle.uuid.proofs.TextLemmas.{hyphenated_ascii}
-use Rattle.mds_entries.specs.Entries.{id_text}
-use Rattle.mds_entries.proofs.decoding.id_of.Goals as goal
+use Rattle.journal_entry.specs.Entries.{id_text}
+use Rattle.journal_entry.proofs.decoding.id_of.Goals as goal
 
 pub returns-in_default-clause-malformed : goal.returns-in_default-clause-malformed
 unfolding id_text

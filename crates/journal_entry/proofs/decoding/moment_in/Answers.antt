@@ -5,9 +5,9 @@ use Rattle.std.proofs.Math.Facts.{to_z_pos}
 use Rattle.std.proofs.lemmas.Int.{ints}
 use Rattle.std.proofs.lemmas.List.{length-append}
 use Rattle.mds_text.specs.Fields.{last_moment}
-use Rattle.mds_entries.specs.Entries.{moment_text}
-use Rattle.mds_entries.proofs.Spelled.{moment_length, moment_fits, same_number}
-use Rattle.mds_entries.proofs.decoding.moment_in.Goals as goal
+use Rattle.journal_entry.specs.Entries.{moment_text}
+use Rattle.journal_entry.proofs.Spelled.{moment_length, moment_fits, same_number}
+use Rattle.journal_entry.proofs.decoding.moment_in.Goals as goal
 
 same_pos : (m n : ℕ) → pos m ≡ pos n → m ≡ n
 same_pos m n e = cc

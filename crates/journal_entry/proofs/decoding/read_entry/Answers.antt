@@ -1,7 +1,7 @@
 use Rattle.std.proofs.Common.{◌≡◌, ℕ, ◌∷◌, List, sym, ◌∙◌}
-use Rattle.mds_entries.specs.Entries.{entry_of}
-use Rattle.mds_entries.proofs.Spelled.{same_fields, same_entry, same_head}
-use Rattle.mds_entries.proofs.decoding.read_entry.Goals as goal
+use Rattle.journal_entry.specs.Entries.{entry_of}
+use Rattle.journal_entry.proofs.Spelled.{same_fields, same_entry, same_head}
+use Rattle.journal_entry.proofs.decoding.read_entry.Goals as goal
 
 pub returns-in-Ok-clause-same : goal.returns-in-Ok-clause-same
 returns-in-Ok-clause-same c entry is e =

@@ -1,9 +1,9 @@
 use Rattle.std.proofs.Common.{◌≡◌, ℕ, ◌+◌, ◌<◌, ◌≤◌, List, ◌++◌, length, take, drop, ap, sym, ◌∙◌, arith}
 use Rattle.std.proofs.lemmas.List.{length-append, take-append-drop}
-use Rattle.mds_entries.specs.declared.entry.TheConstants.{MOST_TARGET}
-use Rattle.mds_entries.specs.Entries.{size_text}
-use Rattle.mds_entries.proofs.Spelled.{size_length, same_size, size_fits}
-use Rattle.mds_entries.proofs.decoding.target_in.Goals as goal
+use Rattle.journal_entry.specs.declared.entry.TheConstants.{MOST_TARGET}
+use Rattle.journal_entry.specs.Entries.{size_text}
+use Rattle.journal_entry.proofs.Spelled.{size_length, same_size, size_fits}
+use Rattle.journal_entry.proofs.decoding.target_in.Goals as goal
 
 pub returns-in_default : goal.returns-in_default
 returns-in_default c target rest small e = absurd (omega (arith, c.in_default.ensures, ap length e, length-append (size_text (length target)) (target ++ rest), size_length (length target)))

@@ -1,8 +1,8 @@
 use Rattle.std.proofs.Common.{ap, sym, ◌∙◌, position}
 use Rattle.mds_request.specs.Configuration.{configuration, operator, operator_at}
-use Rattle.mds_entries.proofs.Mapped.{position_map}
-use Rattle.mds_entries.specs.Requests.{has_id, actor_by}
-use Rattle.mds_entries.proofs.entry_requests.actor_by.Goals as goal
+use Rattle.journal_entry.proofs.Mapped.{position_map}
+use Rattle.journal_entry.specs.Requests.{has_id, actor_by}
+use Rattle.journal_entry.proofs.entry_requests.actor_by.Goals as goal
 
 pub returns-in-Some : goal.returns-in-Some
 returns-in-Some c =

@@ -1,5 +1,5 @@
-use Rattle.mds_entries.proofs.Asked.{reads_the_request}
-use Rattle.mds_entries.proofs.entry_requests.reads_the_request.Goals as goal
+use Rattle.journal_entry.proofs.Asked.{reads_the_request}
+use Rattle.journal_entry.proofs.entry_requests.reads_the_request.Goals as goal
 
 pub returns : goal.returns
 returns c = reads_the_request

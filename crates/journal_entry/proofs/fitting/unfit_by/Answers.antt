@@ -1,10 +1,10 @@
 use Rattle.std.proofs.Common.{ap, sym, ◌∙◌}
 use Rattle.std.specs.Prelude.{find, option_map}
 use Rattle.mds_request.specs.Configuration.{operator}
-use Rattle.mds_entries.specs.Heads.{share_of, unfit_at}
-use Rattle.mds_entries.specs.Requests.{has_id}
-use Rattle.mds_entries.proofs.Mapped.{find_map}
-use Rattle.mds_entries.proofs.fitting.unfit_by.Goals as goal
+use Rattle.journal_entry.specs.Heads.{share_of, unfit_at}
+use Rattle.journal_entry.specs.Requests.{has_id}
+use Rattle.journal_entry.proofs.Mapped.{find_map}
+use Rattle.journal_entry.proofs.fitting.unfit_by.Goals as goal
 
 pub returns : goal.returns
 returns c =

@@ -1,9 +1,9 @@
 use Rattle.std.proofs.Common.{◌≡◌, ℕ, List, [], ◌∷◌, ◌++◌, map, take, ap, sym, ◌∙◌, append_assoc}
 use Rattle.std.proofs.lemmas.List.{map_more}
-use Rattle.mds_entries.specs.Heads.{share_of, share_text, shares_text, head_word}
-use Rattle.mds_entries.specs.declared.head.TheConstants.{LAYOUT}
-use Rattle.mds_entries.proofs.Shared.{text_more}
-use Rattle.mds_entries.proofs.head.head_text.Goals as goal
+use Rattle.journal_entry.specs.Heads.{share_of, share_text, shares_text, head_word}
+use Rattle.journal_entry.specs.declared.head.TheConstants.{LAYOUT}
+use Rattle.journal_entry.proofs.Shared.{text_more}
+use Rattle.journal_entry.proofs.head.head_text.Goals as goal
 
 pub loop-share-preserved : goal.loop-share-preserved
 loop-share-preserved c =

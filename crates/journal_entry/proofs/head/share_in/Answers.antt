@@ -1,8 +1,8 @@
 use Rattle.std.proofs.Common.{◌≡◌, ℕ, ◌<◌, List, ◌++◌, length, ap, sym, ◌∙◌, append_assoc, arith}
 use Rattle.std.proofs.lemmas.List.{length-append}
-use Rattle.mds_entries.specs.Entries.{id_text, size_text}
-use Rattle.mds_entries.proofs.Spelled.{same_id, size_length}
-use Rattle.mds_entries.proofs.head.share_in.Goals as goal
+use Rattle.journal_entry.specs.Entries.{id_text, size_text}
+use Rattle.journal_entry.proofs.Spelled.{same_id, size_length}
+use Rattle.journal_entry.proofs.head.share_in.Goals as goal
 
 pub returns-in-Err-clause-malformed : goal.returns-in-Err-clause-malformed
 returns-in-Err-clause-malformed c m share rest is e =

@@ -1,8 +1,8 @@
 use Rattle.std.proofs.Common.{◌≡◌, ℕ, ◌+◌, ◌<◌, List, [], ◌∷◌, ◌++◌, length, map, ap, sym, subst, ◌∙◌, append_assoc, arith}
 use Rattle.std.proofs.lemmas.List.{length-append, map-append}
-use Rattle.mds_entries.specs.Heads.{Share, IsShare, AreShares, share_of, share_text, shares_text}
-use Rattle.mds_entries.proofs.Shared.{share_length, text_more, are_more, behind_shares, no_share, filled}
-use Rattle.mds_entries.proofs.head.shares_in.Goals as goal
+use Rattle.journal_entry.specs.Heads.{Share, IsShare, AreShares, share_of, share_text, shares_text}
+use Rattle.journal_entry.proofs.Shared.{share_length, text_more, are_more, behind_shares, no_share, filled}
+use Rattle.journal_entry.proofs.head.shares_in.Goals as goal
 
 pub returns-in-Err-clause-malformed : goal.returns-in-Err-clause-malformed
 returns-in-Err-clause-malformed c m shares are e =

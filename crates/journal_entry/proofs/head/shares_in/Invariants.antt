@@ -1,6 +1,6 @@
 use Rattle.std.proofs.Common.{◌≡◌, ◌++◌, length, map}
-use Rattle.mds_entries.specs.Heads.{AreShares, share_of, shares_text}
-use Rattle.mds_entries.proofs.head.shares_in.Given as goal
+use Rattle.journal_entry.specs.Heads.{AreShares, share_of, shares_text}
+use Rattle.journal_entry.proofs.head.shares_in.Given as goal
 
 abbrev pub invariant-loop-rest : goal.invariant-loop-rest
 invariant-loop-rest l =

@@ -1,6 +1,6 @@
 use Rattle.std.proofs.Common.{◌≡◌, map, drop}
-use Rattle.mds_records.specs.Groups.{are_taken}
-use Rattle.mds_records.proofs.group.are_taken.Given as goal
+use Rattle.journal_file.specs.Groups.{are_taken}
+use Rattle.journal_file.proofs.group.are_taken.Given as goal
 
 -- whether the rest is accepted decides
 abbrev pub invariant-loop-text : goal.invariant-loop-text

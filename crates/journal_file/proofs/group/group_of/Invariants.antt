@@ -1,8 +1,8 @@
 use Rattle.std.proofs.Common.{◌≡◌, ◌++◌, map, drop, true}
-use Rattle.mds_records.specs.Sum.{sums_over}
-use Rattle.mds_records.specs.Records.{written}
-use Rattle.mds_records.specs.Groups.{are_taken, group_of}
-use Rattle.mds_records.proofs.group.group_of.Given as goal
+use Rattle.journal_file.specs.Sum.{sums_over}
+use Rattle.journal_file.specs.Records.{written}
+use Rattle.journal_file.specs.Groups.{are_taken, group_of}
+use Rattle.journal_file.proofs.group.group_of.Given as goal
 
 -- the records written so far and those left are all
 abbrev pub invariant-loop-text : goal.invariant-loop-text

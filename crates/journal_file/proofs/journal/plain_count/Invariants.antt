@@ -1,6 +1,6 @@
 use Rattle.std.proofs.Common.{◌≡◌, ◌+◌, ◌≤◌, map, drop, length}
-use Rattle.mds_records.specs.Groups.{listed}
-use Rattle.mds_records.proofs.journal.plain_count.Given as goal
+use Rattle.journal_file.specs.Groups.{listed}
+use Rattle.journal_file.proofs.journal.plain_count.Given as goal
 
 -- those counted so far and those left are all
 abbrev pub invariant-loop-record : goal.invariant-loop-record

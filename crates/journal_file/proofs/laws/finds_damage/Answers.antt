@@ -1,11 +1,11 @@
 use Rattle.std.proofs.Common.{◌≡◌, ℕ, ◌^◌, ◌<◌, ◌≤◌, List, ◌++◌, length, ap, ◌∙◌, arith}
 use Rattle.std.proofs.lemmas.List.{length-append}
-use Rattle.mds_records.specs.Marks.{mark_of, first_moved}
-use Rattle.mds_records.specs.Endings.{ending_of, ending_by}
-use Rattle.mds_records.specs.declared.ending.JournalEnding.TheVariants.{Damaged}
-use Rattle.mds_records.proofs.Marked.{mark_claims, mark_length, said_within}
-use Rattle.mds_records.proofs.Endings.{told_by_marks, damaged_by}
-use Rattle.mds_records.proofs.laws.finds_damage.Goals as goal
+use Rattle.journal_file.specs.Marks.{mark_of, first_moved}
+use Rattle.journal_file.specs.Endings.{ending_of, ending_by}
+use Rattle.journal_file.specs.declared.ending.JournalEnding.TheVariants.{Damaged}
+use Rattle.journal_file.proofs.Marked.{mark_claims, mark_length, said_within}
+use Rattle.journal_file.proofs.Endings.{told_by_marks, damaged_by}
+use Rattle.journal_file.proofs.laws.finds_damage.Goals as goal
 
 found : (whole own synced : ℕ) (front rest : List ℕ) → own < 2 ^ 64 → synced < 2 ^ 64 → 0 < whole → whole < synced
     → (said : ℕ) × (ending_of whole (front ++ (mark_of own synced ++ rest)) ≡ Damaged said) × (synced ≤ said)

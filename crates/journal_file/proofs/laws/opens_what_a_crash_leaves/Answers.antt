@@ -1,13 +1,13 @@
 use Rattle.std.proofs.Common.{◌≡◌, ℕ, ◌<◌, ◌≤◌, List, [], ◌∷◌, ◌++◌, length, drop, true, refl, ap, ◌∙◌, arith}
 use Rattle.std.specs.List.{AllByRecursion}
-use Rattle.mds_records.specs.Records.{Fits, Reads, written, extent}
-use Rattle.mds_records.specs.Marks.{furthest_said}
-use Rattle.mds_records.specs.Endings.{beginning, ending_of, ending_by, is_opened}
-use Rattle.mds_records.specs.Laws.{SayAtMost}
-use Rattle.mds_records.proofs.Written.{synced_within}
-use Rattle.mds_records.proofs.Marked.{furthest_within, none_moved}
-use Rattle.mds_records.proofs.Endings.{told_by_marks, opened_by}
-use Rattle.mds_records.proofs.laws.opens_what_a_crash_leaves.Goals as goal
+use Rattle.journal_file.specs.Records.{Fits, Reads, written, extent}
+use Rattle.journal_file.specs.Marks.{furthest_said}
+use Rattle.journal_file.specs.Endings.{beginning, ending_of, ending_by, is_opened}
+use Rattle.journal_file.specs.Laws.{SayAtMost}
+use Rattle.journal_file.proofs.Written.{synced_within}
+use Rattle.journal_file.proofs.Marked.{furthest_within, none_moved}
+use Rattle.journal_file.proofs.Endings.{told_by_marks, opened_by}
+use Rattle.journal_file.proofs.laws.opens_what_a_crash_leaves.Goals as goal
 
 behind_opened : (most whole : ℕ) (behind : List ℕ) → length beginning < whole → most ≤ whole → SayAtMost most whole behind → is_opened (ending_of whole behind) ≡ true
 behind_opened most whole [] lt le each = refl

@@ -2,12 +2,12 @@ use Rattle.std.proofs.Common.{◌≡◌, ℕ, ◌<◌, ◌+◌, ◌-◌, List, [
 use Rattle.std.specs.List.{AllByRecursion}
 use Rattle.std.proofs.lemmas.Bool.{cases_lt}
 use Rattle.std.proofs.lemmas.List.{length-take}
-use Rattle.mds_records.specs.Laws.{IsFrontOf}
-use Rattle.mds_records.specs.Sum.{sum_over}
-use Rattle.mds_records.specs.Records.{Reads, Fits, written, record_of, first_at}
-use Rattle.mds_records.proofs.Records.{not_none, first_again, first_cut, record_length, take_behind, short_none}
-use Rattle.mds_records.proofs.Written.{first_then}
-use Rattle.mds_records.proofs.laws.reads_a_front.Goals as goal
+use Rattle.journal_file.specs.Laws.{IsFrontOf}
+use Rattle.journal_file.specs.Sum.{sum_over}
+use Rattle.journal_file.specs.Records.{Reads, Fits, written, record_of, first_at}
+use Rattle.journal_file.proofs.Records.{not_none, first_again, first_cut, record_length, take_behind, short_none}
+use Rattle.journal_file.proofs.Written.{first_then}
+use Rattle.journal_file.proofs.laws.reads_a_front.Goals as goal
 
 nothing : (before size : ℕ) (found : List (List ℕ)) → Reads before (take size []) found → IsFrontOf found []
 nothing before size [] r = ([], refl)

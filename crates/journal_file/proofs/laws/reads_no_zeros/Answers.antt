@@ -1,7 +1,7 @@
 use Rattle.std.proofs.Common.{◌≡◌, ℕ, List, [], ◌∷◌, replicate, refl}
-use Rattle.mds_records.specs.Records.{Reads}
-use Rattle.mds_records.proofs.Records.{zeros_none, not_none}
-use Rattle.mds_records.proofs.laws.reads_no_zeros.Goals as goal
+use Rattle.journal_file.specs.Records.{Reads}
+use Rattle.journal_file.proofs.Records.{zeros_none, not_none}
+use Rattle.journal_file.proofs.laws.reads_no_zeros.Goals as goal
 
 none_found : (before count : ℕ) (found : List (List ℕ)) → Reads before (replicate count 0) found → found ≡ []
 none_found before count [] r = refl

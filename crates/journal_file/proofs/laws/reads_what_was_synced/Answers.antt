@@ -1,10 +1,10 @@
 use Rattle.std.proofs.Common.{◌≡◌, ℕ, List, ◌++◌}
 use Rattle.std.specs.List.{AllByRecursion}
-use Rattle.mds_records.specs.Sum.{sums_over}
-use Rattle.mds_records.specs.Laws.{IsFrontOf, IsTornFrom}
-use Rattle.mds_records.specs.Records.{Reads, Fits, written}
-use Rattle.mds_records.proofs.Written.{written_first, torn_front}
-use Rattle.mds_records.proofs.laws.reads_what_was_synced.Goals as goal
+use Rattle.journal_file.specs.Sum.{sums_over}
+use Rattle.journal_file.specs.Laws.{IsFrontOf, IsTornFrom}
+use Rattle.journal_file.specs.Records.{Reads, Fits, written}
+use Rattle.journal_file.proofs.Written.{written_first, torn_front}
+use Rattle.journal_file.proofs.laws.reads_what_was_synced.Goals as goal
 
 synced_first : (before : ℕ) (synced pending found : List (List ℕ)) (tail : List ℕ) → AllByRecursion Fits synced
     → IsTornFrom (sums_over before synced) pending tail → Reads before (written before synced ++ tail) found

@@ -1,11 +1,11 @@
 use Rattle.std.proofs.Common.{◌≡◌, ℕ, ◌+◌, ◌^◌, ◌<◌, List, ◌++◌, length, false, Some, ap, ◌∙◌, arith}
 use Rattle.std.specs.Prelude.{◌≢◌}
 use Rattle.std.proofs.lemmas.List.{length-append}
-use Rattle.mds_records.specs.Marks.{mark_of, first_moved}
-use Rattle.mds_records.specs.Endings.{ending_of, ending_by, is_opened}
-use Rattle.mds_records.proofs.Marked.{mark_claims, mark_length, said_within, moved_found}
-use Rattle.mds_records.proofs.Endings.{told_by_marks, moved_by}
-use Rattle.mds_records.proofs.laws.refuses_what_was_moved.Goals as goal
+use Rattle.journal_file.specs.Marks.{mark_of, first_moved}
+use Rattle.journal_file.specs.Endings.{ending_of, ending_by, is_opened}
+use Rattle.journal_file.proofs.Marked.{mark_claims, mark_length, said_within, moved_found}
+use Rattle.journal_file.proofs.Endings.{told_by_marks, moved_by}
+use Rattle.journal_file.proofs.laws.refuses_what_was_moved.Goals as goal
 
 refused : (whole own synced : ℕ) (front rest : List ℕ) → own < 2 ^ 64 → synced < 2 ^ 64 → 0 < whole → own ≢ whole + length front
     → is_opened (ending_of whole (front ++ (mark_of own synced ++ rest))) ≡ false

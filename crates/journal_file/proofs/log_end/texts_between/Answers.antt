@@ -1,11 +1,11 @@
 use Rattle.std.proofs.Common.{◌≡◌, ◌+◌, ◌++◌, ℕ, List, length, map, sym, ap, subst, ◌∙◌, arith}
 use Rattle.std.proofs.lemmas.List.{length-map}
-use Rattle.mds_records.specs.Sum.{sums_over}
-use Rattle.mds_records.specs.Records.{extent}
-use Rattle.mds_records.specs.Groups.{listed}
-use Rattle.mds_records.specs.LogEnds.{IsSealed}
-use Rattle.mds_records.proofs.Seals.{sealed_behind}
-use Rattle.mds_records.proofs.log_end.texts_between.Goals as goal
+use Rattle.journal_file.specs.Sum.{sums_over}
+use Rattle.journal_file.specs.Records.{extent}
+use Rattle.journal_file.specs.Groups.{listed}
+use Rattle.journal_file.specs.LogEnds.{IsSealed}
+use Rattle.journal_file.proofs.Seals.{sealed_behind}
+use Rattle.journal_file.proofs.log_end.texts_between.Goals as goal
 
 pub returns : goal.returns
 returns c = λ list s.

@@ -1,6 +1,6 @@
 use Rattle.std.proofs.Common.{◌≡◌, ◌+◌, length}
-use Rattle.mds_records.specs.Marks.{first_moved}
-use Rattle.mds_records.proofs.marks.first_moved_mark.Given as goal
+use Rattle.journal_file.specs.Marks.{first_moved}
+use Rattle.journal_file.proofs.marks.first_moved_mark.Given as goal
 
 -- the first from here on is the first
 abbrev pub invariant-loop-behind : goal.invariant-loop-behind

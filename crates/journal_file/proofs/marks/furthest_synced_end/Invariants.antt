@@ -1,6 +1,6 @@
 use Rattle.std.proofs.Common.{◌≡◌, length}
-use Rattle.mds_records.specs.Marks.{further, furthest_said}
-use Rattle.mds_records.proofs.marks.furthest_synced_end.Given as goal
+use Rattle.journal_file.specs.Marks.{further, furthest_said}
+use Rattle.journal_file.proofs.marks.furthest_synced_end.Given as goal
 
 -- the furthest so far and the furthest from here on give the furthest
 abbrev pub invariant-loop-behind : goal.invariant-loop-behind

@@ -1,10 +1,10 @@
 use Rattle.std.proofs.Common.{◌≡◌, ℕ, ◌+◌, ◌-◌, List, [], ◌∷◌, ◌++◌, length, map, refl, sym, ap, subst, ◌∙◌, append_assoc, arith}
 use Rattle.std.proofs.lemmas.List.{append-nil}
-use Rattle.mds_records.specs.Sum.{sum_over, sums_over}
-use Rattle.mds_records.specs.Records.{Reads, extent, offsets_from}
-use Rattle.mds_records.proofs.Records.{first_extent}
-use Rattle.mds_records.proofs.Found.{extent_more, sums_more, offsets_more, mapped_more}
-use Rattle.mds_records.proofs.reading.read.Goals as goal
+use Rattle.journal_file.specs.Sum.{sum_over, sums_over}
+use Rattle.journal_file.specs.Records.{Reads, extent, offsets_from}
+use Rattle.journal_file.proofs.Records.{first_extent}
+use Rattle.journal_file.proofs.Found.{extent_more, sums_more, offsets_more, mapped_more}
+use Rattle.journal_file.proofs.reading.read.Goals as goal
 
 pub loop-text-smaller : goal.loop-text-smaller
 loop-text-smaller c =

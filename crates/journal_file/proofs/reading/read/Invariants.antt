@@ -1,7 +1,7 @@
 use Rattle.std.proofs.Common.{◌≡◌, List, ℕ, ◌+◌, ◌++◌, ◌≤◌, map, length}
-use Rattle.mds_records.specs.Sum.{sums_over}
-use Rattle.mds_records.specs.Records.{Reads, extent, offsets_from}
-use Rattle.mds_records.proofs.reading.read.Given as goal
+use Rattle.journal_file.specs.Sum.{sums_over}
+use Rattle.journal_file.specs.Records.{Reads, extent, offsets_from}
+use Rattle.journal_file.proofs.reading.read.Given as goal
 
 -- whatever is read from the rest is read after what was found; what was found takes the bytes before the rest
 abbrev pub invariant-loop-text : goal.invariant-loop-text

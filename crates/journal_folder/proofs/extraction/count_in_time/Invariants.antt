@@ -1,7 +1,7 @@
 use Rattle.std.proofs.Common.{◌≡◌, ◌++◌, map, take, drop}
-use Rattle.mds_entries.specs.Entries.{entry_of}
-use Rattle.mds_folder.specs.Choosing.{in_time}
-use Rattle.mds_folder.proofs.extraction.count_in_time.Given as goal
+use Rattle.journal_entry.specs.Entries.{entry_of}
+use Rattle.journal_folder.specs.Choosing.{in_time}
+use Rattle.journal_folder.proofs.extraction.count_in_time.Given as goal
 
 -- none so far is later
 abbrev pub invariant-loop-count : goal.invariant-loop-count

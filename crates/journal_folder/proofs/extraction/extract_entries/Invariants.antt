@@ -1,8 +1,8 @@
 use Rattle.std.proofs.Common.{◌≡◌, ◌++◌, map, drop}
 use Rattle.std.specs.List.{filter}
-use Rattle.mds_entries.specs.Entries.{entry_of}
-use Rattle.mds_folder.specs.Choosing.{concerns}
-use Rattle.mds_folder.proofs.extraction.extract_entries.Given as goal
+use Rattle.journal_entry.specs.Entries.{entry_of}
+use Rattle.journal_folder.specs.Choosing.{concerns}
+use Rattle.journal_folder.proofs.extraction.extract_entries.Given as goal
 
 -- those extracted so far and those left are all
 abbrev pub invariant-loop-entry : goal.invariant-loop-entry

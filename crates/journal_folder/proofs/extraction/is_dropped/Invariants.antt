@@ -1,6 +1,6 @@
 use Rattle.std.proofs.Common.{◌≡◌, take, false, bytes_eq}
 use Rattle.std.specs.List.{list_any}
-use Rattle.mds_folder.proofs.extraction.is_dropped.Given as goal
+use Rattle.journal_folder.proofs.extraction.is_dropped.Given as goal
 
 -- none so far is the one that is looked for
 abbrev pub invariant-loop-other : goal.invariant-loop-other

@@ -1,7 +1,7 @@
 use Rattle.std.proofs.Common.{◌≡◌, ◌++◌, map, drop}
-use Rattle.mds_entries.specs.Entries.{entry_of}
-use Rattle.mds_folder.specs.Choosing.{without}
-use Rattle.mds_folder.proofs.extraction.without_operators.Given as goal
+use Rattle.journal_entry.specs.Entries.{entry_of}
+use Rattle.journal_folder.specs.Choosing.{without}
+use Rattle.journal_folder.proofs.extraction.without_operators.Given as goal
 
 -- those taken so far and those left are all
 abbrev pub invariant-loop-entry : goal.invariant-loop-entry

@@ -1,6 +1,6 @@
 use Rattle.std.proofs.Common.{◌≡◌, map, take}
-use Rattle.mds_entries.specs.Entries.{entry_of, entry_text}
-use Rattle.mds_folder.proofs.journal.entries_in.Given as goal
+use Rattle.journal_entry.specs.Entries.{entry_of, entry_text}
+use Rattle.journal_folder.proofs.journal.entries_in.Given as goal
 
 -- the payloads so far are those of the entries
 abbrev pub invariant-loop-number : goal.invariant-loop-number

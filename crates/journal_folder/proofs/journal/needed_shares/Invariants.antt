@@ -1,7 +1,7 @@
 use Rattle.std.proofs.Common.{◌≡◌, ◌++◌, map, drop}
-use Rattle.mds_entries.specs.Heads.{share_of}
-use Rattle.mds_folder.specs.Choosing.{needed}
-use Rattle.mds_folder.proofs.journal.needed_shares.Given as goal
+use Rattle.journal_entry.specs.Heads.{share_of}
+use Rattle.journal_folder.specs.Choosing.{needed}
+use Rattle.journal_folder.proofs.journal.needed_shares.Given as goal
 
 -- those taken so far and those left are all
 abbrev pub invariant-loop-share : goal.invariant-loop-share

@@ -1,6 +1,6 @@
 use Rattle.std.proofs.Common.{◌≡◌, ◌++◌, take}
-use Rattle.mds_folder.specs.Script.{blanked}
-use Rattle.mds_folder.proofs.script.push_blanked.Given as goal
+use Rattle.journal_folder.specs.Script.{blanked}
+use Rattle.journal_folder.proofs.script.push_blanked.Given as goal
 
 -- what was added so far
 abbrev pub invariant-loop-byte : goal.invariant-loop-byte

@@ -1,6 +1,6 @@
 use Rattle.std.proofs.Common.{◌≡◌, ◌++◌, map, drop}
-use Rattle.mds_records.specs.Groups.{listed}
-use Rattle.mds_folder.proofs.survey.plain_texts.Given as goal
+use Rattle.journal_file.specs.Groups.{listed}
+use Rattle.journal_folder.proofs.survey.plain_texts.Given as goal
 
 -- those listed so far and those left are all
 abbrev pub invariant-loop-record : goal.invariant-loop-record

@@ -1,10 +1,10 @@
 use Rattle.std.proofs.Common.{◌≡◌, ℕ, ◌+◌, ◌-◌, ◌≤◌, ◌<◌, Bool, cond, List, [], ◌∷◌, ◌++◌, length, map, take, sym, ap, subst, ◌∙◌, arith}
 use Rattle.std.proofs.lemmas.List.{length-map, length-take-le, map_more}
 use Rattle.mds_fleet.specs.Books.{Report, report_document}
-use Rattle.mds_restarts.specs.Compaction.{ThinsTo}
-use Rattle.mds_restarts.proofs.Grown.{step, alone, seen_at}
-use Rattle.mds_restarts.proofs.compaction.reports_to_keep.Goals as goal
-use Rattle.mds_restarts.proofs.compaction.reports_to_keep.Goals.{then-not-is_same_state, else-not-is_same_state}
+use Rattle.journal_laws.specs.Compaction.{ThinsTo}
+use Rattle.journal_laws.proofs.Grown.{step, alone, seen_at}
+use Rattle.journal_laws.proofs.compaction.reports_to_keep.Goals as goal
+use Rattle.journal_laws.proofs.compaction.reports_to_keep.Goals.{then-not-is_same_state, else-not-is_same_state}
 
 pub loop-place-init : goal.loop-place-init
 loop-place-init c = alone report_document c.args.reports.now (sym c.is_empty.ensures ∙ c.if-is_empty.false)

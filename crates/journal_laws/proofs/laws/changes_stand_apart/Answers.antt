@@ -1,6 +1,6 @@
 use Rattle.mds_request.specs.Call.{call_of}
-use Rattle.mds_restarts.proofs.Kept.{changes_apart}
-use Rattle.mds_restarts.proofs.laws.changes_stand_apart.Goals as goal
+use Rattle.journal_laws.proofs.Kept.{changes_apart}
+use Rattle.journal_laws.proofs.laws.changes_stand_apart.Goals as goal
 
 pub returns : goal.returns
 returns c = λ configuration operator publications others rows request. changes_apart configuration operator publications others rows request (call_of configuration request)

@@ -2,8 +2,8 @@ use Rattle.std.proofs.Common.{◌≡◌, ℕ, Bool, true, false, cond, List, [],
 use Rattle.std.specs.Prelude.{bytes_eq}
 use Rattle.mds_fleet.specs.Books.{Report, row_from}
 use Rattle.mds_fleet.specs.History.{row_by, run_from}
-use Rattle.mds_restarts.specs.Persisted.{run_begun, thinned}
-use Rattle.mds_restarts.proofs.laws.compacted_row_is_the_same.Goals as goal
+use Rattle.journal_laws.specs.Persisted.{run_begun, thinned}
+use Rattle.journal_laws.proofs.laws.compacted_row_is_the_same.Goals as goal
 
 state_by : (state : List ℕ) (b : Bool) (x y : Report) → (b ≡ true → bytes_eq x.state state ≡ true) → bytes_eq y.state state ≡ true
     → bytes_eq (cond b x y).state state ≡ true

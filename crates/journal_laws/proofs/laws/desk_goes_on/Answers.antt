@@ -1,8 +1,8 @@
 use Rattle.std.proofs.Common.{subst}
 use Rattle.mds_fleet.specs.Books.{Rows}
 use Rattle.mds_machine.specs.Desks.{AreTurns}
-use Rattle.mds_restarts.proofs.Servers.{recovered, joined}
-use Rattle.mds_restarts.proofs.laws.desk_goes_on.Goals as goal
+use Rattle.journal_laws.proofs.Servers.{recovered, joined}
+use Rattle.journal_laws.proofs.laws.desk_goes_on.Goals as goal
 
 pub returns : goal.returns
 returns c = λ configuration place operator known other known_again rows left back after told again later are are_again is front on.

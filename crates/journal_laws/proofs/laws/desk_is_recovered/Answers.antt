@@ -1,5 +1,5 @@
-use Rattle.mds_restarts.proofs.Servers.{recovered}
-use Rattle.mds_restarts.proofs.laws.desk_is_recovered.Goals as goal
+use Rattle.journal_laws.proofs.Servers.{recovered}
+use Rattle.journal_laws.proofs.laws.desk_is_recovered.Goals as goal
 
 pub returns : goal.returns
 returns c = λ configuration place operator known other rows after back turns again are are_again is.

@@ -1,7 +1,7 @@
 use Rattle.std.proofs.Common.{subst}
 use Rattle.mds_machine.specs.Step.{Run}
-use Rattle.mds_restarts.proofs.Kept.{run_on}
-use Rattle.mds_restarts.proofs.laws.is_one_history.Goals as goal
+use Rattle.journal_laws.proofs.Kept.{run_on}
+use Rattle.journal_laws.proofs.laws.is_one_history.Goals as goal
 
 pub returns : goal.returns
 returns c = λ state left recovered last told again later r s is t.

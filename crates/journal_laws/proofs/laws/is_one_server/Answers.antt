@@ -7,8 +7,8 @@ use Rattle.mds_request.specs.Configuration.{Configuration}
 use Rattle.mds_machine.specs.Fronts.{Turn, last_front}
 use Rattle.mds_machine.specs.Room.{AreRoomTurns}
 use Rattle.mds_machine.proofs.Views.{prefix_on}
-use Rattle.mds_restarts.proofs.Servers.{joined}
-use Rattle.mds_restarts.proofs.laws.is_one_server.Goals as goal
+use Rattle.journal_laws.proofs.Servers.{joined}
+use Rattle.journal_laws.proofs.laws.is_one_server.Goals as goal
 
 room_on : (configuration : Configuration) (first between after : Drafts × List Publication) (told later : List Exchange)
     → AreRoomTurns configuration first told between → AreRoomTurns configuration between later after

@@ -1,6 +1,6 @@
-use Rattle.mds_restarts.specs.Persisted.{kept}
-use Rattle.mds_restarts.proofs.Kept.{kept_runs, same_runs, all_kept}
-use Rattle.mds_restarts.proofs.laws.replay_leads_there.Goals as goal
+use Rattle.journal_laws.specs.Persisted.{kept}
+use Rattle.journal_laws.proofs.Kept.{kept_runs, same_runs, all_kept}
+use Rattle.journal_laws.proofs.laws.replay_leads_there.Goals as goal
 
 pub returns : goal.returns
 returns c = λ state after recovered history again r s is.

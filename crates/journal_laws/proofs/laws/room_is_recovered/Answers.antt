@@ -1,6 +1,6 @@
 use Rattle.std.proofs.Common.{ap}
 use Rattle.mds_machine.specs.Room.{authors_in}
-use Rattle.mds_restarts.proofs.laws.room_is_recovered.Goals as goal
+use Rattle.journal_laws.proofs.laws.room_is_recovered.Goals as goal
 
 pub returns : goal.returns
 returns c = λ configuration history again drafts drafts_again publications publications_again are are_again is.

@@ -5,8 +5,8 @@ use Rattle.mds_fleet.specs.Books.{Rows}
 use Rattle.mds_machine.specs.Desks.{AreTurns}
 use Rattle.mds_machine.specs.Fronts.{last_front}
 use Rattle.mds_machine.specs.Room.{AreRoomTurns}
-use Rattle.mds_recovery.proofs.Answered.{prefix_on}
-use Rattle.mds_recovery.proofs.laws.goes_on_as_one_server.Goals as goal
+use Rattle.journal_recovery.proofs.Answered.{prefix_on}
+use Rattle.journal_recovery.proofs.laws.goes_on_as_one_server.Goals as goal
 
 pub returns : goal.returns
 returns c = λ configuration entries s are told later before publications told_turns later_turns served journal on.

@@ -2,13 +2,13 @@ use mathlib.Core.List.{IsPrefix}
 use Rattle.std.proofs.Common.{List, [], ap, subst, sym, ◌∙◌}
 use Rattle.std.specs.FinMap.{empty}
 use Rattle.mds_catalog.specs.Publication.{Publication}
-use Rattle.mds_restarts.specs.Persisted.{AreSuccesses, requests_in}
+use Rattle.journal_laws.specs.Persisted.{AreSuccesses, requests_in}
 use Rattle.mds_desk.specs.Desk.{new_desk}
-use Rattle.mds_recovery.specs.Laws.{new_server}
-use Rattle.mds_recovery.proofs.Lists.{both}
-use Rattle.mds_recovery.proofs.New.{new_at, new_is}
-use Rattle.mds_recovery.proofs.Answered.{prefix_self}
-use Rattle.mds_recovery.proofs.laws.journal_leads_back.Goals as goal
+use Rattle.journal_recovery.specs.Laws.{new_server}
+use Rattle.journal_recovery.proofs.Lists.{both}
+use Rattle.journal_recovery.proofs.New.{new_at, new_is}
+use Rattle.journal_recovery.proofs.Answered.{prefix_self}
+use Rattle.journal_recovery.proofs.laws.journal_leads_back.Goals as goal
 
 pub returns : goal.returns
 returns c = λ configuration entries next are told before told_turns served journal.

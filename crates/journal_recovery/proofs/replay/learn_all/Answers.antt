@@ -1,7 +1,7 @@
 use Rattle.std.proofs.Common.{arith}
 use Rattle.mds_desk.specs.Desk.{state_of}
-use Rattle.mds_recovery.proofs.Learning.{learn_more}
-use Rattle.mds_recovery.proofs.replay.learn_all.Goals as goal
+use Rattle.journal_recovery.proofs.Learning.{learn_more}
+use Rattle.journal_recovery.proofs.replay.learn_all.Goals as goal
 
 pub loop-place-preserved : goal.loop-place-preserved
 loop-place-preserved g c =

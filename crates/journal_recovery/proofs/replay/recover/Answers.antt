@@ -1,9 +1,9 @@
 use Rattle.std.proofs.Common.{arith}
 use Rattle.mds_request.specs.Configuration.{configuration}
-use Rattle.mds_entries.specs.Entries.{entry_of}
-use Rattle.mds_recovery.specs.Recovery.{server_of}
-use Rattle.mds_recovery.proofs.Learning.{entry_more, stopped_at}
-use Rattle.mds_recovery.proofs.replay.recover.Goals as goal
+use Rattle.journal_entry.specs.Entries.{entry_of}
+use Rattle.journal_recovery.specs.Recovery.{server_of}
+use Rattle.journal_recovery.proofs.Learning.{entry_more, stopped_at}
+use Rattle.journal_recovery.proofs.replay.recover.Goals as goal
 
 pub returns-in-Err-clause-stopped : goal.returns-in-Err-clause-stopped
 returns-in-Err-clause-stopped g c =

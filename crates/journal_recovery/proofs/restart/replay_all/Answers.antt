@@ -1,8 +1,8 @@
 use Rattle.std.proofs.Common.{map, ap, subst, ◌∙◌}
 use Rattle.mds_request.specs.Configuration.{configuration}
-use Rattle.mds_entries.specs.Entries.{entry_of}
-use Rattle.mds_recovery.specs.Recovery.{server_of, IsStopped}
-use Rattle.mds_recovery.proofs.restart.replay_all.Goals as goal
+use Rattle.journal_entry.specs.Entries.{entry_of}
+use Rattle.journal_recovery.specs.Recovery.{server_of, IsStopped}
+use Rattle.journal_recovery.proofs.restart.replay_all.Goals as goal
 
 pub returns-clause-refused : goal.returns-clause-refused
 returns-clause-refused g c =

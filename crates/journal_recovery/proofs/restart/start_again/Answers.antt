@@ -2,11 +2,11 @@ use Rattle.std.proofs.Common.{◌≡◌, map, drop, length, refl, sym, subst, ar
 use Rattle.mds_request.specs.Configuration.{configuration}
 use Rattle.mds_desk.specs.Desk.{state_of}
 use Rattle.mds_desk.specs.Room.{room_of}
-use Rattle.mds_entries.specs.Entries.{entry_of}
-use Rattle.mds_recovery.specs.Laws.{IsStartedAgain}
-use Rattle.mds_recovery.specs.Recovery.{server_of, AreAnswered}
-use Rattle.mds_recovery.proofs.Again.{as_new, started, written_back}
-use Rattle.mds_recovery.proofs.restart.start_again.Goals as goal
+use Rattle.journal_entry.specs.Entries.{entry_of}
+use Rattle.journal_recovery.specs.Laws.{IsStartedAgain}
+use Rattle.journal_recovery.specs.Recovery.{server_of, AreAnswered}
+use Rattle.journal_recovery.proofs.Again.{as_new, started, written_back}
+use Rattle.journal_recovery.proofs.restart.start_again.Goals as goal
 
 pub returns-in-Ok-answered_all-clause-started : goal.returns-in-Ok-answered_all-clause-started
 returns-in-Ok-answered_all-clause-started g c =

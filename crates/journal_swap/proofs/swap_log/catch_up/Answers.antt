@@ -1,6 +1,6 @@
 use Rattle.std.proofs.Common.{map, subst, refl, ◌++◌}
-use Rattle.mds_rolling.proofs.Rolled.{caught_up}
-use Rattle.mds_rolling.proofs.swap_log.catch_up.Goals as goal
+use Rattle.journal_swap.proofs.Rolled.{caught_up}
+use Rattle.journal_swap.proofs.swap_log.catch_up.Goals as goal
 
 pub returns-clause-caught : goal.returns-clause-caught
 returns-clause-caught g c =

@@ -1,8 +1,8 @@
-use Rattle.mds_kept.specs.Index.{IsListed, Published}
+use Rattle.mds_bitmaps.specs.Index.{IsListed, Published}
 use Rattle.std.specs.Option.{IfSome}
-use Rattle.mds_kept.specs.declared.bitmap_index.IndexedFleet.{IndexedFleet}
-use Rattle.mds_kept.proofs.Keeping.{if_some_as}
-use Rattle.mds_kept.proofs.bitmap_index.fleet_or_new.Goals as goal
+use Rattle.mds_bitmaps.specs.declared.bitmap_index.IndexedFleet.{IndexedFleet}
+use Rattle.mds_bitmaps.proofs.Keeping.{if_some_as}
+use Rattle.mds_bitmaps.proofs.bitmap_index.fleet_or_new.Goals as goal
 
 pub returns-in-None-clause-kept : goal.returns-in-None-clause-kept
 returns-in-None-clause-kept c =

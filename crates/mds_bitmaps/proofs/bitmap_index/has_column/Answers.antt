@@ -1,7 +1,7 @@
 use Rattle.std.proofs.Common.{rules, tests, bytes_eq}
 use Rattle.std.proofs.lemmas.Iterator.{YieldsList-from_slice}
 use Rattle.std.proofs.lemmas.Iterator.Search.{any_from_yields_List}
-use Rattle.mds_kept.proofs.bitmap_index.has_column.Goals as goal
+use Rattle.mds_bitmaps.proofs.bitmap_index.has_column.Goals as goal
 
 pub returns : goal.returns
 returns c =

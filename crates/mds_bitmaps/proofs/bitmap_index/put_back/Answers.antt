@@ -1,7 +1,7 @@
 use Rattle.std.proofs.Common.{◌≡◌, ◌++◌, ◌∷◌, [], rules}
 use Rattle.std.proofs.lemmas.List.Elements.{All-push}
-use Rattle.mds_kept.specs.Index.{IsColumn}
-use Rattle.mds_kept.proofs.bitmap_index.put_back.Goals as goal
+use Rattle.mds_bitmaps.specs.Index.{IsColumn}
+use Rattle.mds_bitmaps.proofs.bitmap_index.put_back.Goals as goal
 
 pub returns : goal.returns
 returns c published vehicles is column =

@@ -1,8 +1,8 @@
 use Rattle.mds_policy.specs.Policy.{policy_document}
-use Rattle.mds_kept.specs.Masks.{IsMask}
-use Rattle.mds_kept.specs.Index.{IsMaskBy, rows_in}
-use Rattle.mds_kept.proofs.Keeping.{few_rules, from_masked, read_as}
-use Rattle.mds_kept.proofs.bitmap_index.refresh_column.Goals as goal
+use Rattle.mds_bitmaps.specs.Masks.{IsMask}
+use Rattle.mds_bitmaps.specs.Index.{IsMaskBy, rows_in}
+use Rattle.mds_bitmaps.proofs.Keeping.{few_rules, from_masked, read_as}
+use Rattle.mds_bitmaps.proofs.bitmap_index.refresh_column.Goals as goal
 
 pub invariant_of-mask : goal.invariant_of-mask
 invariant_of-mask g c = record { few = few_rules c.in-Ok.rules (policy_document c.args.policy.now) (g.P.Places.polygons c.args.places.now) c.in-Ok.ensures c.requires.few }

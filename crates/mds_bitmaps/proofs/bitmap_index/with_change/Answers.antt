@@ -1,8 +1,8 @@
 use Rattle.std.proofs.Common.{◌≡◌, ◌++◌, ◌∷◌, [], sym, ◌∙◌, rules, arith}
 use Rattle.std.proofs.lemmas.List.{length_push}
-use Rattle.mds_kept.specs.Index.{IsSince}
-use Rattle.mds_kept.proofs.Keeping.{noted, noted_columns}
-use Rattle.mds_kept.proofs.bitmap_index.with_change.Goals as goal
+use Rattle.mds_bitmaps.specs.Index.{IsSince}
+use Rattle.mds_bitmaps.proofs.Keeping.{noted, noted_columns}
+use Rattle.mds_bitmaps.proofs.bitmap_index.with_change.Goals as goal
 
 pub returns : goal.returns
 returns c published before after changes is =

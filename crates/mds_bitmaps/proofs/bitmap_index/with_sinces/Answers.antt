@@ -2,9 +2,9 @@ use Rattle.std.proofs.Common.{◌≡◌, ◌-◌, ℕ, List, [], Some, get_or, l
 use Rattle.std.specs.BTreeMap.{get}
 use Rattle.std.specs.List.{Contains}
 use Rattle.std.proofs.lemmas.List.{length-drop, take_all}
-use Rattle.mds_kept.specs.Index.{IsSince, device_cmp}
-use Rattle.mds_kept.proofs.Walking.{kept_when_read}
-use Rattle.mds_kept.proofs.bitmap_index.with_sinces.Goals as goal
+use Rattle.mds_bitmaps.specs.Index.{IsSince, device_cmp}
+use Rattle.mds_bitmaps.proofs.Walking.{kept_when_read}
+use Rattle.mds_bitmaps.proofs.bitmap_index.with_sinces.Goals as goal
 
 pub refresh_words-requires-clause-kept : goal.refresh_words-requires-clause-kept
 refresh_words-requires-clause-kept c k v less found out =

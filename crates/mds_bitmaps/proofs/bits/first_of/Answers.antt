@@ -1,10 +1,10 @@
 use Rattle.std.proofs.Common.{sym, arith}
 use Rattle.std.proofs.lemmas.Nat.{and_le_l}
 use Rattle.mds_match.specs.Matching.{meets}
-use Rattle.mds_kept.specs.Masks.{is_open_at, matches}
-use Rattle.mds_kept.proofs.WordBits.{nowhere, lowest}
-use Rattle.mds_kept.proofs.Split.{row_and_time}
-use Rattle.mds_kept.proofs.bits.first_of.Goals as goal
+use Rattle.mds_bitmaps.specs.Masks.{is_open_at, matches}
+use Rattle.mds_bitmaps.proofs.WordBits.{nowhere, lowest}
+use Rattle.mds_bitmaps.proofs.Split.{row_and_time}
+use Rattle.mds_bitmaps.proofs.bits.first_of.Goals as goal
 
 pub returns-then-met-eq0-clause-first : goal.returns-then-met-eq0-clause-first
 returns-then-met-eq0-clause-first c policy polygons row local few opens masks =

@@ -5,8 +5,8 @@ use Rattle.mds_match.specs.Matching.{first}
 use Rattle.mds_verdict.specs.Gathered.{gathered_rule}
 use Rattle.mds_verdict.specs.Verdict.{measured, verdict_document}
 use Rattle.mds_verdict.proofs.Counting.{at_document, gathered_more, evaluated_and_open, get_or-values, values-adding, values-not_adding}
-use Rattle.mds_kept.proofs.Counted.{adds_by_since}
-use Rattle.mds_kept.proofs.columns.count.Goals as goal
+use Rattle.mds_bitmaps.proofs.Counted.{adds_by_since}
+use Rattle.mds_bitmaps.proofs.columns.count.Goals as goal
 
 pub returns-in_ok-count_in : goal.returns-in_ok-count_in
 returns-in_ok-count_in c polygons rows row local device_is since_is is_first held =

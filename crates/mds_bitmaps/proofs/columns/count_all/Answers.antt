@@ -7,9 +7,9 @@ use Rattle.mds_verdict.specs.Verdict.{verdict_document}
 use Rattle.mds_verdict.proofs.Counting.{number_within, values-uncaught}
 use Rattle.mds_verdict.proofs.Measures.{gathered_at_most, gathered_of_none, length_held, measures_fit}
 use Rattle.mds_verdict.proofs.Numbered.{written_back}
-use Rattle.mds_kept.proofs.Counted.{device_at, since_at, some_in}
-use Rattle.mds_kept.proofs.columns.count_all.Goals.{in-Some+in_ok-count, in_default}
-use Rattle.mds_kept.proofs.columns.count_all.Goals as goal
+use Rattle.mds_bitmaps.proofs.Counted.{device_at, since_at, some_in}
+use Rattle.mds_bitmaps.proofs.columns.count_all.Goals.{in-Some+in_ok-count, in_default}
+use Rattle.mds_bitmaps.proofs.columns.count_all.Goals as goal
 
 pub loop-place-init : goal.loop-place-init
 loop-place-init c polygons rows are =

@@ -4,8 +4,8 @@ use Rattle.mds_policy.specs.Policy.{policy_document}
 use Rattle.mds_match.specs.Row.{Row}
 use Rattle.mds_verdict.specs.Gathered.{gathered}
 use Rattle.mds_verdict.specs.Verdict.{verdict_document}
-use Rattle.mds_kept.specs.Columns.{AreOf}
-use Rattle.mds_kept.proofs.columns.count_all.Given as goal
+use Rattle.mds_bitmaps.specs.Columns.{AreOf}
+use Rattle.mds_bitmaps.proofs.columns.count_all.Given as goal
 
 -- the rows so far are counted
 abbrev pub invariant-loop-place : goal.invariant-loop-place

@@ -3,7 +3,7 @@ use Rattle.mds_verdict.specs.Gathered.{shown}
 use Rattle.mds_verdict.specs.Verdict.{verdict_document}
 use Rattle.mds_verdict.specs.declared.verdict.RuleVerdict.{RuleVerdict}
 use Rattle.mds_verdict.proofs.Numbered.{map-map, map_alike}
-use Rattle.mds_kept.proofs.columns.trim_verdicts.Goals as goal
+use Rattle.mds_bitmaps.proofs.columns.trim_verdicts.Goals as goal
 
 pub returns : goal.returns
 returns c =

@@ -2,7 +2,7 @@ use Rattle.std.proofs.Common.{◌≡◌, ℕ, ◌<◌, ◌≤◌, get_or, length
 use Rattle.mds_verdict.specs.Gathered.{shown}
 use Rattle.mds_verdict.specs.Verdict.{verdict_document}
 use Rattle.mds_verdict.specs.declared.verdict.RuleVerdict.{RuleVerdict}
-use Rattle.mds_kept.proofs.columns.trim_verdicts.Given as goal
+use Rattle.mds_bitmaps.proofs.columns.trim_verdicts.Given as goal
 
 -- the verdicts so far are final, the others are unchanged
 abbrev pub invariant-loop-verdict : goal.invariant-loop-verdict

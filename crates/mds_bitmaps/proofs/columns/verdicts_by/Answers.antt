@@ -5,7 +5,7 @@ use Rattle.mds_verdict.specs.Verdict.{verdict_document, verdicts}
 use Rattle.mds_verdict.proofs.Counting.{verdicts_shown}
 use Rattle.mds_verdict.proofs.Measures.{measures_fit, verdicts_at_most}
 use Rattle.mds_verdict.proofs.Numbered.{written_back}
-use Rattle.mds_kept.proofs.columns.verdicts_by.Goals as goal
+use Rattle.mds_bitmaps.proofs.columns.verdicts_by.Goals as goal
 
 pub returns-clause-exact : goal.returns-clause-exact
 returns-clause-exact c polygons rows are =

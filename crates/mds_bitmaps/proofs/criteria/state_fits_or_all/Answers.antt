@@ -3,7 +3,7 @@ use Rattle.mds_policy.specs.Policy.{states_document}
 use Rattle.mds_match.specs.Matching.{state_fits}
 use Rattle.mds_match.specs.Row.{row_of}
 use Rattle.mds_match.proofs.Mapped.{empty_or-map}
-use Rattle.mds_kept.proofs.criteria.state_fits_or_all.Goals as goal
+use Rattle.mds_bitmaps.proofs.criteria.state_fits_or_all.Goals as goal
 
 pub returns-else-is_empty : goal.returns-else-is_empty
 returns-else-is_empty c =

@@ -1,7 +1,7 @@
 use Rattle.std.proofs.Common.{◌≡◌, false, take}
 use Rattle.std.specs.List.{list_any}
 use Rattle.mds_geometry.specs.Area.{area_holds}
-use Rattle.mds_kept.proofs.matcher.in_areas.Given as goal
+use Rattle.mds_bitmaps.proofs.matcher.in_areas.Given as goal
 
 -- no area so far holds the position
 abbrev pub invariant-loop-area : goal.invariant-loop-area

@@ -1,5 +1,5 @@
 use Rattle.std.proofs.Common.{arith}
-use Rattle.mds_kept.proofs.moves.take_bitmaps.Goals as goal
+use Rattle.mds_bitmaps.proofs.moves.take_bitmaps.Goals as goal
 
 pub returns : goal.returns
 returns c = record {

@@ -1,7 +1,7 @@
 use Rattle.std.proofs.Common.{◌≡◌, ℕ, ◌<◌, ◌≤◌, get_or, length}
-use Rattle.mds_kept.specs.Index.{without_place}
-use Rattle.mds_kept.specs.declared.bitmap_index.BitmapColumn.{BitmapColumn}
-use Rattle.mds_kept.proofs.moves.take_bitmaps.Given as goal
+use Rattle.mds_bitmaps.specs.Index.{without_place}
+use Rattle.mds_bitmaps.specs.declared.bitmap_index.BitmapColumn.{BitmapColumn}
+use Rattle.mds_bitmaps.proofs.moves.take_bitmaps.Given as goal
 
 -- the columns so far are edited, the others are unchanged
 abbrev pub invariant-loop-column : goal.invariant-loop-column

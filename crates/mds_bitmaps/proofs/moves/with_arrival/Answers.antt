@@ -3,10 +3,10 @@ use Rattle.std.specs.declared.cmp.Ordering.TheVariants.{Less, Greater}
 use Rattle.std.specs.List.Sorted.{IsNonDecreasingBy, IsPartitionPoint}
 use Rattle.std.specs.Ordering.{ordering_index}
 use Rattle.mds_verdict.proofs.Numbered.{written_back}
-use Rattle.mds_kept.specs.Index.{AreEdited, device_cmp, with_place}
-use Rattle.mds_kept.specs.declared.bitmap_index.BitmapColumn.{BitmapColumn}
-use Rattle.mds_kept.proofs.Moving.{listed_more}
-use Rattle.mds_kept.proofs.moves.with_arrival.Goals as goal
+use Rattle.mds_bitmaps.specs.Index.{AreEdited, device_cmp, with_place}
+use Rattle.mds_bitmaps.specs.declared.bitmap_index.BitmapColumn.{BitmapColumn}
+use Rattle.mds_bitmaps.proofs.Moving.{listed_more}
+use Rattle.mds_bitmaps.proofs.moves.with_arrival.Goals as goal
 
 pub returns : goal.returns
 returns c published before after ordered arrives is =

@@ -1,10 +1,10 @@
 use Rattle.std.proofs.Common.{◌≡◌, ◌<◌, List, ℕ, get_or, length, refl, subst, sym, arith}
 use Rattle.std.specs.declared.cmp.Ordering.TheVariants.{Equal}
 use Rattle.mds_verdict.proofs.Numbered.{written_back}
-use Rattle.mds_kept.specs.Index.{AreEdited, device_cmp, without_place}
-use Rattle.mds_kept.specs.declared.bitmap_index.BitmapColumn.{BitmapColumn}
-use Rattle.mds_kept.proofs.Moving.{listed_fewer}
-use Rattle.mds_kept.proofs.moves.with_departure.Goals as goal
+use Rattle.mds_bitmaps.specs.Index.{AreEdited, device_cmp, without_place}
+use Rattle.mds_bitmaps.specs.declared.bitmap_index.BitmapColumn.{BitmapColumn}
+use Rattle.mds_bitmaps.proofs.Moving.{listed_fewer}
+use Rattle.mds_bitmaps.proofs.moves.with_departure.Goals as goal
 
 pub returns : goal.returns
 returns c published before after ordered departs is =

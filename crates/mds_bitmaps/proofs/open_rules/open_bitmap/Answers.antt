@@ -2,9 +2,9 @@ use Rattle.std.proofs.Common.{◌≡◌, Bool, map, take, subst, sym, ap, ◌∙
 use Rattle.std.proofs.lemmas.List.{take_all}
 use Rattle.mds_policy.specs.Policy.{Rule, rule_document}
 use Rattle.mds_policy.specs.declared.rule.Rule as program
-use Rattle.mds_kept.specs.Masks.{HasBits, is_open_at}
-use Rattle.mds_kept.proofs.Split.{map-map}
-use Rattle.mds_kept.proofs.open_rules.open_bitmap.Goals as goal
+use Rattle.mds_bitmaps.specs.Masks.{HasBits, is_open_at}
+use Rattle.mds_bitmaps.proofs.Split.{map-map}
+use Rattle.mds_bitmaps.proofs.open_rules.open_bitmap.Goals as goal
 
 pub returns : goal.returns
 returns c =

@@ -1,7 +1,7 @@
 use Rattle.std.proofs.Common.{map, take}
 use Rattle.mds_policy.specs.Policy.{rule_document}
-use Rattle.mds_kept.specs.Masks.{HasBits, is_open_at}
-use Rattle.mds_kept.proofs.open_rules.open_bitmap.Given as goal
+use Rattle.mds_bitmaps.specs.Masks.{HasBits, is_open_at}
+use Rattle.mds_bitmaps.proofs.open_rules.open_bitmap.Given as goal
 
 -- the bits of the rules so far
 abbrev pub invariant-loop-number : goal.invariant-loop-number

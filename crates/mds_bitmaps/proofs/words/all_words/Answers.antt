@@ -7,8 +7,8 @@ use Rattle.std.proofs.lemmas.Map.Iter.{rest_more, rest_all}
 use Rattle.std.proofs.lemmas.List.{length_push, map-append}
 use Rattle.mds_match.specs.Row.{Row, row_of}
 use Rattle.mds_match.specs.declared.vehicle.Vehicle.{Vehicle}
-use Rattle.mds_kept.proofs.Walking.{next, all_taken, read_more}
-use Rattle.mds_kept.proofs.words.all_words.Goals as goal
+use Rattle.mds_bitmaps.proofs.Walking.{next, all_taken, read_more}
+use Rattle.mds_bitmaps.proofs.words.all_words.Goals as goal
 
 pub loop-vehicle-preserved : goal.loop-vehicle-preserved
 loop-vehicle-preserved g c =

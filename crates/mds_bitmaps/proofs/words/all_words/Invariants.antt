@@ -1,8 +1,8 @@
 use Rattle.std.proofs.Common.{◌≡◌, length, map, take, drop}
 use Rattle.std.specs.BTreeMap.{values}
 use Rattle.mds_match.specs.Row.{row_of}
-use Rattle.mds_kept.specs.Index.{AreRead}
-use Rattle.mds_kept.proofs.words.all_words.Given as goal
+use Rattle.mds_bitmaps.specs.Index.{AreRead}
+use Rattle.mds_bitmaps.proofs.words.all_words.Given as goal
 
 -- the words so far
 abbrev pub invariant-loop-vehicle : goal.invariant-loop-vehicle

@@ -5,9 +5,9 @@ use Rattle.std.specs.BTreeMap.{values}
 use Rattle.std.proofs.lemmas.List.{length-map}
 use Rattle.mds_verdict.proofs.Numbered.{written_back}
 use Rattle.mds_match.specs.declared.vehicle.Vehicle.{Vehicle}
-use Rattle.mds_kept.specs.Index.{AreRead, rows_in}
-use Rattle.mds_kept.proofs.Walking.{read_when_kept}
-use Rattle.mds_kept.proofs.words.refresh_words.Goals as goal
+use Rattle.mds_bitmaps.specs.Index.{AreRead, rows_in}
+use Rattle.mds_bitmaps.proofs.Walking.{read_when_kept}
+use Rattle.mds_bitmaps.proofs.words.refresh_words.Goals as goal
 
 pub returns : goal.returns
 returns g c =

@@ -4,10 +4,10 @@ use Rattle.std.proofs.lemmas.List.{get_or_default, length-set}
 use Rattle.std.proofs.lemmas.Map.Lookups.{exact_bytes}
 use Rattle.mds_match.specs.Row.{row_of}
 use Rattle.mds_match.specs.declared.vehicle.Vehicle.{Vehicle}
-use Rattle.mds_kept.specs.Index.{device_cmp}
-use Rattle.mds_kept.proofs.Walking.{put, beyond, not_held}
-use Rattle.mds_kept.proofs.words.renew.Goals.{then-at-words, else-at-words}
-use Rattle.mds_kept.proofs.words.renew.Goals as goal
+use Rattle.mds_bitmaps.specs.Index.{device_cmp}
+use Rattle.mds_bitmaps.proofs.Walking.{put, beyond, not_held}
+use Rattle.mds_bitmaps.proofs.words.renew.Goals.{then-at-words, else-at-words}
+use Rattle.mds_bitmaps.proofs.words.renew.Goals as goal
 
 pub loop-device-preserved : goal.loop-device-preserved
 loop-device-preserved g c =

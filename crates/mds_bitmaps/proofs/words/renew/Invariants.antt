@@ -1,6 +1,6 @@
 use Rattle.std.proofs.Common.{◌≡◌, length, drop}
-use Rattle.mds_kept.specs.Index.{AreKept}
-use Rattle.mds_kept.proofs.words.renew.Given as goal
+use Rattle.mds_bitmaps.specs.Index.{AreKept}
+use Rattle.mds_bitmaps.proofs.words.renew.Given as goal
 
 -- the words of the devices so far are computed again
 abbrev pub invariant-loop-device : goal.invariant-loop-device

@@ -1,7 +1,7 @@
 use Rattle.std.proofs.Common.{◌≡◌, map, drop}
-use Rattle.mds_diagnosis.specs.Diagnosis.{key_of, pair_from, pair_of}
-use Rattle.mds_diagnosis.specs.Relations.{operator}
-use Rattle.mds_diagnosis.proofs.alike.pair_of.Given as goal
+use Rattle.mds_config_error.specs.Diagnosis.{key_of, pair_from, pair_of}
+use Rattle.mds_config_error.specs.Relations.{operator}
+use Rattle.mds_config_error.proofs.alike.pair_of.Given as goal
 
 -- no pair begins before this place
 abbrev pub invariant-loop-place : goal.invariant-loop-place

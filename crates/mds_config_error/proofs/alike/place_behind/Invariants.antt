@@ -1,8 +1,8 @@
 use Rattle.std.proofs.Common.{◌≡◌, ◌+◌, map, drop, bytes_eq}
 use Rattle.std.specs.List.{position_from}
-use Rattle.mds_diagnosis.specs.Diagnosis.{key_of}
-use Rattle.mds_diagnosis.specs.Relations.{operator}
-use Rattle.mds_diagnosis.proofs.alike.place_behind.Given as goal
+use Rattle.mds_config_error.specs.Diagnosis.{key_of}
+use Rattle.mds_config_error.specs.Relations.{operator}
+use Rattle.mds_config_error.proofs.alike.place_behind.Given as goal
 
 -- a search from here on finds what the whole search finds
 abbrev pub invariant-loop-behind : goal.invariant-loop-behind

@@ -1,9 +1,9 @@
 use Rattle.std.proofs.Common.{◌≡◌, ◌∙◌, Ok, arith, subst}
-use Rattle.mds_reading.specs.Node.{node_view}
-use Rattle.mds_diagnosis.specs.Diagnosis.{says_at, operator_of}
-use Rattle.mds_diagnosis.specs.Relations.{operator}
-use Rattle.mds_diagnosis.proofs.Turns.{map_push, read_on}
-use Rattle.mds_diagnosis.proofs.operators.operators_of.Goals as goal
+use Rattle.mds_json.specs.Node.{node_view}
+use Rattle.mds_config_error.specs.Diagnosis.{says_at, operator_of}
+use Rattle.mds_config_error.specs.Relations.{operator}
+use Rattle.mds_config_error.proofs.Turns.{map_push, read_on}
+use Rattle.mds_config_error.proofs.operators.operators_of.Goals as goal
 
 pub loop-entry-preserved : goal.loop-entry-preserved
 loop-entry-preserved c =

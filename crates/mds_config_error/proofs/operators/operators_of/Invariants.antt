@@ -1,9 +1,9 @@
 use Rattle.std.proofs.Common.{◌≡◌, map, drop, vec_len}
-use Rattle.mds_reading.specs.Node.{node_view}
-use Rattle.mds_diagnosis.specs.Diagnosis.{each_from}
-use Rattle.mds_diagnosis.specs.Relations.{operator}
-use Rattle.mds_diagnosis.proofs.Turns.{with_front}
-use Rattle.mds_diagnosis.proofs.operators.operators_of.Given as goal
+use Rattle.mds_json.specs.Node.{node_view}
+use Rattle.mds_config_error.specs.Diagnosis.{each_from}
+use Rattle.mds_config_error.specs.Relations.{operator}
+use Rattle.mds_config_error.proofs.Turns.{with_front}
+use Rattle.mds_config_error.proofs.operators.operators_of.Given as goal
 
 -- what was read and what is left are the whole list
 abbrev pub invariant-loop-entry : goal.invariant-loop-entry

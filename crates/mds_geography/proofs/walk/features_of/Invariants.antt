@@ -1,5 +1,5 @@
 use Rattle.std.proofs.Common.{◌≡◌, ◌≤◌, map, drop}
-use Rattle.mds_reading.specs.Node.{node_view}
+use Rattle.mds_json.specs.Node.{node_view}
 use Rattle.mds_geography.specs.Reading.{features_of, most_positions}
 use Rattle.mds_geography.proofs.Fronts.{with_front}
 use Rattle.mds_geography.proofs.walk.features_of.Given as goal

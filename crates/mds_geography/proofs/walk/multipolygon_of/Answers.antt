@@ -1,5 +1,5 @@
 use Rattle.std.proofs.Common.{arith, ap, map, drop, ◌+◌, ◌∙◌}
-use Rattle.mds_reading.specs.Node.{node_view}
+use Rattle.mds_json.specs.Node.{node_view}
 use Rattle.mds_geography.specs.Reading.{polygons_of}
 use Rattle.mds_geography.proofs.Fronts.{with_front}
 use Rattle.mds_geography.proofs.Rings.{polygons_turn}

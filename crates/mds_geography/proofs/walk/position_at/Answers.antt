@@ -3,8 +3,8 @@ use Rattle.std.specs.Borrow.{Bor}
 use Rattle.mds_text.specs.Fault.{bad_field, Refuses}
 use Rattle.mds_text.specs.declared.field.Field.TheVariants.{Coordinates}
 use Rattle.mds_text.proofs.Views.{entries-items_of}
-use Rattle.mds_reading.specs.Node.{node_view, pair_view}
-use Rattle.mds_reading.proofs.Nodes.{node-Pairs}
+use Rattle.mds_json.specs.Node.{node_view, pair_view}
+use Rattle.mds_json.proofs.Nodes.{node-Pairs}
 use Rattle.mds_geography.specs.Reading.{position_of, position_at}
 use Rattle.mds_geography.proofs.walk.position_at.Goals as goal
 

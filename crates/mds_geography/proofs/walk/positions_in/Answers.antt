@@ -1,8 +1,8 @@
 use Rattle.std.proofs.Common.{◌≡◌, map, sym, subst, ap, ◌∙◌}
 use Rattle.mds_text.specs.Fault.{Gives}
 use Rattle.mds_text.proofs.Views.{entries-items_of}
-use Rattle.mds_reading.specs.Node.{node_view, pair_view}
-use Rattle.mds_reading.proofs.Nodes.{node-Pairs}
+use Rattle.mds_json.specs.Node.{node_view, pair_view}
+use Rattle.mds_json.proofs.Nodes.{node-Pairs}
 use Rattle.mds_geography.specs.Fault.{geo_cause}
 use Rattle.mds_geography.specs.Reading.{positions_in, positions_of}
 use Rattle.mds_geography.proofs.walk.positions_in.Goals as goal

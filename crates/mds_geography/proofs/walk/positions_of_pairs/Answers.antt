@@ -3,7 +3,7 @@ use Rattle.std.specs.Borrow.{Bor}
 use Rattle.std.proofs.lemmas.List.{length-drop}
 use Rattle.mds_text.specs.Fault.{too_many_points}
 use Rattle.mds_geometry.specs.declared.position.Position.{Position}
-use Rattle.mds_reading.specs.Node.{pair_view}
+use Rattle.mds_json.specs.Node.{pair_view}
 use Rattle.mds_geography.specs.Reading.{positions_of, most_positions}
 use Rattle.mds_geography.proofs.Fronts.{with_front}
 use Rattle.mds_geography.proofs.walk.positions_of_pairs.Goals as goal

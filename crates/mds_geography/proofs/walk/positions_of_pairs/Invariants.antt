@@ -1,5 +1,5 @@
 use Rattle.std.proofs.Common.{◌≡◌, ◌≤◌, map, drop}
-use Rattle.mds_reading.specs.Node.{pair_view}
+use Rattle.mds_json.specs.Node.{pair_view}
 use Rattle.mds_geography.specs.Reading.{positions_of, most_positions}
 use Rattle.mds_geography.proofs.Fronts.{with_front}
 use Rattle.mds_geography.proofs.walk.positions_of_pairs.Given as goal

@@ -7,13 +7,13 @@ use Rattle.json.specs.Reads.{token_of}
 use Rattle.json.proofs.Grammar.{value_is, value-begin_array, value-begin_object, read_key-shorter}
 use Rattle.serde_json.specs.Read.{converted}
 use Rattle.mds_text.specs.Tree.{list, object, members_of}
-use Rattle.mds_reading.specs.Gathered.{gathered, items_before}
-use Rattle.mds_reading.specs.Node.{node_view, node_member_view, pair_view}
-use Rattle.mds_reading.proofs.Nodes.{node-Null, node-Bool, node-Text, node-Pair, node-Pairs, node-List, node-Object}
-use Rattle.mds_reading.specs.Direct.{tree_value, tree_items, tree_members, quoted_in}
-use Rattle.mds_reading.proofs.Turns.{converted-array, converted-object, member_read, members_over, item_read, items_over, items_before-no_items, none_before, one_more_item}
-use Rattle.mds_reading.proofs.Counted.{key_taken}
-use Rattle.mds_reading.proofs.direct.+read.Goals as goal
+use Rattle.mds_json.specs.Gathered.{gathered, items_before}
+use Rattle.mds_json.specs.Node.{node_view, node_member_view, pair_view}
+use Rattle.mds_json.proofs.Nodes.{node-Null, node-Bool, node-Text, node-Pair, node-Pairs, node-List, node-Object}
+use Rattle.mds_json.specs.Direct.{tree_value, tree_items, tree_members, quoted_in}
+use Rattle.mds_json.proofs.Turns.{converted-array, converted-object, member_read, members_over, item_read, items_over, items_before-no_items, none_before, one_more_item}
+use Rattle.mds_json.proofs.Counted.{key_taken}
+use Rattle.mds_json.proofs.direct.+read.Goals as goal
 
 pub read-returns-in-String-clause-ok : goal.read-returns-in-String-clause-ok
 read-returns-in-String-clause-ok t c =

@@ -2,10 +2,10 @@ use Rattle.std.proofs.Common.{◌≡◌, ℕ, ◌+◌, ◌*◌, ◌≤◌, lengt
 use Rattle.json.specs.Json.{items, members, value, parse_map}
 use Rattle.serde_json.specs.Read.{converted}
 use Rattle.mds_text.specs.Tree.{members_of, no_members}
-use Rattle.mds_reading.specs.Gathered.{items_before}
-use Rattle.mds_reading.specs.Node.{node_view, node_member_view, pair_view}
-use Rattle.mds_reading.specs.Direct.{tree_items, tree_members, quoted_in}
-use Rattle.mds_reading.proofs.direct.+read.Given as goal
+use Rattle.mds_json.specs.Gathered.{items_before}
+use Rattle.mds_json.specs.Node.{node_view, node_member_view, pair_view}
+use Rattle.mds_json.specs.Direct.{tree_items, tree_members, quoted_in}
+use Rattle.mds_json.proofs.direct.+read.Given as goal
 
 abbrev pub decreases-read : goal.decreases-read
 decreases-read l = 4 * l.depth

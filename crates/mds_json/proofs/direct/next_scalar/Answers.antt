@@ -3,8 +3,8 @@ use Rattle.json.specs.Token.{number}
 use Rattle.json.specs.Json.{value}
 use Rattle.json.proofs.Grammar.{value_is}
 use Rattle.serde_json.specs.Read.{converted}
-use Rattle.mds_reading.specs.Direct.{tree_value}
-use Rattle.mds_reading.proofs.direct.next_scalar.Goals as goal
+use Rattle.mds_json.specs.Direct.{tree_value}
+use Rattle.mds_json.proofs.direct.next_scalar.Goals as goal
 
 pub returns-in_ok-read_number-in-45-clause-ok : goal.returns-in_ok-read_number-in-45-clause-ok
 returns-in_ok-read_number-in-45-clause-ok c = λ depth.

@@ -2,10 +2,10 @@ use Rattle.std.proofs.Common.{◌≡◌, [], Some, IsUtf8, sym, ap, ◌∙◌, a
 use Rattle.json.specs.Json.{value}
 use Rattle.json.specs.Lex.{tokens}
 use Rattle.serde_json.specs.Read.{converted, max_depth}
-use Rattle.mds_reading.specs.Node.{node_view}
-use Rattle.mds_reading.specs.Direct.{tree_value, quoted_in}
-use Rattle.mds_reading.proofs.Agreeing.{read_text-direct, count-direct}
-use Rattle.mds_reading.proofs.direct.read_direct.Goals as goal
+use Rattle.mds_json.specs.Node.{node_view}
+use Rattle.mds_json.specs.Direct.{tree_value, quoted_in}
+use Rattle.mds_json.proofs.Agreeing.{read_text-direct, count-direct}
+use Rattle.mds_json.proofs.direct.read_direct.Goals as goal
 
 pub returns : goal.returns
 returns c =

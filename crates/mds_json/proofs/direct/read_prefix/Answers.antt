@@ -1,10 +1,10 @@
 use Rattle.std.proofs.Common.{◌≡◌, ℕ, ◌+◌, ◌∷◌, [], None, Some, IfSome, IsNone, length, ap, sym, subst, ◌∙◌, refl}
 use Rattle.json.specs.Json.{items, parse_map, value, after_end_array}
 use Rattle.serde_json.specs.Read.{converted}
-use Rattle.mds_reading.specs.Direct.{tree_items, tree_value}
-use Rattle.mds_reading.specs.Gathered.{items_before, scalar_view}
-use Rattle.mds_reading.proofs.Turns.{front_read, one_more_item}
-use Rattle.mds_reading.proofs.direct.read_prefix.Goals as goal
+use Rattle.mds_json.specs.Direct.{tree_items, tree_value}
+use Rattle.mds_json.specs.Gathered.{items_before, scalar_view}
+use Rattle.mds_json.proofs.Turns.{front_read, one_more_item}
+use Rattle.mds_json.proofs.direct.read_prefix.Goals as goal
 
 pub returns-in_default-2-clause-ok : goal.returns-in_default-2-clause-ok
 returns-in_default-2-clause-ok c = λ depth.

@@ -1,11 +1,11 @@
 use Rattle.std.proofs.Common.{◌≡◌, List, [], ◌∷◌, map, Ok, refl, sym, ap, ◌∙◌}
 use Rattle.mds_text.specs.Fields.{list_of}
 use Rattle.mds_text.proofs.Views.{entries-items_of}
-use Rattle.mds_reading.specs.Entries.{made_or_lent}
-use Rattle.mds_reading.specs.Node.{node_view, pair_view}
-use Rattle.mds_reading.specs.declared.node.Node.{Node}
-use Rattle.mds_reading.proofs.Nodes.{node-List, node-Pairs}
-use Rattle.mds_reading.proofs.entries.entries_of.Goals as goal
+use Rattle.mds_json.specs.Entries.{made_or_lent}
+use Rattle.mds_json.specs.Node.{node_view, pair_view}
+use Rattle.mds_json.specs.declared.node.Node.{Node}
+use Rattle.mds_json.proofs.Nodes.{node-List, node-Pairs}
+use Rattle.mds_json.proofs.entries.entries_of.Goals as goal
 
 pub returns-in-List-clause-value : goal.returns-in-List-clause-value
 returns-in-List-clause-value c =

@@ -1,8 +1,8 @@
 use Rattle.std.proofs.Common.{◌≡◌, map, drop}
 use Rattle.mds_text.specs.Fields.{find_member}
 use Rattle.mds_text.specs.Tree.{members_of}
-use Rattle.mds_reading.specs.Node.{node_member_view}
-use Rattle.mds_reading.proofs.fields.find_member.Given as goal
+use Rattle.mds_json.specs.Node.{node_member_view}
+use Rattle.mds_json.proofs.fields.find_member.Given as goal
 
 -- the members before have other names
 abbrev pub invariant-loop-member : goal.invariant-loop-member

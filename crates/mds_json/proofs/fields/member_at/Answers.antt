@@ -2,9 +2,9 @@ use Rattle.std.proofs.Common.{◌≡◌, map, Some, Ok, option_map, sym, ap, ◌
 use Rattle.mds_text.specs.Field.{name_of}
 use Rattle.mds_text.specs.Fields.{find_member, member_at, present}
 use Rattle.mds_text.specs.Tree.{null, members_of}
-use Rattle.mds_reading.specs.Node.{node_view, node_member_view}
-use Rattle.mds_reading.proofs.Nodes.{node-Null, node-Object}
-use Rattle.mds_reading.proofs.fields.member_at.Goals as goal
+use Rattle.mds_json.specs.Node.{node_view, node_member_view}
+use Rattle.mds_json.proofs.Nodes.{node-Null, node-Object}
+use Rattle.mds_json.proofs.fields.member_at.Goals as goal
 
 pub returns-in-Some-Null-clause-value : goal.returns-in-Some-Null-clause-value
 returns-in-Some-Null-clause-value c =

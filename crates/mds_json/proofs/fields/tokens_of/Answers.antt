@@ -1,8 +1,8 @@
 use Rattle.std.proofs.Common.{◌∙◌, arith}
 use Rattle.mds_text.specs.Fields.{token_of}
-use Rattle.mds_reading.specs.Node.{node_view}
-use Rattle.mds_reading.proofs.Lists.{read_turn}
-use Rattle.mds_reading.proofs.fields.tokens_of.Goals as goal
+use Rattle.mds_json.specs.Node.{node_view}
+use Rattle.mds_json.proofs.Lists.{read_turn}
+use Rattle.mds_json.proofs.fields.tokens_of.Goals as goal
 
 pub loop-entry-preserved : goal.loop-entry-preserved
 loop-entry-preserved c =

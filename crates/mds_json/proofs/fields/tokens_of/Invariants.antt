@@ -1,8 +1,8 @@
 use Rattle.std.proofs.Common.{◌≡◌, map, drop}
 use Rattle.mds_text.specs.Fields.{each, token_of}
-use Rattle.mds_reading.specs.Node.{node_view}
+use Rattle.mds_json.specs.Node.{node_view}
 use Rattle.mds_text.proofs.Lists.{with_front}
-use Rattle.mds_reading.proofs.fields.tokens_of.Given as goal
+use Rattle.mds_json.proofs.fields.tokens_of.Given as goal
 
 -- what was read and what is left are the whole list
 abbrev pub invariant-loop-entry : goal.invariant-loop-entry

@@ -1,6 +1,6 @@
 use Rattle.std.proofs.Common.{sym, arith}
-use Rattle.mds_reading.proofs.Placing.{place_found, place_further, place_last}
-use Rattle.mds_reading.proofs.members.place_of.Goals as goal
+use Rattle.mds_json.proofs.Placing.{place_found, place_further, place_last}
+use Rattle.mds_json.proofs.members.place_of.Goals as goal
 
 pub returns-in-Less-clause-value : goal.returns-in-Less-clause-value
 returns-in-Less-clause-value c =

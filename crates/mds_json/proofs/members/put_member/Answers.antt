@@ -1,10 +1,10 @@
 use Rattle.std.proofs.Common.{rules, ◌≡◌, insert, map, sym, ap, ◌∙◌}
 use Rattle.mds_text.specs.Tree.{members_of}
-use Rattle.mds_reading.specs.Node.{node_view, node_member_view}
-use Rattle.mds_reading.specs.declared.node.NodeMember.{NodeMember}
-use Rattle.mds_reading.specs.Direct.{put}
-use Rattle.mds_reading.proofs.Placing.{inserted}
-use Rattle.mds_reading.proofs.members.put_member.Goals as goal
+use Rattle.mds_json.specs.Node.{node_view, node_member_view}
+use Rattle.mds_json.specs.declared.node.NodeMember.{NodeMember}
+use Rattle.mds_json.specs.Direct.{put}
+use Rattle.mds_json.proofs.Placing.{inserted}
+use Rattle.mds_json.proofs.members.put_member.Goals as goal
 
 pub returns-in_ok-insert-in-Some : goal.returns-in_ok-insert-in-Some
 returns-in_ok-insert-in-Some c =

@@ -2,8 +2,8 @@ use Rattle.std.proofs.Common.{map, sym, ap, ◌∙◌}
 use Rattle.mds_text.specs.Tree.{object, members_of}
 use Rattle.mds_text.specs.View.{view, member_view}
 use Rattle.mds_text.proofs.Views.{view-Object}
-use Rattle.mds_reading.proofs.Nodes.{node-Object}
-use Rattle.mds_reading.proofs.own.+lend.Goals as goal
+use Rattle.mds_json.proofs.Nodes.{node-Object}
+use Rattle.mds_json.proofs.own.+lend.Goals as goal
 
 pub lend-returns-in_ok-lend_members-in-Object : goal.lend-returns-in_ok-lend_members-in-Object
 lend-returns-in_ok-lend_members-in-Object t c =

@@ -1,7 +1,7 @@
 use Rattle.std.proofs.Common.{◌≡◌, map, take}
 use Rattle.mds_text.specs.View.{view, member_view}
-use Rattle.mds_reading.specs.Node.{node_view, node_member_view}
-use Rattle.mds_reading.proofs.own.+lend.Given as goal
+use Rattle.mds_json.specs.Node.{node_view, node_member_view}
+use Rattle.mds_json.proofs.own.+lend.Given as goal
 
 abbrev pub invariant-lend_list-loop-entry : goal.invariant-lend_list-loop-entry
 invariant-lend_list-loop-entry l = map node_view l.lent.items ≡ map view (take l.entry-index l.entries)

@@ -1,9 +1,9 @@
 use Rattle.std.proofs.Common.{map, sym, ap, ◌∙◌}
 use Rattle.mds_text.specs.Tree.{object, members_of}
 use Rattle.mds_text.proofs.Views.{view-Object}
-use Rattle.mds_reading.specs.Node.{node_view, node_member_view}
-use Rattle.mds_reading.proofs.Nodes.{node-Object}
-use Rattle.mds_reading.proofs.own.+own.Goals as goal
+use Rattle.mds_json.specs.Node.{node_view, node_member_view}
+use Rattle.mds_json.proofs.Nodes.{node-Object}
+use Rattle.mds_json.proofs.own.+own.Goals as goal
 
 pub own-returns-in_ok-own_members-in-Object : goal.own-returns-in_ok-own_members-in-Object
 own-returns-in_ok-own_members-in-Object t c =

@@ -1,7 +1,7 @@
 use Rattle.std.proofs.lemmas.Bool.{eqb-true}
 use Rattle.std.proofs.Common.{get_or}
-use Rattle.mds_reading.proofs.Pointed.{quoted_with_point}
-use Rattle.mds_reading.proofs.point.is_point.Goals as goal
+use Rattle.mds_json.proofs.Pointed.{quoted_with_point}
+use Rattle.mds_json.proofs.point.is_point.Goals as goal
 
 pub returns-then-place-number : goal.returns-then-place-number
 returns-then-place-number c = λ h.

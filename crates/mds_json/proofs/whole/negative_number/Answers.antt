@@ -1,7 +1,7 @@
 use Rattle.std.proofs.Common.{Some, ap, ◌∙◌, ◌∷◌}
-use Rattle.mds_reading.specs.Direct.{whole_number}
-use Rattle.mds_reading.proofs.Wholes.{whole_number-minus, minus_is}
-use Rattle.mds_reading.proofs.whole.negative_number.Goals as goal
+use Rattle.mds_json.specs.Direct.{whole_number}
+use Rattle.mds_json.proofs.Wholes.{whole_number-minus, minus_is}
+use Rattle.mds_json.proofs.whole.negative_number.Goals as goal
 
 pub returns : goal.returns
 returns c =

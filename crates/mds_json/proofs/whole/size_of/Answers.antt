@@ -1,5 +1,5 @@
-use Rattle.mds_reading.proofs.Wholes.{size_is}
-use Rattle.mds_reading.proofs.whole.size_of.Goals as goal
+use Rattle.mds_json.proofs.Wholes.{size_is}
+use Rattle.mds_json.proofs.whole.size_of.Goals as goal
 
 pub returns-in-Ok-clause-written : goal.returns-in-Ok-clause-written
 returns-in-Ok-clause-written c =

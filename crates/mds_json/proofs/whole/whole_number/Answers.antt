@@ -1,7 +1,7 @@
 use Rattle.std.proofs.Common.{Some, ap, ◌∙◌}
-use Rattle.mds_reading.specs.Direct.{whole_number}
-use Rattle.mds_reading.proofs.Wholes.{whole_number-decimal, plus_is}
-use Rattle.mds_reading.proofs.whole.whole_number.Goals as goal
+use Rattle.mds_json.specs.Direct.{whole_number}
+use Rattle.mds_json.proofs.Wholes.{whole_number-decimal, plus_is}
+use Rattle.mds_json.proofs.whole.whole_number.Goals as goal
 
 pub returns-in_ok-size_of-in_default : goal.returns-in_ok-size_of-in_default
 returns-in_ok-size_of-in_default c =

@@ -1,6 +1,6 @@
 use Rattle.std.proofs.Common.{◌≡◌, map, drop}
 use Rattle.mds_text.specs.Fields.{each}
-use Rattle.mds_reading.specs.Node.{node_view}
+use Rattle.mds_json.specs.Node.{node_view}
 use Rattle.mds_text.proofs.Lists.{with_front}
 use Rattle.mds_policy.specs.Policy.{rule_document}
 use Rattle.mds_policy.specs.Reading.{rule_of}

@@ -1,8 +1,8 @@
 use Rattle.std.proofs.Common.{◌≡◌, map, sym, ap, ◌∙◌}
 use Rattle.mds_text.specs.Tree.{members_of}
-use Rattle.mds_reading.specs.Node.{node_view, node_member_view}
+use Rattle.mds_json.specs.Node.{node_view, node_member_view}
 use Rattle.mds_text.specs.declared.field.Field.TheVariants.{States}
-use Rattle.mds_reading.proofs.Nodes.{node-Object}
+use Rattle.mds_json.proofs.Nodes.{node-Object}
 use Rattle.mds_policy.specs.Reading.{states_of, states_member}
 use Rattle.mds_policy.proofs.states.states_member.Goals as goal
 

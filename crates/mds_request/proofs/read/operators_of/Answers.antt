@@ -1,8 +1,8 @@
 use Rattle.std.proofs.Common.{◌∙◌, arith}
 use Rattle.mds_request.specs.Configuration.{operator, operator_of}
 use Rattle.mds_request.proofs.Lists.{map-push}
-use Rattle.mds_reading.specs.Node.{node_view}
-use Rattle.mds_reading.proofs.Lists.{read_turn}
+use Rattle.mds_json.specs.Node.{node_view}
+use Rattle.mds_json.proofs.Lists.{read_turn}
 use Rattle.mds_request.proofs.read.operators_of.Goals as goal
 
 pub loop-entry-preserved : goal.loop-entry-preserved

@@ -1,6 +1,6 @@
 use Rattle.std.proofs.Common.{◌≡◌, map, drop, vec_len}
 use Rattle.mds_text.specs.Fields.{each}
-use Rattle.mds_reading.specs.Node.{node_view}
+use Rattle.mds_json.specs.Node.{node_view}
 use Rattle.mds_text.proofs.Lists.{with_front}
 use Rattle.mds_request.specs.Configuration.{operator, operator_of}
 use Rattle.mds_request.proofs.read.operators_of.Given as goal

@@ -1,6 +1,6 @@
 use Rattle.std.proofs.Common.{◌≡◌, true, ◌<◌, ◌^◌, take}
-use Rattle.mds_lines.specs.Input.{are_digits, decimal}
-use Rattle.mds_lines.proofs.cut.number_of.Given as goal
+use Rattle.mds_script.specs.Input.{are_digits, decimal}
+use Rattle.mds_script.proofs.cut.number_of.Given as goal
 
 abbrev pub invariant-loop-digit : goal.invariant-loop-digit
 invariant-loop-digit l = record {

@@ -1,8 +1,8 @@
 use Rattle.std.proofs.Common.{◌≡◌, ◌+◌, length, position, Some, None, sym, ◌∙◌, rules}
 use Rattle.std.proofs.lemmas.List.{take_rest, take_all, drop_all}
-use Rattle.mds_lines.specs.Input.{is_space}
-use Rattle.mds_lines.proofs.Positions.{word_found, behind_found, word_missing, behind_missing}
-use Rattle.mds_lines.proofs.cut.split_word.Goals as goal
+use Rattle.mds_script.specs.Input.{is_space}
+use Rattle.mds_script.proofs.Positions.{word_found, behind_found, word_missing, behind_missing}
+use Rattle.mds_script.proofs.cut.split_word.Goals as goal
 
 pub returns-in-Some-clause-word : goal.returns-in-Some-clause-word
 returns-in-Some-clause-word c =

@@ -1,7 +1,7 @@
 use Rattle.std.proofs.Common.{◌≡◌, ◌-◌, min, length, take, ◌++◌, ap, ◌∙◌, arith}
-use Rattle.mds_lines.proofs.Gathered.{keeps_front}
-use Rattle.mds_lines.proofs.gather.append_within_limit.Goals as goal
-use Rattle.mds_lines.specs.declared.gather.TheConstants.{STORED_LIMIT}
+use Rattle.mds_script.proofs.Gathered.{keeps_front}
+use Rattle.mds_script.proofs.gather.append_within_limit.Goals as goal
+use Rattle.mds_script.specs.declared.gather.TheConstants.{STORED_LIMIT}
 
 pub returns-clause-items : goal.returns-clause-items
 returns-clause-items c =

@@ -1,8 +1,8 @@
 use Rattle.std.proofs.Common.{◌-◌, take, ap, sym, ◌∙◌}
 use Rattle.std.specs.Io.BufRead.{ends_with_byte}
-use Rattle.mds_lines.proofs.Gathered.{return_dropped, no_return}
-use Rattle.mds_lines.proofs.gather.close.Goals as goal
-use Rattle.mds_lines.proofs.gather.close.Goals.{then-ends_with_return, else-ends_with_return}
+use Rattle.mds_script.proofs.Gathered.{return_dropped, no_return}
+use Rattle.mds_script.proofs.gather.close.Goals as goal
+use Rattle.mds_script.proofs.gather.close.Goals.{then-ends_with_return, else-ends_with_return}
 
 pub returns-clause-line : goal.returns-clause-line
 returns-clause-line c =

@@ -1,7 +1,7 @@
-use Rattle.mds_lines.specs.Input.{is_feed}
+use Rattle.mds_script.specs.Input.{is_feed}
 use Rattle.std.proofs.Common.{◌≡◌, ◌+◌, take, drop, position, Some, None, sym, ap, ◌∙◌}
-use Rattle.mds_lines.proofs.Gathered.{feed_splits, feed_first, feed_length, feed_missing}
-use Rattle.mds_lines.proofs.gather.gather.Goals as goal
+use Rattle.mds_script.proofs.Gathered.{feed_splits, feed_first, feed_length, feed_missing}
+use Rattle.mds_script.proofs.gather.gather.Goals as goal
 
 pub returns-in-Some-clause-gathers : goal.returns-in-Some-clause-gathers
 returns-in-Some-clause-gathers c =

@@ -1,10 +1,10 @@
 use Rattle.std.proofs.Common.{Ok, [], ◌++◌, refl, subst, ◌∙◌}
-use Rattle.mds_lines.specs.LineReading.{left, passed}
-use Rattle.mds_lines.specs.Turning.{Turns, written_of}
-use Rattle.mds_lines.proofs.Reading.{advances_none, advances_more}
-use Rattle.mds_lines.proofs.Written.{appends_none, appends_more}
-use Rattle.mds_lines.proofs.Progress.{ran_none, ran_turn, answers_some}
-use Rattle.mds_lines.proofs.replay.answer_all.Goals as goal
+use Rattle.mds_script.specs.LineReading.{left, passed}
+use Rattle.mds_script.specs.Turning.{Turns, written_of}
+use Rattle.mds_script.proofs.Reading.{advances_none, advances_more}
+use Rattle.mds_script.proofs.Written.{appends_none, appends_more}
+use Rattle.mds_script.proofs.Progress.{ran_none, ran_turn, answers_some}
+use Rattle.mds_script.proofs.replay.answer_all.Goals as goal
 
 pub turns-init : goal.turns-init
 turns-init g c =

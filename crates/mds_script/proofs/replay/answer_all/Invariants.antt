@@ -1,9 +1,9 @@
 use Rattle.std.proofs.Common.{◌≡◌, ◌-◌, List, ℕ}
 use Rattle.std.specs.Io.KnownBytes.{Appends}
-use Rattle.mds_lines.specs.LineReading.{left, passed, Advances}
-use Rattle.mds_lines.proofs.Progress.{Ran}
-use Rattle.mds_lines.proofs.replay.answer_all.Given as goal
-use Rattle.mds_lines.specs.declared.lines.TheConstants.{INPUT_LIMIT}
+use Rattle.mds_script.specs.LineReading.{left, passed, Advances}
+use Rattle.mds_script.proofs.Progress.{Ran}
+use Rattle.mds_script.proofs.replay.answer_all.Given as goal
+use Rattle.mds_script.specs.declared.lines.TheConstants.{INPUT_LIMIT}
 
 abbrev pub invariant-turns : goal.invariant-turns
 invariant-turns g l = record {

@@ -1,10 +1,10 @@
 use Rattle.std.proofs.Common.{◌≡◌, ◌∙◌, ap, subst}
 use Rattle.std.specs.Io.KnownBytes.{prepend_known}
 use Rattle.std.proofs.lemmas.Result.{on_ok_weaker, on_err_weaker}
-use Rattle.mds_lines.specs.LineReading.{left}
-use Rattle.mds_lines.specs.Turning.{Begins}
-use Rattle.mds_lines.proofs.Whole.{nothing_ahead, answered_whole, started_whole}
-use Rattle.mds_lines.proofs.replay.replay.Goals as goal
+use Rattle.mds_script.specs.LineReading.{left}
+use Rattle.mds_script.specs.Turning.{Begins}
+use Rattle.mds_script.proofs.Whole.{nothing_ahead, answered_whole, started_whole}
+use Rattle.mds_script.proofs.replay.replay.Goals as goal
 
 pub returns-clause-answered : goal.returns-clause-answered
 returns-clause-answered g c =

@@ -1,11 +1,11 @@
 use Rattle.std.proofs.Common.{Some, refl, subst}
 use Rattle.mds_request.specs.declared.code.Code.TheVariants.{BadLine}
 use Rattle.mds_request.specs.Reply.{refused}
-use Rattle.mds_lines.specs.LineReading.{left, held, Finds}
-use Rattle.mds_lines.specs.Turning.{written_of}
-use Rattle.mds_lines.specs.Ends.{Writes}
-use Rattle.mds_lines.proofs.Progress.{turns_from, long_turned}
-use Rattle.mds_lines.proofs.replay.turn.Goals as goal
+use Rattle.mds_script.specs.LineReading.{left, held, Finds}
+use Rattle.mds_script.specs.Turning.{written_of}
+use Rattle.mds_script.specs.Ends.{Writes}
+use Rattle.mds_script.proofs.Progress.{turns_from, long_turned}
+use Rattle.mds_script.proofs.replay.turn.Goals as goal
 
 pub returns-in-Ok-TooLong-clause-turns : goal.returns-in-Ok-TooLong-clause-turns
 returns-in-Ok-TooLong-clause-turns g c =

@@ -1,7 +1,7 @@
 use Rattle.std.proofs.Common.{subst, sym, arith}
 use Rattle.std.proofs.lemmas.Bool.Decides.{nat_tests}
-use Rattle.mds_lines.proofs.Written.{Wrote, wrote_more}
-use Rattle.mds_lines.proofs.write.write_all.Goals as goal
+use Rattle.mds_script.proofs.Written.{Wrote, wrote_more}
+use Rattle.mds_script.proofs.write.write_all.Goals as goal
 
 pub pieces-preserved : goal.pieces-preserved
 pieces-preserved g c =

@@ -1,6 +1,6 @@
 use Rattle.std.proofs.Common.{◌≡◌, length}
-use Rattle.mds_lines.proofs.Written.{Wrote}
-use Rattle.mds_lines.proofs.write.write_all.Given as goal
+use Rattle.mds_script.proofs.Written.{Wrote}
+use Rattle.mds_script.proofs.write.write_all.Given as goal
 
 abbrev pub invariant-pieces : goal.invariant-pieces
 invariant-pieces g l = record {

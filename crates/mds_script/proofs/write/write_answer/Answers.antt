@@ -1,8 +1,8 @@
 use Rattle.std.proofs.Common.{◌≡◌, ℕ, List, [], ◌∷◌, ◌++◌, ap, subst, sym, ◌∙◌, append_assoc}
 use Rattle.std.specs.Io.KnownBytes.{Appends}
-use Rattle.mds_lines.specs.Answering.{status_text}
-use Rattle.mds_lines.proofs.Written.{writes_stopped, writes_next, appends_more}
-use Rattle.mds_lines.proofs.write.write_answer.Goals as goal
+use Rattle.mds_script.specs.Answering.{status_text}
+use Rattle.mds_script.proofs.Written.{writes_stopped, writes_next, appends_more}
+use Rattle.mds_script.proofs.write.write_answer.Goals as goal
 
 pub returns-in-Err-clause-writes : goal.returns-in-Err-clause-writes
 returns-in-Err-clause-writes g c =

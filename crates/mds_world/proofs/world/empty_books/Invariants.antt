@@ -1,6 +1,6 @@
 use Rattle.std.proofs.Common.{◌≡◌, All, map, take}
 use Rattle.std.specs.FinMap.{empty}
-use Rattle.mds_kept.specs.Index.{Published}
+use Rattle.mds_bitmaps.specs.Index.{Published}
 use Rattle.mds_fleet.specs.Fleet.{Fits}
 use Rattle.mds_request.specs.Configuration.{operator}
 use Rattle.mds_world.proofs.world.empty_books.Given as goal

@@ -1,7 +1,7 @@
 use Rattle.std.proofs.Common.{subst}
 use Rattle.mds_request.specs.Configuration.{configuration}
-use Rattle.mds_hall.specs.Turn.{AreDesksOf}
-use Rattle.mds_recovery.specs.Recovery.{server_of}
+use Rattle.server_state.specs.Turn.{AreDesksOf}
+use Rattle.journal_recovery.specs.Recovery.{server_of}
 use Rattle.ruffletuff.proofs.Placed.{desks_of_server}
 use Rattle.ruffletuff.proofs.opening.serve_opening.Goals as goal
 

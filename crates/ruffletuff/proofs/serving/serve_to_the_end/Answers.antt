@@ -2,7 +2,7 @@ use denote.Exit.{no}
 use denote.Param.{param, copied}
 use denote.Param.Send.{param_send, param_sync, arg_send, arg_sync}
 use Rattle.mds_parallel.proofs.chunked.Chunked.TheSendSync as chunked
-use Rattle.mds_site.proofs.Sites.{site_send, site_sync}
+use Rattle.server_site.proofs.Sites.{site_send, site_sync}
 use Rattle.ruffletuff.proofs.serving.serve_to_the_end.Goals as goal
 
 pub serve_by-ended-requires-send-A : goal.serve_by-ended-requires-send-A

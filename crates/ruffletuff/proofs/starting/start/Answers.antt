@@ -1,8 +1,8 @@
 use Rattle.std.proofs.Common.{map, ap, ◌∙◌}
 use Rattle.mds_request.specs.Configuration.{configuration}
-use Rattle.mds_entries.specs.Entries.{entry_of}
-use Rattle.mds_folder.specs.Choosing.{without}
-use Rattle.mds_recovery.specs.Recovery.{server_of}
+use Rattle.journal_entry.specs.Entries.{entry_of}
+use Rattle.journal_folder.specs.Choosing.{without}
+use Rattle.journal_recovery.specs.Recovery.{server_of}
 use Rattle.ruffletuff.proofs.Starts.{if_ok, texts_of, started_from}
 use Rattle.ruffletuff.proofs.starting.start.Goals as goal
 

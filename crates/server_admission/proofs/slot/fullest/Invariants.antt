@@ -1,5 +1,5 @@
 use Rattle.std.proofs.Common.{ℕ, ◌<◌, ◌≤◌, get_or}
-use Rattle.mds_limits.proofs.slot.fullest.Given as goal
+use Rattle.server_admission.proofs.slot.fullest.Given as goal
 
 -- no client before this index has more connections, and the fullest so far has that many
 abbrev pub invariant-loop-place : goal.invariant-loop-place

@@ -1,8 +1,8 @@
 use Rattle.std.proofs.Common.{◌≡◌, ◌+◌, ◌-◌, ℕ, List, map, drop, sym, ap, ◌∙◌, arith}
 use Rattle.mds_drafts.specs.Entries.{drafts_in}
-use Rattle.mds_app.specs.DraftList.{ids_of}
-use Rattle.mds_app.proofs.Ordered.{all_placed, ids_are, ok_same, one_placed, own_ids}
-use Rattle.mds_app.proofs.draft_list.ids_of.Goals as goal
+use Rattle.server_app.specs.DraftList.{ids_of}
+use Rattle.server_app.proofs.Ordered.{all_placed, ids_are, ok_same, one_placed, own_ids}
+use Rattle.server_app.proofs.draft_list.ids_of.Goals as goal
 
 pub loop-left-preserved-in-Continue-1 : goal.loop-left-preserved-in-Continue-1
 loop-left-preserved-in-Continue-1 c =

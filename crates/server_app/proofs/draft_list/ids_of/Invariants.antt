@@ -1,6 +1,6 @@
 use Rattle.std.proofs.Common.{◌≡◌, ◌≤◌, length, map, drop}
-use Rattle.mds_app.proofs.Ordered.{all_placed, own_ids}
-use Rattle.mds_app.proofs.draft_list.ids_of.Given as goal
+use Rattle.server_app.proofs.Ordered.{all_placed, own_ids}
+use Rattle.server_app.proofs.draft_list.ids_of.Given as goal
 
 -- those of the drafts from here on, each in its place
 abbrev pub invariant-loop-left : goal.invariant-loop-left

@@ -1,7 +1,7 @@
 use Rattle.std.proofs.Common.{ap, ◌∙◌}
 use Rattle.std.specs.List.{slice_get}
-use Rattle.mds_app.specs.Whoami.{told_operator}
-use Rattle.mds_app.proofs.laws.whoami_is_by_own_name.Goals as goal
+use Rattle.server_app.specs.Whoami.{told_operator}
+use Rattle.server_app.proofs.laws.whoami_is_by_own_name.Goals as goal
 
 pub returns : goal.returns
 returns c one other place alike zone =

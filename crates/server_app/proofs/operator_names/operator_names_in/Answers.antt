@@ -1,9 +1,9 @@
 use Rattle.std.proofs.Common.{◌∙◌, map, ap, arith}
 use Rattle.std.proofs.lemmas.List.{map-append}
-use Rattle.mds_reading.specs.Node.{node_view}
-use Rattle.mds_reading.proofs.Lists.{read_turn}
-use Rattle.mds_app.specs.OperatorNames.{badge_of, badge_view}
-use Rattle.mds_app.proofs.operator_names.operator_names_in.Goals as goal
+use Rattle.mds_json.specs.Node.{node_view}
+use Rattle.mds_json.proofs.Lists.{read_turn}
+use Rattle.server_app.specs.OperatorNames.{badge_of, badge_view}
+use Rattle.server_app.proofs.operator_names.operator_names_in.Goals as goal
 
 pub loop-entry-preserved : goal.loop-entry-preserved
 loop-entry-preserved c =

@@ -1,9 +1,9 @@
 use Rattle.std.proofs.Common.{◌≡◌, map, option_map, ap, ◌∙◌, arith}
 use Rattle.mds_text.specs.View.{view}
 use Rattle.mds_catalog.specs.Catalogue.{lent_policy, publications_of}
-use Rattle.mds_app.specs.Withdrawals.{withdrawal_json, withdrawal_of, withdrawn_from}
-use Rattle.mds_app.proofs.Moments.{told_more}
-use Rattle.mds_app.proofs.withdrawal.withdrawal_trees.Goals as goal
+use Rattle.server_app.specs.Withdrawals.{withdrawal_json, withdrawal_of, withdrawn_from}
+use Rattle.server_app.proofs.Moments.{told_more}
+use Rattle.server_app.proofs.withdrawal.withdrawal_trees.Goals as goal
 
 pub loop-policy-preserved : goal.loop-policy-preserved
 loop-policy-preserved c =

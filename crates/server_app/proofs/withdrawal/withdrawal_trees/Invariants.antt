@@ -2,8 +2,8 @@ use Rattle.std.proofs.Common.{◌≡◌, map, take}
 use Rattle.std.specs.List.{filter_map}
 use Rattle.mds_text.specs.View.{view}
 use Rattle.mds_catalog.specs.Catalogue.{lent_policy, publications_of}
-use Rattle.mds_app.specs.Withdrawals.{withdrawal_of}
-use Rattle.mds_app.proofs.withdrawal.withdrawal_trees.Given as goal
+use Rattle.server_app.specs.Withdrawals.{withdrawal_of}
+use Rattle.server_app.proofs.withdrawal.withdrawal_trees.Given as goal
 
 -- those of the policies so far
 abbrev pub invariant-loop-policy : goal.invariant-loop-policy

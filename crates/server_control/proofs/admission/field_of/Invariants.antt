@@ -1,7 +1,7 @@
 use Rattle.std.proofs.Common.{◌≡◌, map, drop}
 use Rattle.httparse.specs.Spans.{header_bytes}
-use Rattle.mds_control.specs.Admission.{field_of}
-use Rattle.mds_control.proofs.admission.field_of.Given as goal
+use Rattle.server_control.specs.Admission.{field_of}
+use Rattle.server_control.proofs.admission.field_of.Given as goal
 
 -- the fields so far have another name
 abbrev pub invariant-loop-header : goal.invariant-loop-header

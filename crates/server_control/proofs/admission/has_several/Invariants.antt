@@ -1,7 +1,7 @@
 use Rattle.std.proofs.Common.{◌≡◌, map, drop, if◌then◌else◌}
 use Rattle.httparse.specs.Spans.{header_bytes}
-use Rattle.mds_control.specs.Admission.{has_field, has_several}
-use Rattle.mds_control.proofs.admission.has_several.Given as goal
+use Rattle.server_control.specs.Admission.{has_field, has_several}
+use Rattle.server_control.proofs.admission.has_several.Given as goal
 
 -- after the first, one more is enough
 abbrev pub invariant-loop-header : goal.invariant-loop-header

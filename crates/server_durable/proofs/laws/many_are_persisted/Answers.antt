@@ -1,17 +1,17 @@
 use Rattle.std.proofs.Common.{◌≡◌, ◌++◌, ◌==◌, ℕ, true, List, [], ◌∷◌, subst}
 use Rattle.std.specs.List.{AllByRecursion}
 use Rattle.std.proofs.lemmas.Bool.{eqb-true}
-use Rattle.mds_commit.specs.Durable.{AreDurable}
+use Rattle.journal_commit.specs.Durable.{AreDurable}
 use Rattle.mds_machine.specs.Step.{Exchange}
 use Rattle.mds_request.specs.Call.{call_of}
 use Rattle.mds_request.specs.Configuration.{Configuration}
-use Rattle.mds_restarts.specs.Persisted.{is_kept, may_change}
-use Rattle.mds_city.specs.Laws.{HasDurableRecord}
-use Rattle.mds_city.specs.Many.{SaysAll, exchanges}
-use Rattle.mds_city.proofs.Among.{behind_among, later_among}
-use Rattle.mds_city.proofs.Accepted.{Recorded}
-use Rattle.mds_city.proofs.Turns.{second_true}
-use Rattle.mds_city.proofs.laws.many_are_persisted.Goals as goal
+use Rattle.journal_laws.specs.Persisted.{is_kept, may_change}
+use Rattle.server_durable.specs.Laws.{HasDurableRecord}
+use Rattle.server_durable.specs.Many.{SaysAll, exchanges}
+use Rattle.server_durable.proofs.Among.{behind_among, later_among}
+use Rattle.server_durable.proofs.Accepted.{Recorded}
+use Rattle.server_durable.proofs.Turns.{second_true}
+use Rattle.server_durable.proofs.laws.many_are_persisted.Goals as goal
 
 each : {P Q : Exchange → Type 0} → ((e : Exchange) → P e → Q e) → (history : List Exchange) → AllByRecursion P history → AllByRecursion Q history
 each imply [] all = tt

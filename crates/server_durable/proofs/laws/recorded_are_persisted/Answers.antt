@@ -1,6 +1,6 @@
 use Rattle.std.proofs.Common.{◌++◌}
-use Rattle.mds_city.proofs.Among.{behind_among, later_among}
-use Rattle.mds_city.proofs.laws.recorded_are_persisted.Goals as goal
+use Rattle.server_durable.proofs.Among.{behind_among, later_among}
+use Rattle.server_durable.proofs.laws.recorded_are_persisted.Goals as goal
 
 pub returns : goal.returns
 returns g c configuration request response stamp carried durable =

@@ -1,8 +1,8 @@
-use Rattle.mds_hall.specs.HttpRequest.{request_in}
-use Rattle.mds_hall.specs.Early.{early}
-use Rattle.mds_limits.specs.Arrival.{body_in}
-use Rattle.mds_city.proofs.Responses.{as_a_hall}
-use Rattle.mds_city.proofs.laws.responds_as_a_hall.Goals as goal
+use Rattle.server_state.specs.HttpRequest.{request_in}
+use Rattle.server_state.specs.Early.{early}
+use Rattle.server_admission.specs.Arrival.{body_in}
+use Rattle.server_durable.proofs.Responses.{as_a_hall}
+use Rattle.server_durable.proofs.laws.responds_as_a_hall.Goals as goal
 
 pub returns : goal.returns
 returns c configuration badges parts arrived at stamp response plain answers =

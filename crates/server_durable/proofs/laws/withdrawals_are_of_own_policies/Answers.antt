@@ -1,5 +1,5 @@
 use Rattle.std.proofs.Common.{refl}
-use Rattle.mds_city.proofs.laws.withdrawals_are_of_own_policies.Goals as goal
+use Rattle.server_durable.proofs.laws.withdrawals_are_of_own_policies.Goals as goal
 
 pub returns : goal.returns
 returns c publications operator = refl

@@ -1,8 +1,8 @@
 use Rattle.std.proofs.Common.{◌≡◌, ◌+◌, ◌∷◌, position, drop, Some, None, sym, ap, ◌∙◌}
 use Rattle.std.proofs.lemmas.List.{take_rest}
-use Rattle.mds_lines.specs.Input.{is_feed, lines}
-use Rattle.mds_city.proofs.Cutting.{first_is, last_is}
-use Rattle.mds_city.proofs.lines.first_line.Goals as goal
+use Rattle.mds_script.specs.Input.{is_feed, lines}
+use Rattle.server_durable.proofs.Cutting.{first_is, last_is}
+use Rattle.server_durable.proofs.lines.first_line.Goals as goal
 
 pub returns-in-Some-clause-lines : goal.returns-in-Some-clause-lines
 returns-in-Some-clause-lines c =

@@ -1,9 +1,9 @@
 use Rattle.std.proofs.Common.{◌≡◌, ◌++◌, length, map}
-use Rattle.mds_lines.specs.Input.{lines}
+use Rattle.mds_script.specs.Input.{lines}
 use Rattle.mds_request.specs.Request.{request_of}
-use Rattle.mds_city.specs.Many.{report_of, reports_of}
-use Rattle.mds_city.proofs.Cutting.{reported}
-use Rattle.mds_city.proofs.lines.reports.Given as goal
+use Rattle.server_durable.specs.Many.{report_of, reports_of}
+use Rattle.server_durable.proofs.Cutting.{reported}
+use Rattle.server_durable.proofs.lines.reports.Given as goal
 
 -- the reports so far, with those of the lines that are left, are those of the body
 abbrev pub invariant-lines : goal.invariant-lines

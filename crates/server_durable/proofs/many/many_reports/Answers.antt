@@ -1,11 +1,11 @@
 use Rattle.std.proofs.Common.{◌≡◌, filter, map, sym, ap, subst, ◌∙◌}
-use Rattle.mds_lines.specs.Input.{is_filled, lines}
+use Rattle.mds_script.specs.Input.{is_filled, lines}
 use Rattle.mds_request.specs.Request.{Request, request_of}
-use Rattle.mds_hall.specs.WholeRequest.{request_heard}
-use Rattle.mds_city.specs.Many.{AreAskedBy, IsRefusedWhole, reports_of}
-use Rattle.mds_city.proofs.Askers.{place_within, reports_asked}
-use Rattle.mds_city.proofs.Reports.{told_run, told_whole}
-use Rattle.mds_city.proofs.many.many_reports.Goals as goal
+use Rattle.server_state.specs.WholeRequest.{request_heard}
+use Rattle.server_durable.specs.Many.{AreAskedBy, IsRefusedWhole, reports_of}
+use Rattle.server_durable.proofs.Askers.{place_within, reports_asked}
+use Rattle.server_durable.proofs.Reports.{told_run, told_whole}
+use Rattle.server_durable.proofs.many.many_reports.Goals as goal
 
 pub answer_all-requires-clause-place : goal.answer_all-requires-clause-place
 answer_all-requires-clause-place g c = place_within g.K.HallName.configuration (request_heard c.args.heard.now) c.args.place c.requires.asker

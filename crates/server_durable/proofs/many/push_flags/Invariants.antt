@@ -1,6 +1,6 @@
 use Rattle.std.proofs.Common.{◌≡◌, ◌==◌, ◌≤◌, length, map, take}
 use Rattle.std.specs.Vec.{vec_capacity}
-use Rattle.mds_city.proofs.many.push_flags.Given as goal
+use Rattle.server_durable.proofs.many.push_flags.Given as goal
 
 -- the flags of the answers so far are set, and there is room for all
 abbrev pub invariant-loop-answer : goal.invariant-loop-answer

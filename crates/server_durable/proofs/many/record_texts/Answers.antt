@@ -1,8 +1,8 @@
 use Rattle.std.proofs.Common.{arith}
 use Rattle.mds_request.specs.Request.{request_of}
-use Rattle.mds_city.specs.Records.{record_by}
-use Rattle.mds_city.proofs.Askers.{texts_more}
-use Rattle.mds_city.proofs.many.record_texts.Goals as goal
+use Rattle.server_durable.specs.Records.{record_by}
+use Rattle.server_durable.proofs.Askers.{texts_more}
+use Rattle.server_durable.proofs.many.record_texts.Goals as goal
 
 pub loop-request-preserved : goal.loop-request-preserved
 loop-request-preserved c = record {

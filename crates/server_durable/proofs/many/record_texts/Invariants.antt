@@ -1,8 +1,8 @@
 use Rattle.std.proofs.Common.{◌≡◌, ◌≤◌, length, map, take}
 use Rattle.std.specs.Vec.{vec_capacity}
 use Rattle.mds_request.specs.Request.{request_of}
-use Rattle.mds_city.specs.Records.{record_by}
-use Rattle.mds_city.proofs.many.record_texts.Given as goal
+use Rattle.server_durable.specs.Records.{record_by}
+use Rattle.server_durable.proofs.many.record_texts.Given as goal
 
 -- the requests so far have their records, and there is room for those of all
 abbrev pub invariant-loop-request : goal.invariant-loop-request

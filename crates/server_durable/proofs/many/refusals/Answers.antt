@@ -1,8 +1,8 @@
 use Rattle.std.proofs.Common.{◌++◌, ◌∷◌, [], ap, ◌∙◌, arith}
 use Rattle.mds_request.specs.Reply.{refused}
 use Rattle.mds_request.specs.Request.{request_of}
-use Rattle.mds_city.proofs.Reports.{refused_more}
-use Rattle.mds_city.proofs.many.refusals.Goals as goal
+use Rattle.server_durable.proofs.Reports.{refused_more}
+use Rattle.server_durable.proofs.many.refusals.Goals as goal
 
 pub loop-request-preserved : goal.loop-request-preserved
 loop-request-preserved c = record {

@@ -2,7 +2,7 @@ use Rattle.std.proofs.Common.{◌≡◌, ◌≤◌, length, map, take}
 use Rattle.std.specs.Vec.{vec_capacity}
 use Rattle.mds_request.specs.Reply.{refused}
 use Rattle.mds_request.specs.Request.{request_of}
-use Rattle.mds_city.proofs.many.refusals.Given as goal
+use Rattle.server_durable.proofs.many.refusals.Given as goal
 
 -- the requests so far are refused, and there is room for the refusals of all
 abbrev pub invariant-loop-request : goal.invariant-loop-request

@@ -1,11 +1,11 @@
 use Rattle.std.proofs.Common.{◌≡◌}
-use Rattle.mds_app.specs.OperatorNames.{badges_view}
-use Rattle.mds_app.specs.Whoami.{who_reply}
+use Rattle.server_app.specs.OperatorNames.{badges_view}
+use Rattle.server_app.specs.Whoami.{who_reply}
 use Rattle.mds_request.specs.declared.config.Actor.TheVariants.{Author}
-use Rattle.mds_city.specs.People.{TellsAuthor}
-use Rattle.mds_routes.specs.declared.app.Question.TheVariants.{Whoami}
-use Rattle.mds_city.proofs.Responses.{waits_kind}
-use Rattle.mds_city.proofs.people.answer_author.Goals as goal
+use Rattle.server_durable.specs.People.{TellsAuthor}
+use Rattle.server_routes.specs.declared.app.Question.TheVariants.{Whoami}
+use Rattle.server_durable.proofs.Responses.{waits_kind}
+use Rattle.server_durable.proofs.people.answer_author.Goals as goal
 
 pub returns-in-Whoami : goal.returns-in-Whoami
 returns-in-Whoami g c =

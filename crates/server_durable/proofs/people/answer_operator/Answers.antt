@@ -1,13 +1,13 @@
 use Rattle.std.proofs.Common.{◌≡◌, inl, refl}
-use Rattle.mds_app.specs.OperatorNames.{badges_view}
-use Rattle.mds_app.specs.Whoami.{who_reply}
+use Rattle.server_app.specs.OperatorNames.{badges_view}
+use Rattle.server_app.specs.Whoami.{who_reply}
 use Rattle.mds_request.specs.Reply.{refused}
 use Rattle.mds_request.specs.declared.code.Code.TheVariants.{Role}
 use Rattle.mds_request.specs.declared.config.Actor.TheVariants.{Operator}
-use Rattle.mds_city.specs.People.{TellsOperator}
-use Rattle.mds_routes.specs.declared.app.Question.TheVariants.{Whoami, Drafts}
-use Rattle.mds_city.proofs.Responses.{waits_kind, waits_told}
-use Rattle.mds_city.proofs.people.answer_operator.Goals as goal
+use Rattle.server_durable.specs.People.{TellsOperator}
+use Rattle.server_routes.specs.declared.app.Question.TheVariants.{Whoami, Drafts}
+use Rattle.server_durable.proofs.Responses.{waits_kind, waits_told}
+use Rattle.server_durable.proofs.people.answer_operator.Goals as goal
 
 pub returns-in-Whoami : goal.returns-in-Whoami
 returns-in-Whoami g c =

@@ -1,8 +1,8 @@
 use Rattle.std.proofs.Common.{arith}
 use Rattle.std.specs.List.{flat_map}
-use Rattle.mds_city.specs.Many.{told_line}
-use Rattle.mds_city.proofs.Told.{told_next, told_over}
-use Rattle.mds_city.proofs.report_lines.lines_of.Goals as goal
+use Rattle.server_durable.specs.Many.{told_line}
+use Rattle.server_durable.proofs.Told.{told_next, told_over}
+use Rattle.server_durable.proofs.report_lines.lines_of.Goals as goal
 
 pub loop-answer-preserved : goal.loop-answer-preserved
 loop-answer-preserved c =

@@ -1,8 +1,8 @@
 use Rattle.std.proofs.Common.{inl}
 use Rattle.mds_request.specs.Configuration.{actor_of}
-use Rattle.mds_hall.specs.WholeRequest.{request_heard}
-use Rattle.mds_city.proofs.Responses.{ok_more, waits_more, waits_turn}
-use Rattle.mds_city.proofs.responding.answer_call.Goals as goal
+use Rattle.server_state.specs.WholeRequest.{request_heard}
+use Rattle.server_durable.proofs.Responses.{ok_more, waits_more, waits_turn}
+use Rattle.server_durable.proofs.responding.answer_call.Goals as goal
 
 pub returns-in-Err : goal.returns-in-Err
 returns-in-Err g c =

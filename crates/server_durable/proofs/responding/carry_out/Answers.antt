@@ -3,9 +3,9 @@ use Rattle.mds_request.specs.Call.{call_of}
 use Rattle.mds_request.specs.declared.call.Call.TheVariants as call
 use Rattle.mds_request.specs.declared.config.Actor.{Actor}
 use Rattle.mds_request.proofs.Callers.{call_of-caller}
-use Rattle.mds_hall.specs.WholeRequest.{request_heard}
-use Rattle.mds_city.specs.DurableResponse.{IsRecordedTurn}
-use Rattle.mds_city.proofs.responding.carry_out.Goals as goal
+use Rattle.server_state.specs.WholeRequest.{request_heard}
+use Rattle.server_durable.specs.DurableResponse.{IsRecordedTurn}
+use Rattle.server_durable.proofs.responding.carry_out.Goals as goal
 
 pub returns-in-Author : goal.returns-in-Author
 returns-in-Author g c =

@@ -1,10 +1,10 @@
 use Rattle.std.proofs.Common.{◌≡◌, ◌∙◌, Ok, Err, subst, rules}
 use Rattle.http.specs.declared.request.Parts.{Parts}
-use Rattle.mds_app.specs.OperatorNames.{badges_view}
-use Rattle.mds_hall.specs.WholeRequest.{IsHeard, request_heard}
-use Rattle.mds_routes.specs.declared.state.StateCall.TheVariants.{Call as OfProtocol, Reports, AuthorAsks, OperatorAsks}
-use Rattle.mds_city.proofs.Ways.{answered, asker_within, called_is, reporter_is, resolved}
-use Rattle.mds_city.proofs.responding.respond.Goals as goal
+use Rattle.server_app.specs.OperatorNames.{badges_view}
+use Rattle.server_state.specs.WholeRequest.{IsHeard, request_heard}
+use Rattle.server_routes.specs.declared.state.StateCall.TheVariants.{Call as OfProtocol, Reports, AuthorAsks, OperatorAsks}
+use Rattle.server_durable.proofs.Ways.{answered, asker_within, called_is, reporter_is, resolved}
+use Rattle.server_durable.proofs.responding.respond.Goals as goal
 
 pub answer_call-requires-clause-resolved : goal.answer_call-requires-clause-resolved
 answer_call-requires-clause-resolved g c =

@@ -1,8 +1,8 @@
 use Rattle.std.proofs.Common.{rules, tests}
 use Rattle.std.proofs.lemmas.Iterator.Search.{any_from_yields_List}
 use Rattle.std.proofs.lemmas.Iterator.Splits.{YieldsList-from_slice_split}
-use Rattle.mds_page.specs.Tag.{is_comma, is_member}
-use Rattle.mds_page.proofs.tag.is_listed.Goals as goal
+use Rattle.server_page.specs.Tag.{is_comma, is_member}
+use Rattle.server_page.proofs.tag.is_listed.Goals as goal
 
 pub returns : goal.returns
 returns c =

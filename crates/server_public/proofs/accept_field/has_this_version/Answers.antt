@@ -1,8 +1,8 @@
 use Rattle.std.proofs.Common.{rules, tests}
 use Rattle.std.proofs.lemmas.Iterator.Search.{all_from_yields_List}
 use Rattle.std.proofs.lemmas.Iterator.Splits.{YieldsList-from_slice_split}
-use Rattle.mds_public.specs.AcceptField.{is_semicolon, is_this_version, trimmed}
-use Rattle.mds_public.proofs.accept_field.has_this_version.Goals as goal
+use Rattle.server_public.specs.AcceptField.{is_semicolon, is_this_version, trimmed}
+use Rattle.server_public.proofs.accept_field.has_this_version.Goals as goal
 
 pub returns : goal.returns
 returns c =

@@ -1,8 +1,8 @@
 use Rattle.std.proofs.Common.{rules, tests}
 use Rattle.std.proofs.lemmas.Iterator.Search.{any_from_yields_List}
 use Rattle.std.proofs.lemmas.Iterator.Splits.{YieldsList-from_slice_split}
-use Rattle.mds_public.specs.AcceptField.{is_comma, takes}
-use Rattle.mds_public.proofs.accept_field.line_takes.Goals as goal
+use Rattle.server_public.specs.AcceptField.{is_comma, takes}
+use Rattle.server_public.proofs.accept_field.line_takes.Goals as goal
 
 pub returns : goal.returns
 returns c =

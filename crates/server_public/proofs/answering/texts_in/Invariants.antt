@@ -1,7 +1,7 @@
 use Rattle.std.proofs.Common.{◌≡◌, filter, map, take}
-use Rattle.mds_public.specs.Period.{is_in}
-use Rattle.mds_public.specs.View.{notice}
-use Rattle.mds_public.proofs.answering.texts_in.Given as goal
+use Rattle.server_public.specs.Period.{is_in}
+use Rattle.server_public.specs.View.{notice}
+use Rattle.server_public.proofs.answering.texts_in.Given as goal
 
 -- those of the documents so far that hold in the period
 abbrev pub invariant-loop-notice : goal.invariant-loop-notice

@@ -1,8 +1,8 @@
 use Rattle.std.proofs.Common.{◌++◌, ◌∷◌, map, ap, sym, ◌∙◌, append_assoc}
 use Rattle.std.specs.List.{flat_map, join_with_byte}
 use Rattle.std.proofs.lemmas.List.{take_all}
-use Rattle.mds_public.proofs.Joined.{joined_bytes}
-use Rattle.mds_public.proofs.body.join.Goals as goal
+use Rattle.server_public.proofs.Joined.{joined_bytes}
+use Rattle.server_public.proofs.body.join.Goals as goal
 
 pub returns : goal.returns
 returns c =

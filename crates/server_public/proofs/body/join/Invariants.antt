@@ -1,6 +1,6 @@
 use Rattle.std.proofs.Common.{◌≡◌, ◌++◌, ◌∷◌, map, take}
 use Rattle.std.specs.List.{flat_map}
-use Rattle.mds_public.proofs.body.join.Given as goal
+use Rattle.server_public.proofs.body.join.Given as goal
 
 -- those so far, each after a comma
 abbrev pub invariant-loop-text : goal.invariant-loop-text

@@ -1,7 +1,7 @@
 use Rattle.std.proofs.Common.{◌≡◌, map, drop}
 use Rattle.mds_catalog.specs.Catalogue.{lent_policy, publications_of}
-use Rattle.mds_public.specs.Documents.{last, touched}
-use Rattle.mds_public.proofs.making.last_update.Given as goal
+use Rattle.server_public.specs.Documents.{last, touched}
+use Rattle.server_public.proofs.making.last_update.Given as goal
 
 -- with the policies that are left it is the result
 abbrev pub invariant-loop-policy : goal.invariant-loop-policy

@@ -5,9 +5,9 @@ use Rattle.mds_geography.specs.Geography.{Geography}
 use Rattle.mds_catalog.specs.Catalogue.{lent_geography, lent_policy, publications_of}
 use Rattle.mds_catalog.specs.Publication.{Published, published_geographies}
 use Rattle.mds_catalog.proofs.Lent.{map-filter}
-use Rattle.mds_public.specs.Documents.{names, public_policies}
-use Rattle.mds_public.proofs.Listed.{any_map, filter_alike}
-use Rattle.mds_public.proofs.making.named_geographies.Goals as goal
+use Rattle.server_public.specs.Documents.{names, public_policies}
+use Rattle.server_public.proofs.Listed.{any_map, filter_alike}
+use Rattle.server_public.proofs.making.named_geographies.Goals as goal
 
 pub returns : goal.returns
 returns c =

@@ -2,8 +2,8 @@ use Rattle.std.proofs.Common.{ap, sym, ◌∙◌}
 use Rattle.std.specs.List.{list_any}
 use Rattle.mds_policy.specs.Policy.{rule_document}
 use Rattle.mds_catalog.specs.Publication.{is_among}
-use Rattle.mds_public.proofs.Listed.{any_map}
-use Rattle.mds_public.proofs.making.names.Goals as goal
+use Rattle.server_public.proofs.Listed.{any_map}
+use Rattle.server_public.proofs.making.names.Goals as goal
 
 pub returns : goal.returns
 returns c =

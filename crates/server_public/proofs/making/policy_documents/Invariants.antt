@@ -1,8 +1,8 @@
 use Rattle.std.proofs.Common.{◌≡◌, map, take}
 use Rattle.mds_catalog.specs.Catalogue.{lent_policy, publications_of}
-use Rattle.mds_public.specs.Documents.{policy_notice}
-use Rattle.mds_public.specs.View.{notice}
-use Rattle.mds_public.proofs.making.policy_documents.Given as goal
+use Rattle.server_public.specs.Documents.{policy_notice}
+use Rattle.server_public.specs.View.{notice}
+use Rattle.server_public.proofs.making.policy_documents.Given as goal
 
 -- those of the policies so far
 abbrev pub invariant-loop-policy : goal.invariant-loop-policy

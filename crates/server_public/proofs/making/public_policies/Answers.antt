@@ -2,8 +2,8 @@ use Rattle.std.proofs.Common.{map, filter, ap, ◌∙◌, rules}
 use Rattle.std.proofs.lemmas.Fn.{filter_same}
 use Rattle.mds_catalog.specs.Catalogue.{lent_policy}
 use Rattle.mds_catalog.proofs.Lent.{map-filter}
-use Rattle.mds_public.specs.Documents.{is_public}
-use Rattle.mds_public.proofs.making.public_policies.Goals as goal
+use Rattle.server_public.specs.Documents.{is_public}
+use Rattle.server_public.proofs.making.public_policies.Goals as goal
 
 pub returns : goal.returns
 returns c =

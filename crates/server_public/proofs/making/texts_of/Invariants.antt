@@ -1,5 +1,5 @@
 use Rattle.std.proofs.Common.{◌≡◌, map, take}
-use Rattle.mds_public.proofs.making.texts_of.Given as goal
+use Rattle.server_public.proofs.making.texts_of.Given as goal
 
 -- those of the documents so far
 abbrev pub invariant-loop-notice : goal.invariant-loop-notice

@@ -1,7 +1,7 @@
 use Rattle.std.proofs.Common.{◌≡◌, true, take}
 use Rattle.std.specs.Char.{is_ascii_digit}
 use Rattle.std.specs.List.{list_all}
-use Rattle.mds_public.proofs.period.are_digits.Given as goal
+use Rattle.server_public.proofs.period.are_digits.Given as goal
 
 -- the bytes so far are digits
 abbrev pub invariant-loop-byte : goal.invariant-loop-byte

@@ -1,7 +1,7 @@
 use Rattle.std.proofs.Common.{ap, sym, ◌∙◌}
-use Rattle.mds_public.specs.Period.{as_given, number_in}
-use Rattle.mds_public.proofs.Numbers.{at_none, at_text}
-use Rattle.mds_public.proofs.period.moment_at.Goals as goal
+use Rattle.server_public.specs.Period.{as_given, number_in}
+use Rattle.server_public.proofs.Numbers.{at_none, at_text}
+use Rattle.server_public.proofs.period.moment_at.Goals as goal
 
 pub returns-in-Ok : goal.returns-in-Ok
 returns-in-Ok c =

@@ -1,8 +1,8 @@
 use Rattle.std.proofs.Common.{rules, tests}
 use Rattle.std.proofs.lemmas.Iterator.Search.{find_from_yields_List}
 use Rattle.std.proofs.lemmas.Iterator.Splits.{YieldsList-from_slice_split}
-use Rattle.mds_public.specs.Period.{begins, is_ampersand}
-use Rattle.mds_public.proofs.period.parameter.Goals as goal
+use Rattle.server_public.specs.Period.{begins, is_ampersand}
+use Rattle.server_public.proofs.period.parameter.Goals as goal
 
 pub returns : goal.returns
 returns c =

@@ -2,7 +2,7 @@ use Rattle.std.proofs.Common.{◌≡◌, map, drop}
 use Rattle.mds_text.specs.Fields.{find_member}
 use Rattle.mds_text.specs.Tree.{members_of}
 use Rattle.mds_text.specs.View.{member_view}
-use Rattle.mds_public.proofs.switch.find_member.Given as goal
+use Rattle.server_public.proofs.switch.find_member.Given as goal
 
 -- what was passed has another name
 abbrev pub invariant-loop-member : goal.invariant-loop-member

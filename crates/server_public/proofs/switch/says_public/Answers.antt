@@ -3,8 +3,8 @@ use Rattle.mds_text.proofs.Views.{view-Object}
 use Rattle.mds_text.specs.Fields.{find_member}
 use Rattle.mds_text.specs.Tree.{members_of}
 use Rattle.mds_text.specs.View.{member_view, view}
-use Rattle.mds_public.specs.Switch.{is_true, says_public}
-use Rattle.mds_public.proofs.switch.says_public.Goals as goal
+use Rattle.server_public.specs.Switch.{is_true, says_public}
+use Rattle.server_public.proofs.switch.says_public.Goals as goal
 
 pub returns-in-Object : goal.returns-in-Object
 returns-in-Object c =

@@ -1,7 +1,7 @@
 use Rattle.std.proofs.Common.{◌≡◌, filter, map, take}
 use Rattle.mds_text.specs.View.{member_view}
-use Rattle.mds_public.specs.Withdrawal.{is_not_end}
-use Rattle.mds_public.proofs.with_end.members_with_end.Given as goal
+use Rattle.server_public.specs.Withdrawal.{is_not_end}
+use Rattle.server_public.proofs.with_end.members_with_end.Given as goal
 
 -- the members so far, but for the end
 abbrev pub invariant-loop-member : goal.invariant-loop-member

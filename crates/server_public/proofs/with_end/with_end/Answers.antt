@@ -2,9 +2,9 @@ use Rattle.std.proofs.Common.{◌≡◌, List, ℕ, [], ◌∷◌, ◌++◌, fil
 use Rattle.mds_text.specs.Tree.{object, int, members_of}
 use Rattle.mds_text.specs.View.{view, member_view}
 use Rattle.mds_text.proofs.Views.{view-Object}
-use Rattle.mds_public.specs.Withdrawal.{ended, is_not_end}
-use Rattle.mds_public.proofs.Members.{listed_is}
-use Rattle.mds_public.proofs.with_end.with_end.Goals as goal
+use Rattle.server_public.specs.Withdrawal.{ended, is_not_end}
+use Rattle.server_public.proofs.Members.{listed_is}
+use Rattle.server_public.proofs.with_end.with_end.Goals as goal
 
 pub returns-in_ok-ended_members-in-Object : goal.returns-in_ok-ended_members-in-Object
 returns-in_ok-ended_members-in-Object c =

@@ -1,7 +1,7 @@
 use Rattle.std.proofs.Common.{◌∷◌, [], ◌∙◌, ap, sym}
 use Rattle.mds_request.specs.Call.{all_some}
-use Rattle.mds_responses.specs.Methods.{methods_at}
-use Rattle.mds_responses.proofs.methods.at_three.Goals as goal
+use Rattle.server_responses.specs.Methods.{methods_at}
+use Rattle.server_responses.proofs.methods.at_three.Goals as goal
 
 pub returns-in-drafts-default : goal.returns-in-drafts-default
 returns-in-drafts-default c =

@@ -1,7 +1,7 @@
 use Rattle.std.proofs.Common.{◌∷◌, [], ◌∙◌, ap, sym}
 use Rattle.mds_request.specs.Call.{all_some}
-use Rattle.mds_responses.specs.Methods.{methods_at}
-use Rattle.mds_responses.proofs.methods.at_two.Goals as goal
+use Rattle.server_responses.specs.Methods.{methods_at}
+use Rattle.server_responses.proofs.methods.at_two.Goals as goal
 
 pub returns-in-fleet : goal.returns-in-fleet
 returns-in-fleet c = c.in_fleet.ensures ∙ ap (λ first. methods_at (all_some (first ∷ c.args.second.now ∷ []))) (sym c.in-fleet.is)

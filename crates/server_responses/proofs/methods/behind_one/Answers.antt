@@ -1,9 +1,9 @@
 use Rattle.std.proofs.Common.{◌∷◌, ◌∙◌, ap, sym, None, Some, arith}
 use Rattle.std.proofs.lemmas.Str.Pattern.{split_once_first}
 use Rattle.mds_request.specs.Call.{all_some}
-use Rattle.mds_responses.specs.Methods.{methods_at}
-use Rattle.mds_responses.proofs.Cuts.{whole, around}
-use Rattle.mds_responses.proofs.methods.behind_one.Goals as goal
+use Rattle.server_responses.specs.Methods.{methods_at}
+use Rattle.server_responses.proofs.Cuts.{whole, around}
+use Rattle.server_responses.proofs.methods.behind_one.Goals as goal
 
 pub returns-in-None : goal.returns-in-None
 returns-in-None c =

@@ -1,8 +1,8 @@
 use Rattle.std.proofs.Common.{◌∙◌, ap, sym, None, Some, arith}
 use Rattle.std.proofs.lemmas.Str.Pattern.{strip_prefix_char}
-use Rattle.mds_responses.specs.Methods.{methods_at}
-use Rattle.mds_responses.proofs.Cuts.{behind, no_path}
-use Rattle.mds_responses.proofs.methods.methods_of.Goals as goal
+use Rattle.server_responses.specs.Methods.{methods_at}
+use Rattle.server_responses.proofs.Cuts.{behind, no_path}
+use Rattle.server_responses.proofs.methods.methods_of.Goals as goal
 
 pub returns-in-Some : goal.returns-in-Some
 returns-in-Some c =

@@ -1,7 +1,7 @@
 use Rattle.std.proofs.Common.{sym}
-use Rattle.mds_lines.proofs.Positions.{word_found, word_missing}
+use Rattle.mds_script.proofs.Positions.{word_found, word_missing}
 use Rattle.mds_request.specs.Call.{is_query_mark}
-use Rattle.mds_routes.proofs.app.path_of.Goals as goal
+use Rattle.server_routes.proofs.app.path_of.Goals as goal
 
 pub returns-in-Some : goal.returns-in-Some
 returns-in-Some c = word_found is_query_mark c.args.target.now c.in-Some.end (sym c.in-Some.ensures.value)

@@ -1,8 +1,8 @@
 use Rattle.std.proofs.Common.{◌≡◌, refl, sym, ap, ◌∙◌}
 use Rattle.http_uri.specs.Uri.{uri_path}
-use Rattle.mds_page.specs.File.{file_at}
-use Rattle.mds_routes.specs.Endpoint.{public_at}
-use Rattle.mds_routes.proofs.resolved.resolve.Goals as goal
+use Rattle.server_page.specs.File.{file_at}
+use Rattle.server_routes.specs.Endpoint.{public_at}
+use Rattle.server_routes.proofs.resolved.resolve.Goals as goal
 
 pub returns-in-Some-public_at : goal.returns-in-Some-public_at
 returns-in-Some-public_at g c =

@@ -1,6 +1,6 @@
 use Rattle.std.proofs.Common.{◌≡◌, true, take}
-use Rattle.mds_start.specs.Input.{are_digits}
-use Rattle.mds_start.proofs.count.are_digits.Given as goal
+use Rattle.server_start.specs.Input.{are_digits}
+use Rattle.server_start.proofs.count.are_digits.Given as goal
 
 -- the bytes so far are digits
 abbrev pub invariant-loop-byte : goal.invariant-loop-byte

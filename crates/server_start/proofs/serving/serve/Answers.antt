@@ -2,8 +2,8 @@ use denote.Exit.{no}
 use denote.Param.{param, copied}
 use denote.Param.Send.{param_send, param_sync, arg_send, arg_sync}
 use Rattle.mds_parallel.proofs.chunked.Chunked.TheSendSync as chunked
-use Rattle.mds_start.proofs.HallServices.{reception_send, reception_sync}
-use Rattle.mds_start.proofs.serving.serve.Goals as goal
+use Rattle.server_start.proofs.HallServices.{reception_send, reception_sync}
+use Rattle.server_start.proofs.serving.serve.Goals as goal
 
 pub serve_up_to-ended-requires-send-A : goal.serve_up_to-ended-requires-send-A
 serve_up_to-ended-requires-send-A g c κs within =

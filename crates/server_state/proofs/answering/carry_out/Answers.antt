@@ -1,12 +1,12 @@
 use Rattle.std.proofs.Common.{◌≡◌, Ok, ap, subst, ◌∙◌}
 use Rattle.mds_request.specs.Call.{call_of}
 use Rattle.mds_request.specs.Configuration.{configuration}
-use Rattle.mds_hall.specs.WholeRequest.{request_heard}
-use Rattle.mds_hall.specs.Turn.{DeskReplies, RoomReplies}
-use Rattle.mds_hall.proofs.Clients.{caller_within}
-use Rattle.mds_hall.proofs.Outcomes.{desk_answered, refusal_answered, room_answered}
-use Rattle.mds_hall.proofs.Turns.{of_ok}
-use Rattle.mds_hall.proofs.answering.carry_out.Goals as goal
+use Rattle.server_state.specs.WholeRequest.{request_heard}
+use Rattle.server_state.specs.Turn.{DeskReplies, RoomReplies}
+use Rattle.server_state.proofs.Clients.{caller_within}
+use Rattle.server_state.proofs.Outcomes.{desk_answered, refusal_answered, room_answered}
+use Rattle.server_state.proofs.Turns.{of_ok}
+use Rattle.server_state.proofs.answering.carry_out.Goals as goal
 
 pub desk_at-requires : goal.desk_at-requires
 desk_at-requires g c =

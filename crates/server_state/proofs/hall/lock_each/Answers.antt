@@ -2,8 +2,8 @@ use Rattle.std.proofs.Common.{◌≡◌, ◌+◌, [], ◌∷◌, ◌++◌, lengt
 use Rattle.std.specs.List.{range_with_len}
 use Rattle.std.specs.Vec.Iter.{into_iter_items}
 use Rattle.mds_desk.specs.Desk.{state_of}
-use Rattle.mds_hall.proofs.Placing.{as_many, at_its_place, one_each, one_more}
-use Rattle.mds_hall.proofs.hall.lock_each.Goals as goal
+use Rattle.server_state.proofs.Placing.{as_many, at_its_place, one_each, one_more}
+use Rattle.server_state.proofs.hall.lock_each.Goals as goal
 
 pub new-requires : goal.new-requires
 new-requires g c =

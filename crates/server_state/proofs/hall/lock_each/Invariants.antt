@@ -1,7 +1,7 @@
 use Rattle.std.proofs.Common.{◌≡◌, ◌++◌, length, map}
 use Rattle.std.specs.List.{range_with_len}
 use Rattle.std.specs.Vec.Iter.{into_iter_items}
-use Rattle.mds_hall.proofs.hall.lock_each.Given as goal
+use Rattle.server_state.proofs.hall.lock_each.Given as goal
 
 -- each desk so far is behind a lock, at its index
 abbrev pub invariant-loop-desk : goal.invariant-loop-desk

@@ -1,4 +1,4 @@
-use Rattle.mds_hall.proofs.turn.desk_turn.Goals as goal
+use Rattle.server_state.proofs.turn.desk_turn.Goals as goal
 
 pub returns : goal.returns
 returns g c =

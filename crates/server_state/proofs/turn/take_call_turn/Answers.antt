@@ -4,8 +4,8 @@ use Rattle.mds_request.specs.Call.{call_of}
 use Rattle.mds_request.specs.Request.{request_of}
 use Rattle.mds_request.specs.declared.call.Call.TheVariants.{Operator}
 use Rattle.mds_desk.specs.Desk.{state_of}
-use Rattle.mds_hall.proofs.Turns.{same_told}
-use Rattle.mds_hall.proofs.turn.take_call_turn.Goals as goal
+use Rattle.server_state.proofs.Turns.{same_told}
+use Rattle.server_state.proofs.turn.take_call_turn.Goals as goal
 
 pub carry_out-requires-clause-resolved : goal.carry_out-requires-clause-resolved
 carry_out-requires-clause-resolved g c =

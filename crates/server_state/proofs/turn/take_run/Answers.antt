@@ -1,6 +1,6 @@
 use Rattle.mds_desk.specs.Desk.{state_of}
-use Rattle.mds_hall.proofs.Turns.{of_ok}
-use Rattle.mds_hall.proofs.turn.take_run.Goals as goal
+use Rattle.server_state.proofs.Turns.{of_ok}
+use Rattle.server_state.proofs.turn.take_run.Goals as goal
 
 pub returns-clause-run : goal.returns-clause-run
 returns-clause-run g c =

@@ -1,6 +1,6 @@
 use Rattle.std.proofs.Common.{refl}
-use Rattle.mds_examples.proofs.Rows.{none_first, none_count, one_first, two_first}
-use Rattle.mds_examples.proofs.books.acceptance.Goals as goal
+use Rattle.tests_examples_core.proofs.Rows.{none_first, none_count, one_first, two_first}
+use Rattle.tests_examples_core.proofs.books.acceptance.Goals as goal
 
 pub returns : goal.returns
 returns c =

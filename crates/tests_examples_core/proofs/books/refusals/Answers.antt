@@ -1,6 +1,6 @@
 use Rattle.std.proofs.Common.{refl}
-use Rattle.mds_examples.proofs.Rows.{one_first, two_third, two_count}
-use Rattle.mds_examples.proofs.books.refusals.Goals as goal
+use Rattle.tests_examples_core.proofs.Rows.{one_first, two_third, two_count}
+use Rattle.tests_examples_core.proofs.books.refusals.Goals as goal
 
 pub returns-clause-stale : goal.returns-clause-stale
 returns-clause-stale c = rw one_first refl

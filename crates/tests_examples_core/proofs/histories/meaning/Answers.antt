@@ -5,14 +5,14 @@ use Rattle.mds_fleet.specs.History.{Event, arrival, accepted_reports, row_by}
 use Rattle.mds_fleet.proofs.ByHistory.{follows_history}
 use Rattle.mds_machine.specs.Meaning.{IsAnswer, own_step, events_of}
 use Rattle.mds_machine.specs.Views.{Seen, asked, published, view}
-use Rattle.mds_examples.specs.Computed.{documents, places, zones}
-use Rattle.mds_examples.specs.Histories.{no_drafts, ask_for_cap, before_question, question, answer}
-use Rattle.mds_examples.specs.Machine.{report}
-use Rattle.mds_examples.specs.Publications.{first_publication}
-use Rattle.mds_examples.specs.Requests.{alfa, configuration}
-use Rattle.mds_examples.specs.Vehicles.{first_report, one_row}
-use Rattle.mds_examples.proofs.Rows.{no_rows, none_first, none_count, one_entry}
-use Rattle.mds_examples.proofs.histories.meaning.Goals as goal
+use Rattle.tests_examples_core.specs.Computed.{documents, places, zones}
+use Rattle.tests_examples_core.specs.Histories.{no_drafts, ask_for_cap, before_question, question, answer}
+use Rattle.tests_examples_core.specs.Machine.{report}
+use Rattle.tests_examples_core.specs.Publications.{first_publication}
+use Rattle.tests_examples_core.specs.Requests.{alfa, configuration}
+use Rattle.tests_examples_core.specs.Vehicles.{first_report, one_row}
+use Rattle.tests_examples_core.proofs.Rows.{no_rows, none_first, none_count, one_entry}
+use Rattle.tests_examples_core.proofs.histories.meaning.Goals as goal
 
 -- the only report in the view leads to one row
 

@@ -9,17 +9,17 @@ use Rattle.mds_request.specs.Reply.{Reply, success}
 use Rattle.mds_request.specs.Request.{Request}
 use Rattle.mds_request.specs.declared.request.Verb.TheVariants.{Put, Post}
 use Rattle.mds_machine.specs.Step.{State, Step, Run, answered}
-use Rattle.mds_examples.specs.Computed.{documents, places, zones}
-use Rattle.mds_examples.specs.Geographies.{square_text}
-use Rattle.mds_examples.specs.Histories.{ask_for_cap, other_report, question, answer, history, after_history}
-use Rattle.mds_examples.specs.Machine.{done, error, start, after_square, after_cap, after_first_vehicle, square_path, cap_path, put_square, put_cap, publish, publish_alone, report, ask}
-use Rattle.mds_examples.specs.Policies.{cap, cap_text}
-use Rattle.mds_examples.specs.Requests.{configuration, request}
-use Rattle.mds_examples.specs.Vehicles.{second_device, first_report, second_report, one_row, in_the_square}
-use Rattle.mds_examples.proofs.DraftCounts.{no_cap, policy_count, the_square, the_cap, square_out, cap_out}
-use Rattle.mds_examples.proofs.Rows.{no_rows, none_first, none_count, one_entry}
-use Rattle.mds_examples.proofs.Session.{report_call, cap_call, square_put}
-use Rattle.mds_examples.proofs.histories.run.Goals as goal
+use Rattle.tests_examples_core.specs.Computed.{documents, places, zones}
+use Rattle.tests_examples_core.specs.Geographies.{square_text}
+use Rattle.tests_examples_core.specs.Histories.{ask_for_cap, other_report, question, answer, history, after_history}
+use Rattle.tests_examples_core.specs.Machine.{done, error, start, after_square, after_cap, after_first_vehicle, square_path, cap_path, put_square, put_cap, publish, publish_alone, report, ask}
+use Rattle.tests_examples_core.specs.Policies.{cap, cap_text}
+use Rattle.tests_examples_core.specs.Requests.{configuration, request}
+use Rattle.tests_examples_core.specs.Vehicles.{second_device, first_report, second_report, one_row, in_the_square}
+use Rattle.tests_examples_core.proofs.DraftCounts.{no_cap, policy_count, the_square, the_cap, square_out, cap_out}
+use Rattle.tests_examples_core.proofs.Rows.{no_rows, none_first, none_count, one_entry}
+use Rattle.tests_examples_core.proofs.Session.{report_call, cap_call, square_put}
+use Rattle.tests_examples_core.proofs.histories.run.Goals as goal
 
 stepped : {w next : State} {reply : Reply} (request : Request) → answered w request ≡ (reply, next) → Step w request reply next
 stepped request e = inl (ap (λ s. s.0) (sym e), ap (λ s. s.1) (sym e))

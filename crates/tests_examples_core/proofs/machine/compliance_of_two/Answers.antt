@@ -1,9 +1,9 @@
 use Rattle.std.proofs.Common.{codes, refl}
-use Rattle.mds_examples.specs.Computed.{documents, places, zones}
-use Rattle.mds_examples.proofs.Rows.{no_entries, one_entry, two_entries}
-use Rattle.mds_examples.proofs.Session.{first_reported, second_reported}
-use Rattle.mds_examples.specs.Vehicles.{in_the_square}
-use Rattle.mds_examples.proofs.machine.compliance_of_two.Goals as goal
+use Rattle.tests_examples_core.specs.Computed.{documents, places, zones}
+use Rattle.tests_examples_core.proofs.Rows.{no_entries, one_entry, two_entries}
+use Rattle.tests_examples_core.proofs.Session.{first_reported, second_reported}
+use Rattle.tests_examples_core.specs.Vehicles.{in_the_square}
+use Rattle.tests_examples_core.proofs.machine.compliance_of_two.Goals as goal
 
 pub returns-clause-none : goal.returns-clause-none
 unfolding documents places zones

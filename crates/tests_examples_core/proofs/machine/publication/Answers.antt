@@ -1,11 +1,11 @@
 use Rattle.std.proofs.Common.{refl}
-use Rattle.mds_examples.specs.Computed.{documents}
-use Rattle.mds_examples.proofs.DraftCounts.{the_square, the_cap, square_out, cap_out}
-use Rattle.mds_examples.proofs.Session.{square_put, cap_put, cap_again}
-use Rattle.mds_examples.specs.Geographies.{square_text}
-use Rattle.mds_examples.specs.Machine.{square_path, cap_path}
-use Rattle.mds_examples.specs.Policies.{cap_text}
-use Rattle.mds_examples.proofs.machine.publication.Goals as goal
+use Rattle.tests_examples_core.specs.Computed.{documents}
+use Rattle.tests_examples_core.proofs.DraftCounts.{the_square, the_cap, square_out, cap_out}
+use Rattle.tests_examples_core.proofs.Session.{square_put, cap_put, cap_again}
+use Rattle.tests_examples_core.specs.Geographies.{square_text}
+use Rattle.tests_examples_core.specs.Machine.{square_path, cap_path}
+use Rattle.tests_examples_core.specs.Policies.{cap_text}
+use Rattle.tests_examples_core.proofs.machine.publication.Goals as goal
 
 pub returns-clause-geography : goal.returns-clause-geography
 unfolding documents

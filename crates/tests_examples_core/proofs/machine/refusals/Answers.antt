@@ -1,10 +1,10 @@
 use Rattle.std.proofs.Common.{codes, refl}
-use Rattle.mds_examples.specs.Computed.{documents}
-use Rattle.mds_examples.specs.Vehicles.{in_the_square}
-use Rattle.mds_examples.proofs.DraftCounts.{the_cap}
-use Rattle.mds_examples.proofs.Rows.{none_first}
-use Rattle.mds_examples.proofs.Session.{third_reported}
-use Rattle.mds_examples.proofs.machine.refusals.Goals as goal
+use Rattle.tests_examples_core.specs.Computed.{documents}
+use Rattle.tests_examples_core.specs.Vehicles.{in_the_square}
+use Rattle.tests_examples_core.proofs.DraftCounts.{the_cap}
+use Rattle.tests_examples_core.proofs.Rows.{none_first}
+use Rattle.tests_examples_core.proofs.Session.{third_reported}
+use Rattle.tests_examples_core.proofs.machine.refusals.Goals as goal
 
 pub returns-clause-no_geography : goal.returns-clause-no_geography
 unfolding documents

@@ -1,8 +1,8 @@
 use Rattle.std.proofs.Common.{refl}
-use Rattle.mds_examples.specs.Computed.{documents}
-use Rattle.mds_examples.proofs.DraftCounts.{the_cap}
-use Rattle.mds_examples.proofs.Rows.{one_first, one_entry, first_out}
-use Rattle.mds_examples.proofs.machine.served_documents.Goals as goal
+use Rattle.tests_examples_core.specs.Computed.{documents}
+use Rattle.tests_examples_core.proofs.DraftCounts.{the_cap}
+use Rattle.tests_examples_core.proofs.Rows.{one_first, one_entry, first_out}
+use Rattle.tests_examples_core.proofs.machine.served_documents.Goals as goal
 
 pub returns-clause-draft : goal.returns-clause-draft
 unfolding documents

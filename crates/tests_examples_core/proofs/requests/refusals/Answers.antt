@@ -4,8 +4,8 @@ use Rattle.mds_request.specs.Call.{call_of}
 use Rattle.mds_request.specs.declared.call.TheConstants.{MOST_BODY}
 use Rattle.mds_request.specs.declared.code.Code.TheVariants.{TooLarge, Token}
 use Rattle.mds_request.specs.declared.request.Verb.TheVariants.{Get}
-use Rattle.mds_examples.specs.Requests.{configuration, request}
-use Rattle.mds_examples.proofs.requests.refusals.Goals as goal
+use Rattle.tests_examples_core.specs.Requests.{configuration, request}
+use Rattle.tests_examples_core.proofs.requests.refusals.Goals as goal
 
 -- by the size alone, so that no long body is computed
 too_large : (n : ℕ) → nat_lt MOST_BODY n ≡ true → call_of configuration (request 2000 (codes "nobody") Get (codes "/nowhere") (replicate n 0)) ≡ Err TooLarge

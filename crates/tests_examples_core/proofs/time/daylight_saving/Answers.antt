@@ -1,7 +1,7 @@
 use Rattle.std.proofs.Common.{ap}
 use Rattle.mds_match.specs.Zone.{local_at}
-use Rattle.mds_examples.proofs.Years.{before_the_gap, after_the_gap, first_time, second_time}
-use Rattle.mds_examples.proofs.time.daylight_saving.Goals as goal
+use Rattle.tests_examples_core.proofs.Years.{before_the_gap, after_the_gap, first_time, second_time}
+use Rattle.tests_examples_core.proofs.time.daylight_saving.Goals as goal
 
 pub returns-clause-before_the_gap : goal.returns-clause-before_the_gap
 returns-clause-before_the_gap c = ap (λ offset. local_at offset 1678615199999) before_the_gap

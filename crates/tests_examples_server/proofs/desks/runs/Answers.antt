@@ -1,11 +1,11 @@
 use Rattle.std.proofs.Common.{[]}
 use Rattle.mds_machine.proofs.Runs.{run_of_turns}
-use Rattle.mds_examples.proofs.Rows.{no_rows}
-use Rattle.mds_examples.specs.Requests.{alfa, configuration}
-use Rattle.mds_examples.specs.Vehicles.{one_row}
-use Rattle.mds_server_examples.specs.Turns.{three_turns}
-use Rattle.mds_server_examples.proofs.AtDesk.{three, meaning}
-use Rattle.mds_server_examples.proofs.desks.runs.Goals as goal
+use Rattle.tests_examples_core.proofs.Rows.{no_rows}
+use Rattle.tests_examples_core.specs.Requests.{alfa, configuration}
+use Rattle.tests_examples_core.specs.Vehicles.{one_row}
+use Rattle.tests_examples_server.specs.Turns.{three_turns}
+use Rattle.tests_examples_server.proofs.AtDesk.{three, meaning}
+use Rattle.tests_examples_server.proofs.desks.runs.Goals as goal
 
 pub returns-clause-turns : goal.returns-clause-turns
 returns-clause-turns c = three

@@ -1,5 +1,5 @@
-use Rattle.mds_server_examples.proofs.AtDesk.{first_turn, second_turn}
-use Rattle.mds_server_examples.proofs.desks.turns.Goals as goal
+use Rattle.tests_examples_server.proofs.AtDesk.{first_turn, second_turn}
+use Rattle.tests_examples_server.proofs.desks.turns.Goals as goal
 
 pub returns-clause-report : goal.returns-clause-report
 returns-clause-report c = first_turn

@@ -2,11 +2,11 @@ use Rattle.std.proofs.Common.{◌≡◌, ℕ, replicate, true, false, nat_lt, So
 use Rattle.std.proofs.lemmas.List.{length-replicate}
 use Rattle.mds_request.specs.declared.call.TheConstants.{MOST_BODY}
 use Rattle.mds_request.specs.declared.code.Code.TheVariants as code
-use Rattle.mds_hall.specs.Early.{early}
-use Rattle.mds_limits.specs.declared.arrival.Arrived.TheVariants.{Whole}
-use Rattle.mds_examples.specs.Requests.{configuration}
-use Rattle.mds_server_examples.specs.Heads.{by_nobody}
-use Rattle.mds_server_examples.proofs.early.bodies.Goals as goal
+use Rattle.server_state.specs.Early.{early}
+use Rattle.server_admission.specs.declared.arrival.Arrived.TheVariants.{Whole}
+use Rattle.tests_examples_core.specs.Requests.{configuration}
+use Rattle.tests_examples_server.specs.Heads.{by_nobody}
+use Rattle.tests_examples_server.proofs.early.bodies.Goals as goal
 
 -- by the size alone, so that no long body is computed
 too_large : (n : ℕ) → nat_lt MOST_BODY n ≡ true → early configuration by_nobody (Whole (replicate n 0)) (Some 2000) ≡ Some code.TooLarge

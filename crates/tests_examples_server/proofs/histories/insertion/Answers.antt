@@ -6,10 +6,10 @@ use Rattle.mds_machine.specs.Step.{Exchange}
 use Rattle.mds_request.specs.declared.code.Code.TheVariants.{NoMemory}
 use Rattle.mds_machine.proofs.Runs.{not_unavailable}
 use Rattle.mds_machine.proofs.Views.{both_true}
-use Rattle.mds_examples.specs.Computed.{documents}
-use Rattle.mds_examples.specs.Requests.{configuration}
-use Rattle.mds_server_examples.specs.Turns.{whole}
-use Rattle.mds_server_examples.proofs.histories.insertion.Goals as goal
+use Rattle.tests_examples_core.specs.Computed.{documents}
+use Rattle.tests_examples_core.specs.Requests.{configuration}
+use Rattle.tests_examples_server.specs.Turns.{whole}
+use Rattle.tests_examples_server.proofs.histories.insertion.Goals as goal
 
 -- no reply of the history is 503
 abbrev is_available : Exchange → Bool

@@ -5,14 +5,14 @@ use Rattle.mds_fleet.specs.Books.{Rows}
 use Rattle.mds_request.specs.Configuration.{Operator}
 use Rattle.mds_machine.specs.Fronts.{last_front}
 use Rattle.mds_machine.specs.OneHistory.{AreItsTurns}
-use Rattle.mds_examples.proofs.Rows.{no_rows}
-use Rattle.mds_examples.specs.Histories.{no_drafts}
-use Rattle.mds_examples.specs.Requests.{alfa, configuration}
-use Rattle.mds_examples.specs.Vehicles.{one_row}
-use Rattle.mds_server_examples.specs.Turns.{first_front, turns_of}
-use Rattle.mds_server_examples.proofs.AtDesk.{two}
-use Rattle.mds_server_examples.proofs.AtRoom.{room_turns}
-use Rattle.mds_server_examples.proofs.histories.served_history.Goals as goal
+use Rattle.tests_examples_core.proofs.Rows.{no_rows}
+use Rattle.tests_examples_core.specs.Histories.{no_drafts}
+use Rattle.tests_examples_core.specs.Requests.{alfa, configuration}
+use Rattle.tests_examples_core.specs.Vehicles.{one_row}
+use Rattle.tests_examples_server.specs.Turns.{first_front, turns_of}
+use Rattle.tests_examples_server.proofs.AtDesk.{two}
+use Rattle.tests_examples_server.proofs.AtRoom.{room_turns}
+use Rattle.tests_examples_server.proofs.histories.served_history.Goals as goal
 
 abbrev HasTurned : ℕ → Operator → Type 0
 HasTurned place operator =

@@ -1,10 +1,10 @@
 use Rattle.std.proofs.Common.{refl}
-use Rattle.mds_examples.specs.Histories.{answer}
-use Rattle.mds_examples.specs.Vehicles.{one_row}
-use Rattle.mds_server_examples.specs.DeskStates.{desk}
-use Rattle.mds_server_examples.specs.Turns.{first_front}
-use Rattle.mds_server_examples.proofs.AtHall.{takes_known, learns_first}
-use Rattle.mds_server_examples.proofs.learning.answers.Goals as goal
+use Rattle.tests_examples_core.specs.Histories.{answer}
+use Rattle.tests_examples_core.specs.Vehicles.{one_row}
+use Rattle.tests_examples_server.specs.DeskStates.{desk}
+use Rattle.tests_examples_server.specs.Turns.{first_front}
+use Rattle.tests_examples_server.proofs.AtHall.{takes_known, learns_first}
+use Rattle.tests_examples_server.proofs.learning.answers.Goals as goal
 
 pub returns-clause-told : goal.returns-clause-told
 returns-clause-told c =

@@ -1,11 +1,11 @@
 use Rattle.std.proofs.Common.{◌≡◌, Bool, true, false, List, ◌∷◌, ◌++◌, refl, sym, ap}
 use Rattle.std.proofs.lemmas.Bool.{false≢true}
 use Rattle.mds_catalog.specs.Publication.{Publication}
-use Rattle.mds_examples.specs.Publications.{then_withdrawn}
-use Rattle.mds_examples.specs.Requests.{alfa}
-use Rattle.mds_server_examples.specs.Turns.{first_front}
-use Rattle.mds_server_examples.proofs.AtHall.{takes_report, takes_question}
-use Rattle.mds_server_examples.proofs.learning.turns.Goals as goal
+use Rattle.tests_examples_core.specs.Publications.{then_withdrawn}
+use Rattle.tests_examples_core.specs.Requests.{alfa}
+use Rattle.tests_examples_server.specs.Turns.{first_front}
+use Rattle.tests_examples_server.proofs.AtHall.{takes_report, takes_question}
+use Rattle.tests_examples_server.proofs.learning.turns.Goals as goal
 
 pub returns-clause-report : goal.returns-clause-report
 returns-clause-report c = takes_report

@@ -5,11 +5,11 @@ use Rattle.std.proofs.lemmas.Bool.{false≢true}
 use Rattle.mds_request.specs.declared.code.Code.TheVariants.{NoMemory}
 use Rattle.mds_machine.specs.Answer.{settled}
 use Rattle.mds_machine.proofs.Runs.{not_unavailable}
-use Rattle.mds_examples.proofs.DraftCounts.{no_square, the_square}
-use Rattle.mds_examples.specs.Histories.{no_drafts}
-use Rattle.mds_examples.specs.Ids.{square_id}
-use Rattle.mds_server_examples.proofs.AtRoom.{puts_square}
-use Rattle.mds_server_examples.proofs.rooms.no_turns.Goals as goal
+use Rattle.tests_examples_core.proofs.DraftCounts.{no_square, the_square}
+use Rattle.tests_examples_core.specs.Histories.{no_drafts}
+use Rattle.tests_examples_core.specs.Ids.{square_id}
+use Rattle.tests_examples_server.proofs.AtRoom.{puts_square}
+use Rattle.tests_examples_server.proofs.rooms.no_turns.Goals as goal
 
 pub returns-clause-kept : goal.returns-clause-kept
 returns-clause-kept c =

@@ -1,6 +1,6 @@
 use Rattle.std.proofs.Common.{inr, refl}
-use Rattle.mds_server_examples.proofs.AtRoom.{calls_for_square, square_turn}
-use Rattle.mds_server_examples.proofs.rooms.turns.Goals as goal
+use Rattle.tests_examples_server.proofs.AtRoom.{calls_for_square, square_turn}
+use Rattle.tests_examples_server.proofs.rooms.turns.Goals as goal
 
 pub returns-clause-put : goal.returns-clause-put
 returns-clause-put c = square_turn

@@ -1,4 +1,4 @@
-use Rattle.mds_thinning_tests.proofs.commits.expect_bounds_over_journal.Given as goal
+use Rattle.tests_journal.proofs.commits.expect_bounds_over_journal.Given as goal
 
 -- the book of the log that was just opened
 abbrev pub ghosts-bounded : goal.ghosts-bounded

@@ -1,5 +1,5 @@
 use Rattle.mds_snapshot.specs.Opening.{book_of}
-use Rattle.mds_thinning_tests.proofs.restart.goes_on_from_a_journal.Given as goal
+use Rattle.tests_journal.proofs.restart.goes_on_from_a_journal.Given as goal
 
 -- the book of the blank that was just prepared
 abbrev pub ghosts-go_on : goal.ghosts-go_on

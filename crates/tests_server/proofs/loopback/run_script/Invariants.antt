@@ -1,6 +1,6 @@
 use Rattle.mds_request.specs.Configuration.{configuration}
 use Rattle.mds_snapshot.specs.Opening.{book_of}
-use Rattle.mds_server_tests.proofs.loopback.run_script.Given as goal
+use Rattle.tests_server.proofs.loopback.run_script.Given as goal
 
 -- the book of the blank that was just prepared
 abbrev pub ghosts-served-K-Naming : goal.ghosts-served-K-Naming

@@ -1,5 +1,5 @@
 use Rattle.mds_snapshot.specs.Opening.{book_of}
-use Rattle.mds_server_tests.proofs.snapshot.notes_reach_each_pane.Given as goal
+use Rattle.tests_server.proofs.snapshot.notes_reach_each_pane.Given as goal
 
 -- the book of the blank that was just prepared
 abbrev pub ghosts-opened : goal.ghosts-opened

@@ -1,5 +1,5 @@
 use Rattle.mds_snapshot.specs.Opening.{book_of}
-use Rattle.mds_server_tests.proofs.snapshot.prepare_at_last.Given as goal
+use Rattle.tests_server.proofs.snapshot.prepare_at_last.Given as goal
 
 -- the book of the blank that was just prepared
 abbrev pub ghosts-wanting : goal.ghosts-wanting

@@ -1,7 +1,7 @@
 use Rattle.std.proofs.Common.{◌∙◌, ap, sym}
-use Rattle.mds_configuration.specs.Limits.{bounds, low_from}
-use Rattle.mds_configuration.proofs.Told.{low_told}
-use Rattle.mds_configuration.proofs.limits.Limits.too_low.Goals as goal
+use Rattle.cli_config.specs.Limits.{bounds, low_from}
+use Rattle.cli_config.proofs.Told.{low_told}
+use Rattle.cli_config.proofs.limits.Limits.too_low.Goals as goal
 
 pub returns-in_ok-low_text-in-Some : goal.returns-in_ok-low_text-in-Some
 returns-in_ok-low_text-in-Some c =

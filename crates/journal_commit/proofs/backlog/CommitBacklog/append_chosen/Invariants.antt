@@ -1,7 +1,7 @@
 use Rattle.std.proofs.Common.{◌≡◌, ◌++◌, true, map}
 use Rattle.std.specs.Vec.Iter.{into_iter_items}
-use Rattle.mds_commit.specs.Durable.{chosen}
-use Rattle.mds_commit.proofs.backlog.CommitBacklog.append_chosen.Given as goal
+use Rattle.journal_commit.specs.Durable.{chosen}
+use Rattle.journal_commit.proofs.backlog.CommitBacklog.append_chosen.Given as goal
 
 -- what was appended, with what is chosen of the payloads that are left, is what is to be appended
 abbrev pub invariant-loop-text : goal.invariant-loop-text

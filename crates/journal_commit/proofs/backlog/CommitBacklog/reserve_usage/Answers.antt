@@ -1,7 +1,7 @@
 use Rattle.std.proofs.Common.{arith}
-use Rattle.mds_commit.specs.Tables.{holding}
-use Rattle.mds_commit.proofs.Sharing.{bytes_held, bytes_in_le}
-use Rattle.mds_commit.proofs.backlog.CommitBacklog.reserve_usage.Goals as goal
+use Rattle.journal_commit.specs.Tables.{holding}
+use Rattle.journal_commit.proofs.Sharing.{bytes_held, bytes_in_le}
+use Rattle.journal_commit.proofs.backlog.CommitBacklog.reserve_usage.Goals as goal
 
 pub take_waiting-requires-clause-bounded : goal.take_waiting-requires-clause-bounded
 take_waiting-requires-clause-bounded g c =

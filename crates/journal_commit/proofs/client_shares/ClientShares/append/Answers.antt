@@ -1,7 +1,7 @@
 use Rattle.std.proofs.Common.{ap, arith}
-use Rattle.mds_commit.specs.declared.client_shares.ClientShare.{ClientShare}
-use Rattle.mds_commit.proofs.Sharing.{less_shared, share_read, texts_fit, bytes_fit, nobody}
-use Rattle.mds_commit.proofs.client_shares.ClientShares.append.Goals as goal
+use Rattle.journal_commit.specs.declared.client_shares.ClientShare.{ClientShare}
+use Rattle.journal_commit.proofs.Sharing.{less_shared, share_read, texts_fit, bytes_fit, nobody}
+use Rattle.journal_commit.proofs.client_shares.ClientShares.append.Goals as goal
 
 pub overflow_add-share : goal.overflow_add-share
 overflow_add-share c =

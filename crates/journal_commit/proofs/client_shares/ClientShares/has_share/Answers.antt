@@ -1,9 +1,9 @@
 use Rattle.std.proofs.Common.{◌+◌, ◌<◌, length, ap, ◌∙◌, arith}
-use Rattle.mds_commit.specs.declared.decisions.Usage.{Usage}
-use Rattle.mds_commit.specs.declared.client_shares.ClientShare.{ClientShare}
-use Rattle.mds_commit.specs.Tables.{usage_of}
-use Rattle.mds_commit.proofs.Sharing.{front_shared, rest_shared, texts_fit, bytes_fit, share_read, parts_fit, rest_all, more_shared, nobody}
-use Rattle.mds_commit.proofs.client_shares.ClientShares.has_share.Goals as goal
+use Rattle.journal_commit.specs.declared.decisions.Usage.{Usage}
+use Rattle.journal_commit.specs.declared.client_shares.ClientShare.{ClientShare}
+use Rattle.journal_commit.specs.Tables.{usage_of}
+use Rattle.journal_commit.proofs.Sharing.{front_shared, rest_shared, texts_fit, bytes_fit, share_read, parts_fit, rest_all, more_shared, nobody}
+use Rattle.journal_commit.proofs.client_shares.ClientShares.has_share.Goals as goal
 
 pub usage-own-requires-clause-texts : goal.usage-own-requires-clause-texts
 usage-own-requires-clause-texts c =

@@ -1,6 +1,6 @@
 use Rattle.std.proofs.Common.{arith, ◌≡◌, replicate}
-use Rattle.mds_commit.proofs.Sharing.{nobody_shared, nobody}
-use Rattle.mds_commit.proofs.client_shares.ClientShares.new.Goals as goal
+use Rattle.journal_commit.proofs.Sharing.{nobody_shared, nobody}
+use Rattle.journal_commit.proofs.client_shares.ClientShares.new.Goals as goal
 
 pub invariant_of-result : goal.invariant_of-result
 invariant_of-result c =

@@ -1,7 +1,7 @@
 use Rattle.std.proofs.Common.{ap, arith}
-use Rattle.mds_commit.specs.declared.client_shares.ClientShare.{ClientShare}
-use Rattle.mds_commit.proofs.Sharing.{less_shared, share_read, nobody}
-use Rattle.mds_commit.proofs.client_shares.ClientShares.release.Goals as goal
+use Rattle.journal_commit.specs.declared.client_shares.ClientShare.{ClientShare}
+use Rattle.journal_commit.proofs.Sharing.{less_shared, share_read, nobody}
+use Rattle.journal_commit.proofs.client_shares.ClientShares.release.Goals as goal
 
 pub invariant_of-self : goal.invariant_of-self
 invariant_of-self c =

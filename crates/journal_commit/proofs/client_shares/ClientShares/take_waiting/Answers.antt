@@ -1,9 +1,9 @@
 use Rattle.std.proofs.Common.{◌<◌, length, ap, ◌∙◌, arith}
 use Rattle.std.proofs.lemmas.List.{get_or_default, length-set}
 use Rattle.std.proofs.lemmas.List.Edits.{map_over_more}
-use Rattle.mds_commit.specs.Tables.{share_of, untaken}
-use Rattle.mds_commit.proofs.Sharing.{bytes_in_le, nobody}
-use Rattle.mds_commit.proofs.client_shares.ClientShares.take_waiting.Goals as goal
+use Rattle.journal_commit.specs.Tables.{share_of, untaken}
+use Rattle.journal_commit.proofs.Sharing.{bytes_in_le, nobody}
+use Rattle.journal_commit.proofs.client_shares.ClientShares.take_waiting.Goals as goal
 
 pub overflow_add-bytes : goal.overflow_add-bytes
 overflow_add-bytes c = omega (arith, bytes_in_le c.args.self.now.each.items c.args.self.now.shared)

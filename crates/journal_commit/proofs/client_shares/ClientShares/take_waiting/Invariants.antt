@@ -1,6 +1,6 @@
 use Rattle.std.proofs.Common.{◌≡◌, ◌+◌, ◌++◌, map, take, drop, length}
-use Rattle.mds_commit.specs.Tables.{bytes_in, untaken}
-use Rattle.mds_commit.proofs.client_shares.ClientShares.take_waiting.Given as goal
+use Rattle.journal_commit.specs.Tables.{bytes_in, untaken}
+use Rattle.journal_commit.proofs.client_shares.ClientShares.take_waiting.Given as goal
 
 -- what was taken so far, and what each has then
 abbrev pub invariant-loop-asker : goal.invariant-loop-asker

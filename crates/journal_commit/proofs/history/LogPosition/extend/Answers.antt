@@ -1,6 +1,6 @@
 use Rattle.std.proofs.Common.{sym, ◌∙◌, ap}
-use Rattle.mds_commit.proofs.Words.{adds_moves}
-use Rattle.mds_commit.proofs.history.LogPosition.extend.Goals as goal
+use Rattle.journal_commit.proofs.Words.{adds_moves}
+use Rattle.journal_commit.proofs.history.LogPosition.extend.Goals as goal
 
 pub compare_exchange-found-requires : goal.compare_exchange-found-requires
 compare_exchange-found-requires g c =

@@ -1,7 +1,7 @@
 use Rattle.std.proofs.Common.{ap, subst, ℕ, List}
 use mathlib.Core.List.{IsPrefix}
-use Rattle.mds_commit.proofs.Fronts.{one_front}
-use Rattle.mds_commit.proofs.history.LogPosition.is_of.Goals as goal
+use Rattle.journal_commit.proofs.Fronts.{one_front}
+use Rattle.journal_commit.proofs.history.LogPosition.is_of.Goals as goal
 
 pub returns : goal.returns
 returns g c = λ is.

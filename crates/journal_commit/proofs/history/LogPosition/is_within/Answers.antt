@@ -1,7 +1,7 @@
 use Rattle.std.proofs.Common.{ap, refl, subst, ℕ, List}
 use mathlib.Core.List.{IsPrefix}
-use Rattle.mds_commit.proofs.Fronts.{within}
-use Rattle.mds_commit.proofs.history.LogPosition.is_within.Goals as goal
+use Rattle.journal_commit.proofs.Fronts.{within}
+use Rattle.journal_commit.proofs.history.LogPosition.is_within.Goals as goal
 
 pub returns : goal.returns
 returns g c =

@@ -1,7 +1,7 @@
 use Rattle.std.proofs.Common.{sym, ◌∙◌, ap, []}
-use Rattle.mds_commit.specs.History.{AreSynced}
-use Rattle.mds_commit.proofs.Words.{raises_moves}
-use Rattle.mds_commit.proofs.history.LogPosition.publish.Goals as goal
+use Rattle.journal_commit.specs.History.{AreSynced}
+use Rattle.journal_commit.proofs.Words.{raises_moves}
+use Rattle.journal_commit.proofs.history.LogPosition.publish.Goals as goal
 
 pub compare_exchange-found-requires : goal.compare_exchange-found-requires
 compare_exchange-found-requires g c =

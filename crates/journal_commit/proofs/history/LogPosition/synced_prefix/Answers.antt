@@ -1,6 +1,6 @@
 use Rattle.std.proofs.Common.{sym, ◌∙◌, ap, []}
-use Rattle.mds_commit.proofs.Words.{finds_moves}
-use Rattle.mds_commit.proofs.history.LogPosition.synced_prefix.Goals as goal
+use Rattle.journal_commit.proofs.Words.{finds_moves}
+use Rattle.journal_commit.proofs.history.LogPosition.synced_prefix.Goals as goal
 
 pub load-count-requires : goal.load-count-requires
 load-count-requires g c =

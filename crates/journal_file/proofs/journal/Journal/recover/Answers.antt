@@ -1,11 +1,11 @@
 use Rattle.std.proofs.Common.{◌≡◌, true, ℕ, List, take, drop, sym, subst, ◌∙◌}
 use Rattle.std.specs.Prelude.{Option}
-use Rattle.mds_records.specs.Records.{Reads, extent}
-use Rattle.mds_records.specs.Endings.{ending_of, is_opened, IsCut}
-use Rattle.mds_records.specs.declared.ending.CutTail.{CutTail}
-use Rattle.mds_records.proofs.Endings.{opened_unless}
-use Rattle.mds_records.proofs.Listed.{may_be_cut}
-use Rattle.mds_records.proofs.journal.Journal.recover.Goals as goal
+use Rattle.journal_file.specs.Records.{Reads, extent}
+use Rattle.journal_file.specs.Endings.{ending_of, is_opened, IsCut}
+use Rattle.journal_file.specs.declared.ending.CutTail.{CutTail}
+use Rattle.journal_file.proofs.Endings.{opened_unless}
+use Rattle.journal_file.proofs.Listed.{may_be_cut}
+use Rattle.journal_file.proofs.journal.Journal.recover.Goals as goal
 
 pub returns-clause-list : goal.returns-clause-list
 returns-clause-list g c =

@@ -1,7 +1,7 @@
 use Rattle.std.proofs.Common.{map, sym, subst, ◌++◌, ◌∙◌, arith}
 use Rattle.std.proofs.lemmas.List.{length-map}
-use Rattle.mds_records.proofs.Listed.{may_be_more}
-use Rattle.mds_records.proofs.journal.JournalLog.append.Goals as goal
+use Rattle.journal_file.proofs.Listed.{may_be_more}
+use Rattle.journal_file.proofs.journal.JournalLog.append.Goals as goal
 
 pub returns-clause-appended : goal.returns-clause-appended
 returns-clause-appended g c = λ list may.

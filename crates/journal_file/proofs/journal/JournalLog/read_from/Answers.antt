@@ -1,10 +1,10 @@
 use Rattle.std.proofs.Common.{◌≡◌, ℕ, List, length, drop, map, sym, ap, subst, ◌∙◌, arith}
 use Rattle.std.proofs.lemmas.List.{length-map, drop-map}
-use Rattle.mds_records.specs.Sum.{sums_over}
-use Rattle.mds_records.specs.Records.{Reads, extent}
-use Rattle.mds_records.specs.Groups.{listed}
-use Rattle.mds_records.proofs.Listed.{may_be_read}
-use Rattle.mds_records.proofs.journal.JournalLog.read_from.Goals as goal
+use Rattle.journal_file.specs.Sum.{sums_over}
+use Rattle.journal_file.specs.Records.{Reads, extent}
+use Rattle.journal_file.specs.Groups.{listed}
+use Rattle.journal_file.proofs.Listed.{may_be_read}
+use Rattle.journal_file.proofs.journal.JournalLog.read_from.Goals as goal
 
 pub returns-clause-texts : goal.returns-clause-texts
 returns-clause-texts g c =

@@ -1,5 +1,5 @@
 use Rattle.std.proofs.Common.{◌≡◌, ◌++◌, map, drop}
-use Rattle.mds_rolling.proofs.catch_up_buffer.CatchUpBuffer.copy.Given as goal
+use Rattle.journal_swap.proofs.catch_up_buffer.CatchUpBuffer.copy.Given as goal
 
 -- those copied so far and those left are all
 abbrev pub invariant-loop-text : goal.invariant-loop-text

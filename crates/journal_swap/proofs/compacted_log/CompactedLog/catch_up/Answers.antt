@@ -1,6 +1,6 @@
 use Rattle.std.proofs.Common.{map, subst, ◌++◌}
-use Rattle.mds_rolling.proofs.Rolled.{shorter_more}
-use Rattle.mds_rolling.proofs.compacted_log.CompactedLog.catch_up.Goals as goal
+use Rattle.journal_swap.proofs.Rolled.{shorter_more}
+use Rattle.journal_swap.proofs.compacted_log.CompactedLog.catch_up.Goals as goal
 
 pub invariant_of-result : goal.invariant_of-result
 invariant_of-result g c =

@@ -1,7 +1,7 @@
 use Rattle.std.proofs.Common.{map, sym}
 use Rattle.std.proofs.lemmas.List.{length-map}
-use Rattle.mds_rolling.proofs.Rolled.{rolled_more}
-use Rattle.mds_rolling.proofs.swap_log.SwapLogLog.append.Goals as goal
+use Rattle.journal_swap.proofs.Rolled.{rolled_more}
+use Rattle.journal_swap.proofs.swap_log.SwapLogLog.append.Goals as goal
 
 pub returns-clause-appended : goal.returns-clause-appended
 returns-clause-appended g c = λ list r.

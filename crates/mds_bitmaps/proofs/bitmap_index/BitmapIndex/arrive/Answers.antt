@@ -1,8 +1,8 @@
 use Rattle.std.proofs.Common.{Option, subst, sym, ◌∙◌}
 use Rattle.std.specs.Option.{IfSome}
-use Rattle.mds_kept.specs.Index.{IsListed}
-use Rattle.mds_kept.specs.declared.bitmap_index.IndexedFleet.{IndexedFleet}
-use Rattle.mds_kept.proofs.bitmap_index.BitmapIndex.arrive.Goals as goal
+use Rattle.mds_bitmaps.specs.Index.{IsListed}
+use Rattle.mds_bitmaps.specs.declared.bitmap_index.IndexedFleet.{IndexedFleet}
+use Rattle.mds_bitmaps.proofs.bitmap_index.BitmapIndex.arrive.Goals as goal
 
 pub returns-in-Some-arrived : goal.returns-in-Some-arrived
 returns-in-Some-arrived c published before after ordered arrives fits =

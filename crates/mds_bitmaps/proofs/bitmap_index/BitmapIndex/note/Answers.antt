@@ -1,9 +1,9 @@
 use Rattle.std.proofs.Common.{Option, subst, sym, ◌∙◌}
 use Rattle.std.specs.Option.{IfSome}
-use Rattle.mds_kept.specs.Index.{IsChanged, IsListed, Published, Vehicles}
-use Rattle.mds_kept.specs.declared.bitmap_index.IndexedFleet.{IndexedFleet}
-use Rattle.mds_kept.proofs.Keeping.{if_some_as}
-use Rattle.mds_kept.proofs.bitmap_index.BitmapIndex.note.Goals as goal
+use Rattle.mds_bitmaps.specs.Index.{IsChanged, IsListed, Published, Vehicles}
+use Rattle.mds_bitmaps.specs.declared.bitmap_index.IndexedFleet.{IndexedFleet}
+use Rattle.mds_bitmaps.proofs.Keeping.{if_some_as}
+use Rattle.mds_bitmaps.proofs.bitmap_index.BitmapIndex.note.Goals as goal
 
 pub returns-in-Some : goal.returns-in-Some
 returns-in-Some c published before after changes fits =

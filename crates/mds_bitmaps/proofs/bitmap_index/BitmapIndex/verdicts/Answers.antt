@@ -5,14 +5,14 @@ use Rattle.std.specs.Option.{IfSome}
 use Rattle.mds_geometry.specs.declared.position.Position.{Position}
 use Rattle.mds_policy.specs.Policy.{policy_document}
 use Rattle.mds_match.specs.Row.{Row}
-use Rattle.mds_kept.specs.Masks.{IsMask}
+use Rattle.mds_bitmaps.specs.Masks.{IsMask}
 use Rattle.mds_verdict.specs.Verdict.{verdict_document, verdicts}
 use Rattle.mds_verdict.specs.declared.verdict.RuleVerdict.{RuleVerdict}
-use Rattle.mds_kept.specs.Columns.{AreOf}
-use Rattle.mds_kept.specs.Index.{AreRead, IsListed, IsSince, rows_in}
-use Rattle.mds_kept.specs.declared.bitmap_index.IndexedFleet.{IndexedFleet}
-use Rattle.mds_kept.proofs.Keeping.{asked_column, columns_of, fresh_column, if_ok_as, lasts}
-use Rattle.mds_kept.proofs.bitmap_index.BitmapIndex.verdicts.Goals as goal
+use Rattle.mds_bitmaps.specs.Columns.{AreOf}
+use Rattle.mds_bitmaps.specs.Index.{AreRead, IsListed, IsSince, rows_in}
+use Rattle.mds_bitmaps.specs.declared.bitmap_index.IndexedFleet.{IndexedFleet}
+use Rattle.mds_bitmaps.proofs.Keeping.{asked_column, columns_of, fresh_column, if_ok_as, lasts}
+use Rattle.mds_bitmaps.proofs.bitmap_index.BitmapIndex.verdicts.Goals as goal
 
 pub refresh_column-requires-clause-seen : goal.refresh_column-requires-clause-seen
 refresh_column-requires-clause-seen g c =

@@ -1,8 +1,8 @@
 use Rattle.std.proofs.Common.{sym, ap, map, ◌∙◌}
 use Rattle.mds_policy.specs.Policy.{rule_document}
-use Rattle.mds_kept.specs.Masks.{matches}
-use Rattle.mds_kept.proofs.Split.{map-map}
-use Rattle.mds_kept.proofs.matcher.PolicyMatcher.new.Goals as goal
+use Rattle.mds_bitmaps.specs.Masks.{matches}
+use Rattle.mds_bitmaps.proofs.Split.{map-map}
+use Rattle.mds_bitmaps.proofs.matcher.PolicyMatcher.new.Goals as goal
 
 pub returns : goal.returns
 returns g c row =

@@ -2,7 +2,7 @@ use Rattle.std.proofs.Common.{◌≡◌, map, refl, sym, ap, subst, IfSome, ◌�
 use Rattle.std.specs.FinMap as finite
 use Rattle.mds_policy.specs.Policy.{policy_document}
 use Rattle.mds_verdict.specs.Verdict.{verdict_document, verdicts}
-use Rattle.mds_kept.specs.Index.{rows_in}
+use Rattle.mds_bitmaps.specs.Index.{rows_in}
 use Rattle.mds_fleet.specs.Fleet.{Fits, rows_of}
 use Rattle.mds_fleet.proofs.Fitting.{fits_book}
 use Rattle.mds_fleet.proofs.Rows.{values_rows}

@@ -1,10 +1,10 @@
 use Rattle.std.proofs.Common.{◌∙◌}
 use Rattle.std.proofs.lemmas.Bool.{MatchBool-at_false}
-use Rattle.mds_lines.specs.LineReading.{held, passed, left}
-use Rattle.mds_lines.proofs.Gathered.{closes, closes_last}
-use Rattle.mds_lines.proofs.Reading.{fails_from, gathered_advances}
-use Rattle.mds_lines.proofs.Steps.{after_no_feed, after_refill, line_found, line_advances, end_found, end_advances, end_nearer}
-use Rattle.mds_lines.proofs.lines.LineReader.next.Goals as goal
+use Rattle.mds_script.specs.LineReading.{held, passed, left}
+use Rattle.mds_script.proofs.Gathered.{closes, closes_last}
+use Rattle.mds_script.proofs.Reading.{fails_from, gathered_advances}
+use Rattle.mds_script.proofs.Steps.{after_no_feed, after_refill, line_found, line_advances, end_found, end_advances, end_nearer}
+use Rattle.mds_script.proofs.lines.LineReader.next.Goals as goal
 
 pub returns-then-take_line-clause-found : goal.returns-then-take_line-clause-found
 returns-then-take_line-clause-found g c =

@@ -1,8 +1,8 @@
 use Rattle.std.proofs.Common.{◌≡◌, ◌-◌}
-use Rattle.mds_lines.specs.LineReading.{held, passed, left}
-use Rattle.mds_lines.proofs.Reading.{Gathered}
-use Rattle.mds_lines.proofs.lines.LineReader.next.Given as goal
-use Rattle.mds_lines.specs.declared.lines.TheConstants.{INPUT_LIMIT}
+use Rattle.mds_script.specs.LineReading.{held, passed, left}
+use Rattle.mds_script.proofs.Reading.{Gathered}
+use Rattle.mds_script.proofs.lines.LineReader.next.Given as goal
+use Rattle.mds_script.specs.declared.lines.TheConstants.{INPUT_LIMIT}
 
 abbrev pub invariant-pieces : goal.invariant-pieces
 invariant-pieces g l = record {

@@ -1,7 +1,7 @@
 use Rattle.std.proofs.Common.{◌≡◌, ◌∷◌, ◌++◌, ◌-◌, length, take, drop, ap, sym, ◌∙◌, length-append, arith}
 use Rattle.std.proofs.lemmas.List.{length-take}
-use Rattle.mds_lines.proofs.Reading.{ahead_behind}
-use Rattle.mds_lines.proofs.lines.LineReader.take_line.Goals as goal
+use Rattle.mds_script.proofs.Reading.{ahead_behind}
+use Rattle.mds_script.proofs.lines.LineReader.take_line.Goals as goal
 
 pub returns-in-Some-clause-takes : goal.returns-in-Some-clause-takes
 returns-in-Some-clause-takes c =

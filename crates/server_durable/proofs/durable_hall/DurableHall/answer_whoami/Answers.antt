@@ -1,9 +1,9 @@
 use Rattle.std.proofs.Common.{◌≡◌}
-use Rattle.mds_app.specs.OperatorNames.{badges_view}
-use Rattle.mds_app.specs.Whoami.{who_reply}
-use Rattle.mds_city.proofs.Own.{by_memory}
-use Rattle.mds_city.proofs.Responses.{waits_told}
-use Rattle.mds_city.proofs.durable_hall.DurableHall.answer_whoami.Goals as goal
+use Rattle.server_app.specs.OperatorNames.{badges_view}
+use Rattle.server_app.specs.Whoami.{who_reply}
+use Rattle.server_durable.proofs.Own.{by_memory}
+use Rattle.server_durable.proofs.Responses.{waits_told}
+use Rattle.server_durable.proofs.durable_hall.DurableHall.answer_whoami.Goals as goal
 
 pub returns : goal.returns
 returns g c =

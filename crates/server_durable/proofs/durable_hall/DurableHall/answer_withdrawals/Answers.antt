@@ -1,8 +1,8 @@
-use Rattle.mds_app.specs.OperatorNames.{badges_view}
-use Rattle.mds_city.specs.People.{TellsOperator}
-use Rattle.mds_routes.specs.declared.app.Question.TheVariants.{Withdrawals}
-use Rattle.mds_city.proofs.Responses.{waits_told}
-use Rattle.mds_city.proofs.durable_hall.DurableHall.answer_withdrawals.Goals as goal
+use Rattle.server_app.specs.OperatorNames.{badges_view}
+use Rattle.server_durable.specs.People.{TellsOperator}
+use Rattle.server_routes.specs.declared.app.Question.TheVariants.{Withdrawals}
+use Rattle.server_durable.proofs.Responses.{waits_told}
+use Rattle.server_durable.proofs.durable_hall.DurableHall.answer_withdrawals.Goals as goal
 
 pub returns-in-Ok : goal.returns-in-Ok
 returns-in-Ok g c =

@@ -1,8 +1,8 @@
 use Rattle.std.proofs.Common.{◌≡◌, ◌≤◌, ◌-◌, length, map, take}
 use Rattle.mds_request.specs.Request.{request_of}
 use Rattle.mds_desk.specs.Desk.{state_of}
-use Rattle.mds_city.proofs.Reports.{Reached}
-use Rattle.mds_city.proofs.durable_hall.DurableHall.carry_out_all.Given as goal
+use Rattle.server_durable.proofs.Reports.{Reached}
+use Rattle.server_durable.proofs.durable_hall.DurableHall.carry_out_all.Given as goal
 
 -- the requests so far are answered, at this operator's desk
 abbrev pub invariant-chunks : goal.invariant-chunks

@@ -4,8 +4,8 @@ use Rattle.std.specs.List.{list_all}
 use Rattle.mds_request.specs.Request.{request_of}
 use Rattle.mds_request.specs.Reply.{Reply}
 use Rattle.mds_machine.proofs.Views.{prefix_self}
-use Rattle.mds_city.proofs.Reports.{refused_are_recorded}
-use Rattle.mds_city.proofs.durable_hall.DurableHall.carry_out_refused.Goals as goal
+use Rattle.server_durable.proofs.Reports.{refused_are_recorded}
+use Rattle.server_durable.proofs.durable_hall.DurableHall.carry_out_refused.Goals as goal
 
 pub returns-clause-continues : goal.returns-clause-continues
 returns-clause-continues g c =

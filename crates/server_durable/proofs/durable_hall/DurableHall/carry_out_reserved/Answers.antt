@@ -3,8 +3,8 @@ use Rattle.std.proofs.lemmas.List.{length-map}
 use Rattle.mds_request.specs.Request.{request_of}
 use Rattle.mds_request.specs.Reply.{Reply}
 use Rattle.mds_desk.specs.Desk.{state_of}
-use Rattle.mds_city.proofs.Reports.{as_many_told, settled_are_recorded}
-use Rattle.mds_city.proofs.durable_hall.DurableHall.carry_out_reserved.Goals as goal
+use Rattle.server_durable.proofs.Reports.{as_many_told, settled_are_recorded}
+use Rattle.server_durable.proofs.durable_hall.DurableHall.carry_out_reserved.Goals as goal
 
 pub note_accepted-requires-clause-room : goal.note_accepted-requires-clause-room
 note_accepted-requires-clause-room g c =

@@ -3,12 +3,12 @@ use Rattle.mds_request.specs.Call.{call_of}
 use Rattle.mds_request.specs.Configuration.{Configuration}
 use Rattle.mds_request.specs.declared.call.Call.TheVariants.{Operator as OperatorAt}
 use Rattle.mds_request.specs.declared.config.Actor.TheVariants.{Operator}
-use Rattle.mds_hall.proofs.Clients.{caller_within}
-use Rattle.mds_hall.specs.WholeRequest.{request_heard}
-use Rattle.mds_hall.specs.Turn.{DeskReplies}
-use Rattle.mds_city.specs.Records.{IsSettled}
-use Rattle.mds_city.proofs.Turns.{recorded}
-use Rattle.mds_city.proofs.durable_hall.DurableHall.desk_turn.Goals as goal
+use Rattle.server_state.proofs.Clients.{caller_within}
+use Rattle.server_state.specs.WholeRequest.{request_heard}
+use Rattle.server_state.specs.Turn.{DeskReplies}
+use Rattle.server_durable.specs.Records.{IsSettled}
+use Rattle.server_durable.proofs.Turns.{recorded}
+use Rattle.server_durable.proofs.durable_hall.DurableHall.desk_turn.Goals as goal
 
 pub desk_at-requires : goal.desk_at-requires
 desk_at-requires g c =

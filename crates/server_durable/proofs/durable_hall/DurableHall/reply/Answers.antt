@@ -1,6 +1,6 @@
-use Rattle.mds_hall.specs.Response.{Says}
-use Rattle.mds_city.proofs.Responses.{waits_for}
-use Rattle.mds_city.proofs.durable_hall.DurableHall.reply.Goals as goal
+use Rattle.server_state.specs.Response.{Says}
+use Rattle.server_durable.proofs.Responses.{waits_for}
+use Rattle.server_durable.proofs.durable_hall.DurableHall.reply.Goals as goal
 
 pub returns-clause-says : goal.returns-clause-says
 returns-clause-says g c =

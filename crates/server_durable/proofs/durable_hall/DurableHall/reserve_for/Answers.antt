@@ -1,11 +1,11 @@
 use Rattle.std.proofs.Common.{◌≡◌, length, Some, sym, ap, subst, ◌∙◌}
-use Rattle.mds_entries.specs.Requests.{asker_at}
+use Rattle.journal_entry.specs.Requests.{asker_at}
 use Rattle.mds_request.specs.Configuration.{Configuration, configuration}
-use Rattle.mds_hall.specs.Client.{IsWithin}
-use Rattle.mds_hall.specs.WholeRequest.{request_heard}
-use Rattle.mds_city.specs.Records.{caller_of, record_by}
-use Rattle.mds_city.proofs.Askers.{caller_within, record_of_call}
-use Rattle.mds_city.proofs.durable_hall.DurableHall.reserve_for.Goals as goal
+use Rattle.server_state.specs.Client.{IsWithin}
+use Rattle.server_state.specs.WholeRequest.{request_heard}
+use Rattle.server_durable.specs.Records.{caller_of, record_by}
+use Rattle.server_durable.proofs.Askers.{caller_within, record_of_call}
+use Rattle.server_durable.proofs.durable_hall.DurableHall.reserve_for.Goals as goal
 
 pub client_of-asker-requires : goal.client_of-asker-requires
 client_of-asker-requires g c =

@@ -1,11 +1,11 @@
 use Rattle.std.proofs.Common.{◌≡◌, ◌<◌, length, map, Some, sym, ap, subst, ◌∙◌}
-use Rattle.mds_entries.specs.Requests.{asker_at}
+use Rattle.journal_entry.specs.Requests.{asker_at}
 use Rattle.mds_request.specs.Configuration.{Configuration, configuration}
 use Rattle.mds_request.specs.Request.{request_of}
 use Rattle.mds_request.specs.declared.config.Actor.TheVariants.{Operator}
-use Rattle.mds_city.specs.Many.{AreRecordsOf}
-use Rattle.mds_city.proofs.Askers.{records_of}
-use Rattle.mds_city.proofs.durable_hall.DurableHall.reserve_for_all.Goals as goal
+use Rattle.server_durable.specs.Many.{AreRecordsOf}
+use Rattle.server_durable.proofs.Askers.{records_of}
+use Rattle.server_durable.proofs.durable_hall.DurableHall.reserve_for_all.Goals as goal
 
 pub operator_asker-asker-requires : goal.operator_asker-asker-requires
 operator_asker-asker-requires g c =

@@ -1,8 +1,8 @@
 use Rattle.std.proofs.Common.{◌≡◌}
-use Rattle.mds_hall.specs.Query.{RoomTells}
-use Rattle.mds_city.specs.People.{room_told}
-use Rattle.mds_city.proofs.Responses.{waits_told}
-use Rattle.mds_city.proofs.durable_hall.DurableHall.respond_of_room.Goals as goal
+use Rattle.server_state.specs.Query.{RoomTells}
+use Rattle.server_durable.specs.People.{room_told}
+use Rattle.server_durable.proofs.Responses.{waits_told}
+use Rattle.server_durable.proofs.durable_hall.DurableHall.respond_of_room.Goals as goal
 
 pub returns : goal.returns
 returns g c =

@@ -1,9 +1,9 @@
 use Rattle.std.proofs.Common.{◌≡◌, ℕ, option_map, inl, inr, ap, subst, ◌∙◌, arith}
 use Rattle.mds_request.specs.declared.config.Actor.TheVariants.{Author}
-use Rattle.mds_hall.specs.WholeRequest.{request_heard}
-use Rattle.mds_city.specs.Records.{IsSettled}
-use Rattle.mds_city.proofs.Turns.{of_some, recorded, settled_refused, settled_shown, settled_unasked}
-use Rattle.mds_city.proofs.durable_hall.DurableHall.room_turn.Goals as goal
+use Rattle.server_state.specs.WholeRequest.{request_heard}
+use Rattle.server_durable.specs.Records.{IsSettled}
+use Rattle.server_durable.proofs.Turns.{of_some, recorded, settled_refused, settled_shown, settled_unasked}
+use Rattle.server_durable.proofs.durable_hall.DurableHall.room_turn.Goals as goal
 
 pub returns-in-Ok : goal.returns-in-Ok
 returns-in-Ok g c =

@@ -1,5 +1,5 @@
-use Rattle.mds_city.specs.Records.{text_of}
-use Rattle.mds_city.proofs.durable_hall.DurableHall.room_turn_of.Given as goal
+use Rattle.server_durable.specs.Records.{text_of}
+use Rattle.server_durable.proofs.durable_hall.DurableHall.room_turn_of.Given as goal
 
 -- the payload of the reservation
 abbrev pub ghosts-room_turn : goal.ghosts-room_turn

@@ -1,15 +1,15 @@
 use Rattle.std.proofs.Common.{◌≡◌, List, Some, option_map, sym, ap, ◌∙◌}
 use Rattle.std.specs.List.{slice_get}
-use Rattle.mds_app.specs.OperatorNames.{badges_view}
-use Rattle.mds_app.specs.Withdrawals.{withdrawals_reply}
+use Rattle.server_app.specs.OperatorNames.{badges_view}
+use Rattle.server_app.specs.Withdrawals.{withdrawals_reply}
 use Rattle.mds_catalog.specs.Publication.{Publication}
 use Rattle.mds_request.specs.Configuration.{Configuration, configuration}
 use Rattle.mds_request.specs.Reply.{Reply}
-use Rattle.mds_hall.specs.Query.{DeskTells}
-use Rattle.mds_city.specs.People.{TellsOperator, own_withdrawals}
-use Rattle.mds_routes.specs.declared.app.Question.TheVariants.{Withdrawals}
-use Rattle.mds_city.proofs.Own.{by_refusal, desk_tells, ok_kind, own_is}
-use Rattle.mds_city.proofs.durable_hall.DurableHall.withdrawals_at.Goals as goal
+use Rattle.server_state.specs.Query.{DeskTells}
+use Rattle.server_durable.specs.People.{TellsOperator, own_withdrawals}
+use Rattle.server_routes.specs.declared.app.Question.TheVariants.{Withdrawals}
+use Rattle.server_durable.proofs.Own.{by_refusal, desk_tells, ok_kind, own_is}
+use Rattle.server_durable.proofs.durable_hall.DurableHall.withdrawals_at.Goals as goal
 
 pub returns : goal.returns
 returns g c =

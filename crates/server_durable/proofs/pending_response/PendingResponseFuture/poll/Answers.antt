@@ -1,5 +1,5 @@
 use Rattle.std.proofs.Common.{Ok, Err}
-use Rattle.mds_city.proofs.pending_response.PendingResponseFuture.poll.Goals as goal
+use Rattle.server_durable.proofs.pending_response.PendingResponseFuture.poll.Goals as goal
 
 pub returns-in-Pending-clause-same : goal.returns-in-Pending-clause-same
 returns-in-Pending-clause-same g c (Err error) told = tt

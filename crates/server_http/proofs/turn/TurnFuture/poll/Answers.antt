@@ -1,5 +1,5 @@
 use Rattle.std.proofs.Common.{rules, Ok, Err}
-use Rattle.mds_connections.proofs.turn.TurnFuture.poll.Goals as goal
+use Rattle.server_http.proofs.turn.TurnFuture.poll.Goals as goal
 
 pub returns-in-Pending-clause-same : goal.returns-in-Pending-clause-same
 returns-in-Pending-clause-same c (Err error) given = tt

@@ -1,5 +1,5 @@
-use Rattle.mds_page.proofs.Found.{at_path}
-use Rattle.mds_page.proofs.file.File.at.Goals as goal
+use Rattle.server_page.proofs.Found.{at_path}
+use Rattle.server_page.proofs.file.File.at.Goals as goal
 
 pub returns-clause-at : goal.returns-clause-at
 returns-clause-at c = at_path c.args.path.now c.first_at.result c.first_at.ensures

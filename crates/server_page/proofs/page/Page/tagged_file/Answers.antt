@@ -1,9 +1,9 @@
 use Rattle.std.proofs.Common.{◌∙◌, ap, length, option_map, refl, slice_get, sym, arith}
 use Rattle.std.proofs.lemmas.List.{length-map}
 use Rattle.std.proofs.lemmas.Option.{same_Some, slice_get-map, slice_get_read, slice_get_within}
-use Rattle.mds_page.specs.File.{files}
-use Rattle.mds_page.specs.declared.tagged_file.TaggedFile.{TaggedFile}
-use Rattle.mds_page.proofs.page.Page.tagged_file.Goals as goal
+use Rattle.server_page.specs.File.{files}
+use Rattle.server_page.specs.declared.tagged_file.TaggedFile.{TaggedFile}
+use Rattle.server_page.proofs.page.Page.tagged_file.Goals as goal
 
 pub returns : goal.returns
 returns c =

@@ -5,15 +5,15 @@ use Rattle.std.specs.contracts.alloc.Global as global
 use Rattle.std.specs.contracts.impls.GlobalAllocator.TheImpl as allocator
 use Rattle.std.specs.contracts.result.Result.{enum}
 use Rattle.bytes.specs.contracts.shared.Bytes as bytes
-use Rattle.mds_public.specs.Answer.{answer_of}
-use Rattle.mds_public.specs.View.{face}
-use Rattle.mds_public.specs.contracts.refusal.PublicFault as denied
-use Rattle.mds_public.specs.declared.refusal.PublicFault.{PublicFault}
-use Rattle.mds_public.specs.declared.refusal.PublicFault.TheVariants.{Refused}
-use Rattle.mds_public.specs.declared.refusal.Refusal.{Refusal}
-use Rattle.mds_public.specs.Response.{query_of}
-use Rattle.mds_public.proofs.Telling.{refused_for, says_of_room}
-use Rattle.mds_public.proofs.cached_documents.CachedDocuments.respond.Goals as goal
+use Rattle.server_public.specs.Answer.{answer_of}
+use Rattle.server_public.specs.View.{face}
+use Rattle.server_public.specs.contracts.refusal.PublicFault as denied
+use Rattle.server_public.specs.declared.refusal.PublicFault.{PublicFault}
+use Rattle.server_public.specs.declared.refusal.PublicFault.TheVariants.{Refused}
+use Rattle.server_public.specs.declared.refusal.Refusal.{Refusal}
+use Rattle.server_public.specs.Response.{query_of}
+use Rattle.server_public.proofs.Telling.{refused_for, says_of_room}
+use Rattle.server_public.proofs.cached_documents.CachedDocuments.respond.Goals as goal
 
 -- why there is no body, read out of an answer as the program does
 read : PublicFault × ⊤ → Result (List ℕ) PublicFault → PublicFault

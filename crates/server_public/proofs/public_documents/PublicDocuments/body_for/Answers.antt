@@ -1,10 +1,10 @@
 use Rattle.std.proofs.Common.{◌≡◌, Ok, codes, ap, sym, ◌∙◌}
-use Rattle.mds_public.specs.Answer.{found, policies_told, told}
-use Rattle.mds_public.specs.Body.{body_text}
-use Rattle.mds_public.specs.Period.{period_in}
-use Rattle.mds_public.specs.View.{face}
-use Rattle.mds_public.proofs.Whole.{all_in, no_query, texts_seen}
-use Rattle.mds_public.proofs.public_documents.PublicDocuments.body_for.Goals as goal
+use Rattle.server_public.specs.Answer.{found, policies_told, told}
+use Rattle.server_public.specs.Body.{body_text}
+use Rattle.server_public.specs.Period.{period_in}
+use Rattle.server_public.specs.View.{face}
+use Rattle.server_public.proofs.Whole.{all_in, no_query, texts_seen}
+use Rattle.server_public.proofs.public_documents.PublicDocuments.body_for.Goals as goal
 
 pub returns-in_ok-clone-in-Geographies : goal.returns-in_ok-clone-in-Geographies
 returns-in_ok-clone-in-Geographies c =

@@ -1,8 +1,8 @@
 use Rattle.std.proofs.Common.{sym, subst, ap, ◌∙◌}
 use Rattle.mds_request.specs.Call.{call_of}
-use Rattle.mds_hall.specs.WholeRequest.{request_heard}
-use Rattle.mds_hall.specs.Turn.{RoomReplies}
-use Rattle.mds_hall.proofs.hall.Hall.answer_author.Goals as goal
+use Rattle.server_state.specs.WholeRequest.{request_heard}
+use Rattle.server_state.specs.Turn.{RoomReplies}
+use Rattle.server_state.proofs.hall.Hall.answer_author.Goals as goal
 
 pub carry_out-reply-requires : goal.carry_out-reply-requires
 carry_out-reply-requires g c =

@@ -1,7 +1,7 @@
 use Rattle.std.proofs.Common.{Ok, Err, ap, sym, ◌∙◌}
 use Rattle.mds_request.specs.declared.call.Call.TheVariants as call
-use Rattle.mds_hall.proofs.Resolving.{caller_in, nobody_in}
-use Rattle.mds_hall.proofs.hall.Hall.caller.Goals as goal
+use Rattle.server_state.proofs.Resolving.{caller_in, nobody_in}
+use Rattle.server_state.proofs.hall.Hall.caller.Goals as goal
 
 pub returns-in-Author : goal.returns-in-Author
 returns-in-Author g c =

@@ -1,7 +1,7 @@
 use Rattle.std.proofs.Common.{◌≡◌, length, sym, subst, arith}
 use Rattle.mds_request.specs.Configuration.{configuration}
-use Rattle.mds_hall.proofs.Placing.{as_many, in_place}
-use Rattle.mds_hall.proofs.hall.Hall.desk.Goals as goal
+use Rattle.server_state.proofs.Placing.{as_many, in_place}
+use Rattle.server_state.proofs.hall.Hall.desk.Goals as goal
 
 pub index-requires : goal.index-requires
 index-requires g c =

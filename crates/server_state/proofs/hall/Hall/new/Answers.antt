@@ -1,7 +1,7 @@
 use Rattle.std.proofs.Common.{ap, ◌∙◌}
 use Rattle.mds_desk.specs.Desk.{new_desks}
-use Rattle.mds_hall.proofs.Placing.{new_are_its}
-use Rattle.mds_hall.proofs.hall.Hall.new.Goals as goal
+use Rattle.server_state.proofs.Placing.{new_are_its}
+use Rattle.server_state.proofs.hall.Hall.new.Goals as goal
 
 pub of-requires-clause-desks : goal.of-requires-clause-desks
 of-requires-clause-desks g c =

@@ -1,8 +1,8 @@
 use Rattle.std.specs.Prelude.{option_copied}
 use Rattle.mds_desk.specs.Desk.{state_of}
-use Rattle.mds_hall.specs.WholeRequest.{request_heard}
-use Rattle.mds_hall.proofs.Turns.{desk_replies}
-use Rattle.mds_hall.proofs.locks.HallDesk.answer.Goals as goal
+use Rattle.server_state.specs.WholeRequest.{request_heard}
+use Rattle.server_state.proofs.Turns.{desk_replies}
+use Rattle.server_state.proofs.locks.HallDesk.answer.Goals as goal
 
 pub returns-clause-replies : goal.returns-clause-replies
 returns-clause-replies g c =

@@ -1,8 +1,8 @@
 use Rattle.std.specs.Prelude.{map, option_copied}
 use Rattle.mds_request.specs.Request.{request_of}
 use Rattle.mds_desk.specs.Desk.{state_of}
-use Rattle.mds_hall.proofs.Turns.{desk_runs}
-use Rattle.mds_hall.proofs.locks.HallDesk.answer_all.Goals as goal
+use Rattle.server_state.proofs.Turns.{desk_runs}
+use Rattle.server_state.proofs.locks.HallDesk.answer_all.Goals as goal
 
 pub returns-clause-replies : goal.returns-clause-replies
 returns-clause-replies g c =

@@ -3,9 +3,9 @@ use Rattle.std.specs.Prelude.{Ok, option_copied}
 use Rattle.mds_request.specs.Call.{call_of}
 use Rattle.mds_request.specs.declared.call.Call.TheVariants.{Operator}
 use Rattle.mds_desk.specs.Desk.{state_of}
-use Rattle.mds_hall.specs.WholeRequest.{request_heard}
-use Rattle.mds_hall.proofs.Turns.{desk_replies}
-use Rattle.mds_hall.proofs.locks.HallDesk.carry_out.Goals as goal
+use Rattle.server_state.specs.WholeRequest.{request_heard}
+use Rattle.server_state.proofs.Turns.{desk_replies}
+use Rattle.server_state.proofs.locks.HallDesk.carry_out.Goals as goal
 
 pub take_call_turn-reply-requires-clause-resolved : goal.take_call_turn-reply-requires-clause-resolved
 take_call_turn-reply-requires-clause-resolved g c =

@@ -1,6 +1,6 @@
 use Rattle.std.proofs.Common.{◌≡◌, sym, subst}
 use Rattle.mds_desk.specs.Room.{room_of}
-use Rattle.mds_hall.proofs.locks.HallRoom.answer_with.Goals as goal
+use Rattle.server_state.proofs.locks.HallRoom.answer_with.Goals as goal
 
 pub returns-clause-replies : goal.returns-clause-replies
 returns-clause-replies g c =

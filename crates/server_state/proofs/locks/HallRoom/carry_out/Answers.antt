@@ -2,7 +2,7 @@ use Rattle.std.proofs.Common.{◌≡◌, sym, ap, subst, ◌∙◌}
 use Rattle.mds_request.specs.Call.{call_of}
 use Rattle.mds_request.specs.Request.{request_of}
 use Rattle.mds_desk.specs.Room.{room_of}
-use Rattle.mds_hall.proofs.locks.HallRoom.carry_out.Goals as goal
+use Rattle.server_state.proofs.locks.HallRoom.carry_out.Goals as goal
 
 pub carry_out-requires : goal.carry_out-requires
 carry_out-requires g c =

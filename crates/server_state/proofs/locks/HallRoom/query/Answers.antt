@@ -1,8 +1,8 @@
 use Rattle.std.proofs.Common.{◌≡◌, sym, subst}
 use Rattle.std.specs.Mem.{manually_drop_value}
 use Rattle.mds_desk.specs.Room.{room_of}
-use Rattle.mds_hall.proofs.Turns.{of_ok}
-use Rattle.mds_hall.proofs.locks.HallRoom.query.Goals as goal
+use Rattle.server_state.proofs.Turns.{of_ok}
+use Rattle.server_state.proofs.locks.HallRoom.query.Goals as goal
 
 pub returns-clause-tells : goal.returns-clause-tells
 returns-clause-tells g c =

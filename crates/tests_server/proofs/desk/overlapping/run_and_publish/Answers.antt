@@ -7,8 +7,8 @@ use denote.Param.SendFields.{declared_send}
 use Rattle.std.proofs.Crossing.{crosses}
 use Rattle.mds_snapshot.specs.declared.history.OpeningName.{Ghosts}
 use Rattle.mds_desk.proofs.Desks.{desk_send}
-use Rattle.mds_server_tests.specs.contracts.desk.overlapping.RunningDesk as RunningDesk
-use Rattle.mds_server_tests.proofs.desk.overlapping.run_and_publish.Goals as goal
+use Rattle.tests_server.specs.contracts.desk.overlapping.RunningDesk as RunningDesk
+use Rattle.tests_server.proofs.desk.overlapping.run_and_publish.Goals as goal
 
 -- a running desk may go to another thread: its desk is borrowed, and the flags are shared
 running_send : (a : NamedLft) (K : RattleType) (g : Ghosts K.Denot) → IsSend (RunningDesk.the_row a K g)

@@ -7,8 +7,8 @@ use denote.Param.SendFields.{declared_send}
 use Rattle.std.proofs.Crossing.{crosses}
 use Rattle.mds_snapshot.specs.declared.history.OpeningName.{Ghosts}
 use Rattle.mds_desk.proofs.Desks.{desk_send}
-use Rattle.mds_server_tests.specs.contracts.desk.overlapping.HeldDesk as HeldDesk
-use Rattle.mds_server_tests.proofs.desk.overlapping.two_desks.Goals as goal
+use Rattle.tests_server.specs.contracts.desk.overlapping.HeldDesk as HeldDesk
+use Rattle.tests_server.proofs.desk.overlapping.two_desks.Goals as goal
 
 -- a held desk may go to another thread: its desk is borrowed, and the flags are shared
 held_send : (a : NamedLft) (K : RattleType) (g : Ghosts K.Denot) → IsSend (HeldDesk.the_row a K g)

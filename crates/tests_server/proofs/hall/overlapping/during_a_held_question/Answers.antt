@@ -6,10 +6,10 @@ use denote.Param.Send.{IsSend, IsSync, sendable, param_send, arg_send}
 use denote.Param.SendFields.{declared_send}
 use Rattle.std.proofs.Crossing.{crosses, send}
 use Rattle.mds_snapshot.specs.declared.history.OpeningName.{Ghosts}
-use Rattle.mds_hall.specs.declared.hall_name.HallName.{Ghosts as Names}
-use Rattle.mds_hall.proofs.Halls.{hall_sync}
-use Rattle.mds_server_tests.specs.contracts.hall.overlapping.HeldQuestion as HeldQuestion
-use Rattle.mds_server_tests.proofs.hall.overlapping.during_a_held_question.Goals as goal
+use Rattle.server_state.specs.declared.hall_name.HallName.{Ghosts as Names}
+use Rattle.server_state.proofs.Halls.{hall_sync}
+use Rattle.tests_server.specs.contracts.hall.overlapping.HeldQuestion as HeldQuestion
+use Rattle.tests_server.proofs.hall.overlapping.during_a_held_question.Goals as goal
 
 -- a question may go to another thread: the runtime, the hall and the flags are shared
 question_send : (a : NamedLft) (K R : RattleType) (n : Names K.Denot) (g : Ghosts K.Denot) → IsSync R → IsSend (HeldQuestion.the_row a K R n g)

@@ -1,5 +1,5 @@
 use Rattle.mds_snapshot.specs.Opening.{book_of}
-use Rattle.mds_server_tests.proofs.hall.session.answers_at_a_desk.Given as goal
+use Rattle.tests_server.proofs.hall.session.answers_at_a_desk.Given as goal
 
 -- the book of the blank that was just prepared
 abbrev pub ghosts-at_desk : goal.ghosts-at_desk
