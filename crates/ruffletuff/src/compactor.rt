@@ -1,7 +1,7 @@
 //! Compacts the journal of a city while the city is served.
 
+use crate::file_swap::{FileJournal, JournalHandoff};
 use crate::folders::Folders;
-use crate::journal_swap::{FileJournal, JournalHandoff};
 use crate::thread_job::ThreadJob;
 use cli_journal::moment;
 use journal_compaction::{AnswersAgree, CompactFault, JournalPrefix, check_empty, compact_prefix};

@@ -7,9 +7,9 @@ ghost use Rattle.ruffletuff.specs.Starting.{IsStartedFromLog};
 
 use crate::admin::AdminState;
 use crate::compactor::Compactor;
+use crate::file_swap::{FileJournal, JournalHandoff, JournalSwapper};
 use crate::folders::Folders;
 use crate::host::ThreadHost;
-use crate::journal_swap::{FileJournal, JournalHandoff, JournalSwapper};
 use crate::listening::{BoundListener, listen};
 use crate::reporting_space::ReportingSpace;
 use crate::serving::{ServingParts, persist_and_serve};
