@@ -31,10 +31,10 @@ use Rattle.mds_snapshot.specs.contracts.pane.Pane.TheInside as PaneInside
 use Rattle.mds_snapshot.specs.contracts.publisher.Publisher as Publisher
 use Rattle.mds_snapshot.specs.contracts.publisher.Publisher.TheInside as PublisherInside
 use Rattle.mds_snapshot.specs.contracts.rule.Fronts as Fronts
-use Rattle.mds_snapshot.specs.contracts.rule.FrontsProtocolShownArrayListed0.TheImpl as fronts
+use Rattle.mds_snapshot.specs.contracts.rule.FrontsProtocolSnapshotCopyArrayLoggedBatch0.TheImpl as fronts
 use Rattle.mds_snapshot.specs.contracts.snapshot_copy.CopyOperation as CopyOperation
 use Rattle.mds_snapshot.specs.contracts.snapshot_copy.SnapshotCopy as SnapshotCopy
-use Rattle.mds_snapshot.specs.contracts.snapshot_copy.SnapshotCopyAbsorbOperation.TheImpl as absorb
+use Rattle.mds_snapshot.specs.contracts.snapshot_copy.SnapshotCopyAbsorbCopyOperation.TheImpl as absorb
 
 pub policy_send : IsSend Policy.the_row
 policy_send = policy.the_send
