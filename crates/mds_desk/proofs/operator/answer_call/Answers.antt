@@ -18,9 +18,9 @@ returns-in-Some g c =
     let asked = c.operator_key-asked.result in
     record {
       answer = operator_found configured.zone c.args.look.now c.operator.result c.args.call.now c.args.book.now.rows (request_of c.args.request.now)
-          (slice_get configured.operators c.args.seat.now.place) asked c.in-Some.body c.ready.result c.operator.ensures
+          (slice_get configured.operators c.args.seat.now.place) asked c.in-Some.body c.from_cached.result c.operator.ensures
           (subst (λ ps. IfSome asked (AnswersOperator ps c.operator.result c.args.call.now)) c.catalogue-catalogue.ensures.publications c.operator_key-asked.ensures)
-          (subst (λ ps. IsFound ps asked c.in-Some.body) c.note-note.ensures c.in-Some.ensures) c.ready.ensures;
+          (subst (λ ps. IsFound ps asked c.in-Some.body) c.note-note.ensures c.in-Some.ensures) c.from_cached.ensures;
       limit = cc;
       fits = c.requires.fits;
     }

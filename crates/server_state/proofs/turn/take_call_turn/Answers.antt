@@ -9,7 +9,7 @@ use Rattle.server_state.proofs.turn.take_call_turn.Goals as goal
 
 pub carry_out-requires-clause-resolved : goal.carry_out-requires-clause-resolved
 carry_out-requires-clause-resolved g c =
-    let same = same_told (state_of c.args.desk.now) (option_copied c.args.note) (state_of c.tell.new.desk) c.tell.ensures in
+    let same = same_told (state_of c.args.desk.now) (option_copied c.args.note) (state_of c.learn_note.new.desk) c.learn_note.ensures in
     ap (λ configuration. call_of configuration (request_of c.args.request.now)) same.configuration
     ∙ c.requires.resolved
     ∙ ap (λ place. Ok (Operator place c.args.call.now)) (sym same.place)

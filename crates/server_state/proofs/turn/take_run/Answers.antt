@@ -4,4 +4,4 @@ use Rattle.server_state.proofs.turn.take_run.Goals as goal
 
 pub returns-clause-run : goal.returns-clause-run
 returns-clause-run g c =
-    of_ok c.run.result (λ replies run. record { told = state_of c.tell.new.desk; learns = c.tell.ensures; run = run }) c.run.ensures.run
+    of_ok c.run.result (λ replies run. record { told = state_of c.learn_note.new.desk; learns = c.learn_note.ensures; run = run }) c.run.ensures.run

@@ -19,10 +19,10 @@ returns-in-Some-clause-turn g c =
     let call = c.args.call.now in
     record {
       same = refl;
-      turn = given_by_call (room_of room) (room_of room) (request_of c.args.request.now) call c.ready.result c.requires.resolved
-          (author_found (drafts_of room.drafts) room.publisher.publications call (request_of c.args.request.now) asked c.in-Some.body c.ready.result
+      turn = given_by_call (room_of room) (room_of room) (request_of c.args.request.now) call c.from_cached.result c.requires.resolved
+          (author_found (drafts_of room.drafts) room.publisher.publications call (request_of c.args.request.now) asked c.in-Some.body c.from_cached.result
           (subst (λ ps. IfSome asked (AnswersAuthor ps call)) c.catalogue.ensures.publications c.author_key-asked.ensures)
-          (subst (λ ps. IsFound ps asked c.in-Some.body) c.note.ensures c.in-Some.ensures) c.ready.ensures);
+          (subst (λ ps. IsFound ps asked c.in-Some.body) c.note.ensures c.in-Some.ensures) c.from_cached.ensures);
       noted = refl;
       stays_closed = λ closed. (closed, refl);
       stays_open = λ is_open. inl is_open;
