@@ -10,21 +10,21 @@ use Rattle.server_app.specs.declared.operator_names.OperatorNames as program'
 use Rattle.server_app.specs.declared.operator_names.TheConstants.{MOST_NAME}
 
 -- an operator's identifier, and its name, where it has one
-pub record OperatorName : Type 0 where
+pub record Badge : Type 0 where
   pub id : List ℕ
   pub name : Option (List ℕ)
 
 -- all operators, in the configuration's order, and the zone as it is written
-pub record OperatorNames : Type 0 where
-  pub operators : List OperatorName
+pub record Badges : Type 0 where
+  pub operators : List Badge
   pub zone : List ℕ
 
 -- the definition's value of a `OperatorName`
-abbrev pub badge_view : program.Badge → OperatorName
+abbrev pub badge_view : program.OperatorName → Badge
 badge_view b = record { id = b.id; name = option_map string_bytes b.name }
 
 -- the definition's value of a `OperatorNames`
-abbrev pub badges_view : program'.Badges → OperatorNames
+abbrev pub badges_view : program'.OperatorNames → Badges
 badges_view b = record { operators = map badge_view b.operators.items; zone = string_bytes b.zone }
 
 -- a text of at most 256 bytes is a name; any other value is ignored, as members are that a configuration doesn't have
@@ -36,14 +36,14 @@ abbrev pub name_at : Json → Result (Option (List ℕ)) Fault
 name_at entry = member_at entry Name >>= λ value. Ok (option_and_then as_name value)
 
 -- an operator's identifier and name
-abbrev pub badge_of : Json → Result OperatorName Fault
+abbrev pub badge_of : Json → Result Badge Fault
 badge_of value = do
   entry ← object_of Operators value
   id ← required_at id_of entry Id
   name ← name_at entry
   Ok (record { id = id; name = name })
 
-abbrev pub badges_of : Json → Result OperatorNames Fault
+abbrev pub badges_of : Json → Result Badges Fault
 badges_of value = do
   document ← document_of value
   entries ← required_at list_of document Operators
@@ -52,5 +52,5 @@ badges_of value = do
   Ok (record { operators = operators; zone = zone })
 
 -- the operators' names and the zone of a configuration's text
-abbrev pub read_badges : List ℕ → Result OperatorNames Fault
+abbrev pub read_badges : List ℕ → Result Badges Fault
 read_badges bytes = read_text bytes >>= badges_of

@@ -22,7 +22,7 @@ pub refused_for : (expected : Result (List ℕ) Refusal) (answer : Result (List 
 refused_for expected answer denied refusal is denied_is meets = subst (Meets expected) (is ∙ ap (λ d. Err d) denied_is) meets
 
 -- the answer of the cached documents is that of the room's publications
-pub says_of_room : (configuration : Configuration) (f : program.Face) (asked : PublicTarget) (parts : Parts) (answer : Result (List ℕ) Refusal)
+pub says_of_room : (configuration : Configuration) (f : program.PublicDocuments) (asked : PublicTarget) (parts : Parts) (answer : Result (List ℕ) Refusal)
     (response : Result (Response (Full (List ℕ))) AllocError)
     → ∥ IsFace configuration f ∥₁ → answer_of (face f) asked parts.method (query_of parts) parts.headers ≡ answer → IfOk response (Says answer)
     → IfOk response (IsTold configuration asked parts)

@@ -6,11 +6,11 @@ use Rattle.server_public.specs.Period.{is_in}
 use Rattle.server_public.specs.View.{notice}
 use Rattle.server_public.specs.declared.public_document.PublicDocument as program
 
-pub all_in : (ns : List PublicDocument) → filter (is_in (record { from = None; to = None })) ns ≡ ns
+pub all_in : (ns : List Notice) → filter (is_in (record { from = None; to = None })) ns ≡ ns
 all_in [] = refl
 all_in (n ∷ ns) = ap (λ rest. n ∷ rest) (all_in ns)
 
-pub texts_seen : (ns : List program.Notice) → map (λ n. n.text) (map notice ns) ≡ map (λ n. n.text.items) ns
+pub texts_seen : (ns : List program.PublicDocument) → map (λ n. n.text) (map notice ns) ≡ map (λ n. n.text.items) ns
 texts_seen [] = refl
 texts_seen (n ∷ ns) = ap (λ rest. n.text.items ∷ rest) (texts_seen ns)
 

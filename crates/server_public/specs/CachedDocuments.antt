@@ -15,11 +15,11 @@ use Rattle.server_state.specs.Query.{RoomTells}
 use Rattle.server_public.specs.Response.{Says, query_of}
 
 -- all public documents of publications
-abbrev pub IsFaceOf : List Publication → program.Face → Type 0
+abbrev pub IsFaceOf : List Publication → program.PublicDocuments → Type 0
 IsFaceOf publications told = face told ≡ face_of publications
 
 -- the public documents of the publications of the author's room of this configuration
-abbrev pub IsFace : Configuration → program.Face → Type 0
+abbrev pub IsFace : Configuration → program.PublicDocuments → Type 0
 IsFace configuration told = RoomTells configuration (λ drafts publications f. IsFaceOf publications f) told
 
 -- the answer to a request for this
