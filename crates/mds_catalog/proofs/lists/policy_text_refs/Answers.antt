@@ -19,7 +19,7 @@ loop-place-preserved c =
     (rw c.deref-policy-items.ensures.value at c.policy-item.is)
     c.index.ensures
     (c.is_visible_to.ensures ∙ ap (λ p. option_map_or (λ o. is_meant_for o (policy_document p)) operator true) c.deref-in-loop-place.ensures)
-    (c.in_ok-lend.ensures ∙ ap (λ text. map (λ t. t.now) c.loop-place.lent.items ++ cond c.is_visible_to.result (text ∷ []) []) c.deref.ensures.value)
+    (c.in_ok-push_visible.ensures ∙ ap (λ text. map (λ t. t.now) c.loop-place.lent.items ++ cond c.is_visible_to.result (text ∷ []) []) c.deref.ensures.value)
     c.loop-place.invariant
 
 pub returns : goal.returns

@@ -16,7 +16,7 @@ returns-in-Policy c =
     let ps = publications_of c.args.catalogue.now in
     let is : c.args.call.now ≡ author.Policy c.in-Policy.id = cc in
     subst (λ call. AnswersAuthor ps call (ready.Policy c.in-Policy.id)) (sym is)
-    (authors_policy ps c.in-Policy.id (sym c.is_policy_visible.ensures ∙ c.if-is_policy_shown.true))
+    (authors_policy ps c.in-Policy.id (sym c.is_policy_visible.ensures ∙ c.if-is_policy_visible.true))
 
 pub returns-in-Geographies : goal.returns-in-Geographies
 returns-in-Geographies c =
@@ -28,4 +28,4 @@ returns-in-Geography c =
     let ps = publications_of c.args.catalogue.now in
     let is : c.args.call.now ≡ author.Geography c.in-Geography.id = cc in
     subst (λ call. AnswersAuthor ps call (ready.Geography c.in-Geography.id)) (sym is)
-    (authors_geography ps c.in-Geography.id (sym c.has_geography.ensures ∙ c.if-is_geography_shown.true))
+    (authors_geography ps c.in-Geography.id (sym c.has_geography.ensures ∙ c.if-has_geography.true))

@@ -11,7 +11,7 @@ returns-in-Policy c =
     let ps = publications_of c.args.catalogue.now in
     let is : c.args.call.now ≡ operator.Policy c.in-Policy.id = cc in
     subst (λ call. AnswersOperator ps c.args.operator call (ready.Policy c.in-Policy.id)) (sym is)
-    (policy ps c.args.operator c.in-Policy.id (sym c.is_policy_visible.ensures ∙ c.if-is_policy_shown.true))
+    (policy ps c.args.operator c.in-Policy.id (sym c.is_policy_visible.ensures ∙ c.if-is_policy_visible.true))
 
 pub returns-in-Geographies : goal.returns-in-Geographies
 returns-in-Geographies c =
@@ -23,4 +23,4 @@ returns-in-Geography c =
     let ps = publications_of c.args.catalogue.now in
     let is : c.args.call.now ≡ operator.Geography c.in-Geography.id = cc in
     subst (λ call. AnswersOperator ps c.args.operator call (ready.Geography c.in-Geography.id)) (sym is)
-    (geography ps c.args.operator c.in-Geography.id (sym c.has_geography.ensures ∙ c.if-is_geography_shown.true))
+    (geography ps c.args.operator c.in-Geography.id (sym c.has_geography.ensures ∙ c.if-has_geography.true))

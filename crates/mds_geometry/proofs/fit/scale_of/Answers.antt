@@ -28,11 +28,11 @@ one_place scale is (e ∷ es) =
     let rest = one_place scale is es in
     omega arith
 
-pub returns-then-is_spare : goal.returns-then-is_spare
-returns-then-is_spare c =
-    let known = c.is_sparse.ensures.known c.if-is_spare.true in
+pub returns-then-is_sparse : goal.returns-then-is_sparse
+returns-then-is_sparse c =
+    let known = c.is_sparse.ensures.known c.if-is_sparse.true in
     few_places c.between-scale.result c.args.edges.now c.args.extents.now.rows.reach c.loop-shift.shift
-    c.between-scale.ensures (c.requires known) (c.is_sparse.ensures.spare c.if-is_spare.true)
+    c.between-scale.ensures (c.requires known) (c.is_sparse.ensures.spare c.if-is_sparse.true)
 
 pub returns : goal.returns
 returns c = one_place c.one_strip.result c.one_strip.ensures c.args.edges.now

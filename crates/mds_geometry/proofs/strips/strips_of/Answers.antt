@@ -9,4 +9,4 @@ loop-start-preserved c =
     let within : l.start-index < length c.args.starts.now = omega (arith, c.loop-start-test.true) in
     filed_back c.args.polygons.now c.args.scale.now c.args.starts.now l.start-index _ _ l.all.items c.deref_mut.result.now c.add_start.new.all l.all.len
     within (get_or_default c.args.starts.now l.start-index _ _ within) c.edge_in-edge.ensures c.deref_mut.ensures.value c.deref_mut.ensures.len
-    c.add_start.auto.all c.in_ok-file_start.ensures l.invariant
+    c.add_start.auto.all c.in_ok-add_start.ensures l.invariant

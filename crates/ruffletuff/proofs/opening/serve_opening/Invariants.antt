@@ -1,5 +1,5 @@
 use Rattle.ruffletuff.proofs.opening.serve_opening.Given as goal
 
 -- the book of the history that was just begun
-abbrev pub ghosts-keep_and_serve : goal.ghosts-keep_and_serve
-ghosts-keep_and_serve g a = record { book = a.history.seen.book }
+abbrev pub ghosts-persist_and_serve : goal.ghosts-persist_and_serve
+ghosts-persist_and_serve g a = record { book = a.history.seen.book }

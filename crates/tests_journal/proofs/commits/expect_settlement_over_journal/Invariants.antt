@@ -1,5 +1,5 @@
 use Rattle.tests_journal.proofs.commits.expect_settlement_over_journal.Given as goal
 
 -- the book of the log that was just opened
-abbrev pub ghosts-settled : goal.ghosts-settled
-ghosts-settled g a = record { book = a.opened.seen.book }
+abbrev pub ghosts-expect_settlement : goal.ghosts-expect_settlement
+ghosts-expect_settlement g a = record { book = a.opened.seen.book }

@@ -1,5 +1,5 @@
 use Rattle.tests_journal.proofs.commits.serve_over_journal.Given as goal
 
 -- the book of the log that was just opened
-abbrev pub ghosts-served : goal.ghosts-served
-ghosts-served g a = record { book = a.opened.seen.book }
+abbrev pub ghosts-serve_client : goal.ghosts-serve_client
+ghosts-serve_client g a = record { book = a.opened.seen.book }

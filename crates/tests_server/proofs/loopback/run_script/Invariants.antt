@@ -3,9 +3,9 @@ use Rattle.mds_snapshot.specs.Opening.{book_of}
 use Rattle.tests_server.proofs.loopback.run_script.Given as goal
 
 -- the book of the blank that was just prepared
-abbrev pub ghosts-served-K-Naming : goal.ghosts-served-K-Naming
-ghosts-served-K-Naming g a = record { book = book_of a.blank }
+abbrev pub ghosts-serve_script-K-OpeningName : goal.ghosts-serve_script-K-OpeningName
+ghosts-serve_script-K-OpeningName g a = record { book = book_of a.blank }
 
 -- the configuration that was just read
-abbrev pub ghosts-served-K-Named : goal.ghosts-served-K-Named
-ghosts-served-K-Named g a = record { configuration = configuration a.config }
+abbrev pub ghosts-serve_script-K-HallName : goal.ghosts-serve_script-K-HallName
+ghosts-serve_script-K-HallName g a = record { configuration = configuration a.config }

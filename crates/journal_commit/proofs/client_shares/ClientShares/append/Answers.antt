@@ -6,21 +6,21 @@ use Rattle.journal_commit.proofs.client_shares.ClientShares.append.Goals as goal
 pub overflow_add-share : goal.overflow_add-share
 overflow_add-share c =
     let each = c.args.self.now.each.items in
-    let is = c.has_reservation.ensures c.if-not-holds.false in
+    let is = c.has_reservation.ensures c.if-not-has_reservation.false in
     let there = share_read each c.args.asker c.index_mut-share.result.now is.0 c.index_mut-share.ensures.value in
     omega (arith, is.1, is.2, ap (λ (s : ClientShare). s.waiting.texts) there, texts_fit each c.args.asker nobody is.0 c.args.self.now.shared)
 
 pub overflow_add-share-2 : goal.overflow_add-share-2
 overflow_add-share-2 c =
     let each = c.args.self.now.each.items in
-    let is = c.has_reservation.ensures c.if-not-holds.false in
+    let is = c.has_reservation.ensures c.if-not-has_reservation.false in
     let there = share_read each c.args.asker c.index_mut-share.result.now is.0 c.index_mut-share.ensures.value in
     omega (arith, is.1, is.2, ap (λ (s : ClientShare). s.waiting.bytes) there, bytes_fit each c.args.asker nobody is.0 c.args.self.now.shared)
 
 pub invariant_of-self : goal.invariant_of-self
 invariant_of-self c =
     let each = c.args.self.now.each.items in
-    let is = c.has_reservation.ensures c.if-not-holds.false in
+    let is = c.has_reservation.ensures c.if-not-has_reservation.false in
     let there = share_read each c.args.asker c.index_mut-share.result.now is.0 c.index_mut-share.ensures.value in
     let held_texts = ap (λ (s : ClientShare). s.reserved_count.texts) there in
     let held_bytes = ap (λ (s : ClientShare). s.reserved_count.bytes) there in

@@ -6,7 +6,7 @@ use Rattle.journal_commit.proofs.client_shares.ClientShares.release.Goals as goa
 pub invariant_of-self : goal.invariant_of-self
 invariant_of-self c =
     let each = c.args.self.now.each.items in
-    let is = c.has_reservation.ensures c.if-not-holds.false in
+    let is = c.has_reservation.ensures c.if-not-has_reservation.false in
     let there = share_read each c.args.asker c.index_mut-share.result.now is.0 c.index_mut-share.ensures.value in
     let held_texts = ap (λ (s : ClientShare). s.reserved_count.texts) there in
     let held_bytes = ap (λ (s : ClientShare). s.reserved_count.bytes) there in

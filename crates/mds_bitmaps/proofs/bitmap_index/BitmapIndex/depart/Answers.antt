@@ -4,7 +4,7 @@ use Rattle.mds_bitmaps.specs.Index.{IsListed}
 use Rattle.mds_bitmaps.specs.declared.bitmap_index.IndexedFleet.{IndexedFleet}
 use Rattle.mds_bitmaps.proofs.bitmap_index.BitmapIndex.depart.Goals as goal
 
-pub returns-in-Some-departed : goal.returns-in-Some-departed
-returns-in-Some-departed c published before after ordered departs fits =
+pub returns-in-Some-with_departure : goal.returns-in-Some-with_departure
+returns-in-Some-with_departure c published before after ordered departs fits =
     let is : IsListed published before c.in-Some.listed = subst (λ (o : Option IndexedFleet). IfSome o (IsListed published before)) (sym c.take.ensures.value ∙ c.in-Some.is) fits in
-    c.in-Some-departed.ensures published before after ordered departs is
+    c.in-Some-with_departure.ensures published before after ordered departs is

@@ -38,7 +38,7 @@ returns-in-Err g c =
     ap (map request_of) (sym (take-append-drop done requests)) ∙ map-append request_of (take done requests) (drop done requests)
     ∙ ap (λ xs. map request_of (take done requests) ++ map request_of xs) (sym (rest_is done requests)) in
     some_answered_of (λ all. all.answers.items) (λ all. all.stamp) g.K.HallName.configuration c.args.place (map request_of (take done requests)) (map request_of rest)
-    (map request_of requests) c.chunks.replies.answers.items c.chunks.replies.stamp (state_of c.chunks.desk.desk) c.with_refused.result cut c.chunks.invariant.reached c.with_refused.ensures
+    (map request_of requests) c.chunks.replies.answers.items c.chunks.replies.stamp (state_of c.chunks.desk.desk) c.with_refusals.result cut c.chunks.invariant.reached c.with_refusals.ensures
 
 pub chunks-preserved : goal.chunks-preserved
 chunks-preserved g c =

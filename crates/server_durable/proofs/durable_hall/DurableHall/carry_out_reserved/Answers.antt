@@ -6,12 +6,12 @@ use Rattle.mds_desk.specs.Desk.{state_of}
 use Rattle.server_durable.proofs.Reports.{as_many_told, settled_are_recorded}
 use Rattle.server_durable.proofs.durable_hall.DurableHall.carry_out_reserved.Goals as goal
 
-pub note_accepted-requires-clause-room : goal.note_accepted-requires-clause-room
-note_accepted-requires-clause-room g c =
+pub push_flags-requires-clause-room : goal.push_flags-requires-clause-room
+push_flags-requires-clause-room g c =
     let requests = map request_of c.args.requests.now in
     let replies = c.in-Ok-run.answers.items in
     let many : length replies ≡ length requests =
-    as_many_told (state_of c.args.desk.now.desk) (state_of c.answered_all-run.new.self.desk) _ requests replies c.args.desk.now.desk.seat.within c.in-Ok-run.ensures.run in
+    as_many_told (state_of c.args.desk.now.desk) (state_of c.answer_all-run.new.self.desk) _ requests replies c.args.desk.now.desk.seat.within c.in-Ok-run.ensures.run in
     let asked : length requests ≡ length c.args.requests.now = length-map c.args.requests.now request_of in
     let answered : length c.deref-2.result.now ≡ length replies = ap length c.deref-2.ensures.value in
     omega (arith, many, asked, answered, c.in-Ok.ensures.exact)
@@ -21,7 +21,7 @@ returns-clause-continues g c =
     let requests = map request_of c.args.requests.now in
     let replies = c.in-Ok-run.answers.items in
     let noted : c.deref-4.result.now ≡ map (λ (reply : Reply). reply.status == 200) replies =
-    c.deref-4.ensures.value ∙ c.note_accepted.ensures ∙ ap (map (λ (reply : Reply). reply.status == 200)) c.deref-2.ensures.value in
+    c.deref-4.ensures.value ∙ c.push_flags.ensures ∙ ap (map (λ (reply : Reply). reply.status == 200)) c.deref-2.ensures.value in
     record {
       note = _;
       run = c.in-Ok-run.ensures.run;

@@ -7,8 +7,8 @@ use Rattle.server_durable.specs.Many.{AreRecordsOf}
 use Rattle.server_durable.proofs.Askers.{records_of}
 use Rattle.server_durable.proofs.durable_hall.DurableHall.reserve_for_all.Goals as goal
 
-pub operator_asker-asker-requires : goal.operator_asker-asker-requires
-operator_asker-asker-requires g c =
+pub operator_client-asker-requires : goal.operator_client-asker-requires
+operator_client-asker-requires g c =
     let shared : configuration c.deref.result.now ≡ g.K.HallName.configuration = ap configuration c.deref.ensures ∙ c.in_ok-config.ensures ∙ c.args.self.now.hall.configured in
     subst (λ (own : Configuration). c.args.place < length own.operators) (sym shared) c.requires.place
 
@@ -16,8 +16,8 @@ pub returns-in-Ok : goal.returns-in-Ok
 returns-in-Ok g c =
     let own = g.K.HallName.configuration in
     let requests = map request_of c.args.requests.now in
-    let asker = c.operator_asker-asker.result in
+    let asker = c.operator_client-asker.result in
     let shared : configuration c.deref.result.now ≡ own = ap configuration c.deref.ensures ∙ c.in_ok-config.ensures ∙ c.args.self.now.hall.configured in
-    let known = subst (λ (cfg : Configuration). asker_at cfg (Operator c.args.place) ≡ Some asker) shared c.operator_asker-asker.ensures in
+    let known = subst (λ (cfg : Configuration). asker_at cfg (Operator c.args.place) ≡ Some asker) shared c.operator_client-asker.ensures in
     subst (AreRecordsOf own requests) (sym (ap (λ texts. map (λ text. text.items) texts.items) c.in-Ok.ensures ∙ c.in_ok-texts.ensures))
     (records_of own c.args.place asker requests known c.requires.asked)
