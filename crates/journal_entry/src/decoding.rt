@@ -110,7 +110,7 @@ fn verb_in(bytes: &[u8]) -> Option<(Verb, &[u8])>
 #[tactic(auto, unfolding(crate::specs::Entries::id_text))]
 fn id_of(alloc: Global, text: &[u8]) -> Result<Id, DecodeFault>
     ensures read { IfOk result (λ id. (text.now ≡ id_text id) × IsId id) }
-    ensures malformed { IfErr result (λ flaw. flaw ≡ Flaw.Malformed → (id : List ℕ) → IsId id → text.now ≡ id_text id → ⊥) }
+    ensures malformed { IfErr result (λ flaw. flaw ≡ DecodeFault.Malformed → (id : List ℕ) → IsId id → text.now ≡ id_text id → ⊥) }
 {
     let Ok(spelled) = str::from_utf8(text) else {
         return Err(DecodeFault::Malformed);
@@ -129,7 +129,7 @@ fn id_of(alloc: Global, text: &[u8]) -> Result<Id, DecodeFault>
 /// Decodes the identifier at the start, and returns the bytes after it.
 pub(crate) fn id_in(alloc: Global, bytes: &[u8]) -> Result<(Id, &[u8]), DecodeFault>
     ensures read { IfOk result (λ r. (bytes.now ≡ id_text r.0 ++ r.1.now) × IsId r.0) }
-    ensures malformed { IfErr result (λ flaw. flaw ≡ Flaw.Malformed
+    ensures malformed { IfErr result (λ flaw. flaw ≡ DecodeFault.Malformed
         → (id rest : List ℕ) → IsId id → bytes.now ≡ id_text id ++ rest → ⊥) }
 {
     if bytes.len() < ID_SIZE {
@@ -145,7 +145,7 @@ pub(crate) fn id_in(alloc: Global, bytes: &[u8]) -> Result<(Id, &[u8]), DecodeFa
 /// Decodes the client at the start, and returns the bytes after it.
 fn client_in(alloc: Global, bytes: &[u8]) -> Result<(EntryClient, &[u8]), DecodeFault>
     ensures read { IfOk result (λ r. (bytes.now ≡ asker_text r.0 ++ r.1.now) × IsAsker r.0) }
-    ensures malformed { IfErr result (λ flaw. flaw ≡ Flaw.Malformed
+    ensures malformed { IfErr result (λ flaw. flaw ≡ DecodeFault.Malformed
         → (asker : ByWhom) (rest : List ℕ) → IsAsker asker → bytes.now ≡ asker_text asker ++ rest → ⊥) }
 {
     match bytes.split_first() {
@@ -190,7 +190,7 @@ fn target_in(bytes: &[u8]) -> Option<(&[u8], &[u8])>
 /// Decodes the fields after the version.
 fn entry_in(alloc: Global, bytes: &[u8]) -> Result<JournalEntry<'_>, DecodeFault>
     ensures read { IfOk result (λ entry. (bytes.now ≡ fields_text (entry_of entry)) × IsEntry (entry_of entry)) }
-    ensures malformed { IfErr result (λ flaw. flaw ≡ Flaw.Malformed
+    ensures malformed { IfErr result (λ flaw. flaw ≡ DecodeFault.Malformed
         → (entry : Accepted) → IsEntry entry → bytes.now ≡ fields_text entry → ⊥) }
 {
     let (at, behind) = match moment_in(bytes) {

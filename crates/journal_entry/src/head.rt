@@ -89,7 +89,7 @@ pub fn head_text(alloc: Global, shares: &[OperatorShare]) -> Result<Vec<u8>, All
 /// Decodes the share at the start, and returns the bytes after it.
 fn share_in(alloc: Global, bytes: &[u8]) -> Result<(OperatorShare, &[u8]), DecodeFault>
     ensures read { IfOk result (λ r. (bytes.now ≡ share_text (share_of r.0) ++ r.1.now) × IsShare (share_of r.0)) }
-    ensures malformed { IfErr result (λ flaw. flaw ≡ Flaw.Malformed
+    ensures malformed { IfErr result (λ flaw. flaw ≡ DecodeFault.Malformed
         → (share : Part) (rest : List ℕ) → IsShare share → bytes.now ≡ share_text share ++ rest → ⊥) }
 {
     let (id, behind) = match id_in(alloc, bytes) {
@@ -105,7 +105,7 @@ fn share_in(alloc: Global, bytes: &[u8]) -> Result<(OperatorShare, &[u8]), Decod
 /// Decodes shares up to the end of the bytes.
 fn shares_in(alloc: Global, bytes: &[u8]) -> Result<Vec<OperatorShare>, DecodeFault>
     ensures read { IfOk result (λ shares. (bytes.now ≡ shares_text (map share_of shares.items)) × AreShares (map share_of shares.items)) }
-    ensures malformed { IfErr result (λ flaw. flaw ≡ Flaw.Malformed
+    ensures malformed { IfErr result (λ flaw. flaw ≡ DecodeFault.Malformed
         → (shares : List Part) → AreShares shares → bytes.now ≡ shares_text shares → ⊥) }
 {
     let mut shares = Vec::new(alloc);

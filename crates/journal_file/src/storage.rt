@@ -21,7 +21,7 @@ impl From<AllocError> for StorageFault {
 
 /// The fault for an error of a file, by its kind: out of memory, or failed.
 pub fn storage_fault(kind: ErrorKind) -> StorageFault
-    ensures { (result ≡ MediumFault.NoMemory) ↔ (kind ≡ ErrorKind.OutOfMemory) }
+    ensures { (result ≡ StorageFault.NoMemory) ↔ (kind ≡ ErrorKind.OutOfMemory) }
 {
     match kind {
         ErrorKind::OutOfMemory => StorageFault::NoMemory,

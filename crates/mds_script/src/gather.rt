@@ -17,11 +17,11 @@ pub const STORED_LIMIT: usize = LINE_LIMIT + 2;
 /// how many bytes come before the line feed, plus one for it; `None` without a line feed, where all
 /// bytes are appended, as many as there is room for.
 pub fn gather(line: &mut Vec<u8>, bytes: &[u8]) -> Option<usize>
-    requires short { vec_len line.old ≤ KEPT_LIMIT }
-    requires reserved { KEPT_LIMIT ≤ vec_capacity line.old }
+    requires short { vec_len line.old ≤ STORED_LIMIT }
+    requires reserved { STORED_LIMIT ≤ vec_capacity line.old }
     ensures gathers { Gathers line.old.items bytes.now result line.new.items }
-    ensures short { vec_len line.new ≤ KEPT_LIMIT }
-    ensures reserved { KEPT_LIMIT ≤ vec_capacity line.new }
+    ensures short { vec_len line.new ≤ STORED_LIMIT }
+    ensures reserved { STORED_LIMIT ≤ vec_capacity line.new }
 {
     match position_of(bytes, b'\n') {
         Some(at) => {
@@ -37,11 +37,11 @@ pub fn gather(line: &mut Vec<u8>, bytes: &[u8]) -> Option<usize>
 
 /// Appends as many of the bytes as there is room for.
 fn append_within_limit(line: &mut Vec<u8>, bytes: &[u8])
-    requires short { vec_len line.old ≤ KEPT_LIMIT }
-    requires reserved { KEPT_LIMIT ≤ vec_capacity line.old }
-    ensures items { line.new.items ≡ take KEPT_LIMIT (line.old.items ++ bytes.now) }
-    ensures short { vec_len line.new ≤ KEPT_LIMIT }
-    ensures reserved { KEPT_LIMIT ≤ vec_capacity line.new }
+    requires short { vec_len line.old ≤ STORED_LIMIT }
+    requires reserved { STORED_LIMIT ≤ vec_capacity line.old }
+    ensures items { line.new.items ≡ take STORED_LIMIT (line.old.items ++ bytes.now) }
+    ensures short { vec_len line.new ≤ STORED_LIMIT }
+    ensures reserved { STORED_LIMIT ≤ vec_capacity line.new }
 {
     let room = STORED_LIMIT - line.len();
     let count = bytes.len().min(room);
@@ -59,12 +59,12 @@ fn append(line: &mut Vec<u8>, bytes: &[u8])
 
 /// Ends a line at a line feed: drops a carriage return at its end, and checks its length.
 pub fn close(line: &mut Vec<u8>) -> NextLine
-    requires short { vec_len line.old ≤ KEPT_LIMIT }
-    requires reserved { KEPT_LIMIT ≤ vec_capacity line.old }
+    requires short { vec_len line.old ≤ STORED_LIMIT }
+    requires reserved { STORED_LIMIT ≤ vec_capacity line.old }
     ensures line { line.new.items ≡ strip_last 13 line.old.items }
-    ensures found { result ≡ (if nat_lt LINE_LIMIT (length line.new.items) then Found.TooLong else Found.Line) }
-    ensures short { vec_len line.new ≤ KEPT_LIMIT }
-    ensures reserved { KEPT_LIMIT ≤ vec_capacity line.new }
+    ensures found { result ≡ (if nat_lt LINE_LIMIT (length line.new.items) then NextLine.TooLong else NextLine.Line) }
+    ensures short { vec_len line.new ≤ STORED_LIMIT }
+    ensures reserved { STORED_LIMIT ≤ vec_capacity line.new }
 {
     if ends_with_return(line) {
         line.pop();
@@ -84,8 +84,8 @@ fn ends_with_return(line: &[u8]) -> bool
 
 /// Ends the last line, which has no line feed.
 pub fn close_last(line: &mut Vec<u8>) -> NextLine
-    requires { vec_len line.old ≤ KEPT_LIMIT }
-    ensures found { result ≡ (if length line.old.items == 0 then Found.End else (if nat_lt LINE_LIMIT (length line.old.items) then Found.TooLong else Found.Line)) }
+    requires { vec_len line.old ≤ STORED_LIMIT }
+    ensures found { result ≡ (if length line.old.items == 0 then NextLine.End else (if nat_lt LINE_LIMIT (length line.old.items) then NextLine.TooLong else NextLine.Line)) }
     ensures same { line.new ≡ line.old }
 {
     if line.is_empty() {
@@ -97,7 +97,7 @@ pub fn close_last(line: &mut Vec<u8>) -> NextLine
 
 /// Whether a line is over the limit.
 fn check_length(line: &[u8]) -> NextLine
-    ensures { result ≡ (if nat_lt LINE_LIMIT (length line.now) then Found.TooLong else Found.Line) }
+    ensures { result ≡ (if nat_lt LINE_LIMIT (length line.now) then NextLine.TooLong else NextLine.Line) }
 {
     if line.len() > LINE_LIMIT {
         NextLine::TooLong

@@ -75,7 +75,7 @@ impl LineReader {
         requires countable { S.failures source.old < 2 ^ 64 - 1 }
         ensures found { IfOk result (λ found. Finds found (held self.new) (left self.old (S.remaining source.old)) (left self.new (S.remaining source.new))) }
         ensures advances { OnOk result (Advances (passed self.old) (left self.old (S.remaining source.old)) (passed self.new) (left self.new (S.remaining source.new))) }
-        ensures nearer { IfOk result (λ found. (found ≡ Found.End) ⊎ (passed self.old < passed self.new)) }
+        ensures nearer { IfOk result (λ found. (found ≡ NextLine.End) ⊎ (passed self.old < passed self.new)) }
         ensures unfailed { OnOk result (S.failures source.new ≡ S.failures source.old) }
         ensures failed { OnErr result (FailsReading (S.failures source.old) (S.failures source.new) (passed self.old) (left self.old (S.remaining source.old))) }
     {
@@ -104,7 +104,7 @@ impl LineReader {
     /// Ends the line at a line feed.
     fn end_line(&mut self) -> NextLine
         ensures line { held self.new ≡ strip_last 13 (held self.old) }
-        ensures found { result ≡ (if nat_lt LINE_LIMIT (length (held self.new)) then Found.TooLong else Found.Line) }
+        ensures found { result ≡ (if nat_lt LINE_LIMIT (length (held self.new)) then NextLine.TooLong else NextLine.Line) }
         ensures ahead { ahead self.new ≡ ahead self.old }
         ensures passed { passed self.new ≡ passed self.old }
     {
@@ -114,7 +114,7 @@ impl LineReader {
     /// Ends the last line, which has no line feed.
     fn end_input(&mut self) -> NextLine
         ensures held { held self.new ≡ held self.old }
-        ensures found { result ≡ (if length (held self.old) == 0 then Found.End else (if nat_lt LINE_LIMIT (length (held self.old)) then Found.TooLong else Found.Line)) }
+        ensures found { result ≡ (if length (held self.old) == 0 then NextLine.End else (if nat_lt LINE_LIMIT (length (held self.old)) then NextLine.TooLong else NextLine.Line)) }
         ensures ahead { ahead self.new ≡ ahead self.old }
         ensures passed { passed self.new ≡ passed self.old }
     {

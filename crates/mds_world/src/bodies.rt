@@ -23,7 +23,7 @@ const SHORT_BODY: usize = 24;
 /// Allocates memory for a short body, so that the body can be written after a change.
 pub(crate) fn body_buffer(alloc: Global) -> Result<Vec<u8>, AllocError>
     ensures empty { IfOk result (λ room. room.items ≡ []) }
-    ensures roomy { IfOk result (λ room. ROOM ≤ vec_capacity room) }
+    ensures roomy { IfOk result (λ room. SHORT_BODY ≤ vec_capacity room) }
 {
     Vec::with_capacity(alloc, SHORT_BODY)
 }
@@ -31,8 +31,8 @@ pub(crate) fn body_buffer(alloc: Global) -> Result<Vec<u8>, AllocError>
 /// A success with this body, written into memory allocated before, so that it can't fail.
 pub(crate) fn success_in(mut room: Vec<u8>, body: &[u8]) -> Reply
     requires empty { room.items ≡ [] }
-    requires roomy { ROOM ≤ vec_capacity room }
-    requires short { length body.now ≤ ROOM }
+    requires roomy { SHORT_BODY ≤ vec_capacity room }
+    requires short { length body.now ≤ SHORT_BODY }
     requires line { IsTrue (is_line body.now) }
     ensures { result ≡ success body.now }
 {

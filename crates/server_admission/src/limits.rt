@@ -64,8 +64,8 @@ pub const MOST_WAITING: usize = 1_024;
 /// at most 1,024 requests of one client wait.
 pub fn limits_of_connections()
     ensures all { MOST_CONNECTIONS ≡ 4096 }
-    ensures strangers { MOST_STRANGERS ≡ 2048 }
-    ensures each { MOST_OF_ASKER ≡ 512 }
+    ensures strangers { MOST_ANONYMOUS ≡ 2048 }
+    ensures each { MOST_OF_CLIENT ≡ 512 }
     ensures waiting { MOST_WAITING ≡ 1024 }
     ensures short { MOST_SHORT ≡ 4096 }
 {}
@@ -77,11 +77,11 @@ pub fn limits_of_connections()
 pub fn limits_of_times()
     ensures head { HEAD_SECONDS ≡ 10 }
     ensures body { BODY_SECONDS ≡ 30 }
-    ensures passing { PASSING_SECONDS ≡ 2 }
+    ensures passing { DISCARD_SECONDS ≡ 2 }
     ensures idle { IDLE_SECONDS ≡ 60 }
-    ensures taking { TAKING_SECONDS ≡ 30 }
+    ensures taking { STALL_SECONDS ≡ 30 }
     ensures slow { SLOW_SECONDS ≡ 120 }
-    ensures least { LEAST_TAKEN ≡ 16384 }
+    ensures least { LEAST_RATE ≡ 16384 }
     ensures pause { ACCEPT_PAUSE_MILLIS ≡ 20 }
     ensures crowded { CROWDED_PAUSE_MILLIS ≡ 10 }
 {}
@@ -90,7 +90,7 @@ pub fn limits_of_times()
 /// one client and 256 MiB for all. The answer to a report of more than 16 KiB counts as long.
 pub fn limits_of_bodies()
     ensures body { MOST_BODY ≡ 1048576 }
-    ensures past { MOST_PAST ≡ 1048576 }
+    ensures past { MOST_DISCARDED ≡ 1048576 }
     ensures held { MOST_HELD ≡ 67108864 }
     ensures all { MOST_HELD_BY_ALL ≡ 268435456 }
     ensures small { SMALL_BODY ≡ 16384 }
