@@ -1,4 +1,4 @@
-//! The commands `check`, `audit` and `compact` on a city's state folder, how a configuration's file is read, and why
+//! The commands `check`, `audit` and `thin` on a city's state folder, how a configuration's file is read, and why
 //! `ruffletuff` ends, with the exit status and the message of each end.
 #![tactic(auto)]
 
