@@ -23,7 +23,7 @@ use Rattle.mds_catalog.specs.Listed.{Ascends, Lists, has, spots_from, spots_in}
 use Rattle.mds_catalog.specs.Index.{after_successors, after_withdrawal, fresh, IsKept}
 use Rattle.mds_catalog.proofs.Found.{publications_push, length-published_policies-push, length-published_geographies-push, fits_all, lawful_fits}
 use Rattle.mds_catalog.proofs.Marked.{entry, is_come, successors_ascend, successors_stay, successors_supersede, successors_withdraw, length-after_successors, withdrawal_ascends, withdrawal_stays, withdrawal_superseded, withdrawal_withdraws, fresh_come, fresh_spots, old_there, some_of}
-use Rattle.mds_catalog.proofs.Places.{length-spots_from, spots_in_push, nowhere_in}
+use Rattle.mds_catalog.proofs.SpotsFound.{length-spots_from, spots_in_push, nowhere_in}
 
 map_map : {A B C : Type 0} (f : A → B) (g : B → C) (xs : List A) → map g (map f xs) ≡ map (λ x. g (f x)) xs
 map_map f g [] = refl

@@ -4,5 +4,5 @@ mod Keeping
 pub mod Lent
 mod Marked
 mod Ordered
-mod Places
+mod SpotsFound
 mod Texts

@@ -8,7 +8,7 @@ use Rattle.mds_catalog.specs.declared.spots.DocumentSpot.{DocumentSpot}
 use Rattle.mds_catalog.specs.Listed.{Lists, spots_from}
 use Rattle.mds_catalog.specs.Index.{fresh}
 use Rattle.mds_catalog.proofs.Ordered.{lists_more}
-use Rattle.mds_catalog.proofs.Places.{length-spots_from, spots_more}
+use Rattle.mds_catalog.proofs.SpotsFound.{length-spots_from, spots_more}
 use Rattle.mds_catalog.proofs.entries.list_policies.Goals as goal
 
 pub list_entry-requires-clause-room : goal.list_entry-requires-clause-room

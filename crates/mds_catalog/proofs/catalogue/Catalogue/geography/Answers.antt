@@ -10,7 +10,7 @@ use Rattle.mds_catalog.specs.declared.spots.DocumentSpot.{DocumentSpot}
 use Rattle.mds_catalog.specs.Publication.{Publication, dated, geography_ids}
 use Rattle.mds_catalog.specs.Catalogue.{publications_of}
 use Rattle.mds_catalog.specs.Listed.{has, spots_in}
-use Rattle.mds_catalog.proofs.Places.{nowhere_in, placed, within}
+use Rattle.mds_catalog.proofs.SpotsFound.{nowhere_in, placed, within}
 use Rattle.mds_catalog.proofs.catalogue.Catalogue.geography.Goals as goal
 
 pub returns-in_err-spot : goal.returns-in_err-spot

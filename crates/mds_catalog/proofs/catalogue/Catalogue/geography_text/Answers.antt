@@ -8,7 +8,7 @@ use Rattle.mds_catalog.specs.Publication.{Publication, publication_of, geography
 use Rattle.mds_catalog.specs.Catalogue.{publications_of, served_geography}
 use Rattle.mds_catalog.specs.Listed.{has, spots_in}
 use Rattle.mds_catalog.specs.Texts.{geography_text}
-use Rattle.mds_catalog.proofs.Places.{nowhere_in, placed, within}
+use Rattle.mds_catalog.proofs.SpotsFound.{nowhere_in, placed, within}
 use Rattle.mds_catalog.proofs.Texts.{as_many, lent_text}
 use Rattle.mds_catalog.proofs.catalogue.Catalogue.geography_text.Goals as goal
 

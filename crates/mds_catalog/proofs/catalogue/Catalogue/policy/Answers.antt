@@ -11,7 +11,7 @@ use Rattle.mds_catalog.specs.declared.entries.PolicyEntry.{PolicyEntry}
 use Rattle.mds_catalog.specs.Publication.{Publication, dated, policy_ids}
 use Rattle.mds_catalog.specs.Catalogue.{publications_of}
 use Rattle.mds_catalog.specs.Listed.{has, spots_in}
-use Rattle.mds_catalog.proofs.Places.{nowhere_in, placed, within}
+use Rattle.mds_catalog.proofs.SpotsFound.{nowhere_in, placed, within}
 use Rattle.mds_catalog.proofs.catalogue.Catalogue.policy.Goals as goal
 
 pub returns-in_err-entry : goal.returns-in_err-entry

@@ -9,7 +9,7 @@ use Rattle.mds_catalog.specs.Publication.{Publication, publication_of, policy_id
 use Rattle.mds_catalog.specs.Catalogue.{publications_of, served_policy}
 use Rattle.mds_catalog.specs.Listed.{has, spots_in}
 use Rattle.mds_catalog.specs.Texts.{policy_text}
-use Rattle.mds_catalog.proofs.Places.{nowhere_in, placed, within}
+use Rattle.mds_catalog.proofs.SpotsFound.{nowhere_in, placed, within}
 use Rattle.mds_catalog.proofs.Texts.{as_many, lent_text}
 use Rattle.mds_catalog.proofs.catalogue.Catalogue.policy_text.Goals as goal
 
