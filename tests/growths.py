@@ -148,7 +148,7 @@ def main(program, seconds, jobs):
         tests = Tests(program, room)
         sweeps = [Sweep(tests, it, seconds * jobs / len(tests.names) / 4) for it in tests.names]
         if not sweeps:
-            print("no test's name speaks of want of memory")
+            print("no test's name speaks of being out of memory")
         with ThreadPoolExecutor(jobs) as pool:
             for it in [pool.submit(work, sweeps, lock, begun + seconds) for _ in range(jobs)]:
                 it.result()
