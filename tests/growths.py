@@ -1,5 +1,5 @@
 #!/usr/bin/env python3
-"""Refuses growths of memory, one in each run, to the tests whose names speak of want of memory: none of them may fail.
+"""Refuses growths of memory, one in each run, to the tests whose names speak of being out of memory: none of them may fail.
 
     growths.py PROGRAM SECONDS [JOBS]
 
@@ -22,7 +22,7 @@ from concurrent.futures import ThreadPoolExecutor
 
 from unproved import GROWTH
 
-NAMES = re.compile(r"(wants?_(of_|no_)?memory|out_of_memory)")
+NAMES = re.compile(r"out_of_memory")
 LIMIT = 300  # seconds for one run
 ILLEGAL = "AddressSanitizer: ILL"  # what a program says that comes to a bad instruction
 SHORT, BAD = b"\x75", b"\x0f\x0b"  # of x86-64: a jump over less than 128 bytes where two numbers aren't equal, and a bad instruction
@@ -148,7 +148,7 @@ def main(program, seconds, jobs):
         tests = Tests(program, room)
         sweeps = [Sweep(tests, it, seconds * jobs / len(tests.names) / 4) for it in tests.names]
         if not sweeps:
-            print("no test's name speaks of want of memory")
+            print("no test's name speaks of being out of memory")
         with ThreadPoolExecutor(jobs) as pool:
             for it in [pool.submit(work, sweeps, lock, begun + seconds) for _ in range(jobs)]:
                 it.result()

@@ -8,7 +8,7 @@ The tests of each crate that has some are built and run by `rt try --test`, and 
 proved one first, where no source is newer. Then come the scripts (replays.py), questions that are asked once and again (columns.py),
 ruffletuff on the messages that wait for no deadline and on the short loads (http.py), some kills (kills.py, contended.py), journals
 (journals.py, damages.py, thinning.py), the control port (control.py), configurations (config.py), many reports at once (many.py), also
-beside the changes of others (shares.py), each path by each method and asker (routes.py), files that are imported (exchange.py), what
+beside the changes of others (shares.py), each path by each method and client (routes.py), files that are imported (exchange.py), what
 people are told (app.py), what everyone is told (public.py), the counts in docs/audit/DEFINITIONS.md (definitions.py), the table of
 crates in docs/ARCHITECTURE.md (crates.py), links and lengths of all documents (documents.py), whether each edit can be made
 (mutations.py), nginx before a server (nginx.py), the page (page.py), in a browser too (web/run.py), a short stress (stress.py), some
@@ -45,7 +45,7 @@ STRIDE = "29"  # of a journal's bytes, each so many are changed
 CITIES = "2"  # whose questions are asked once and again
 SHARES = ("4", "--told")  # seconds of each load beside which others ask for changes
 DAY = ("--vehicles", "1", "--kills", "2")  # of a journal that is thinned
-# The crates whose tests for want of memory bear a refused growth in their set-up too.
+# The crates whose tests for out of memory bear a refused growth in their set-up too.
 SWEPT = ("tests_core", "tests_server", "tests_journal")
 SLOW = "8"  # how many times as long a part waits for a program that isn't proved
 TESTS = re.compile(r"^test result: \w+\. (\d+) passed; (\d+) failed;", re.M)
