@@ -1,4 +1,4 @@
-//! How a job ends.
+//! How a transfer ends.
 ghost use Rattle.std.specs.Prelude.{◌≡◌, ◌+◌, ◌-◌, ◌^◌, min};
 ghost use Rattle.cli_transfer.specs.Ends.{end_of, exit_status};
 
@@ -6,7 +6,7 @@ use crate::token::TokenFault;
 use cli_client::ResponseFault;
 use std::alloc::AllocError;
 
-/// How a job, an import or an export, ends.
+/// How a transfer, an import or an export, ends.
 #[derive(Clone, Copy, Debug, PartialEq, Eq)]
 pub enum TransferEnd {
     /// All of it is done.
@@ -63,7 +63,7 @@ impl TransferTally {
         self.refused = self.refused.saturating_add(1);
     }
 
-    /// How a job ends that wasn't cut short.
+    /// How a transfer ends that wasn't cut short.
     pub fn end(&self) -> TransferEnd
         ensures { result ≡ end_of self.now }
     {

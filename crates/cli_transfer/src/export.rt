@@ -29,7 +29,7 @@ fn tree_in(alloc: Global, reply: &HttpResponse) -> Result<Tree, TransferEnd> {
     }
 }
 
-/// Reports a response other than 200, and gives the end of the job.
+/// Reports a response other than 200, and gives the end of the transfer.
 ///
 /// # Errors
 ///

@@ -238,7 +238,7 @@ fn print_drafts<R: Print + AllocGlobal>(
     Ok(())
 }
 
-/// Prints how many documents were sent and how many refused, and gives the end of the job.
+/// Prints how many documents were sent and how many refused, and gives the end of the transfer.
 fn print_summary<R: Print>(rt: &R, import: &Import<'_>, tally: &TransferTally) -> TransferEnd {
     let TransferTally { sent, refused } = *tally;
     let said = match import.destination {

@@ -35,7 +35,7 @@ pub(crate) fn client_of<'a, R: Net + Clock>(
     Ok(Client::new(dialer, *server))
 }
 
-/// The response, or the end of a job that got none.
+/// The response, or the end of a transfer that got none.
 ///
 /// # Errors
 ///

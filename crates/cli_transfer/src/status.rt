@@ -328,7 +328,7 @@ fn print_all<R: Print + AllocGlobal>(
     Ok(())
 }
 
-/// Prints how many reports and removals were sent and how many refused, and gives the end of the job.
+/// Prints how many reports and removals were sent and how many refused, and gives the end of the transfer.
 fn print_summary<R: Print>(rt: &R, import: &Import<'_>, tally: &TransferTally) -> TransferEnd {
     let TransferTally { sent, refused } = *tally;
     let said = match import.destination {

@@ -1,4 +1,4 @@
-//! Runs a job: an import or an export.
+//! Runs a transfer: an import or an export.
 
 use crate::end::TransferEnd;
 use crate::export::export_published;
@@ -13,7 +13,7 @@ use std::io::{Eprint, Print};
 use std::net::Net;
 use std::time::Clock;
 
-/// The server of a job, and where its access token comes from; `None` where nothing is sent.
+/// The server of a transfer, and where its access token comes from; `None` where nothing is sent.
 fn destination_of<'a>(errand: &Transfer<'a>) -> Option<Destination<'a>> {
     match errand {
         Transfer::Policies(import) => import.destination,
@@ -22,7 +22,7 @@ fn destination_of<'a>(errand: &Transfer<'a>) -> Option<Destination<'a>> {
     }
 }
 
-/// The address of a job's server, or the path of its access token's file where the end is about
+/// The address of a transfer's server, or the path of its access token's file where the end is about
 /// that.
 fn address_of<'a>(errand: &Transfer<'a>, end: TransferEnd) -> Option<&'a str> {
     match (destination_of(errand)?, end) {
@@ -37,7 +37,7 @@ fn address_of<'a>(errand: &Transfer<'a>, end: TransferEnd) -> Option<&'a str> {
     }
 }
 
-/// The folder, file or address that the end of a job is about.
+/// The folder, file or address that the end of a transfer is about.
 fn place_in<'a>(errand: &Transfer<'a>, end: TransferEnd) -> Option<&'a str> {
     match errand {
         Transfer::Published(export) if end == TransferEnd::NotWritten => Some(export.folder),
@@ -45,7 +45,7 @@ fn place_in<'a>(errand: &Transfer<'a>, end: TransferEnd) -> Option<&'a str> {
     }
 }
 
-/// Runs a job, for which its access token is read first.
+/// Runs a transfer, for which its access token is read first.
 ///
 /// # Errors
 ///
@@ -71,7 +71,7 @@ fn run_with_token<R: TransferHost>(
     })
 }
 
-/// Runs a job, says on standard error how it ended, and gives the exit status.
+/// Runs a transfer, says on standard error how it ended, and gives the exit status.
 pub fn run_transfer<R: TransferHost>(rt: &R, errand: &Transfer<'_>) -> u8 {
     let end = match run_with_token(rt, errand) {
         Ok(end) => end,

@@ -1,4 +1,4 @@
-//! The state under the keeper's lock: the payloads that wait for the flusher, and the disk space reserved for them.
+//! The state under the commit log's lock: the payloads that wait for the flusher, and the disk space reserved for them.
 ghost use Rattle.std.specs.Prelude.{◌≡◌, ◌+◌, ◌≤◌, ◌<◌, ◌++◌, ◌∷◌, [], length, map, true, IfOk, IfSome, IfNone, OnOk, OnErr, OnSome, if◌then◌else◌, get_or, drop, false, vec_len, vec_capacity};
 ghost use mathlib.Core.List.{IsPrefix};
 ghost use Rattle.journal_file.specs.Groups.{is_taken};
@@ -85,7 +85,7 @@ impl<K: LogName, L: Log> Model for CommitQueue<K, L> {
     ghost invariant = { λ q. (q.appended ≡ q.taken ++ map (λ v. v.items) q.texts.items) × (MOST_TEXTS ≤ vec_capacity q.texts) };
 }
 
-/// The state under the keeper's lock.
+/// The state under the commit log's lock.
 #[derive(Drop)]
 pub(crate) struct CommitBacklog<K: LogName, L: Log, S: Space> {
     queue: CommitQueue<K, L>,

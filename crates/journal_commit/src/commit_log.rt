@@ -47,7 +47,7 @@ pub struct CommitLog<K: LogName, L: Log, S: Space> {
 }
 
 /// Begins to serve over a log, after what it has: returns the commit log, the flusher, and the log position at which
-/// nothing is appended. A client is a number below `askers`, and at most [`MOST_CLIENTS`](crate::MOST_ASKERS) of so many
+/// nothing is appended. A client is a number below `askers`, and at most [`MOST_CLIENTS`](crate::MOST_CLIENTS) of these
 /// have a share of what may wait.
 ///
 /// # Errors
@@ -111,7 +111,7 @@ impl<K: LogName, L: Log, S: Space> CommitLog<K, L, S> {
     ///
     /// # Errors
     ///
-    /// The keeper failed; this doesn't happen where the reservation was made here.
+    /// The commit log failed; this doesn't happen where the reservation was made here.
     pub fn append<R: Wait>(
         &self,
         rt: &R,
@@ -172,7 +172,7 @@ impl<K: LogName, L: Log, S: Space> CommitLog<K, L, S> {
     ///
     /// # Errors
     ///
-    /// The keeper failed; this doesn't happen where the reservations were made here.
+    /// The commit log failed; this doesn't happen where the reservations were made here.
     pub fn append_chosen<R: Wait>(
         &self,
         rt: &R,
@@ -205,7 +205,7 @@ impl<K: LogName, L: Log, S: Space> CommitLog<K, L, S> {
     ///
     /// # Errors
     ///
-    /// The keeper failed: then nothing may become visible.
+    /// The commit log failed: then nothing may become visible.
     pub fn append_synced<R: Wait>(
         &self,
         rt: &R,
@@ -240,7 +240,7 @@ impl<K: LogName, L: Log, S: Space> CommitLog<K, L, S> {
     ///
     /// # Errors
     ///
-    /// The keeper failed.
+    /// The commit log failed.
     pub fn wait<R: Wait>(&self, rt: &R, stamp: &LogPosition<K, L>) -> Result<(), CommitFault>
         ensures { OnOk result (AreDurable L.may_be L.is_synced stamp.now) }
     {

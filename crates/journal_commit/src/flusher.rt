@@ -20,7 +20,7 @@ pub enum FlushFault {
     NotAppended(AppendFault),
     /// What was appended isn't known to be synced.
     NotSynced,
-    /// The keeper failed, which doesn't happen where each reservation is used where it was made.
+    /// The commit log failed, which doesn't happen where each reservation is used where it was made.
     Failed,
 }
 
@@ -155,7 +155,7 @@ impl<K: LogName, L: Log> Flusher<K, L> {
         Ok(true)
     }
 
-    /// Writes and syncs for all that wait, until the keeper is stopped and nothing waits: then it returns the log,
+    /// Writes and syncs for all that wait, until the commit log is stopped and nothing waits: then it returns the log,
     /// synced.
     ///
     /// # Errors

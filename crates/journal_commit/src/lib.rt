@@ -1,4 +1,4 @@
-//! Group commit: room in the log before a request, one thread that writes and syncs for all, and
+//! Group commit: a reservation in the log before a request, one thread that writes and syncs for all, and
 //! responses that wait until what they show is synced.
 #![tactic(auto)]
 

@@ -21,7 +21,7 @@ pub struct Fault {
 /// Why a server isn't restarted.
 #[derive(Clone, Copy, Debug, PartialEq, Eq)]
 pub enum StartFault {
-    /// Out of memory or of readers' places as the room and the desks were made.
+    /// Out of memory or of reader slots as the room and the desks were made.
     Opening(OpenFault),
     /// An entry wasn't answered with success.
     Stopped(Fault),

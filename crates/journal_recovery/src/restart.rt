@@ -52,7 +52,7 @@ fn replay_all<K: OpeningName, R: Wait, P: Progress>(
 ///
 /// # Errors
 ///
-/// `Opening` where out of memory or of readers' places as the room and the desks were made; `Stopped` at the first
+/// `Opening` where out of memory or of reader slots as the room and the desks were made; `Stopped` at the first
 /// entry that wasn't answered with success.
 pub fn start_again<K: OpeningName, R: Wait, P: Progress>(
     rt: &R,

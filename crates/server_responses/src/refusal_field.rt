@@ -37,7 +37,7 @@ fn with_missing(response: Response<Full<Bytes>>, name: HeaderName, text: &'stati
 }
 
 /// The same response; one with status 401 has `www-authenticate: Bearer` (RFC 9110, section
-/// 11.6.1), and one with status 405 has `allow` with the methods of the guide, if it has any (RFC
+/// 11.6.1), and one with status 405 has `allow` with the methods of the hint, if it has any (RFC
 /// 9110, section 10.2.1). A response that has the field already keeps it as it is.
 ///
 /// # Errors
