@@ -15,7 +15,7 @@ loop-column-preserved c =
       | then-marked w ↦ inl w.told-is
       | else-marked+then-matches w ↦
           begins columns rows area marks c.args.row column c.if-marked.told w.if-marked.false
-          (subst (IsCorner columns rows area c.args.row column) (sym w.told-is) w.told_by_corner-told.ensures)
+          (subst (IsCorner columns rows area c.args.row column) (sym w.told-is) w.cell_by_corner-told.ensures)
       | else-marked+else-matches w ↦
           goes_on columns rows area marks c.args.row column c.if-marked.told w.if-marked.false
           (subst (IsRun columns rows area marks c.args.row column) (sym w.told-is) c.loop-column.invariant.run)

@@ -14,7 +14,7 @@ loop-left-preserved-in-Continue-1 c =
       within = omega arith;
       placed =
           one_placed kind items i c.index-drafts-left.result c.in-Some.id c.loop-left.ids.entries c.insert_id.new.ids.entries (omega arith) c.index-drafts-left.is
-          (sym c.own_id.ensures ∙ c.in-Some.is) (c.loop-left.invariant.placed ∙ ap (λ (n : ℕ). all_placed (own_ids kind (drop n items))) back) c.in_ok-place.ensures;
+          (sym c.own_id.ensures ∙ c.in-Some.is) (c.loop-left.invariant.placed ∙ ap (λ (n : ℕ). all_placed (own_ids kind (drop n items))) back) c.in_ok-insert_id.ensures;
     }
 
 pub returns : goal.returns
