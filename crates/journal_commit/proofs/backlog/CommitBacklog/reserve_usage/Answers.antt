@@ -3,8 +3,8 @@ use Rattle.journal_commit.specs.Tables.{holding}
 use Rattle.journal_commit.proofs.Sharing.{bytes_held, bytes_in_le}
 use Rattle.journal_commit.proofs.backlog.CommitBacklog.reserve_usage.Goals as goal
 
-pub take_waiting-requires-clause-bounded : goal.take_waiting-requires-clause-bounded
-take_waiting-requires-clause-bounded g c =
+pub take-requires-clause-bounded : goal.take-requires-clause-bounded
+take-requires-clause-bounded g c =
     let each = c.args.self.now.shares.each.items in
     let known = c.has_share.ensures.known c.if-not-has_share.false in
     let shared = c.has_share.ensures.shared c.if-not-has_share.false in

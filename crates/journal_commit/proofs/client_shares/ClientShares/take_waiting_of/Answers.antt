@@ -7,8 +7,8 @@ pub invariant_of-self : goal.invariant_of-self
 invariant_of-self c =
     let each = c.args.self.now.each.items in
     let there = share_read each c.args.asker c.index_mut-share.result.now c.requires c.index_mut-share.ensures.value in
-    let held_texts = ap (λ (s : ClientShare). s.reserved_count.texts) there in
-    let held_bytes = ap (λ (s : ClientShare). s.reserved_count.bytes) there in
+    let held_texts = ap (λ (s : ClientShare). s.held.texts) there in
+    let held_bytes = ap (λ (s : ClientShare). s.held.bytes) there in
     let texts = ap (λ (s : ClientShare). s.waiting.texts) there in
     let bytes = ap (λ (s : ClientShare). s.waiting.bytes) there in
     record {
