@@ -9,19 +9,19 @@ abbrev pub page_of : List ℕ → Option ControlPage
 page_of path =
     if bytes_eq path (codes "/healthz") then Some page.Health
     else (if bytes_eq path (codes "/metrics") then Some page.Metrics
-    else (if bytes_eq path (codes "/stop") then Some page.StopServer else None))
+    else (if bytes_eq path (codes "/stop") then Some page.Stop else None))
 
 -- what is read takes GET, and what changes the server takes POST (RFC 9110, section 9.3)
 abbrev pub takes : ControlPage → List ℕ → Bool
 takes page.Health method = bytes_eq method (codes "GET")
 takes page.Metrics method = bytes_eq method (codes "GET")
-takes page.StopServer method = bytes_eq method (codes "POST")
+takes page.Stop method = bytes_eq method (codes "POST")
 
 -- the answer of a page, where the server serves or doesn't
 abbrev pub answer_at : ControlPage → Bool → ControlAnswer
 answer_at page.Health serves = if serves then Healthy else Unready
 answer_at page.Metrics serves = Metrics
-answer_at page.StopServer serves = Stops
+answer_at page.Stop serves = Stops
 
 -- the answer to a method of the page at a path, if there is one
 abbrev pub answered : List ℕ → Option ControlPage → Bool → ControlAnswer
