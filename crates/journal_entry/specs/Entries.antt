@@ -12,7 +12,7 @@ use Rattle.mds_request.specs.declared.request.Verb.{Verb}
 use Rattle.mds_request.specs.declared.request.Verb.TheVariants.{Get, Put, Post, Delete, Other}
 use Rattle.mds_request.specs.declared.call.TheConstants.{MOST_BODY}
 
-pub record JournalEntry : Type 0 where
+pub record Entry : Type 0 where
   pub asker : EntryClient
   -- the moment at which the request was answered
   pub at : ℕ
@@ -20,8 +20,8 @@ pub record JournalEntry : Type 0 where
   pub target : List ℕ
   pub body : List ℕ
 
--- the entry of an `JournalEntry` in the code
-abbrev pub entry_of : Lent → JournalEntry
+-- the entry of a `JournalEntry` in the code
+abbrev pub entry_of : Lent → Entry
 entry_of e = record { asker = e.asker; at = e.at; verb = e.verb; target = e.target.now; body = e.body.now }
 
 -- a moment's milliseconds in eight bytes, and a length in four, both big-endian
@@ -48,12 +48,12 @@ asker_text Author = BY_AUTHOR ∷ []
 asker_text (Operator id) = BY_OPERATOR ∷ id_text id
 
 -- the moment, the method, the client, the target after its length, and the body
-abbrev pub fields_text : JournalEntry → List ℕ
+abbrev pub fields_text : Entry → List ℕ
 fields_text e =
     moment_text e.at ++ (verb_code e.verb ∷ (asker_text e.asker ++ (size_text (length e.target) ++ (e.target ++ e.body))))
 
 -- an entry's payload: the layout's version, and the fields
-abbrev pub entry_text : JournalEntry → List ℕ
+abbrev pub entry_text : Entry → List ℕ
 entry_text e = ENTRY ∷ fields_text e
 
 -- an identifier that its spelling reads as
@@ -65,11 +65,11 @@ IsAsker Author = Unit {0}
 IsAsker (Operator id) = IsId id
 
 -- the target and the body are within their limits
-pub record IsShort (e : JournalEntry) : Type 0 where
+pub record IsShort (e : Entry) : Type 0 where
   pub target : length e.target ≤ MOST_TARGET
   pub body : length e.body ≤ MOST_BODY
 
-pub record IsEntry (e : JournalEntry) : Type 0 where
+pub record IsEntry (e : Entry) : Type 0 where
   pub asker : IsAsker e.asker
   pub at : e.at ≤ last_moment
   pub short : IsShort e

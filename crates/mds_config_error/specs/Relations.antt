@@ -6,7 +6,7 @@ use Rattle.mds_config_error.specs.declared.stop.DiagnosisStop.{DiagnosisStop}
 use Rattle.mds_config_error.specs.declared.stop.DiagnosisStop.TheVariants.{Wrong as Stopped, NoMemory}
 use Rattle.mds_config_error.specs.declared.wrong.Wrong.{Wrong}
 
-abbrev pub operator : Named → ReadOperator
+abbrev pub operator : Named → Operator
 operator o = record { id = o.id; limit = o.limit; token = string_bytes o.token }
 
 -- the value that is read, under `view`, is the defined one

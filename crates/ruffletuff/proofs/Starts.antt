@@ -17,7 +17,7 @@ pub texts_of : (entries : List Lent) → map entry_text (map entry_of entries) �
 texts_of [] = refl
 texts_of (e ∷ entries) = ap (λ texts. entry_text (entry_of e) ∷ texts) (texts_of entries)
 
-pub started_from : (configuration : Configuration) (dropped : List (List ℕ)) (texts rest : List (List ℕ)) (all kept : List JournalEntry) (s : Server)
+pub started_from : (configuration : Configuration) (dropped : List (List ℕ)) (texts rest : List (List ℕ)) (all kept : List Entry) (s : Server)
     → HasHead configuration dropped texts rest → map entry_text all ≡ rest → kept ≡ without dropped all → IsStartedAgain configuration kept s
     → IsStartedFrom configuration dropped texts s
 started_from configuration dropped texts rest all kept s head are left again = record {
