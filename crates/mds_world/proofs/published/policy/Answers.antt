@@ -19,4 +19,4 @@ returns c =
     let found = lent_policy c.in-Some-Some.found in
     let text = policy_text_is publications c.args.id c.in-Some-Some.text.now found c.in-Some-Some.ensures c.in-Some-Some.ensures' in
     let body = told_body (codes "policy") c.in-Some-Some.text.now c.in_ok-body.body.items (policy_json found) c.revision.result (length publications) c.in_ok-body.ensures text c.revision.ensures.count in
-    policy_answered publications c.args.operator c.args.id found c.ok.result c.in-Some-Some.ensures (sym c.if-not-is_shown.ensures) (c.ok.ensures ∙ ap success body.is)
+    policy_answered publications c.args.operator c.args.id found c.ok.result c.in-Some-Some.ensures (sym c.if-not-is_visible_to.ensures) (c.ok.ensures ∙ ap success body.is)

@@ -22,8 +22,8 @@ returns g c =
     ap (λ (cfg : Configuration). option_map (λ o. o.id) (slice_get cfg.operators c.args.place)) (sym shared) ∙ c.id_at.ensures in
     let asked : List Publication → Reply → Type 0 = λ publications reply. reply ≡ withdrawals_reply publications (Some id) in
     let wanted : List Publication → Reply → Type 0 = λ publications reply. reply ≡ own_withdrawals publications (slice_get own.operators c.args.place) in
-    by_refusal (TellsOperator own badges c.args.place Withdrawals) c.told.result c.or_refused-answer.result c.or_refused-answer.ensures.told c.or_refused-answer.ensures.refused
-    c.told.ensures.refused
-    (ok_kind (DeskTells own c.deref_mut.result.now.place asked) (TellsOperator own badges c.args.place Withdrawals) c.told.result
+    by_refusal (TellsOperator own badges c.args.place Withdrawals) c.query.result c.or_refused-answer.result c.or_refused-answer.ensures.told c.or_refused-answer.ensures.refused
+    c.query.ensures.refused
+    (ok_kind (DeskTells own c.deref_mut.result.now.place asked) (TellsOperator own badges c.args.place Withdrawals) c.query.result
     (λ reply. desk_tells own c.deref_mut.result.now.place c.args.place asked wanted reply here
-    (λ publications is. is ∙ own_is publications (slice_get own.operators c.args.place) id named)) c.told.ensures.tells)
+    (λ publications is. is ∙ own_is publications (slice_get own.operators c.args.place) id named)) c.query.ensures.tells)
