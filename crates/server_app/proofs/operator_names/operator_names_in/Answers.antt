@@ -7,5 +7,5 @@ use Rattle.server_app.proofs.operator_names.operator_names_in.Goals as goal
 
 pub loop-entry-preserved : goal.loop-entry-preserved
 loop-entry-preserved c =
-    read_turn node_view badge_of c.args.entries.now c.loop-entry.entry-index c.entry-item.result _ _ (badge_view c.in_ok-badge_of.field-0) (omega arith) c.entry-item.is c.in_ok-badge_of.ensures (ap (λ bs. map badge_view bs) c.in_ok-push.ensures.items ∙ map-append badge_view _ _)
+    read_turn node_view badge_of c.args.entries.now c.loop-entry.entry-index c.entry-item.result _ _ (badge_view c.in_ok-operator_name_of.field-0) (omega arith) c.entry-item.is c.in_ok-operator_name_of.ensures (ap (λ bs. map badge_view bs) c.in_ok-push.ensures.items ∙ map-append badge_view _ _)
     ∙ c.loop-entry.invariant

@@ -6,5 +6,5 @@ use Rattle.server_durable.proofs.durable_hall.DurableHall.answer_room_question.G
 
 pub returns : goal.returns
 returns g c =
-    by_memory (RoomTells g.K.HallName.configuration (λ drafts publications told. told ≡ room_told c.args.asked drafts publications)) c.told.result c.or_no_memory-answer.result
-    c.or_no_memory-answer.ensures.told c.or_no_memory-answer.ensures.refused c.told.ensures.tells
+    by_memory (RoomTells g.K.HallName.configuration (λ drafts publications told. told ≡ room_told c.args.asked drafts publications)) c.query.result c.or_no_memory-answer.result
+    c.or_no_memory-answer.ensures.told c.or_no_memory-answer.ensures.refused c.query.ensures.tells
